@@ -1,0 +1,4 @@
+pub mod Touch
+pub mod Lines
+pub mod Ranges
+pub mod Levels
