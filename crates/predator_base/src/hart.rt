@@ -27,7 +27,11 @@ impl Hart {
     pub fn new(n: u16) -> Option<Hart>
         ensures { SomeIff result (n ≤ 255) n }
     {
-        if n > 255 { None } else { Some(Hart { number: n }) }
+        if n > 255 {
+            None
+        } else {
+            Some(Hart { number: n })
+        }
     }
 
     /// The hart's number, from 0 to 255.

@@ -37,7 +37,12 @@ impl Thresholds {
             Some(writes) => tracking <= writes && writes <= 1 << 32,
             None => true,
         };
-        if tracking == 0 || tracking > 1 << 32 || !is_predicting || report == 0 || report > 1 << 40 {
+        if tracking == 0
+            || tracking > 1 << 32
+            || !is_predicting
+            || report == 0
+            || report > 1 << 40
+        {
             return None;
         }
         Some(Thresholds {

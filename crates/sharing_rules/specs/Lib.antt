@@ -1,0 +1,12 @@
+pub mod AccessLists
+pub mod Places
+pub mod Lines
+pub mod Holders
+pub mod Arrivals
+pub mod Words
+pub mod Pairs
+pub mod Observed
+pub mod Predicted
+pub mod Listed
+pub mod Verdicts
+pub mod Tracks
