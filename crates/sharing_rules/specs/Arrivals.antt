@@ -1,7 +1,6 @@
 -- The harts of a set of addresses in the order in which they came since its last write.
 use Rattle.std.specs.Prelude.{ℕ, Bool, not, ◌==◌, if◌then◌else◌, List, [], ◌∷◌, ◌++◌, eqb, map, filter}
 use Rattle.std.specs.List.{list_any}
-use Rattle.predator_base.specs.Touch.{Touch}
 use Rattle.sharing_rules.specs.AccessLists.{AccessList, touches, writes_to}
 
 -- each number once, where it stands first

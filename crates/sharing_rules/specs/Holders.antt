@@ -1,5 +1,5 @@
 -- The simulation: one unbounded write-invalidate cache for each hart. line_of gives the line of an address.
-use Rattle.std.specs.Prelude.{ℕ, Bool, false, not, ◌&&◌, ◌||◌, ◌==◌, nat_lt, if◌then◌else◌, List, length, fold}
+use Rattle.std.specs.Prelude.{ℕ, Bool, false, not, ◌&&◌, ◌||◌, ◌==◌, nat_lt, if◌then◌else◌, length, fold}
 use Rattle.std.specs.List.{list_any}
 use Rattle.predator_base.specs.Touch.{Touch, is_write}
 use Rattle.predator_base.specs.Lines.{line_number}

@@ -10,3 +10,4 @@ pub mod Predicted
 pub mod Listed
 pub mod Verdicts
 pub mod Tracks
+pub mod Search

@@ -1,5 +1,5 @@
 -- A line: a set of addresses, with a place for each of its words.
-use Rattle.std.specs.Prelude.{ℕ, ◌+◌, ◌-◌, ◌*◌, ◌/◌, ◌%◌, Bool, ◌==◌}
+use Rattle.std.specs.Prelude.{ℕ, ◌+◌, ◌-◌, ◌/◌, ◌%◌, Bool, ◌==◌}
 use Rattle.predator_base.specs.Lines.{Grid, line_number}
 use Rattle.predator_base.specs.Ranges.{line_range}
 use Rattle.predator_base.specs.declared.layout.Range.{Range}

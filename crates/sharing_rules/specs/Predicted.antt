@@ -1,13 +1,17 @@
 -- Predicted lines: their opening and their start. n is the native line size, T the tracking and P the prediction
 -- threshold; a pair of neighbours is named by the number k of its lower line.
-use Rattle.std.specs.Prelude.{ℕ, suc, ◌+◌, ◌-◌, ◌*◌, ◌/◌, ◌%◌, Bool, ◌&&◌, ◌||◌, ◌==◌, [], ◌∷◌, ◌++◌, Option, take, is_some, option_and_then, option_map}
-use Rattle.predator_base.specs.Touch.{Touch}
+use Rattle.std.specs.Prelude.{ℕ, suc, ◌+◌, ◌-◌, ◌*◌, ◌/◌, ◌%◌, Bool, ◌&&◌, ◌||◌, ◌==◌, eqb, [], ◌∷◌, ◌++◌, Option, take, is_some, option_and_then, option_map}
+use Rattle.std.specs.List.{list_any}
 use Rattle.sharing_rules.specs.AccessLists.{AccessList, writes_to}
 use Rattle.sharing_rules.specs.Places.{Question, first_place}
 use Rattle.sharing_rules.specs.Lines.{Line, is_inside, native_line, line_from}
 use Rattle.sharing_rules.specs.Words.{words_since}
 use Rattle.sharing_rules.specs.Pairs.{best_pair_of}
 use Rattle.sharing_rules.specs.Observed.{write_count, observed_start, first_write_from}
+
+-- the native line sizes
+abbrev pub is_native_size : ℕ → Bool
+is_native_size n = list_any (eqb n) (32 ∷ 64 ∷ 128 ∷ 256 ∷ [])
 
 -- a write of line k that brings its writes to a multiple of P
 abbrev pub is_candidate : ℕ → ℕ → ℕ → Question
@@ -41,12 +45,17 @@ word_address n k i = n * (k - 1) + 4 * i
 abbrev pub shifted_base : ℕ → ℕ → ℕ → ℕ
 shifted_base n x y = x - 4 * ((n - (y + 4 - x)) / 8)
 
+-- the shifted line for the words of a pair of neighbours at two places
+abbrev pub shifted_around : ℕ → ℕ → ℕ × ℕ → Line
+shifted_around n k p = line_from n (shifted_base n (word_address n k p.0) (word_address n (k + 1) p.1))
+
+-- the shifted line by the best hot pair after the access at o
+abbrev pub shifted_line_at : ℕ → ℕ → ℕ → ℕ → AccessList → Option Line
+shifted_line_at n T k o t = option_map (shifted_around n k) (best_between n T n k (take (suc o) t))
+
 -- the shifted line of a pair of neighbours, by the best hot pair at its opening
 abbrev pub shifted_line : ℕ → ℕ → ℕ → ℕ → AccessList → Option Line
-shifted_line n T P k t =
-    option_and_then (λ o. option_map (λ p. line_from n (shifted_base n (word_address n k p.0) (word_address n (k + 1) p.1)))
-    (best_between n T n k (take (suc o) t)))
-    (shifted_opening n T P k t)
+shifted_line n T P k t = option_and_then (λ o. shifted_line_at n T k o t) (shifted_opening n T P k t)
 
 -- the doubled line of an even pair
 abbrev pub doubled_line : ℕ → ℕ → Line

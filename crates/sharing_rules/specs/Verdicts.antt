@@ -1,5 +1,5 @@
 -- The verdict over the words of a line since its start.
-use Rattle.std.specs.Prelude.{ℕ, Bool, true, false, not, ◌&&◌, ◌||◌, ◌==◌, nat_lt, if◌then◌else◌, List}
+use Rattle.std.specs.Prelude.{Bool, true, false, not, ◌&&◌, ◌||◌, ◌==◌, nat_lt, if◌then◌else◌, List}
 use Rattle.std.specs.List.{list_any, list_all}
 use Rattle.sharing_rules.specs.declared.word.Word.{Word}
 use Rattle.sharing_rules.specs.declared.word.Owner.{Owner}

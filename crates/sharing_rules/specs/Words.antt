@@ -1,5 +1,5 @@
 -- The words of a line since a position: their reads, their writes and their harts.
-use Rattle.std.specs.Prelude.{ℕ, ◌+◌, ◌/◌, Bool, not, ◌&&◌, ◌==◌, if◌then◌else◌, List, [], ◌∷◌, map, filter, drop, count_by}
+use Rattle.std.specs.Prelude.{ℕ, ◌+◌, ◌/◌, not, ◌&&◌, ◌==◌, if◌then◌else◌, List, [], ◌∷◌, map, filter, drop, count_by}
 use Rattle.predator_base.specs.Touch.{Touch, is_write}
 use Rattle.sharing_rules.specs.AccessLists.{AccessList}
 use Rattle.sharing_rules.specs.Places.{below}
