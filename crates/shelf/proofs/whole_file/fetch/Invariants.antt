@@ -1,0 +1,16 @@
+use Rattle.std.proofs.Common.{◌≡◌, ◌≤◌, length, ◌+◌, ◌-◌}
+use Rattle.shelf.specs.Shelf.{content, Told, OnlyReads}
+use Rattle.shelf.specs.Fetch.{IsFront}
+use Rattle.shelf.proofs.whole_file.fetch.Given as goal
+
+abbrev pub invariant-loop-bytes : goal.invariant-loop-bytes
+invariant-loop-bytes g l = record {
+  piece : length l.piece.items ≡ 65536;
+  capped : length l.bytes.items ≤ l.limit + 1;
+  front : Told (g.S.Shelf.outside l.fn.shelf).held (λ files. IsFront (content files l.name) l.bytes.items);
+  only : OnlyReads (g.S.Shelf.outside l.fn.shelf) (g.S.Shelf.outside l.shelf);
+  quiet : (g.S.Shelf.outside l.shelf).read_faults ≡ (g.S.Shelf.outside l.fn.shelf).read_faults;
+}
+
+abbrev pub decreases-loop-bytes : goal.decreases-loop-bytes
+decreases-loop-bytes g l = l.limit + 1 - length l.bytes.items

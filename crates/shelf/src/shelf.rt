@@ -1,0 +1,89 @@
+// The outside: files under names, and a printed text.
+ghost use Rattle.std.specs.Prelude.{◌≡◌, IfOk, IsSome};
+ghost use Rattle.std.specs.Option.{ForSome};
+ghost use Rattle.std.specs.Io.{ReadsAtMost};
+ghost use Rattle.shelf.specs.Shelf.{Outside, content, Told, Goes, ChangesAt, HasCause, HasCauseAt, OnlyReads, OnlyWrites, OnlyPrints, Reads, AppendsUnless, Begins};
+
+use std::alloc::{AllocError, AllocFailed};
+
+/// Why a call of a shelf gave up.
+#[derive(Clone, Copy, Debug, PartialEq, Eq)]
+pub enum ShelfError {
+    /// The outside failed. The shelf's number of faults for the call's kind and name rose in this call.
+    Failed,
+    /// Memory ran out. No number of faults changed.
+    NoMemory,
+}
+
+impl From<AllocError> for ShelfError {
+    ghost use Rattle.shelf.specs.declared.shelf.ShelfError.TheVariants.{NoMemory};
+
+    ghost from_gives = { λ _ e. e ≡ NoMemory };
+
+    fn from(_: AllocError) -> Self {
+        ShelfError::NoMemory
+    }
+}
+
+impl<T: Drop> From<AllocFailed<T>> for ShelfError {
+    ghost use Rattle.shelf.specs.declared.shelf.ShelfError.TheVariants.{NoMemory};
+
+    ghost from_gives = { λ _ e. e ≡ NoMemory };
+
+    fn from(_: AllocFailed<T>) -> Self {
+        ShelfError::NoMemory
+    }
+}
+
+/// Files under names and a printed text, any of whose calls may fail.
+///
+/// A file that is read and a file that is written under one name have nothing to do with each other.
+/// What is held never changes. A shelf need not tell what it holds, what was written or what was printed:
+/// what the clauses say of these holds where they are told.
+pub trait Shelf {
+    /// What is held, was written and was printed, where told, and how often calls have failed.
+    ghost outside: { Self → Outside };
+
+    /// Reads bytes of the held file of a name into the front of `into`, from the byte `at` on, and answers
+    /// how many. It answers 0 into a buffer that isn't empty only at or past the file's end. A name that
+    /// isn't held reads as an empty file, or fails.
+    ///
+    /// `Failed` comes only where the faults of reading this name rose.
+    fn read_at(&mut self, name: &str, at: u64, into: &mut [u8]) -> Result<usize, ShelfError>
+        ensures bound { ReadsAtMost result into.new }
+        ensures bytes { IfOk result (λ n. Told (outside self.old).held
+            (λ files. Reads (content files name.now) at n into.new)) }
+        ensures cause { HasCauseAt name.now
+            (outside self.old).read_faults (outside self.new).read_faults result }
+        ensures only { OnlyReads (outside self.old) (outside self.new) };
+
+    /// Makes the written file of a name empty, and makes one where there is none. At an error the name is
+    /// as it was, or its file is empty.
+    ///
+    /// `Failed` comes only where the faults of writing this name rose.
+    fn begin(&mut self, name: &str) -> Result<(), ShelfError>
+        ensures begins { Goes (outside self.old).written (outside self.new).written
+            (ChangesAt name.now (Begins result)) }
+        ensures cause { HasCauseAt name.now
+            (outside self.old).write_faults (outside self.new).write_faults result }
+        ensures only { OnlyWrites (outside self.old) (outside self.new) };
+
+    /// Adds a piece to the written file of a name that was begun. At an error a prefix of it was added.
+    ///
+    /// `Failed` comes only where the faults of writing this name rose.
+    fn append(&mut self, name: &str, piece: &[u8]) -> Result<(), ShelfError>
+        requires { ForSome (outside self.old).written (λ files. IsSome (files name.now)) }
+        ensures appends { Goes (outside self.old).written (outside self.new).written
+            (ChangesAt name.now (λ old new. AppendsUnless old new result piece.now)) }
+        ensures cause { HasCauseAt name.now
+            (outside self.old).write_faults (outside self.new).write_faults result }
+        ensures only { OnlyWrites (outside self.old) (outside self.new) };
+
+    /// Adds a piece to the printed text. At an error a prefix of it was added.
+    ///
+    /// `Failed` comes only where the faults of printing rose.
+    fn print(&mut self, piece: &[u8]) -> Result<(), ShelfError>
+        ensures prints { AppendsUnless (outside self.old).printed (outside self.new).printed result piece.now }
+        ensures cause { HasCause (outside self.old).print_faults (outside self.new).print_faults result }
+        ensures only { OnlyPrints (outside self.old) (outside self.new) };
+}
