@@ -1,0 +1,5 @@
+pub mod Rows
+pub mod Watch
+pub mod Index
+pub mod Standing
+pub mod Shown
