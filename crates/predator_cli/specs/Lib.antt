@@ -1,0 +1,9 @@
+pub mod Words
+pub mod Demands
+pub mod Statuses
+pub mod Texts
+pub mod Answer
+pub mod Meets
+pub mod Replay
+pub mod Numbers
+pub mod Disk

@@ -1,0 +1,12 @@
+-- The exit status of each way to end.
+use Rattle.std.specs.Prelude.{ℕ}
+use Rattle.predator_cli.specs.declared.status.Status.{Status}
+use Rattle.predator_cli.specs.declared.status.Status.TheVariants as status
+
+abbrev pub number_of : Status → ℕ
+number_of status.Done = 0
+number_of status.Usage = 1
+number_of (status.Trace fault) = 5
+number_of status.ReadFault = 7
+number_of status.WriteFault = 8
+number_of status.NoMemory = 9
