@@ -1,0 +1,9 @@
+pub mod Masks
+pub mod Signs
+pub mod Forms
+pub mod Meeting
+pub mod Spelled
+pub mod Found
+pub mod Again
+pub mod Nowhere
+pub mod Single

@@ -1,0 +1,5 @@
+pub mod Fields
+pub mod Codes
+pub mod Table
+pub mod Spelling
+pub mod Validity
