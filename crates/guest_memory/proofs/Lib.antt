@@ -1,0 +1,6 @@
+pub mod Inside
+pub mod Numbers
+pub mod Fillings
+pub mod Stores
+pub mod Slices
+pub mod Freshness

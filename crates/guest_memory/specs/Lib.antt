@@ -1,0 +1,4 @@
+pub mod Bytes
+pub mod Space
+pub mod Faults
+pub mod Changes
