@@ -1,0 +1,4 @@
+pub mod Registers
+pub mod Reserved
+pub mod Arithmetic
+pub mod Effect
