@@ -1,0 +1,41 @@
+-- The settings that the content of a settings file gives, or its first fault.
+use Rattle.std.specs.Prelude.{ℕ, nat_lt, if◌then◌else◌, List, length, Option, None, Result, Ok, Err}
+use Rattle.std.specs.Option.{option_map_or}
+use Rattle.std.specs.Str.{is_utf8}
+use Rattle.toml.specs.Data.{Members}
+use Rattle.toml.specs.Parse.{parse_document}
+use Rattle.heap_objects.specs.Names.{name_of}
+use Rattle.settings.specs.declared.values.Settings.{Settings}
+use Rattle.settings.specs.declared.fault.SettingsFault.{SettingsFault}
+use Rattle.settings.specs.declared.fault.SettingsFault.TheVariants.{TooLong, BadToml, UnknownKey, OutOfRange, NoMemory}
+use Rattle.settings.specs.Tables.{first_out_of_range, values_of, least_unknown}
+
+-- how many bytes a settings file may have
+abbrev pub longest_content : ℕ
+longest_content = 65536
+
+-- the table that a content is: it is UTF-8, and a document of TOML
+abbrev pub table_of : List ℕ → Option Members
+table_of content = if is_utf8 content then parse_document content else None
+
+-- the values of a table, unless one is out of range
+abbrev pub judged_values : Members → Result Settings SettingsFault
+judged_values table = option_map_or (λ key. Err (OutOfRange key)) (first_out_of_range table) (Ok (values_of table))
+
+-- the same, unless a key is unknown
+abbrev pub judged_table : Members → Result Settings SettingsFault
+judged_table table = option_map_or (λ name. Err (UnknownKey (name_of name))) (least_unknown table) (judged_values table)
+
+-- the same of a content, unless it is too long or no table
+abbrev pub settings_of : List ℕ → Result Settings SettingsFault
+settings_of content =
+    if nat_lt longest_content (length content) then Err TooLong
+    else option_map_or judged_table (table_of content) (Err BadToml)
+
+-- the fact holds unless the fault is want of memory
+abbrev pub UnlessMemory : SettingsFault → Type 0 → Type 0
+UnlessMemory NoMemory P = Unit {0}
+UnlessMemory TooLong P = P
+UnlessMemory BadToml P = P
+UnlessMemory (UnknownKey name) P = P
+UnlessMemory (OutOfRange key) P = P

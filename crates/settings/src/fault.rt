@@ -1,0 +1,19 @@
+// Why a settings file is refused.
+
+use crate::key::Key;
+use heap_objects::Name;
+
+/// Why a settings file is refused, in the order in which faults are judged.
+#[derive(PartialEq, Eq, Drop, Debug)]
+pub enum SettingsFault {
+    /// It has more than 64 KiB.
+    TooLong,
+    /// It is no TOML, or no UTF-8.
+    BadToml,
+    /// The least key in byte order that is none of the eight.
+    UnknownKey(Name),
+    /// The first key, in the order of `Key`, whose value is no whole number in its range.
+    OutOfRange(Key),
+    /// Memory ran out.
+    NoMemory,
+}

@@ -1,0 +1,16 @@
+//! The settings file: TOML with eight keys at its root, all optional, each a whole number in a range.
+//!
+//! A key that is absent has its usual value. A file is read once and untyped, by `toml`, and refused
+//! with its first fault.
+#![tactic(auto)]
+
+mod fault;
+mod key;
+mod read;
+#[cfg(test)]
+mod tests;
+mod values;
+
+pub use fault::SettingsFault;
+pub use key::Key;
+pub use values::Settings;

@@ -1,0 +1,196 @@
+// How a settings file is read.
+ghost use Rattle.std.specs.Prelude.{◌≡◌, ◌≢◌, ◌≤◌, ◌<◌, ◌^◌, ◌↔◌, Err, IfSome, IfOk, IfErr, length, string_bytes, option_map, bytes_eq, Some, None, Ok};
+ghost use Rattle.std.specs.List.{list_any};
+ghost use Rattle.toml.specs.View.{view, table_view};
+ghost use Rattle.toml.specs.Data.{no_members, get_member};
+ghost use Rattle.toml.specs.Errors.{IsBlank};
+ghost use Rattle.settings.specs.Keys.{key_name, limits_of, IsWithin};
+ghost use Rattle.settings.specs.Tables.{number_within, number_beside, number_of, least_unknown, is_unknown, values_of};
+ghost use Rattle.settings.specs.Answers.{longest_content, judged_values, judged_table, settings_of, UnlessMemory};
+ghost use Rattle.settings.specs.Allowed.{IsAllowed};
+
+use crate::fault::SettingsFault;
+use crate::key::{Key, Limits};
+use crate::values::Settings;
+use heap_objects::Name;
+use predator_base::NoMemory;
+use std::alloc::Global;
+use toml::{Table, Value};
+
+// How many bytes a settings file may have.
+const LONGEST_CONTENT: usize = 1 << 16;
+
+// The value of a key.
+fn value_at<'a>(table: &'a Table, key: Key) -> Option<&'a Value>
+    ensures { option_map (λ v. view v.now) result ≡ get_member (key_name key) (table_view table.now) }
+{
+    table.get(key.name())
+}
+
+// The whole number that a value is, where it lies within the limits.
+fn whole_number(value: &Value, limits: Limits) -> Option<u64>
+    requires { 0 < limits.unit }
+    ensures value { result ≡ number_within limits (view value.now) }
+    ensures within { IfSome result (IsWithin limits) }
+{
+    let whole = value.as_integer()?;
+    if whole < 0 || !limits.hold(whole.cast_unsigned()) {
+        return None;
+    }
+    Some(whole.cast_unsigned())
+}
+
+// What a table gives for a key beside a tracking threshold: None where its value is no whole number
+// in the key's range.
+fn number(table: &Table, key: Key, tracking: u64) -> Option<u64>
+    requires { tracking ≤ 2 ^ 32 }
+    ensures value { result ≡ number_beside tracking (table_view table.now) key }
+    ensures within { IfSome result (IsWithin (limits_of tracking key)) }
+{
+    let limits = key.limits(tracking);
+    match value_at(table, key) {
+        Some(value) => whole_number(value, limits),
+        None => Some(limits.usual),
+    }
+}
+
+// The same beside the table's own tracking threshold, of a key whose range does not rest on it.
+fn number_alone(table: &Table, key: Key) -> Option<u64>
+    requires { key ≢ Key.Prediction }
+    ensures value { result ≡ number_of (table_view table.now) key }
+    ensures within { IfSome result (IsWithin (limits_of 0 key)) }
+{
+    number(table, key, 0)
+}
+
+// The prediction threshold beside the table's tracking threshold.
+fn prediction_beside(table: &Table, tracking: u64) -> Option<u64>
+    requires own { number_of (table_view table.now) Key.Tracking ≡ Some tracking }
+    requires small { tracking ≤ 2 ^ 32 }
+    ensures value { result ≡ number_of (table_view table.now) Key.Prediction }
+    ensures within { IfSome result (IsWithin (limits_of tracking Key.Prediction)) }
+{
+    number(table, Key::Prediction, tracking)
+}
+
+// The values of a table, or the first key whose value is out of range.
+fn judge_values(table: &Table) -> Result<Settings, SettingsFault>
+    ensures value { result ≡ judged_values (table_view table.now) }
+    ensures allowed { IfOk result IsAllowed }
+{
+    let Some(harts) = number_alone(table, Key::Harts) else {
+        return Err(SettingsFault::OutOfRange(Key::Harts));
+    };
+    let Some(memory) = number_alone(table, Key::Memory) else {
+        return Err(SettingsFault::OutOfRange(Key::Memory));
+    };
+    let Some(stack) = number_alone(table, Key::Stack) else {
+        return Err(SettingsFault::OutOfRange(Key::Stack));
+    };
+    let Some(tracking) = number_alone(table, Key::Tracking) else {
+        return Err(SettingsFault::OutOfRange(Key::Tracking));
+    };
+    let Some(prediction) = prediction_beside(table, tracking) else {
+        return Err(SettingsFault::OutOfRange(Key::Prediction));
+    };
+    let Some(report) = number_alone(table, Key::Report) else {
+        return Err(SettingsFault::OutOfRange(Key::Report));
+    };
+    let Some(quantum) = number_alone(table, Key::Quantum) else {
+        return Err(SettingsFault::OutOfRange(Key::Quantum));
+    };
+    let Some(budget) = number_alone(table, Key::Budget) else {
+        return Err(SettingsFault::OutOfRange(Key::Budget));
+    };
+    Ok(Settings {
+        harts: harts as u16,
+        memory: memory as u32,
+        stack: stack as u32,
+        tracking,
+        prediction,
+        report,
+        quantum: quantum as u32,
+        budget,
+    })
+}
+
+// Whether a name is one of some keys.
+fn is_among(keys: &[Key], name: &str) -> bool
+    ensures { result ≡ list_any (λ key. bytes_eq (key_name key) name.now) keys.now }
+{
+    keys.iter().any(|key| key.is_written(name))
+}
+
+// Whether a name is none of the eight keys.
+fn is_unknown_name(name: &str) -> bool
+    ensures { result ≡ is_unknown name.now }
+{
+    !is_among(&Key::all(), name)
+}
+
+// The least name of a table that is no key: its names ascend.
+fn first_unknown(table: &Table) -> Option<&String>
+    ensures { option_map (λ name. string_bytes name.now) result ≡ least_unknown (table_view table.now) }
+{
+    table.keys().find(|name| is_unknown_name(name.as_str()))
+}
+
+// The values of a table, or its first fault.
+fn judge_table(alloc: Global, table: &Table) -> Result<Settings, SettingsFault>
+    ensures accepted { IfOk result (λ settings. judged_table (table_view table.now) ≡ Ok settings) }
+    ensures refused { IfErr result (λ fault. UnlessMemory fault (judged_table (table_view table.now) ≡ Err fault)) }
+    ensures allowed { IfOk result IsAllowed }
+    ensures known { least_unknown (table_view table.now) ≡ None → result ≢ Err SettingsFault.NoMemory }
+{
+    let Some(name) = first_unknown(table) else {
+        return judge_values(table);
+    };
+    match Name::new(alloc, name.as_bytes()) {
+        Ok(name) => Err(SettingsFault::UnknownKey(name)),
+        Err(NoMemory) => Err(SettingsFault::NoMemory),
+    }
+}
+
+impl Settings {
+    /// The settings where no file says otherwise: each key has its usual value.
+    pub fn usual() -> Settings
+        ensures value { result ≡ values_of no_members }
+        ensures allowed { IsAllowed result }
+    {
+        Settings {
+            harts: 8,
+            memory: 1 << 24,
+            stack: 1 << 16,
+            tracking: 16,
+            prediction: 64,
+            report: 100,
+            quantum: 100,
+            budget: 100_000_000,
+        }
+    }
+
+    /// The settings that the content of a file gives, or its first fault, in the order of
+    /// `SettingsFault`. Want of memory may come before any of them but the first.
+    pub fn read(alloc: Global, content: &[u8]) -> Result<Settings, SettingsFault>
+        ensures accepted { IfOk result (λ settings. settings_of content.now ≡ Ok settings) }
+        ensures refused { IfErr result (λ fault. UnlessMemory fault (settings_of content.now ≡ Err fault)) }
+        ensures too_long { (result ≡ Err SettingsFault.TooLong) ↔ (longest_content < length content.now) }
+        ensures allowed { IfOk result IsAllowed }
+        // White space and comments alone take no memory.
+        ensures blank { IsBlank content.now → result ≢ Err SettingsFault.NoMemory }
+    {
+        if content.len() > LONGEST_CONTENT {
+            return Err(SettingsFault::TooLong);
+        }
+        match toml::table_from_slice(alloc, content) {
+            Ok(table) => judge_table(alloc, &table),
+            Err(error) => {
+                if error.is_memory() {
+                    Err(SettingsFault::NoMemory)
+                } else {
+                    Err(SettingsFault::BadToml)
+                }
+            }
+        }
+    }
+}

@@ -1,0 +1,22 @@
+// The settings.
+
+/// The settings of a run and of its report. Each value lies within the range of its `Key`.
+#[derive(Clone, Copy, PartialEq, Eq, Debug)]
+pub struct Settings {
+    /// How many harts the guest has.
+    pub harts: u16,
+    /// How many bytes of memory the guest has.
+    pub memory: u32,
+    /// How many bytes of stack each hart has.
+    pub stack: u32,
+    /// From which write of a line on it is tracked.
+    pub tracking: u64,
+    /// At each how many writes of a line its pairs are searched.
+    pub prediction: u64,
+    /// From which count on a tracked line is listed.
+    pub report: u64,
+    /// How many turns in a row a hart has.
+    pub quantum: u32,
+    /// How many steps a run may take.
+    pub budget: u64,
+}
