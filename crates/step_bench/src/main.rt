@@ -1,0 +1,87 @@
+//! How many steps a second the machine makes: `step_bench STEPS HARTS` runs a loop of ten arithmetic instructions, a load
+//! and a store on hart 0 for so many steps, beside reservations for so many harts, and prints what it did. Without words
+//! it makes 1,000 steps with one hart.
+#![tactic(auto)]
+
+ghost use Rattle.std.specs.Prelude.{◌<◌, ◌≡◌, ◌%◌, IfOk, length};
+ghost use Rattle.guest_memory.specs.Space.{IsRange};
+
+use guest_memory::Memory;
+use predator_base::{Hart, NoMemory};
+use rv32_machine::{HartState, Reservations, StepEnd, step};
+use std::alloc::Global;
+use std::{env, io};
+
+const CODE: u32 = 0x10000;
+
+const DATA: u32 = 0x11000;
+
+// The loop: its words are those of an assembler.
+const LOOP: [u32; 13] = [
+    0x00128293, // addi x5, x5, 1
+    0x00530333, // add  x6, x6, x5
+    0x005343b3, // xor  x7, x6, x5
+    0x00329e13, // slli x28, x5, 3
+    0x40730eb3, // sub  x29, x6, x7
+    0x005eef33, // or   x30, x29, x5
+    0x006f7fb3, // and  x31, x30, x6
+    0x002fd613, // srli x12, x31, 2
+    0x005636b3, // sltu x13, x12, x5
+    0x01f68733, // add  x14, x13, x31
+    0x00052783, // lw   x15, 0(x10)
+    0x00e52223, // sw   x14, 4(x10)
+    0xfd1ff06f, // jal  x0, -48
+];
+
+// Makes steps until there are so many, or one is a call or a trap, and says how many it made.
+fn run(hart: Hart, steps: u64, memory: &mut Memory, held: &mut Reservations) -> u64
+    requires { hart < length held.old }
+{
+    let mut state = HartState::new(CODE, 0, 0, DATA);
+    let mut made = 0;
+    for _step in 0..steps {
+        match step(hart, &mut state, memory, held) {
+            StepEnd::Next(_, _) => made = _step + 1,
+            StepEnd::Call | StepEnd::Trap(_) => break,
+        }
+    }
+    made
+}
+
+// The loop in a memory of four pages, one of code and one of data.
+fn memory_of(alloc: Global) -> Result<Memory, NoMemory> {
+    let mut memory = Memory::new(alloc, CODE, 0x4000)?;
+    memory.map(CODE, 4096, false, true);
+    memory.map(DATA, 4096, true, false);
+    let mut code = Vec::new(alloc);
+    for word in LOOP {
+        code.extend_from_slice(&word.to_le_bytes())?;
+    }
+    if code.len() == 52 {
+        memory.fill(CODE, &code);
+    }
+    Ok(memory)
+}
+
+fn main(rt: HostRuntime) -> io::Result<()> {
+    let mut words = env::args(&rt)?.skip(1);
+    let steps = words
+        .next()
+        .and_then(|word| word.parse().ok())
+        .unwrap_or(1000);
+    let harts = words
+        .next()
+        .and_then(|word| word.parse().ok())
+        .unwrap_or(1u16);
+    let Ok(mut memory) = memory_of(rt.alloc()) else {
+        return println!(rt; "no memory");
+    };
+    let Ok(mut held) = Reservations::new(rt.alloc(), harts.clamp(1, 256)) else {
+        return println!(rt; "no memory");
+    };
+    let Some(hart) = Hart::new(0) else {
+        return Ok(());
+    };
+    let made = run(hart, steps, &mut memory, &mut held);
+    println!(rt; "steps {made}")
+}
