@@ -1,0 +1,4 @@
+pub mod Numbers
+pub mod Layouts
+pub mod Words
+pub mod Demands

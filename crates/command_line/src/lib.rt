@@ -1,0 +1,16 @@
+//! The words of the command line: the first names the command, and `clap` reads the words after it.
+//!
+//! Each command is one simple command of `clap`, and the contracts cite what `clap` itself says of those:
+//! which words such a command refuses, and which value each of its arguments gets. An option is
+//! `--name value` or `--name=value`, at most once, in any order; after `--` every word is positional.
+#![tactic(auto)]
+
+mod demand;
+mod layout;
+mod replay;
+#[cfg(test)]
+mod tests;
+mod words;
+
+pub use demand::{Demand, WordsFault};
+pub use words::read_words;

@@ -1,0 +1,94 @@
+// Command lines as users write them, each against what it asks for.
+use crate::{Demand, WordsFault, read_words};
+use predator_base::Layout;
+use std::alloc::{AllocError, Global};
+use std::test::Fail;
+
+// The words of a line, cut at its spaces.
+fn words_of(alloc: Global, line: &str) -> Result<Vec<String>, AllocError> {
+    let mut words = Vec::new(alloc);
+    for word in line.split(' ') {
+        words.push(String::from_str(alloc, word)?)?;
+    }
+    Ok(words)
+}
+
+// Whether the words of a line get an answer.
+fn is_answered(
+    alloc: Global,
+    line: &str,
+    answer: &Result<Demand<'_>, WordsFault>,
+) -> Result<bool, AllocError> {
+    let words = words_of(alloc, line)?;
+    Ok(read_words(alloc, words.as_slice()) == *answer)
+}
+
+fn is_usage(alloc: Global, line: &str) -> Result<bool, AllocError> {
+    is_answered(alloc, line, &Err(WordsFault::Usage))
+}
+
+fn replay<'a>(
+    trace: &'a str,
+    settings: Option<&'a str>,
+    layout: Option<Layout>,
+) -> Result<Demand<'a>, WordsFault> {
+    Ok(Demand::Replay {
+        trace,
+        settings,
+        layout,
+    })
+}
+
+#[test]
+fn reads_a_trace(rt: HostRuntime) -> Result<(), Fail> {
+    let alloc = rt.alloc();
+    assert!(rt; is_answered(alloc, "replay a", &replay("a", None, None))?);
+    assert!(rt; is_answered(alloc, "replay -- --x", &replay("--x", None, None))?);
+    assert!(rt; is_answered(alloc, "replay a --settings=", &replay("a", Some(""), None))?);
+    Ok(())
+}
+
+#[test]
+fn reads_options_in_any_order(rt: HostRuntime) -> Result<(), Fail> {
+    let alloc = rt.alloc();
+    let settings = replay("t", Some("s"), Layout::new(64, 0));
+    assert!(rt; is_answered(alloc, "replay --settings=s --size=64 -- t", &settings)?);
+    assert!(rt;
+        is_answered(
+            alloc,
+            "replay t --shift 4",
+            &replay("t", None, Layout::new(64, 4))
+        )?
+    );
+    assert!(rt;
+        is_answered(
+            alloc,
+            "replay --shift=8 t --size 32",
+            &replay("t", None, Layout::new(32, 8))
+        )?
+    );
+    Ok(())
+}
+
+#[test]
+fn refuses_other_words(rt: HostRuntime) -> Result<(), Fail> {
+    let alloc = rt.alloc();
+    assert!(rt; is_usage(alloc, "replay")?);
+    assert!(rt; is_usage(alloc, "replay a b")?);
+    assert!(rt; is_usage(alloc, "replay a --help")?);
+    assert!(rt; is_usage(alloc, "replay a -h")?);
+    assert!(rt; is_usage(alloc, "replay a --size 64 --size 64")?);
+    assert!(rt; is_usage(alloc, "reply a")?);
+    Ok(())
+}
+
+#[test]
+fn refuses_other_numbers(rt: HostRuntime) -> Result<(), Fail> {
+    let alloc = rt.alloc();
+    assert!(rt; is_usage(alloc, "replay a --size 48")?);
+    assert!(rt; is_usage(alloc, "replay a --size 064")?);
+    assert!(rt; is_usage(alloc, "replay a --size=")?);
+    assert!(rt; is_usage(alloc, "replay a --size=+64")?);
+    assert!(rt; is_usage(alloc, "replay a --size 4294967360")?);
+    Ok(())
+}
