@@ -1,0 +1,128 @@
+-- Choices in turn: where there is none, no hart is runnable, and the one that is made is runnable.
+use Rattle.std.proofs.Common.{◌≡◌, ℕ, zero, suc, ◌+◌, ◌-◌, ◌<◌, ◌≤◌, Bool, true, false, List, [], ◌∷◌, length, Option, Some, None, refl, sym, ◌∙◌, inl, inr, arith}
+use Rattle.std.proofs.lemmas.Bool.{cases_Bool, cases_lt, and_left, and_parts}
+use Rattle.std.proofs.lemmas.List.{get_or_past}
+use Rattle.std.proofs.lemmas.List.Folds.{find-append}
+use Rattle.std.proofs.lemmas.Option.{none-some}
+use Rattle.std.specs.Prelude.{◌↔◌, IsTrue}
+use Rattle.std.specs.List.{find, range_with_len}
+use Rattle.std.specs.Option.{option_or, IfSome}
+use Rattle.hart_scheduler.specs.declared.streak.Streak.{Streak}
+use Rattle.hart_scheduler.specs.Choices.{Plan, is_runnable, NoneRunnable, harts_after, goes_on, choice_after, choice_in_turn, choice}
+
+option_or-none : (first second : Option ℕ) → option_or first second ≡ None → (first ≡ None) × (second ≡ None)
+option_or-none None second none = (refl, none)
+option_or-none (Some x) second none = absurd (none-some x (sym none))
+
+module _ (p : ℕ → Bool) where
+  find-none : (xs : List ℕ) → ((x : ℕ) → p x ≡ false) → find p xs ≡ None
+  find-none [] miss = refl
+  find-none (x ∷ xs) miss = rw (miss x) (find-none xs miss)
+
+  none-in-range : (n a x : ℕ) → find p (range_with_len a n) ≡ None → a ≤ x → x < a + n → p x ≡ false
+  none-in-range zero a x none from below = absurd (omega arith)
+  none-in-range (suc n) a x none from below =
+      elim (cases_Bool (p a)) [
+        | inl hit ↦ absurd (none-some a (sym (rw hit at none)))
+        | inr miss ↦ elim (cases_lt a x) [
+          | inl later ↦ none-in-range n (a + 1) x (rw miss at none) (omega arith) (omega arith)
+          | inr same ↦ let e : x ≡ a = omega arith in rw e miss
+        ]
+      ]
+
+  found-passes : (xs : List ℕ) → IfSome (find p xs) (λ x. p x ≡ true)
+  found-passes [] = tt
+  found-passes (x ∷ xs) =
+      elim (cases_Bool (p x)) [
+        | inl hit ↦ rw hit hit
+        | inr miss ↦ rw miss (found-passes xs)
+      ]
+
+  range-past : (a end : ℕ) → a < end → p a ≡ false → find p (range_with_len a (end - a)) ≡ find p (range_with_len (a + 1) (end - (a + 1)))
+  range-past a end below miss = let e : end - a ≡ suc (end - (a + 1)) = omega arith in rw e (rw miss refl)
+
+pub range_past : (runnable : List Bool) (a end : ℕ) → a < end → is_runnable runnable a ≡ false
+    → find (is_runnable runnable) (range_with_len a (end - a)) ≡ find (is_runnable runnable) (range_with_len (a + 1) (end - (a + 1)))
+range_past runnable a end below miss = range-past (is_runnable runnable) a end below miss
+
+pub successor_is : (runnable : List Bool) (harts quantum : ℕ) (streak : Streak) (first second : Option ℕ) (n : ℕ) → n ≡ streak.hart
+    → goes_on runnable quantum streak ≡ false
+    → first ≡ find (is_runnable runnable) (range_with_len (n + 1) (harts - (n + 1))) → second ≡ find (is_runnable runnable) (range_with_len 0 (n + 1 - 0))
+    → option_or first second ≡ choice_after runnable harts quantum streak
+successor_is runnable harts quantum streak first second n same off is_first is_second =
+    let z : n + 1 - 0 ≡ n + 1 = omega arith in
+    rw (is_first, is_second, z, same, off) (sym (find-append (is_runnable runnable) (range_with_len (streak.hart + 1) (harts - (streak.hart + 1))) (range_with_len 0 (streak.hart + 1))))
+
+-- no hart is runnable where there is no choice in turn
+none-in-order : (runnable : List Bool) (harts : ℕ) → length runnable ≡ harts → find (is_runnable runnable) (range_with_len 0 harts) ≡ None → NoneRunnable runnable
+none-in-order runnable harts all none = λ hart.
+    elim (cases_lt hart harts) [
+      | inl below ↦ none-in-range (is_runnable runnable) harts 0 hart none (omega arith) (omega arith)
+      | inr past ↦ get_or_past runnable hart false (omega arith)
+    ]
+
+none-after : (runnable : List Bool) (harts n : ℕ) → length runnable ≡ harts → find (is_runnable runnable) (harts_after harts n) ≡ None → NoneRunnable runnable
+none-after runnable harts n all none = λ hart.
+    let above = find (is_runnable runnable) (range_with_len (n + 1) (harts - (n + 1))) in
+    let rest = find (is_runnable runnable) (range_with_len 0 (n + 1)) in
+    let parts : (above ≡ None) × (rest ≡ None) = option_or-none above rest (sym (find-append (is_runnable runnable) (range_with_len (n + 1) (harts - (n + 1))) (range_with_len 0 (n + 1))) ∙ none) in
+    elim (cases_lt hart (n + 1)) [
+      | inl below ↦ none-in-range (is_runnable runnable) (n + 1) 0 hart parts.1 (omega arith) (omega arith)
+      | inr past ↦ elim (cases_lt hart harts) [
+        | inl inside ↦ none-in-range (is_runnable runnable) (harts - (n + 1)) (n + 1) hart parts.0 past (omega arith)
+        | inr outside ↦ get_or_past runnable hart false (omega arith)
+      ]
+    ]
+
+none-after-streak : (runnable : List Bool) (harts quantum : ℕ) (streak : Streak) → length runnable ≡ harts
+    → choice_after runnable harts quantum streak ≡ None → NoneRunnable runnable
+none-after-streak runnable harts quantum streak all none =
+    elim (cases_Bool (goes_on runnable quantum streak)) [
+      | inl on ↦ absurd (none-some streak.hart (sym (rw on at none)))
+      | inr off ↦ none-after runnable harts streak.hart all (rw off at none)
+    ]
+
+none-in-turn : (runnable : List Bool) (harts quantum : ℕ) (listed : List ℕ) (streak : Option Streak) → length runnable ≡ harts
+    → choice_in_turn runnable (record { listed = listed; streak = streak; harts = harts; quantum = quantum }) ≡ None → NoneRunnable runnable
+none-in-turn runnable harts quantum listed None all none = none-in-order runnable harts all none
+none-in-turn runnable harts quantum listed (Some streak) all none = none-after-streak runnable harts quantum streak all none
+
+-- and there is none where no hart is runnable
+off-where-none : (runnable : List Bool) (quantum : ℕ) (streak : Streak) → NoneRunnable runnable → goes_on runnable quantum streak ≡ false
+off-where-none runnable quantum streak none = and_left _ _ (none streak.hart)
+
+in-turn-none : (runnable : List Bool) (harts quantum : ℕ) (listed : List ℕ) (streak : Option Streak) → NoneRunnable runnable
+    → choice_in_turn runnable (record { listed = listed; streak = streak; harts = harts; quantum = quantum }) ≡ None
+in-turn-none runnable harts quantum listed None none = find-none (is_runnable runnable) (range_with_len 0 harts) none
+in-turn-none runnable harts quantum listed (Some streak) none =
+    let off : goes_on runnable quantum streak ≡ false = off-where-none runnable quantum streak none in
+    rw off (find-none (is_runnable runnable) (harts_after harts streak.hart) none)
+
+pub choice_none : (runnable : List Bool) (plan : Plan) → length runnable ≡ plan.harts → (choice runnable plan ≡ None) ↔ NoneRunnable runnable
+choice_none runnable plan all = (
+  (λ none. none-in-turn runnable plan.harts plan.quantum plan.listed plan.streak all (option_or-none _ _ none).1),
+  (λ none. let listed : find (is_runnable runnable) plan.listed ≡ None = find-none (is_runnable runnable) plan.listed none in
+      rw listed (in-turn-none runnable plan.harts plan.quantum plan.listed plan.streak none)),
+)
+
+-- what is chosen is runnable
+able-after : (runnable : List Bool) (harts quantum : ℕ) (streak : Streak) → IfSome (choice_after runnable harts quantum streak) (λ hart. IsTrue (is_runnable runnable hart))
+able-after runnable harts quantum streak =
+    elim (cases_Bool (goes_on runnable quantum streak)) [
+      | inl on ↦ rw on (and_parts _ _ on).0
+      | inr off ↦ rw off (found-passes (is_runnable runnable) (harts_after harts streak.hart))
+    ]
+
+able-in-turn : (runnable : List Bool) (harts quantum : ℕ) (listed : List ℕ) (streak : Option Streak)
+    → IfSome (choice_in_turn runnable (record { listed = listed; streak = streak; harts = harts; quantum = quantum })) (λ hart. IsTrue (is_runnable runnable hart))
+able-in-turn runnable harts quantum listed None = found-passes (is_runnable runnable) (range_with_len 0 harts)
+able-in-turn runnable harts quantum listed (Some streak) = able-after runnable harts quantum streak
+
+either : (first second : Option ℕ) (P : ℕ → Type 0) → IfSome first P → IfSome second P → IfSome (option_or first second) P
+either None second P a b = b
+either (Some x) second P a b = a
+
+pub choice_able : (runnable : List Bool) (plan : Plan) → IfSome (choice runnable plan) (λ hart. IsTrue (is_runnable runnable hart))
+choice_able runnable plan =
+    either _ _ (λ hart. IsTrue (is_runnable runnable hart)) (found-passes (is_runnable runnable) plan.listed)
+    (able-in-turn runnable plan.harts plan.quantum plan.listed plan.streak)

@@ -1,0 +1,6 @@
+pub mod Choices
+pub mod Numbers
+pub mod Texts
+pub mod Spelling
+pub mod Listed
+pub mod Inside

@@ -1,0 +1,18 @@
+//! Which hart runs next: the text of a schedule, read, and the choices that it makes.
+//!
+//! A schedule lists harts in the order in which they run. Harts that can't run are passed over, and after
+//! the list the harts take turns.
+#![tactic(auto)]
+
+mod entry;
+mod fault;
+mod listed;
+mod read;
+mod runnable;
+mod schedule;
+mod streak;
+#[cfg(test)]
+mod tests;
+
+pub use fault::ScheduleFault;
+pub use schedule::Schedule;

@@ -1,0 +1,33 @@
+// Which harts are runnable, by a slice with one entry for each hart.
+ghost use Rattle.std.specs.Prelude.{◌≡◌, ◌≤◌, ◌-◌, length};
+ghost use Rattle.std.specs.List.{find, range_with_len};
+ghost use Rattle.hart_scheduler.specs.Choices.{is_runnable};
+
+use predator_base::Hart;
+
+// Whether a hart is runnable.
+pub(crate) fn is_runnable(runnable: &[bool], hart: Hart) -> bool
+    ensures { result ≡ is_runnable runnable.now hart }
+{
+    let place = usize::from(hart.number());
+    if place < runnable.len() {
+        runnable[place]
+    } else {
+        false
+    }
+}
+
+// The lowest runnable hart of those from `from` on and below `end`.
+pub(crate) fn lowest_runnable(runnable: &[bool], from: u16, end: u16) -> Option<Hart>
+    requires ordered { from ≤ end }
+    requires bound { end ≤ 256 }
+    requires inside { end ≤ length runnable.now }
+    ensures { result ≡ find (is_runnable runnable.now) (range_with_len from (end - from)) }
+{
+    for number in from..end {
+        if runnable[usize::from(number)] {
+            return Hart::new(number);
+        }
+    }
+    None
+}
