@@ -1,0 +1,36 @@
+use Rattle.std.proofs.Common.{◌≡◌, arith, sym, ap, ◌∙◌, List, length}
+use Rattle.thread_calls.specs.declared.phase.HartPhase.{HartPhase}
+use Rattle.thread_calls.proofs.Keeps.{keeps_runnable}
+use Rattle.thread_calls.proofs.Wakes.{wakes_one, passes_waiter, passes_other, wakes_all}
+use Rattle.thread_calls.proofs.threads.Threads.wake.Goals as goal
+use Rattle.thread_calls.proofs.threads.Threads.wake.Goals.{then-count-most+then-is_waiting, else-count-most, else-count-most-via-then-count-most+else-is_waiting, else-count-most-via-else-count-most}
+
+pub set-requires-clause-keeps : goal.set-requires-clause-keeps
+set-requires-clause-keeps c = λ sound.
+    let whole : length c.self.inside.phases.items ≡ length c.args.self.now = ap (λ (xs : List HartPhase). length xs) c.self.view_is in
+    keeps_runnable c.loop-place.self c.hart_at.result sound (omega (arith, whole, c.hart_at.ensures))
+
+pub loop-place-preserved : goal.loop-place-preserved
+loop-place-preserved c =
+    let whole : length c.self.inside.phases.items ≡ length c.args.self.now = ap (λ (xs : List HartPhase). length xs) c.self.view_is in
+    elim c.if-count-most.branch [
+      | then-count-most+then-is_waiting w ↦
+          rw (w.self-is, w.count-is, w.set.ensures, w.hart_at.ensures)
+          (wakes_one c.args.self.now c.loop-place.self c.args.addr c.args.most c.loop-place.place c.loop-place.count c.loop-place.invariant (omega (arith, whole)) w.if-count-most.true
+          (sym w.is_waiting.ensures.value ∙ w.if-is_waiting.true))
+      | else-count-most w ↦
+          elim w.else-count-most.branch [
+            | else-count-most-via-then-count-most+else-is_waiting w' ↦
+                rw (w.self-is, w.count-is)
+                (passes_other c.args.self.now c.loop-place.self c.args.addr c.args.most c.loop-place.place c.loop-place.count c.loop-place.invariant (omega (arith, whole))
+                (sym w'.is_waiting.ensures.value ∙ w'.if-is_waiting.false))
+            | else-count-most-via-else-count-most w' ↦
+                rw (w.self-is, w.count-is)
+                (passes_waiter c.args.self.now c.loop-place.self c.args.addr c.args.most c.loop-place.place c.loop-place.count c.loop-place.invariant (omega (arith, whole)) w'.if-count-most.false)
+          ]
+    ]
+
+pub returns-clause-after : goal.returns-clause-after
+returns-clause-after c =
+    let whole : length c.self.inside.phases.items ≡ length c.args.self.now = ap (λ (xs : List HartPhase). length xs) c.self.view_is in
+    wakes_all c.args.self.now c.loop-place.self c.args.addr c.args.most c.loop-place.place c.loop-place.count c.loop-place.invariant (omega (arith, whole))

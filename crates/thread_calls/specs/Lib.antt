@@ -1,0 +1,4 @@
+pub mod Phases
+pub mod Calls
+pub mod Sound
+pub mod Facts
