@@ -1,0 +1,191 @@
+// One good file, a few words of it changed, and the file cut at every length.
+
+use crate::{ElfFault, ElfView, PlaceFault, Space, place};
+use std::alloc::{AllocError, Global};
+use std::test::Fail;
+
+// A file of three instructions, with a symbol table after them: nothing, the function `run`, and a symbol of no section.
+const FILE_HEADER: [u32; 13] = [
+    0x464c_457f,
+    0x0001_0101,
+    0,
+    0,
+    0x00f3_0002,
+    1,
+    0x0001_0000,
+    52,
+    152,
+    0,
+    0x0020_0034,
+    0x0028_0001,
+    3,
+];
+
+const PROGRAM_HEADER: [u32; 8] = [1, 84, 0x0001_0000, 0, 12, 12, 7, 0];
+
+const CODE: [u32; 3] = [0x05d0_0893, 0x0070_0513, 0x0000_0073];
+
+const SYMBOLS: [u32; 12] = [
+    0,
+    0,
+    0,
+    0,
+    1,
+    0x0001_0000,
+    12,
+    0x0001_0012,
+    1,
+    0x0002_0000,
+    4,
+    0x0000_0011,
+];
+
+const NAMES: [u32; 2] = [0x6e75_7200, 0];
+
+const SECTION_HEADERS: [u32; 30] = [
+    0, 0, 0, 0, 0, 0, 0, 0, 0, 0, 0, 2, 0, 0, 96, 48, 2, 0, 4, 16, 0, 3, 0, 0, 144, 8, 0, 0, 1, 0,
+];
+
+// The file, with one word of it changed.
+fn changed(alloc: Global, at: usize, word: u32) -> Result<Vec<u8>, AllocError> {
+    let mut file = Vec::new(alloc);
+    let mut n = 0usize;
+    for part in [
+        FILE_HEADER.as_slice(),
+        PROGRAM_HEADER.as_slice(),
+        CODE.as_slice(),
+        SYMBOLS.as_slice(),
+        NAMES.as_slice(),
+        SECTION_HEADERS.as_slice(),
+    ] {
+        for old in part {
+            let new = if n == at { word } else { *old };
+            file.extend_from_slice(&new.to_le_bytes())?;
+            n = n.wrapping_add(1);
+        }
+    }
+    Ok(file)
+}
+
+fn good(alloc: Global) -> Result<Vec<u8>, AllocError> {
+    changed(alloc, 100, 0)
+}
+
+#[test]
+fn reads_a_file(rt: HostRuntime) -> Result<(), Fail> {
+    let file = good(rt.alloc())?;
+    let view = ElfView::read(&file)?;
+    assert_eq!(rt; view.entry(), 0x10000);
+    let mut segments = view.segments();
+    let segment = segments.next().ok_or("no segment")?;
+    assert_eq!(rt;
+        (segment.addr, segment.size, segment.flags),
+        (0x10000, 12, 7)
+    );
+    assert_eq!(rt; segment.content.len(), 12);
+    assert!(rt; segments.next().is_none());
+    let mut symbols = view.symbols()?;
+    let symbol = symbols.next().ok_or("no symbol")?;
+    assert_eq!(rt; symbol.name, b"run".as_slice());
+    assert_eq!(rt; (symbol.addr, symbol.size), (0x10000, 12));
+    assert!(rt; symbols.next().is_none());
+    Ok(())
+}
+
+#[test]
+fn refuses_the_first_fault(rt: HostRuntime) -> Result<(), Fail> {
+    for (at, word, fault) in [
+        (0, 0x464c_457e, ElfFault::BadMagic),
+        (1, 0x0001_0102, ElfFault::BadClass),
+        (1, 0x0001_0201, ElfFault::BadData),
+        (1, 0x0002_0101, ElfFault::BadVersion),
+        (5, 2, ElfFault::BadVersion),
+        (4, 0x00f3_0003, ElfFault::BadType),
+        (4, 0x003e_0002, ElfFault::BadMachine),
+        (9, 1, ElfFault::BadFlags),
+        (10, 0x0021_0034, ElfFault::BadHeaderSize),
+        (11, 0x0028_ffff, ElfFault::HeadersOutside),
+        (7, 0xffff_fff0, ElfFault::HeadersOutside),
+        (13, 2, ElfFault::Dynamic),
+        (14, 0xffff_fff8, ElfFault::SegmentOutsideFile),
+        (17, 0xffff_ffff, ElfFault::SegmentOutsideFile),
+        (17, 16, ElfFault::SegmentSizes),
+        (18, 0xffff_ffff, ElfFault::SegmentSizes),
+    ] {
+        let file = changed(rt.alloc(), at, word)?;
+        assert_eq!(rt; ElfView::read(&file).err(), Some(fault));
+    }
+    Ok(())
+}
+
+#[test]
+fn refuses_symbols(rt: HostRuntime) -> Result<(), Fail> {
+    for (at, word, fault) in [
+        (57, 24, ElfFault::BadSymbols),
+        (53, 40, ElfFault::BadSymbols),
+        (52, 0xffff_fff0, ElfFault::BadSymbols),
+        (54, 3, ElfFault::BadSymbols),
+        (59, 1, ElfFault::BadSymbols),
+        (63, 0xffff_ffff, ElfFault::BadSymbols),
+        (28, 8, ElfFault::BadSymbolName),
+        (63, 3, ElfFault::BadSymbolName),
+    ] {
+        let file = changed(rt.alloc(), at, word)?;
+        let view = ElfView::read(&file)?;
+        assert_eq!(rt; view.symbols().err(), Some(fault));
+    }
+    Ok(())
+}
+
+#[test]
+fn refuses_every_cut(rt: HostRuntime) -> Result<(), Fail> {
+    let file = good(rt.alloc())?;
+    for n in 0..file.len() {
+        let fault = if n < 52 {
+            ElfFault::TooShort
+        } else {
+            ElfFault::HeadersOutside
+        };
+        assert_eq!(rt; ElfView::read(&file[..n]).err(), Some(fault));
+    }
+    Ok(())
+}
+
+const SPACE: Space = Space {
+    memory: 0x10_0000,
+    stack: 0x1_0000,
+    harts: 8,
+};
+
+#[test]
+fn places_a_file(rt: HostRuntime) -> Result<(), Fail> {
+    let file = good(rt.alloc())?;
+    let view = ElfView::read(&file)?;
+    let image = place(rt.alloc(), &view, SPACE)?;
+    assert_eq!(rt; (image.memory.base(), image.top), (0x1_0000, 0x11_0000));
+    assert_eq!(rt; (image.heap_start, image.heap_end), (0x1_1000, 0x9_0000));
+    assert_eq!(rt; image.memory.fetch(image.entry).ok(), Some(0x05d0_0893));
+    assert_eq!(rt; image.memory.load(0x1_000c, 4).ok(), Some(0));
+    assert!(rt; !image.memory.executable(0x1_1000));
+    Ok(())
+}
+
+#[test]
+fn refuses_to_place(rt: HostRuntime) -> Result<(), Fail> {
+    for (at, word, fault) in [
+        (15, 0xfff0_0000, ElfFault::SegmentOutsideMemory),
+        (18, 0x10_0000, ElfFault::SegmentOutsideMemory),
+        (6, 0x1_0002, ElfFault::EntryMisaligned),
+        (6, 0x1_1000, ElfFault::EntryNotExecutable),
+        (19, 6, ElfFault::EntryNotExecutable),
+        (13, 4, ElfFault::EntryNotExecutable),
+    ] {
+        let file = changed(rt.alloc(), at, word)?;
+        let view = ElfView::read(&file)?;
+        assert_eq!(rt;
+            place(rt.alloc(), &view, SPACE).err(),
+            Some(PlaceFault::Refused(fault))
+        );
+    }
+    Ok(())
+}
