@@ -1,0 +1,4 @@
+pub mod LineLaws
+pub mod KeptLaws
+pub mod UndoLaws
+pub mod EvenLaws
