@@ -1,0 +1,27 @@
+-- The hot pairs of two neighbouring ranges, by the addresses of their words.
+use Rattle.std.specs.Prelude.{◌≡◌, ℕ, ◌+◌, ◌*◌, ◌^◌, pos, nat_abs, ◌+ℤ◌, ◌≤ℤ◌, IsTrue, Option, Some, None}
+use Rattle.predator_base.specs.declared.layout.Range.{Range}
+use Rattle.sharing_rules.specs.Predicted.{is_native_size}
+use Rattle.hot_pairs.specs.declared.pair.Pair.{Pair}
+
+-- two lines of one native size, side by side, which lie from 0 to 2^32
+pub record AreNeighbours (lower upper : Range) : Type 0 where
+  pub native : IsTrue (is_native_size lower.size)
+  pub alike : upper.size ≡ lower.size
+  pub joined : upper.base ≡ (lower.base +ℤ pos lower.size)
+  pub begins : pos 0 ≤ℤ lower.base
+  pub ends : (upper.base +ℤ pos upper.size) ≤ℤ pos (2 ^ 32)
+
+-- How many bytes a pair may take, from the beginning of its lower word to the end of its upper one. Where no number
+-- is given, those of both lines of n bytes, in which every pair lies.
+abbrev pub reach : ℕ → Option ℕ → ℕ
+reach n None = 2 * n
+reach n (Some within) = within
+
+-- the address of word i of a range that begins at 0 or above
+abbrev pub word_at : Range → ℕ → ℕ
+word_at r i = nat_abs r.base + 4 * i
+
+-- the pair of the words at two places
+abbrev pub pair_at : Range → Range → ℕ × ℕ → Pair
+pair_at lower upper p = record { x = word_at lower p.0; y = word_at upper p.1 }

@@ -1,0 +1,11 @@
+//! The best hot pair of two neighbouring lines: the two words, one of each, that would be shared falsely
+//! if they came to lie on one line.
+#![tactic(auto)]
+
+mod pair;
+mod search;
+#[cfg(test)]
+mod tests;
+
+pub use pair::Pair;
+pub use search::best_pair;
