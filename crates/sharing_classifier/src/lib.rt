@@ -1,0 +1,109 @@
+//! The verdict over the words of a line: whether its sharing is false, true or mixed, and what false means.
+#![tactic(auto)]
+
+ghost use Rattle.std.specs.Prelude.{◌≡◌, ℕ, ◌||◌, ◌==◌, ◌/◌, drop, length, IsTrue, Some};
+ghost use Rattle.std.specs.List.{list_any, list_all};
+ghost use Rattle.predator_base.specs.Lines.{is_layout};
+ghost use Rattle.sharing_rules.specs.AccessLists.{AccessList};
+ghost use Rattle.sharing_rules.specs.Lines.{Line};
+ghost use Rattle.sharing_rules.specs.Tracks.{track_of};
+ghost use Rattle.sharing_rules.specs.Words.{words_since};
+ghost use Rattle.sharing_rules.specs.Verdicts as verdicts;
+ghost use Rattle.sharing_rules.specs.declared.line_kind.Verdict.TheVariants.{FalseSharing};
+ghost use Rattle.sharing_classifier.specs.Quiet.{HasQuietWords};
+
+pub use sharing_rules::Verdict;
+use sharing_rules::{Word, is_truly_shared};
+use word_shadow::Shadow;
+
+/// The verdict over the words of a shadow, of any range.
+///
+/// Where it is false, no word would be taken from a hart if each word had a line of its own.
+pub fn verdict(shadow: &Shadow) -> Verdict
+    ensures value { result ≡ verdicts.verdict_of shadow.now.words }
+    // where the words are those of a line since a position, false means that the accesses from there on, as a list
+    // of their own, invalidate no word of the line
+    ensures quiet { (l : Line) (s : ℕ) (t : AccessList) → IsTrue (is_layout l.size l.offset)
+        → shadow.now.words ≡ words_since l s t → result ≡ FalseSharing → HasQuietWords l (drop s t) }
+    // the same for the track of a line, from its start
+    ensures tracked { (l : Line) (from s : ℕ) (t : AccessList) → IsTrue (is_layout l.size l.offset)
+        → (track_of l from t).start ≡ Some s → shadow.now.words ≡ (track_of l from t).words
+        → result ≡ FalseSharing → HasQuietWords l (drop s t) }
+{
+    if !is_any_shared(shadow) {
+        Verdict::FalseSharing
+    } else if is_each_written_shared(shadow) {
+        Verdict::TrueSharing
+    } else {
+        Verdict::Mixed
+    }
+}
+
+// Whether some word is truly shared.
+fn is_any_shared(shadow: &Shadow) -> bool
+    ensures { result ≡ list_any verdicts.is_truly_shared shadow.now.words }
+{
+    for i in 0..word_count(shadow) {
+        if is_truly_shared(&shadow.word(i)) {
+            return true;
+        }
+    }
+    false
+}
+
+// Whether every written word is truly shared.
+fn is_each_written_shared(shadow: &Shadow) -> bool
+    ensures { result ≡ list_all (λ w. verdicts.is_truly_shared w || (w.writes == 0)) shadow.now.words }
+{
+    for i in 0..word_count(shadow) {
+        if !is_shared_if_written(&shadow.word(i)) {
+            return false;
+        }
+    }
+    true
+}
+
+// Whether a word is truly shared, or no one wrote it.
+fn is_shared_if_written(word: &Word) -> bool
+    ensures { result ≡ (verdicts.is_truly_shared word.now || (word.now.writes == 0)) }
+{
+    is_truly_shared(word) || word.writes == 0
+}
+
+// How many words a shadow has.
+fn word_count(shadow: &Shadow) -> u32
+    ensures value { result ≡ length shadow.now.words }
+    ensures count { result ≡ shadow.now.range.size / 4 }
+{
+    shadow.range().size / 4
+}
+
+#[cfg(test)]
+mod tests {
+    use super::*;
+    use predator_base::{Access, Hart, Kind, Range};
+    use std::test::Fail;
+
+    #[test]
+    fn judges_each_access_more(rt: HostRuntime) -> Result<(), Fail> {
+        let range = Range {
+            base: 0x1000,
+            size: 32,
+        };
+        let mut shadow = Shadow::new(rt.alloc(), range)?;
+        for (number, addr, kind, want) in [
+            (0, 0x1000, Kind::Write, Verdict::FalseSharing),
+            (1, 0x1004, Kind::Write, Verdict::FalseSharing),
+            (1, 0x1000, Kind::Read, Verdict::Mixed),
+            (0, 0x1004, Kind::Read, Verdict::TrueSharing),
+        ] {
+            let hart = Hart::new(number).ok_or("a hart")?;
+            let access = Access::new(hart, addr, kind, 4).ok_or("a word")?;
+            assert!(rt; shadow.range().contains(access.addr()));
+            assert!(rt; shadow.total() < 1 << 40);
+            shadow.note(access);
+            assert_eq!(rt; verdict(&shadow), want, "after {access:?}");
+        }
+        Ok(())
+    }
+}
