@@ -6,6 +6,8 @@
 #![tactic(auto)]
 
 mod ranges;
+#[cfg(test)]
+mod tests;
 mod track;
 mod tracks;
 
