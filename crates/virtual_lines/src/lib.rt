@@ -12,5 +12,6 @@ mod track;
 mod tracks;
 
 pub use ranges::{doubled_range, shifted_range};
+pub use sharing_rules::LineKind;
 pub use track::{Mark, Track};
 pub use tracks::Tracks;

@@ -6,3 +6,4 @@
 mod shadow;
 
 pub use shadow::Shadow;
+pub use sharing_rules::{Owner, Word};
