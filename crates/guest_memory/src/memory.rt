@@ -61,6 +61,7 @@ impl Memory {
         ensures value { result ≡ size_of self.now }
         ensures aligned { result % 4096 ≡ 0 }
         ensures room { self.now.base + result ≤ 0xfffff000 }
+        ensures pages { result ≡ 4096 * length self.now.pages }
     {
         self.bytes.len() as u32
     }
