@@ -26,7 +26,7 @@ harts_in_order harts = range_with_len 0 harts
 abbrev pub harts_after : ℕ → ℕ → List ℕ
 harts_after harts hart = range_with_len (hart + 1) (harts - (hart + 1)) ++ range_with_len 0 (hart + 1)
 
--- the hart of a streak goes on: it is runnable, and has had fewer turns in a row than the quantum
+-- the hart of a streak goes on: it is runnable, and has had fewer turns in a row than the quantum, so never where that is 0
 abbrev pub goes_on : List Bool → ℕ → Streak → Bool
 goes_on runnable quantum streak = is_runnable runnable streak.hart && nat_lt streak.turns quantum
 

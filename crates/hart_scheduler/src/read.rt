@@ -61,7 +61,8 @@ fn read_entries(alloc: Global, content: &[u8], harts: u16) -> Result<Vec<Entry>,
 
 impl Schedule {
     /// The schedule of a file's content, for harts 0 to `harts` - 1 and turns in a row of `quantum`, or its
-    /// first fault. `harts` is from 1 to 256, `quantum` from 1 to 2^20.
+    /// first fault. `harts` is from 1 to 256, `quantum` any number. With a quantum of 0 no hart goes on by
+    /// itself, and each turn goes to the next runnable one.
     ///
     /// Lines end at a line feed, which the last may lack, and empty lines are skipped. Each other line is a
     /// hart, one space and a count, in decimal without leading zeros. `TooLong` comes exactly where there is
@@ -75,8 +76,6 @@ impl Schedule {
     ) -> Result<Schedule, ScheduleFault>
         requires some { 1 ≤ harts }
         requires bound { harts ≤ 256 }
-        requires least { 1 ≤ quantum }
-        requires most { quantum ≤ 2 ^ 20 }
         ensures accepted { IfOk result (λ plan. schedule_of harts quantum content.now ≡ Ok plan) }
         ensures refused { IfErr result (λ fault. UnlessMemory fault (schedule_of harts quantum content.now ≡ Err fault)) }
         // A line is a hart and a count just where it is written as `{hart} {count}`.

@@ -35,9 +35,7 @@ impl Model for Schedule {
 impl Schedule {
     // The schedule of these entries.
     pub(crate) fn of_entries(entries: Vec<Entry>, harts: u16, quantum: u32) -> Schedule
-        requires bound { harts ≤ 256 }
-        requires least { 1 ≤ quantum }
-        requires most { quantum ≤ 2 ^ 20 }
+        requires { harts ≤ 256 }
         ensures { result ≡ plan_of harts quantum entries.items }
     {
         Schedule {

@@ -38,11 +38,10 @@ impl Streak {
 
     // How many turns in a row a hart has had with one more, counted up to the quantum.
     pub(crate) fn turns_with(self, hart: Hart, quantum: u32) -> u32
-        requires { self.turns < 2 ^ 32 - 1 }
         ensures { result ≡ turns_with quantum hart self }
     {
         if self.hart == hart {
-            (self.turns + 1).min(quantum)
+            self.turns.saturating_add(1).min(quantum)
         } else {
             1
         }
