@@ -1,2 +1,3 @@
+mod AskedLemmas
 mod NumberLemmas
-mod ReplayLemmas
+mod ValueLemmas

@@ -1,4 +1,6 @@
 pub mod Numbers
 pub mod Layouts
+pub mod Names
+pub mod Apps
 pub mod Words
 pub mod Demands

@@ -5,9 +5,13 @@
 //! `--name value` or `--name=value`, at most once, in any order; after `--` every word is positional.
 #![tactic(auto)]
 
+mod check;
 mod demand;
+mod forms;
 mod layout;
+mod names;
 mod replay;
+mod run;
 #[cfg(test)]
 mod tests;
 mod words;

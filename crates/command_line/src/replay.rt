@@ -1,25 +1,25 @@
 // The command `replay`.
 ghost use Rattle.std.specs.Prelude.{◌≡◌, ◌≢◌, IfOk, IfErr, Some, None, [], option_map};
 ghost use Rattle.clap.specs.Words.{app_of, fault_of, found_of, matches_of, rows_of};
-ghost use Rattle.command_line.specs.Words.{asked_of_replay, replay_app, replay_of};
+ghost use Rattle.command_line.specs.Apps.{replay_app};
+ghost use Rattle.command_line.specs.Words.{asked_of_replay, replay_of};
 ghost use Rattle.command_line.specs.Demands.{meaning, texts, UnlessMemory};
 
 use crate::demand::{Demand, WordsFault};
+use crate::forms::{long_option, matches_by, plain_command, positional};
 use crate::layout::read_layout;
-use clap::error::ErrorKind;
-use clap::{Arg, ArgMatches, Command};
+use clap::{ArgMatches, Command};
 use std::alloc::{AllocError, Global};
 
-// The command, as `clap` knows it. `--help` is a word like any other.
+// The command, as `clap` knows it.
 fn replay_command<'a>(alloc: Global) -> Result<Command<'a>, AllocError>
     ensures { IfOk result (λ command. app_of command ≡ replay_app) }
 {
-    let trace = Arg::new(alloc, "trace").required(true);
-    let settings = Arg::new(alloc, "settings").long("settings");
-    let size = Arg::new(alloc, "size").long("size");
-    let shift = Arg::new(alloc, "shift").long("shift");
-    Command::new(alloc, "replay")
-        .disable_help_flag(true)
+    let trace = positional(alloc, "trace");
+    let settings = long_option(alloc, "settings");
+    let size = long_option(alloc, "size");
+    let shift = long_option(alloc, "shift");
+    plain_command(alloc, "replay")
         .arg(trace)?
         .arg(settings)?
         .arg(size)?
@@ -32,18 +32,9 @@ fn replay_matches<'a>(alloc: Global, words: &'a [String]) -> Result<ArgMatches<'
     ensures rows { IfOk result (λ matches. rows_of (found_of matches) ≡ matches_of replay_app (texts words.now)) }
     ensures refused { IfErr result (λ fault. UnlessMemory fault (fault_of replay_app (texts words.now) ≢ [])) }
 {
-    let Ok(command) = replay_command(alloc) else {
-        return Err(WordsFault::NoMemory);
-    };
-    match command.try_get_matches_from(words) {
-        Ok(matches) => Ok(matches),
-        Err(error) => {
-            if error.kind() == ErrorKind::OutOfMemory {
-                Err(WordsFault::NoMemory)
-            } else {
-                Err(WordsFault::Usage)
-            }
-        }
+    match replay_command(alloc) {
+        Ok(command) => matches_by(command, words),
+        Err(AllocError) => Err(WordsFault::NoMemory),
     }
 }
 

@@ -39,6 +39,21 @@ fn replay<'a>(
     })
 }
 
+fn run<'a>(
+    settings: Option<&'a str>,
+    schedule: Option<&'a str>,
+    trace: Option<&'a str>,
+    output: Option<&'a str>,
+) -> Result<Demand<'a>, WordsFault> {
+    Ok(Demand::Run {
+        program: "p",
+        settings,
+        schedule,
+        trace,
+        output,
+    })
+}
+
 #[test]
 fn reads_a_trace(rt: HostRuntime) -> Result<(), Fail> {
     let alloc = rt.alloc();
@@ -90,5 +105,48 @@ fn refuses_other_numbers(rt: HostRuntime) -> Result<(), Fail> {
     assert!(rt; is_usage(alloc, "replay a --size=")?);
     assert!(rt; is_usage(alloc, "replay a --size=+64")?);
     assert!(rt; is_usage(alloc, "replay a --size 4294967360")?);
+    Ok(())
+}
+
+#[test]
+fn reads_a_program(rt: HostRuntime) -> Result<(), Fail> {
+    let alloc = rt.alloc();
+    let check = Ok(Demand::Check {
+        program: "p",
+        settings: Some("s"),
+    });
+    assert!(rt; is_answered(alloc, "check --settings s p", &check)?);
+    assert!(rt; is_answered(alloc, "run p", &run(None, None, None, None))?);
+    let all = run(Some("s"), Some("l"), Some("t"), Some("o"));
+    assert!(rt;
+        is_answered(
+            alloc,
+            "run --output o --trace=t p --schedule l --settings s",
+            &all
+        )?
+    );
+    Ok(())
+}
+
+#[test]
+fn refuses_other_programs(rt: HostRuntime) -> Result<(), Fail> {
+    let alloc = rt.alloc();
+    assert!(rt; is_usage(alloc, "check")?);
+    assert!(rt; is_usage(alloc, "check p --schedule s")?);
+    assert!(rt; is_usage(alloc, "run")?);
+    assert!(rt; is_usage(alloc, "run p q")?);
+    assert!(rt; is_usage(alloc, "run p --trace t --trace u")?);
+    Ok(())
+}
+
+#[test]
+fn refuses_one_name_for_two_files(rt: HostRuntime) -> Result<(), Fail> {
+    let alloc = rt.alloc();
+    assert!(rt; is_usage(alloc, "run p --trace p")?);
+    assert!(rt; is_usage(alloc, "run p --output s --settings s")?);
+    assert!(rt; is_usage(alloc, "run p --schedule s --output=s")?);
+    assert!(rt; is_usage(alloc, "run p --output t --trace t")?);
+    let one_input = run(Some("p"), Some("p"), None, None);
+    assert!(rt; is_answered(alloc, "run p --settings p --schedule p", &one_input)?);
     Ok(())
 }

@@ -1,7 +1,7 @@
 use Rattle.std.proofs.Common.{rules, refl, codes}
 use Rattle.clap.specs.Words.{first_value, found_of}
 use Rattle.command_line.specs.Demands.{text_of}
-use Rattle.command_line.proofs.ReplayLemmas.{replay_of-values}
+use Rattle.command_line.proofs.ValueLemmas.{replay_of-values}
 use Rattle.command_line.proofs.replay.demand_in.Goals as goal
 
 pub returns-in_err-trace : goal.returns-in_err-trace

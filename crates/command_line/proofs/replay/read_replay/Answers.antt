@@ -1,16 +1,18 @@
 use Rattle.std.proofs.Common.{sym, ◌∙◌}
 use Rattle.clap.specs.Words.{found_of, rows_of}
+use Rattle.command_line.specs.Apps.{replay_app}
 use Rattle.command_line.specs.Demands.{texts}
-use Rattle.command_line.proofs.ReplayLemmas.{UnlessMemory-weaker, asked_of_replay-refused, asked_of_replay-taken}
+use Rattle.command_line.specs.Words.{replay_of}
+use Rattle.command_line.proofs.AskedLemmas.{UnlessMemory-weaker, asked-refused, asked-taken}
 use Rattle.command_line.proofs.replay.read_replay.Goals as goal
 
 pub returns-in-Some-clause-accepted : goal.returns-in-Some-clause-accepted
 returns-in-Some-clause-accepted c =
-    sym (c.in-Some.ensures ∙ asked_of_replay-taken (texts c.args.words.now) (rows_of (found_of c.in-Ok.matches)) c.in-Ok.ensures.taken c.in-Ok.ensures.rows)
+    sym (c.in-Some.ensures ∙ asked-taken replay_app replay_of (texts c.args.words.now) (rows_of (found_of c.in-Ok.matches)) c.in-Ok.ensures.taken c.in-Ok.ensures.rows)
 
 pub returns-in-Ok-clause-refused : goal.returns-in-Ok-clause-refused
 returns-in-Ok-clause-refused c =
-    sym (c.in-None.ensures ∙ asked_of_replay-taken (texts c.args.words.now) (rows_of (found_of c.in-Ok.matches)) c.in-Ok.ensures.taken c.in-Ok.ensures.rows)
+    sym (c.in-None.ensures ∙ asked-taken replay_app replay_of (texts c.args.words.now) (rows_of (found_of c.in-Ok.matches)) c.in-Ok.ensures.taken c.in-Ok.ensures.rows)
 
 pub returns-clause-refused : goal.returns-clause-refused
-returns-clause-refused c = UnlessMemory-weaker c.in-Err.fault (asked_of_replay-refused (texts c.args.words.now)) c.in-Err.ensures.refused
+returns-clause-refused c = UnlessMemory-weaker c.in-Err.fault (asked-refused replay_app replay_of (texts c.args.words.now)) c.in-Err.ensures.refused
