@@ -5,3 +5,4 @@ pub mod Apart
 pub mod Placing
 mod Worked
 pub mod Rooms
+pub mod Wholes

@@ -1,5 +1,5 @@
 -- The room that a file without a fault has in memory.
-use Rattle.std.proofs.Common.{◌≡◌, ℕ, ◌+◌, ◌<◌, ◌≤◌, List, [], ◌∷◌, false, not, ◌&&◌, ◌||◌, nat_lt, None, length, arith}
+use Rattle.std.proofs.Common.{◌≡◌, ℕ, zero, suc, ◌+◌, ◌-◌, ◌*◌, ◌%◌, ◌<◌, ◌≤◌, List, [], ◌∷◌, false, not, ◌&&◌, ◌||◌, nat_lt, None, length, arith}
 use Rattle.std.proofs.lemmas.Bool.Decides.{nat_tests}
 use Rattle.std.specs.List.{list_any}
 use Rattle.elf_loader.specs.Fields.{entry_of}
@@ -43,3 +43,11 @@ heap_behind memory stacks file h =
     omega arith
 
 pub ruleset rooms = (top_low, has_room, heap_behind)
+
+whole_stacks : (n stack : ℕ) → stack % 4096 ≡ 0 → n * stack % 4096 ≡ 0
+whole_stacks zero stack h = omega arith
+whole_stacks (suc n) stack h = let rest = whole_stacks n stack h in omega arith
+
+-- the stacks begin at a whole page
+pub whole_below : (base size n stack : ℕ) → base % 4096 ≡ 0 → size % 4096 ≡ 0 → stack % 4096 ≡ 0 → (base + size - n * stack) % 16 ≡ 0
+whole_below base size n stack b s h = let stacks = whole_stacks n stack h in omega arith

@@ -1,5 +1,5 @@
 -- Worked program files: some that are accepted, and some that are refused.
-use Rattle.std.proofs.Common.{◌≡◌, ℕ, ◌+◌, ◌*◌, List, [], ◌∷◌, ◌++◌, Some, None, take, refl}
+use Rattle.std.proofs.Common.{◌≡◌, ℕ, ◌+◌, ◌*◌, List, [], ◌∷◌, ◌++◌, Some, None, true, false, take, refl}
 use Rattle.std.specs.List.{flat_map}
 use Rattle.byteorder.specs.Endian.{little_bytes}
 use Rattle.heap_objects.specs.declared.symbol.SymbolKind.TheVariants.{Function}
@@ -7,6 +7,10 @@ use Rattle.elf_loader.specs.Fields.{field16, field32}
 use Rattle.elf_loader.specs.Faults.{read_fault, symbols_fault}
 use Rattle.elf_loader.specs.Programs.{segments_of}
 use Rattle.elf_loader.specs.Symbols.{symbols_of}
+use Rattle.elf_loader.specs.Images.{image_byte, image_page}
+use Rattle.elf_loader.specs.PlacedImages.{place_fault, image_of}
+use Rattle.elf_loader.specs.declared.image.Space.{Space}
+use Rattle.elf_loader.specs.declared.image.Image.{Image}
 use Rattle.elf_loader.specs.declared.fault.ElfFault.TheVariants.{TooShort, BadMachine, BadFlags, HeadersOutside, SegmentOutsideFile, SegmentSizes, SegmentOverlap, BadSymbols, BadSymbolName}
 
 -- the bytes of words
@@ -37,6 +41,37 @@ accepted = refl
 placed : segments_of (file 243 0 12) ≡ record { addr = 0x10000; size = 12; flags = 7; content = 147 ∷ 8 ∷ 208 ∷ 5 ∷ 19 ∷ 5 ∷ 112 ∷ 0 ∷ 115 ∷ 0 ∷ 0 ∷ 0 ∷ [] } ∷ []
 unfolding field16 field32 file header segment code bytes
 placed = refl
+
+-- 16 MiB of memory, and a stack of 64 KiB for each of 8 harts
+space : Space
+space = record { memory = 0x1000000; stack = 0x10000; harts = 8 }
+
+has_room : place_fault space (file 243 0 12) ≡ None
+unfolding field16 field32 file header segment code bytes space
+has_room = refl
+
+placed_in : Image
+placed_in = image_of space (file 243 0 12)
+
+heap_and_stacks : (placed_in.heap_start ≡ 0x11000) × (placed_in.heap_end ≡ 0xf90000) × (placed_in.top ≡ 0x1010000)
+unfolding placed_in field16 field32 file header segment code bytes space
+heap_and_stacks = (refl, refl, refl)
+
+byte_of_code : image_byte (segments_of (file 243 0 12)) 0x10002 ≡ 208
+unfolding field16 field32 file header segment code bytes
+byte_of_code = refl
+
+byte_behind : image_byte (segments_of (file 243 0 12)) 0x1000c ≡ 0
+unfolding field16 field32 file header segment code bytes
+byte_behind = refl
+
+page_of_code : image_page (segments_of (file 243 0 12)) 0x11000 0x1010000 0x10ffc ≡ record { mapped = true; writable = true; executable = true }
+unfolding field16 field32 file header segment code bytes
+page_of_code = refl
+
+page_of_the_heap : image_page (segments_of (file 243 0 12)) 0x11000 0x1010000 0x11000 ≡ record { mapped = true; writable = true; executable = false }
+unfolding field16 field32 file header segment code bytes
+page_of_the_heap = refl
 
 cut_in_the_file_header : read_fault (take 51 (file 243 0 12)) ≡ Some TooShort
 unfolding field16 field32 file header segment code bytes

@@ -1,7 +1,7 @@
--- The image of a program file: the memory that its segments, the heap and the stacks take, and where each lies.
-use Rattle.std.specs.Prelude.{◌≡◌, ℕ, ◌+◌, ◌-◌, ◌*◌, ◌/◌, ◌%◌, ◌^◌, ◌==◌, Bool, not, ◌&&◌, ◌||◌, nat_lt, nat_le, min, max, List, [], ◌∷◌, length, find, slice_index}
+-- The memory of a program file: what its segments, the heap and the stacks take, and where each lies.
+use Rattle.std.specs.Prelude.{◌≡◌, ℕ, ◌+◌, ◌-◌, ◌*◌, ◌/◌, ◌%◌, ◌^◌, ◌==◌, Bool, not, ◌&&◌, ◌||◌, nat_lt, nat_le, min, max, List, [], ◌∷◌, length, map, find, slice_index}
 use Rattle.std.specs.Option.{option_map_or}
-use Rattle.std.specs.List.{list_any}
+use Rattle.std.specs.List.{list_any, range_with_len}
 use Rattle.guest_memory.specs.declared.page.Page.{Page}
 use Rattle.guest_memory.specs.Space.{Space, byte_at, page_at, size_of, is_among}
 use Rattle.guest_memory.specs.Changes.{touches}
@@ -93,3 +93,10 @@ pub record IsImage (segments : List Loaded) (memory : ℕ) (m : Space) : Type 0 
   pub size : size_of m ≡ memory
   pub bytes : (a : ℕ) → byte_at m a ≡ image_byte segments a
   pub pages : (a : ℕ) → page_at m a ≡ image_page segments (heap_start_of segments) (top_of memory segments) a
+
+-- the memory that holds it: the byte of each address from the base on, and the rights of each page
+unfoldable pub memory_of : ℕ → List Loaded → Space
+memory_of memory segments =
+    let base = base_of segments in
+    let rights = image_page segments (heap_start_of segments) (top_of memory segments) in
+    record { base = base; bytes = map (λ i. image_byte segments (base + i)) (range_with_len 0 memory); pages = map (λ k. rights (base + 4096 * k)) (range_with_len 0 (memory / 4096)) }

@@ -3,7 +3,7 @@ use Rattle.std.specs.Prelude.{◌≡◌, ℕ, ◌-◌, ◌*◌, ◌%◌, ◌≤�
 use Rattle.elf_loader.specs.Fields.{entry_of}
 use Rattle.elf_loader.specs.Programs.{segments_of}
 use Rattle.elf_loader.specs.Faults.{first_fault}
-use Rattle.elf_loader.specs.Images.{top_of, heap_start_of, place_faults, IsImage}
+use Rattle.elf_loader.specs.Images.{top_of, heap_start_of, place_faults, IsImage, memory_of}
 use Rattle.elf_loader.specs.declared.fault.ElfFault.{ElfFault}
 use Rattle.elf_loader.specs.declared.image.Space.{Space}
 use Rattle.elf_loader.specs.declared.image.Image.{Image}
@@ -33,3 +33,10 @@ pub record IsImageOf (file : List ℕ) (space : Space) (image : Image) : Type 0 
   pub room : image.heap_start ≤ image.heap_end
   pub stack : image.stack ≡ space.stack
   pub harts : image.harts ≡ space.harts
+
+-- it, as a value
+abbrev pub image_of : Space → List ℕ → Image
+image_of space file =
+    let segments = segments_of file in
+    let top = top_of space.memory segments in
+    record { memory = memory_of space.memory segments; entry = entry_of file; heap_start = heap_start_of segments; heap_end = top - space.harts * space.stack; top = top; stack = space.stack; harts = space.harts }

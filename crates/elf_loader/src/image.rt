@@ -7,7 +7,7 @@ ghost use Rattle.elf_loader.specs.Fields.{entry_of};
 ghost use Rattle.elf_loader.specs.Programs.{segments_of};
 ghost use Rattle.elf_loader.specs.Images.{may_run, may_write, least, greatest_end, base_of, top_of, heap_start_of, has_no_room, runs_at, place_faults, image_byte, IsImage};
 ghost use Rattle.elf_loader.specs.Faults.{first_fault, read_fault};
-ghost use Rattle.elf_loader.specs.PlacedImages.{IsAllowedSpace, place_fault, IsImageOf};
+ghost use Rattle.elf_loader.specs.PlacedImages.{IsAllowedSpace, place_fault, IsImageOf, image_of};
 ghost use Rattle.elf_loader.specs.declared.fault.ElfFault.{ElfFault};
 ghost use Rattle.elf_loader.specs.Placing.{AreApart, AreWithin, with_segments};
 
@@ -233,6 +233,7 @@ fn places_of(view: &ElfView<'_>, memory: u32, stacks: u32) -> (u32, u32)
 /// It takes memory for all of the space.
 ///
 /// Refused with the first fault of `SegmentOutsideMemory`, `EntryMisaligned` and `EntryNotExecutable`.
+#[tactic(auto, using(crate::proofs::Wholes::whole_memory, crate::proofs::Rooms::whole_below))]
 pub fn place(alloc: Global, view: &ElfView<'_>, space: Space) -> Result<Image, PlaceFault>
     requires { IsAllowedSpace space }
 
@@ -240,8 +241,16 @@ pub fn place(alloc: Global, view: &ElfView<'_>, space: Space) -> Result<Image, P
     ensures accepted { OnOk result (place_fault space view.now ≡ None) }
     ensures refused { IfErr result (λ fault. (e : ElfFault) → fault ≡ PlaceFault.Refused e → place_fault space view.now ≡ Some e) }
 
-    // What is placed is the image.
+    // What is placed is the image, said address by address and as a value.
     ensures placed { IfOk result (λ image. IsImageOf view.now space image) }
+    ensures whole { IfOk result (λ image. image ≡ image_of space view.now) }
+
+    // A guest can start in it: at a whole instruction, with a heap of whole blocks below the stacks.
+    ensures entry { IfOk result (λ image. image.entry % 4 ≡ 0) }
+    ensures heap_start { IfOk result (λ image. image.heap_start % 16 ≡ 0) }
+    ensures heap_end { IfOk result (λ image. image.heap_end % 16 ≡ 0) }
+    ensures heap { IfOk result (λ image. image.heap_start ≤ image.heap_end) }
+    ensures stacks { IfOk result (λ image. image.heap_end + image.harts * image.stack ≡ image.top) }
 {
     let stacks = u32::from(space.harts) * space.stack;
     if let Some(fault) = place_fault(view, space.memory, stacks) {
@@ -249,11 +258,11 @@ pub fn place(alloc: Global, view: &ElfView<'_>, space: Space) -> Result<Image, P
     }
     let entry = view.entry();
     let (base, heap_start) = places_of(view, space.memory, stacks);
-    let top = base + space.memory;
     let memory = match image_memory(alloc, view, base, space.memory, heap_start) {
         Ok(memory) => memory,
         Err(NoMemory) => return Err(PlaceFault::NoMemory),
     };
+    let top = memory.base() + memory.size();
     Ok(Image {
         memory,
         entry,

@@ -19,4 +19,6 @@ pub use symbol::{SymbolView, Symbols};
 pub use view::ElfView;
 
 #[cfg(test)]
+mod linked;
+#[cfg(test)]
 mod tests;

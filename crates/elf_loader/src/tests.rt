@@ -1,4 +1,4 @@
-// One good file, a few words of it changed, and the file cut at every length.
+// One good file, some words of it changed, and the file cut at every length.
 
 use crate::{ElfFault, ElfView, PlaceFault, Space, place};
 use std::alloc::{AllocError, Global};
@@ -46,10 +46,22 @@ const SECTION_HEADERS: [u32; 30] = [
     0, 0, 0, 0, 0, 0, 0, 0, 0, 0, 0, 2, 0, 0, 96, 48, 2, 0, 4, 16, 0, 3, 0, 0, 144, 8, 0, 0, 1, 0,
 ];
 
-// The file, with one word of it changed.
-fn changed(alloc: Global, at: usize, word: u32) -> Result<Vec<u8>, AllocError> {
+// Puts words behind those of a file. A change is of the word with its number in the file.
+fn put(file: &mut Vec<u8>, words: &[u32], changes: &[(usize, u32)]) -> Result<(), AllocError> {
+    for old in words {
+        let n = file.len() / 4;
+        let word = match changes.iter().find(|(at, _)| *at == n) {
+            Some((_, new)) => *new,
+            None => *old,
+        };
+        file.extend_from_slice(&word.to_le_bytes())?;
+    }
+    Ok(())
+}
+
+// The file, with some words of it changed.
+fn changed(alloc: Global, changes: &[(usize, u32)]) -> Result<Vec<u8>, AllocError> {
     let mut file = Vec::new(alloc);
-    let mut n = 0usize;
     for part in [
         FILE_HEADER.as_slice(),
         PROGRAM_HEADER.as_slice(),
@@ -58,17 +70,29 @@ fn changed(alloc: Global, at: usize, word: u32) -> Result<Vec<u8>, AllocError> {
         NAMES.as_slice(),
         SECTION_HEADERS.as_slice(),
     ] {
-        for old in part {
-            let new = if n == at { word } else { *old };
-            file.extend_from_slice(&new.to_le_bytes())?;
-            n = n.wrapping_add(1);
-        }
+        put(&mut file, part, changes)?;
     }
     Ok(file)
 }
 
 fn good(alloc: Global) -> Result<Vec<u8>, AllocError> {
-    changed(alloc, 100, 0)
+    changed(alloc, &[])
+}
+
+// The same, with the section headers before the symbols.
+fn with_sections_first(alloc: Global) -> Result<Vec<u8>, AllocError> {
+    let mut file = Vec::new(alloc);
+    for part in [
+        FILE_HEADER.as_slice(),
+        PROGRAM_HEADER.as_slice(),
+        CODE.as_slice(),
+        SECTION_HEADERS.as_slice(),
+        SYMBOLS.as_slice(),
+        NAMES.as_slice(),
+    ] {
+        put(&mut file, part, &[(8, 96), (38, 216), (48, 264)])?;
+    }
+    Ok(file)
 }
 
 #[test]
@@ -104,15 +128,21 @@ fn refuses_the_first_fault(rt: HostRuntime) -> Result<(), Fail> {
         (4, 0x003e_0002, ElfFault::BadMachine),
         (9, 1, ElfFault::BadFlags),
         (10, 0x0021_0034, ElfFault::BadHeaderSize),
+        (10, 0xffff_0034, ElfFault::BadHeaderSize),
+        (11, 0xffff_0001, ElfFault::BadHeaderSize),
         (11, 0x0028_ffff, ElfFault::HeadersOutside),
+        (12, 0xffff, ElfFault::HeadersOutside),
         (7, 0xffff_fff0, ElfFault::HeadersOutside),
+        (8, 0xffff_fff0, ElfFault::HeadersOutside),
         (13, 2, ElfFault::Dynamic),
+        (13, 3, ElfFault::Dynamic),
         (14, 0xffff_fff8, ElfFault::SegmentOutsideFile),
         (17, 0xffff_ffff, ElfFault::SegmentOutsideFile),
         (17, 16, ElfFault::SegmentSizes),
         (18, 0xffff_ffff, ElfFault::SegmentSizes),
+        (15, 0xffff_fff5, ElfFault::SegmentSizes),
     ] {
-        let file = changed(rt.alloc(), at, word)?;
+        let file = changed(rt.alloc(), &[(at, word)])?;
         assert_eq!(rt; ElfView::read(&file).err(), Some(fault));
     }
     Ok(())
@@ -124,22 +154,54 @@ fn refuses_symbols(rt: HostRuntime) -> Result<(), Fail> {
         (57, 24, ElfFault::BadSymbols),
         (53, 40, ElfFault::BadSymbols),
         (52, 0xffff_fff0, ElfFault::BadSymbols),
+        (53, 0xffff_fff0, ElfFault::BadSymbols),
         (54, 3, ElfFault::BadSymbols),
+        (54, 0xffff_ffff, ElfFault::BadSymbols),
         (59, 1, ElfFault::BadSymbols),
         (63, 0xffff_ffff, ElfFault::BadSymbols),
         (28, 8, ElfFault::BadSymbolName),
+        (28, 0xffff_ffff, ElfFault::BadSymbolName),
         (63, 3, ElfFault::BadSymbolName),
     ] {
-        let file = changed(rt.alloc(), at, word)?;
+        let file = changed(rt.alloc(), &[(at, word)])?;
         let view = ElfView::read(&file)?;
         assert_eq!(rt; view.symbols().err(), Some(fault));
     }
     Ok(())
 }
 
+// Numbers at their ends: a segment at the last page of all addresses, and one that has no bytes in the file.
 #[test]
-fn refuses_every_cut(rt: HostRuntime) -> Result<(), Fail> {
+fn judges_sums_past_the_end(rt: HostRuntime) -> Result<(), Fail> {
+    let last = (15, 0xffff_f000);
+    let far = (14, 0xffff_ffff);
+    for (changes, fault) in [
+        (
+            [last, (17, 0x2000), (18, 0x2000)],
+            Some(ElfFault::SegmentOutsideFile),
+        ),
+        ([last, (18, 0x2000), (19, 7)], Some(ElfFault::SegmentSizes)),
+        ([last, (18, 0x1001), (19, 7)], Some(ElfFault::SegmentSizes)),
+        ([last, (18, 0x1000), (19, 7)], None),
+        (
+            [far, (17, 0xffff_ffff), (18, 0xffff_ffff)],
+            Some(ElfFault::SegmentOutsideFile),
+        ),
+        ([far, (17, 1), (18, 1)], Some(ElfFault::SegmentOutsideFile)),
+        ([far, (17, 0), (18, 0)], None),
+        ([(11, 0), (10, 0xffff_0034), (12, 0)], None),
+    ] {
+        let file = changed(rt.alloc(), &changes)?;
+        assert_eq!(rt; ElfView::read(&file).err(), fault);
+    }
+    Ok(())
+}
+
+// A file that is cut lacks its section headers, which stand last. One without sections may end behind its segment.
+#[test]
+fn judges_every_cut(rt: HostRuntime) -> Result<(), Fail> {
     let file = good(rt.alloc())?;
+    let plain = changed(rt.alloc(), &[(12, 0)])?;
     for n in 0..file.len() {
         let fault = if n < 52 {
             ElfFault::TooShort
@@ -148,6 +210,32 @@ fn refuses_every_cut(rt: HostRuntime) -> Result<(), Fail> {
         };
         assert_eq!(rt; ElfView::read(&file[..n]).err(), Some(fault));
     }
+    for n in 0..=plain.len() {
+        let fault = if n < 52 {
+            Some(ElfFault::TooShort)
+        } else if n < 84 {
+            Some(ElfFault::HeadersOutside)
+        } else if n < 96 {
+            Some(ElfFault::SegmentOutsideFile)
+        } else {
+            None
+        };
+        assert_eq!(rt; ElfView::read(&plain[..n]).err(), fault);
+    }
+    Ok(())
+}
+
+// A file that is cut in its symbols or in their names can be read.
+#[test]
+fn judges_every_cut_of_symbols(rt: HostRuntime) -> Result<(), Fail> {
+    let file = with_sections_first(rt.alloc())?;
+    for n in 216..file.len() {
+        let view = ElfView::read(&file[..n])?;
+        assert_eq!(rt; view.symbols().err(), Some(ElfFault::BadSymbols));
+    }
+    let view = ElfView::read(&file)?;
+    let symbol = view.symbols()?.next().ok_or("no symbol")?;
+    assert_eq!(rt; symbol.name, b"run".as_slice());
     Ok(())
 }
 
@@ -174,13 +262,14 @@ fn places_a_file(rt: HostRuntime) -> Result<(), Fail> {
 fn refuses_to_place(rt: HostRuntime) -> Result<(), Fail> {
     for (at, word, fault) in [
         (15, 0xfff0_0000, ElfFault::SegmentOutsideMemory),
+        (15, 0xffff_fff4, ElfFault::SegmentOutsideMemory),
         (18, 0x10_0000, ElfFault::SegmentOutsideMemory),
         (6, 0x1_0002, ElfFault::EntryMisaligned),
         (6, 0x1_1000, ElfFault::EntryNotExecutable),
         (19, 6, ElfFault::EntryNotExecutable),
         (13, 4, ElfFault::EntryNotExecutable),
     ] {
-        let file = changed(rt.alloc(), at, word)?;
+        let file = changed(rt.alloc(), &[(at, word)])?;
         let view = ElfView::read(&file)?;
         assert_eq!(rt;
             place(rt.alloc(), &view, SPACE).err(),
