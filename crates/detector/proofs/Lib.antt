@@ -1,5 +1,6 @@
+pub mod CountLaws
 pub mod IndexLaws
-pub mod FirstWriteLaws
+pub mod ListedLaws
+pub mod OnResults
 pub mod RowLaws
 pub mod StandsLaws
-pub mod OnResults

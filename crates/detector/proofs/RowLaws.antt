@@ -1,85 +1,125 @@
 -- A row that stands for its line's accesses still does after one access more.
-use Rattle.std.proofs.Common.{◌≡◌, ℕ, ◌/◌, ◌<◌, true, false, eqb, [], ◌∷◌, ◌++◌, Option, Some, None, take, length, refl, sym, ap, ◌∙◌, arith, inl, inr}
-use Rattle.std.proofs.lemmas.Bool.{cases_Bool, eqb-true, eqb-false, eq-eqb, ne_eqb}
+use Rattle.std.proofs.Common.{◌≡◌, ℕ, ◌+◌, ◌%◌, ◌<◌, Bool, true, false, eqb, ltb, leb, ◌&&◌, List, [], ◌∷◌, ◌++◌, Option, Some, None, take, length, refl, sym, ap, ◌∙◌, arith, inl, inr}
+use Rattle.std.proofs.lemmas.Bool.{cases_Bool, eqb-true, eqb-false, eq-eqb, ne_eqb, false≢true, and_parts, or_cases, ltb-true}
+use Rattle.std.proofs.lemmas.Bool.Decides.{nat_tests}
+use Rattle.std.proofs.lemmas.List.{length-take-le}
+use Rattle.std.specs.Prelude.{slice_get}
+use Rattle.std.specs.List.{list_any, list_all}
+use Rattle.predator_base.specs.Lines.{Grid, is_layout, is_line_size}
 use Rattle.predator_base.specs.Touch.{Touch, is_write}
-use Rattle.sharing_rules.specs.AccessLists.{AccessList}
+use Rattle.sharing_rules.specs.AccessLists.{AccessList, writes_to}
 use Rattle.sharing_rules.specs.Arrivals.{arrivals}
 use Rattle.sharing_rules.specs.Holders.{line_count_since}
-use Rattle.sharing_rules.specs.Lines.{Line, native_line, word_place}
-use Rattle.sharing_rules.specs.Observed.{first_write_from}
+use Rattle.sharing_rules.specs.Lines.{Line, is_inside}
+use Rattle.sharing_rules.specs.Observed.{write_count, observed_start, first_write_from}
 use Rattle.sharing_rules.specs.Tracks.{Traced, track_since, track_of}
-use Rattle.sharing_rules.proofs.OpeningLaws.{first_write_from-append}
+use Rattle.sharing_rules.proofs.PlacesLaws.{slice_cases, first_place-never}
+use Rattle.sharing_rules.proofs.OpeningLaws.{observed_start-append, first_write_from-append}
+use Rattle.sharing_rules.proofs.StartLaws.{observed_start-first_write, observed_start-push}
 use Rattle.sharing_rules.proofs.TrackLaws.{note_track, begin_track, word_place-within, track_of-begins, track_of-goes_on, track_of-stays}
 use Rattle.detector.specs.declared.row.Row.{Row}
-use Rattle.detector.specs.Rows.{number_of, begun, noted}
+use Rattle.detector.specs.Rows.{number_of, numbered_line, begun, noted}
 use Rattle.detector.specs.Watch.{touched}
-use Rattle.detector.proofs.FirstWriteLaws.{inside}
 
--- the row of line k for a list: its number, its first write, its count since and its first two arrivals
-pub record RowStands (t : AccessList) (k : ℕ) (row : Row) : Type 0 where
-  pub number : row.number ≡ k
-  pub start : first_write_from 0 (inside k) t ≡ Some row.start
-  pub count : line_count_since (native_line 64 k) row.start t ≡ row.count
-  pub entries : take 2 (arrivals (inside k) t) ≡ row.entries
+-- whether line k of a layout holds an address
+abbrev pub inside : Grid → ℕ → ℕ → Bool
+inside g k = is_inside (numbered_line g k)
 
-within_line : (k a : ℕ) → word_place (native_line 64 k) a < 64 / 4
-within_line k a = word_place-within (native_line 64 k) a (omega arith) refl
+-- lines of whole words
+pub record IsOfWords (g : Grid) : Type 0 where
+  pub some : 0 < g.size
+  pub words : g.size % 4 ≡ 0
 
--- the tracks of a line that started, before and after
-started : (k s : ℕ) (t : AccessList) (a : Touch) (track : Traced) → first_write_from 0 (inside k) t ≡ Some s → track_of (native_line 64 k) 0 (t ++ a ∷ []) ≡ track
-    → track_since (native_line 64 k) (t ++ a ∷ []) (Some s) ≡ track
-started k s t a track start e = sym (ap (track_since (native_line 64 k) (t ++ a ∷ [])) (first_write_from-append 0 (inside k) t (a ∷ []) s start)) ∙ e
+-- a row says of a list where its line starts, its count since and its first two arrivals
+pub record RowStands (g : Grid) (T : ℕ) (t : AccessList) (row : Row) : Type 0 where
+  pub start : observed_start T (inside g row.number) t ≡ Some row.start
+  pub count : line_count_since (numbered_line g row.number) row.start t ≡ row.count
+  pub entries : take 2 (arrivals (inside g row.number) t) ≡ row.entries
+
+-- the track of a line from its start on, before and after
+started : (l : Line) (s : ℕ) (t : AccessList) (a : Touch) (track : Traced) → first_write_from s (is_inside l) t ≡ Some s → track_of l s (t ++ a ∷ []) ≡ track → track_since l (t ++ a ∷ []) (Some s) ≡ track
+started l s t a track first e = sym (ap (track_since l (t ++ a ∷ [])) (first_write_from-append s (is_inside l) t (a ∷ []) s first)) ∙ e
 
 -- a row noted
-row_noted : (t : AccessList) (a : Touch) (k : ℕ) (row : Row) → number_of a ≡ k → RowStands t k row → RowStands (t ++ a ∷ []) k (noted a row)
-row_noted t a k row here stands =
-    let l : Line = native_line 64 k in
+row_noted : (g : Grid) (T : ℕ) (t : AccessList) (a : Touch) (row : Row) → IsOfWords g → number_of g a ≡ row.number → RowStands g T t row → RowStands g T (t ++ a ∷ []) (noted a row)
+row_noted g T t a row sized here stands =
+    let l : Line = numbered_line g row.number in
+    let first = observed_start-first_write T (inside g row.number) t row.start stands.start in
     let after : track_since l (t ++ a ∷ []) (Some row.start) ≡ note_track l (track_since l t (Some row.start)) a =
-    started k row.start t a _ stands.start (track_of-goes_on l 0 row.start t a stands.start (eq-eqb (number_of a) k here) (within_line k a.addr))
-    ∙ ap (λ (o : Option ℕ). note_track l (track_since l t o) a) stands.start in
+    started l row.start t a _ first (track_of-goes_on l row.start row.start t a first (eq-eqb (number_of g a) row.number here) (word_place-within l a.addr sized.some sized.words))
+    ∙ ap (λ (o : Option ℕ). note_track l (track_since l t o) a) first in
     record {
-      number = stands.number;
-      start = first_write_from-append 0 (inside k) t (a ∷ []) row.start stands.start;
+      start = observed_start-append T (inside g row.number) t (a ∷ []) row.start stands.start;
       count = rw (← stands.entries, ← stands.count) (ap (λ (x : Traced). x.count) after);
       entries = rw (← stands.entries) (ap (λ (x : Traced). x.entries) after);
     }
 
 -- a row of another line
-row_left : (t : AccessList) (a : Touch) (k : ℕ) (row : Row) → eqb (number_of a) k ≡ false → RowStands t k row → RowStands (t ++ a ∷ []) k row
-row_left t a k row elsewhere stands =
-    let l : Line = native_line 64 k in
+row_left : (g : Grid) (T : ℕ) (t : AccessList) (a : Touch) (row : Row) → eqb (number_of g a) row.number ≡ false → RowStands g T t row → RowStands g T (t ++ a ∷ []) row
+row_left g T t a row elsewhere stands =
+    let l : Line = numbered_line g row.number in
+    let first = observed_start-first_write T (inside g row.number) t row.start stands.start in
     let after : track_since l (t ++ a ∷ []) (Some row.start) ≡ track_since l t (Some row.start) =
-    started k row.start t a _ stands.start (track_of-stays l 0 t a elsewhere) ∙ ap (track_since l t) stands.start in
+    started l row.start t a _ first (track_of-stays l row.start t a elsewhere) ∙ ap (track_since l t) first in
     record {
-      number = stands.number;
-      start = first_write_from-append 0 (inside k) t (a ∷ []) row.start stands.start;
+      start = observed_start-append T (inside g row.number) t (a ∷ []) row.start stands.start;
       count = ap (λ (x : Traced). x.count) after ∙ stands.count;
       entries = ap (λ (x : Traced). x.entries) after ∙ stands.entries;
     }
 
 -- each row after an access
-pub row_touched : (t : AccessList) (a : Touch) (k : ℕ) (row : Row) → RowStands t k row → RowStands (t ++ a ∷ []) k (touched a row)
-row_touched t a k row stands =
-    elim (cases_Bool (eqb row.number (number_of a))) [
-      | inl here ↦ rw here (row_noted t a k row (sym (eqb-true row.number (number_of a) here) ∙ stands.number) stands)
-      | inr other ↦ rw other (row_left t a k row (ne_eqb (number_of a) k (λ e. eqb-false row.number (number_of a) other (stands.number ∙ sym e))) stands)
+pub row_touched : (g : Grid) (T : ℕ) (t : AccessList) (a : Touch) (row : Row) → IsOfWords g → RowStands g T t row → RowStands g T (t ++ a ∷ []) (touched (number_of g a) a row)
+row_touched g T t a row sized stands =
+    elim (cases_Bool (eqb row.number (number_of g a))) [
+      | inl here ↦ rw here (row_noted g T t a row sized (sym (eqb-true row.number (number_of g a) here)) stands)
+      | inr other ↦ rw other (row_left g T t a row (ne_eqb (number_of g a) row.number (λ e. eqb-false row.number (number_of g a) other (sym e))) stands)
     ]
 
-start-since : (l : Line) (t : AccessList) (o : Option ℕ) → (track_since l t o).start ≡ o
-start-since l t None = refl
-start-since l t (Some s) = refl
+lt-leb_false : (s j : ℕ) → j < s → leb s j ≡ false
+lt-leb_false s j h = grind (arith, nat_tests)
 
--- a row begun at the first write of its line
-pub row_begun : (t : AccessList) (a : Touch) → is_write a.kind ≡ true → first_write_from 0 (inside (number_of a)) t ≡ None → RowStands (t ++ a ∷ []) (number_of a) (begun (length t) a)
-row_begun t a writes none =
-    let k : ℕ = number_of a in
-    let l : Line = native_line 64 k in
-    let track : track_of l 0 (t ++ a ∷ []) ≡ begin_track l (length t) a = track_of-begins l 0 t a none (omega arith) (eq-eqb k k refl) writes (within_line k a.addr) in
-    let start : first_write_from 0 (inside k) (t ++ a ∷ []) ≡ Some (length t) = sym (start-since l (t ++ a ∷ []) (first_write_from 0 (inside k) (t ++ a ∷ []))) ∙ ap (λ (x : Traced). x.start) track in
-    let after : track_since l (t ++ a ∷ []) (Some (length t)) ≡ begin_track l (length t) a = sym (ap (track_since l (t ++ a ∷ [])) start) ∙ track in
+-- a list has no write past its end
+no_write_past : (inside : ℕ → Bool) (t : AccessList) → first_write_from (length t) inside t ≡ None
+no_write_past inside t =
+    first_place-never (λ before a. leb (length t) (length before) && writes_to inside a) t (λ i below.
+    elim (slice_cases (slice_get t i)) [
+      | inl none ↦ rw none
+      | inr some ↦
+          let early : leb (length t) (length (take i t)) ≡ false = lt-leb_false (length t) (length (take i t)) (omega (arith, length-take-le i t (omega arith))) in
+          rw (some.1, early)
+    ])
+
+-- a row begun at the T-th write of its line
+pub row_begun : (g : Grid) (T : ℕ) (t : AccessList) (a : Touch) → IsOfWords g → is_write a.kind ≡ true → observed_start T (inside g (number_of g a)) t ≡ None → eqb (write_count (inside g (number_of g a)) t + 1) T ≡ true
+    → RowStands g T (t ++ a ∷ []) (begun (number_of g a) (length t) a)
+row_begun g T t a sized writes none due =
+    let k : ℕ = number_of g a in
+    let l : Line = numbered_line g k in
+    let here : is_inside l a.addr ≡ true = eq-eqb k k refl in
+    let start : observed_start T (is_inside l) (t ++ a ∷ []) ≡ Some (length t) = rw (observed_start-push T (is_inside l) t a, none, writes, here, due) in
+    let first = observed_start-first_write T (is_inside l) (t ++ a ∷ []) (length t) start in
+    let after : track_since l (t ++ a ∷ []) (Some (length t)) ≡ begin_track l (length t) a =
+    sym (ap (track_since l (t ++ a ∷ [])) first)
+    ∙ track_of-begins l (length t) t a (no_write_past (is_inside l) t) (omega arith) here writes (word_place-within l a.addr sized.some sized.words) in
     record {
-      number = refl;
       start = start;
       count = ap (λ (x : Traced). x.count) after;
       entries = ap (λ (x : Traced). x.entries) after;
     }
+
+multiple : (n : ℕ) (ns : List ℕ) → list_all (λ m. eqb (m % 4) 0) ns ≡ true → list_any (eqb n) ns ≡ true → n % 4 ≡ 0
+multiple n [] all h = absurd (false≢true h)
+multiple n (m ∷ ms) all h =
+    let k = and_parts (eqb (m % 4) 0) (list_all (λ m. eqb (m % 4) 0) ms) all in
+    elim (or_cases (eqb n m) (list_any (eqb n) ms) h) [
+      | inl e ↦ ap (λ z. z % 4) (eqb-true n m e) ∙ eqb-true (m % 4) 0 k.0
+      | inr e ↦ multiple n ms k.1 e
+    ]
+
+-- a layout's lines have whole words
+pub layout-words : (g : Grid) → is_layout g.size g.offset ≡ true → IsOfWords g
+layout-words g h =
+    let outer = and_parts (is_line_size g.size && ltb g.offset g.size) (eqb (g.offset % 4) 0) h in
+    let inner = and_parts (is_line_size g.size) (ltb g.offset g.size) outer.0 in
+    let less : g.offset < g.size = ltb-true g.offset g.size inner.1 in
+    record { some = omega arith; words = multiple g.size (4 ∷ 8 ∷ 16 ∷ 32 ∷ 64 ∷ 128 ∷ 256 ∷ 512 ∷ 1024 ∷ []) refl inner.0 }

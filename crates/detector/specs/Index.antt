@@ -1,11 +1,14 @@
--- What ties the rows to the map from line numbers to places.
-use Rattle.std.specs.Prelude.{◌≡◌, ℕ, ◌≤◌, ◌^◌, List, Option, Some, slice_get}
+-- What ties the rows to the entries of the index.
+use Rattle.std.specs.Prelude.{◌≡◌, ℕ, ◌≤◌, ◌^◌, List, Some, slice_get}
+use Rattle.line_counters.specs.declared.line_entry.LineEntry.{LineEntry}
 use Rattle.detector.specs.declared.row.Row.{Row}
 
--- The number of each row maps to its place, and nothing else is mapped; a row counts no more than the accesses, and
--- its line holds an address.
-pub record IsIndexed (place_of : ℕ → Option ℕ) (rows : List Row) (position : ℕ) : Type 0 where
-  pub placed : (i : ℕ) (row : Row) → slice_get rows i ≡ Some row → place_of row.number ≡ Some i
-  pub named : (k i : ℕ) → place_of k ≡ Some i → (row : Row) × (slice_get rows i ≡ Some row) × (row.number ≡ k)
+-- The entry of each row's line names the row's place, and no other entry names one. A line that has a row was written
+-- at least T times; no line was written more often than there were accesses, and no row counts more.
+pub record IsIndexed (entry_of : ℕ → LineEntry) (rows : List Row) (T position : ℕ) : Type 0 where
+  pub placed : (i : ℕ) (row : Row) → slice_get rows i ≡ Some row → (entry_of row.number).track ≡ Some i
+  pub named : (k i : ℕ) → (entry_of k).track ≡ Some i → (row : Row) × (slice_get rows i ≡ Some row) × (row.number ≡ k)
+  pub late : (k i : ℕ) → (entry_of k).track ≡ Some i → T ≤ (entry_of k).writes
+  pub written : (k : ℕ) → (entry_of k).writes ≤ position
   pub counted : (i : ℕ) (row : Row) → slice_get rows i ≡ Some row → row.count ≤ position
-  pub numbered : (i : ℕ) (row : Row) → slice_get rows i ≡ Some row → row.number ≤ 2 ^ 26
+  pub numbered : (i : ℕ) (row : Row) → slice_get rows i ≡ Some row → row.number ≤ 2 ^ 30

@@ -1,40 +1,43 @@
-// Lines of 64 bytes, and what is shown of a tracked one.
+// What is shown of a tracked line, and which of two comes first.
 ghost use Rattle.std.specs.Prelude.{◌≡◌, ◌≤◌, ◌^◌};
-ghost use Rattle.predator_base.specs.Lines.{line_number};
-ghost use Rattle.predator_base.specs.Ranges.{line_range};
+ghost use Rattle.std.specs.Ordering.{is_lt};
+ghost use Rattle.detector.specs.Rows.{finding_of};
+ghost use Rattle.detector.specs.Shown.{comes_first, line_shown};
 
-use predator_base::Range;
-
-/// The bytes of a line.
-const SIZE: u32 = 64;
+use crate::row::Row;
+use predator_base::{Layout, Range};
+use sharing_rules::CacheLine;
+use std::cmp::Ordering;
 
 /// A tracked line.
 #[derive(Clone, Copy, PartialEq, Eq, Debug)]
 pub struct Line {
     /// Its addresses.
     pub range: Range,
-    /// The position of its first write.
+    /// The position of the write from which on it is tracked.
     pub start: u64,
     /// Its invalidations since its start.
     pub count: u64,
 }
 
-/// The number of the line of an address: line 1 begins at address 0.
-pub fn number_of(addr: u32) -> u64
-    ensures number { result ≡ line_number 64 0 addr }
-    ensures small { result ≤ 2 ^ 26 }
+/// What a row of a layout shows.
+pub fn shown(layout: Layout, row: &Row) -> Line
+    requires { row.now.number ≤ 2 ^ 30 }
+    ensures { result ≡ line_shown (finding_of layout row.now) }
 {
-    u64::from(addr / SIZE) + 1
+    Line {
+        range: CacheLine::numbered(layout, row.number).range(),
+        start: row.start,
+        count: row.count,
+    }
 }
 
-/// The addresses of a line.
-pub fn range_of(number: u64) -> Range
-    requires { number ≤ 2 ^ 26 }
-    ensures { result ≡ line_range 64 0 number }
+/// The order of the listed lines: by count falling, then by base rising.
+pub fn order(one: &Line, other: &Line) -> Ordering
+    ensures { is_lt result ≡ comes_first one.now other.now }
 {
-    let size = i64::from(SIZE);
-    Range {
-        base: number.cast_signed() * size - size,
-        size: SIZE,
+    match other.count.cmp(&one.count) {
+        Ordering::Equal => one.range.base.cmp(&other.range.base),
+        by_count => by_count,
     }
 }

@@ -2,16 +2,15 @@
 ghost use Rattle.std.specs.Prelude.{◌≡◌, ◌<◌, ◌^◌};
 ghost use Rattle.detector.specs.Rows.{begun, noted};
 
-use crate::line::number_of;
 use history_table::History;
 use predator_base::{Access, Kind};
 
-/// A line from its first write on.
+/// A tracked line.
 #[derive(Drop)]
 pub struct Row {
-    /// Its number: line 1 begins at address 0.
+    /// Its number in its layout.
     pub number: u64,
-    /// The position of its first write.
+    /// The position of the write from which on it is tracked.
     pub start: u64,
     /// Its invalidations since its start.
     pub count: u64,
@@ -20,12 +19,12 @@ pub struct Row {
 }
 
 impl Row {
-    /// The row of the line of a write, its first, at a position.
-    pub fn begun(position: u64, access: Access) -> Row
-        ensures { result ≡ begun position access }
+    /// The row of a line whose track begins with a write at a position.
+    pub fn begun(number: u64, position: u64, access: Access) -> Row
+        ensures { result ≡ begun number position access }
     {
         Row {
-            number: number_of(access.addr()),
+            number,
             start: position,
             count: 0,
             entries: History::one(access.hart()),
@@ -33,6 +32,7 @@ impl Row {
     }
 
     /// One access more of its line.
+    #[inline(always)]
     pub fn note(&mut self, access: Access)
         requires { self.old.count < 2 ^ 40 }
         ensures { self.new ≡ noted access self.old }
