@@ -1,0 +1,36 @@
+-- At an ECALL the step leaves all, and the turn is that of the call.
+use Rattle.std.proofs.Common.{◌≡◌, ◌∙◌, ℕ, ◌<◌, List, length, Option, refl, sym, ap, set, get_or}
+use Rattle.std.proofs.lemmas.List.{set-get_or}
+use Rattle.std.proofs.lemmas.Option.{slice_get_read, get_or_from_slice_get}
+use Rattle.guest_memory.specs.Space.{Space}
+use Rattle.rv32_machine.specs.Registers.{Registers}
+use Rattle.rv32_machine.specs.Effect.{Machine, machine, outcome, stepped}
+use Rattle.rv32_machine.specs.declared.step_end.StepEnd.TheVariants.{Call}
+use Rattle.guest_run.specs.declared.setup.Setup.{Setup}
+use Rattle.guest_run.specs.Configs.{Config, unused, state_of}
+use Rattle.guest_run.specs.Calls.{RunTurn, call_turn}
+use Rattle.guest_run.specs.Turns.{machine_of, with_machine, hart_turn}
+
+put-back : (hart : ℕ) (c : Config) (x : Machine) → x ≡ machine_of hart c → with_machine hart x c ≡ c
+put-back hart c x h = ap (λ (y : Machine). with_machine hart y c) h ∙ ap (λ (states : List Registers). record c { states = states }) (set-get_or c.states hart unused)
+
+turn-at-call : (s : Setup) (hart : ℕ) (c : Config) (x : Machine) → outcome Call x ≡ stepped hart (machine_of hart c) → hart_turn s hart c ≡ call_turn s hart c
+turn-at-call s hart c x h = rw (← h) refl
+
+-- what was read at a hart's place is its registers
+pub read_state : (c : Config) (hart place : ℕ) (old : Registers) → place ≡ hart → hart < length c.states → old ≡ get_or c.states place old → old ≡ state_of c hart
+read_state c hart place old same inside read =
+    let at : old ≡ get_or c.states hart old = rw same at read in
+    sym (get_or_from_slice_get c.states hart old unused (slice_get_read c.states (length c.states) hart old refl inside at))
+
+pub called : (s : Setup) (hart place : ℕ) (c : Config) (old new : Registers) (m : Space) (held : List (Option ℕ)) (t : RunTurn)
+    → place ≡ hart → hart < length c.states → old ≡ get_or c.states place old
+    → outcome Call (machine new m held) ≡ stepped hart (machine old c.memory c.held) → machine new m held ≡ machine old c.memory c.held
+    → t ≡ call_turn s hart (record c { states = set c.states place new; memory = m; held = held }) → t ≡ hart_turn s hart c
+called s hart place c old new m held t same inside read effect left turn =
+    let is_old : old ≡ state_of c hart = read_state c hart place old same inside read in
+    let before : machine old c.memory c.held ≡ machine_of hart c = ap (λ (r : Registers). machine r c.memory c.held) is_old in
+    let moved : set c.states place new ≡ set c.states hart new = ap (λ (k : ℕ). set c.states k new) same in
+    let whole : record c { states = set c.states place new; memory = m; held = held } ≡ c =
+    ap (λ (states : List Registers). record c { states = states; memory = m; held = held }) moved ∙ put-back hart c (machine new m held) (left ∙ before) in
+    turn ∙ ap (λ (d : Config). call_turn s hart d) whole ∙ sym (turn-at-call s hart c (machine new m held) (effect ∙ ap (λ (x : Machine). stepped hart x) before))

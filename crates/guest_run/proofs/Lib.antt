@@ -1,0 +1,10 @@
+pub mod Mapped
+pub mod Counted
+pub mod Lengths
+pub mod Fitting
+pub mod Going
+pub mod Choosing
+pub mod Turning
+pub mod TurnCounts
+pub mod Owning
+pub mod AtCall

@@ -1,0 +1,7 @@
+pub mod Configs
+pub mod Calls
+pub mod Turns
+pub mod Runs
+pub mod Facts
+pub mod Inside
+pub mod Within

@@ -1,0 +1,237 @@
+// Small programs, run to their ends.
+
+ghost use Rattle.std.specs.Prelude.{◌≡◌, ◌≤◌, ◌^◌, length};
+
+use crate::{Event, Guest, RunSettings, Turn};
+use elf_loader::{ElfView, Space, place};
+use hart_scheduler::Schedule;
+use predator_base::{Cause, Ending, Hart, Outcome};
+use std::alloc::{AllocError, Global};
+use std::test::Fail;
+
+// The head of a file with one loadable segment, at 0x10000, which is the entry; its sizes follow.
+const HEAD: [u32; 17] = [
+    0x464c_457f,
+    0x0001_0101,
+    0,
+    0,
+    0x00f3_0002,
+    1,
+    0x0001_0000,
+    52,
+    0,
+    0,
+    0x0020_0034,
+    0x0000_0001,
+    0,
+    1,
+    84,
+    0x0001_0000,
+    0,
+];
+
+// The program file of some words.
+fn file_of(alloc: Global, words: &[u32]) -> Result<Vec<u8>, AllocError>
+    requires { length words.now ≤ 16 }
+{
+    let size = words.len() as u32 * 4;
+    let mut file = Vec::new(alloc);
+    for part in [HEAD.as_slice(), [size, size, 7, 0].as_slice(), words] {
+        for word in part {
+            file.extend_from_slice(&word.to_le_bytes())?;
+        }
+    }
+    Ok(file)
+}
+
+// What is seen of a run: the harts of its accesses, and the bytes that it put out.
+#[derive(Drop)]
+struct Seen {
+    harts: Vec<u16>,
+    output: Vec<u8>,
+}
+
+impl Seen {
+    fn see(&mut self, guest: &Guest, event: Event) -> Result<(), Fail> {
+        match event {
+            Event::Quiet => {}
+            Event::Touch(access) => {
+                let hart = access.hart();
+                self.harts.push(hart.number())?;
+            }
+            Event::Output { addr, len } => {
+                let bytes = guest.bytes(addr, len).ok_or("no bytes")?;
+                self.output.extend_from_slice(bytes)?;
+            }
+        }
+        Ok(())
+    }
+}
+
+// The guest of a program.
+fn guest_of(
+    alloc: Global,
+    words: &[u32],
+    schedule: &[u8],
+    settings: RunSettings,
+) -> Result<Guest, Fail>
+    requires few { length words.now ≤ 16 }
+    requires harts { settings.harts ≤ 256 }
+    requires some { 1 ≤ settings.harts }
+    requires quantum { 1 ≤ settings.quantum }
+    requires most { settings.quantum ≤ 2 ^ 20 }
+    requires budget { settings.budget ≤ 2 ^ 36 }
+{
+    let file = file_of(alloc, words)?;
+    let view = ElfView::read(&file)?;
+    let space = Space {
+        memory: 0x1_0000,
+        stack: 0x1000,
+        harts: settings.harts,
+    };
+    let Ok(image) = place(alloc, &view, space) else {
+        return Err("not placed".into());
+    };
+    if image.entry % 4 != 0 {
+        return Err("misaligned".into());
+    }
+    let schedule = Schedule::read(alloc, schedule, settings.harts, settings.quantum)?;
+    Ok(Guest::new(alloc, image, schedule, settings)?)
+}
+
+// A whole run of at most 100 turns: its end, and what is seen of it.
+fn run(alloc: Global, mut guest: Guest) -> Result<(Ending, Seen), Fail> {
+    let mut seen = Seen {
+        harts: Vec::new(alloc),
+        output: Vec::new(alloc),
+    };
+    for _turn in 0..100u32 {
+        match guest.step() {
+            Turn::Ran(event) => seen.see(&guest, event)?,
+            Turn::Ended(_) => break,
+        }
+    }
+    let ending = guest.ending().ok_or("no end")?;
+    Ok((ending, seen))
+}
+
+const TWO_HARTS: [u32; 12] = [
+    0x4020_0893,
+    0x0001_0537,
+    0x0105_0513,
+    0x0000_0073,
+    0x0001_02b7,
+    0x4002_8293,
+    0x0010_0313,
+    0x0062_a02f,
+    0x1862_a3af,
+    0x05d0_0893,
+    0x0000_0513,
+    0x0000_0073,
+];
+
+fn settings_of(harts: u16, budget: u64) -> RunSettings
+    ensures harts { result.harts ≡ harts }
+    ensures quantum { result.quantum ≡ 100 }
+    ensures budget { result.budget ≡ budget }
+{
+    RunSettings {
+        harts,
+        quantum: 100,
+        budget,
+    }
+}
+
+// An end.
+fn ending(outcome: Outcome, steps: u64, accesses: u64) -> Ending {
+    Ending {
+        outcome,
+        steps,
+        accesses,
+    }
+}
+
+#[test]
+fn a_program_exits(rt: HostRuntime) -> Result<(), Fail> {
+    let words = [0x05d0_0893, 0x0070_0513, 0x0000_0073];
+    let made = run(
+        rt.alloc(),
+        guest_of(rt.alloc(), &words, b"", settings_of(8, 1000))?,
+    )?;
+    assert_eq!(rt; made.0, ending(Outcome::Exit(7), 3, 0));
+    let words = [0x7d00_0893, 0x0000_0073, 0x05d0_0893, 0x0000_0073];
+    let made = run(
+        rt.alloc(),
+        guest_of(rt.alloc(), &words, b"", settings_of(8, 1000))?,
+    )?;
+    assert_eq!(rt; made.0, ending(Outcome::Exit(4_294_967_258), 4, 0));
+    Ok(())
+}
+
+#[test]
+fn a_run_ends_otherwise(rt: HostRuntime) -> Result<(), Fail> {
+    let made = run(
+        rt.alloc(),
+        guest_of(rt.alloc(), &[0x0000_006f], b"", settings_of(8, 5))?,
+    )?;
+    assert_eq!(rt; made.0, ending(Outcome::Budget, 5, 0));
+    let made = run(
+        rt.alloc(),
+        guest_of(rt.alloc(), &[0x0010_2283], b"", settings_of(8, 5))?,
+    )?;
+    let hart = Hart::new(0).ok_or("no hart")?;
+    let trap = Outcome::Trap(hart, 0x10000, Cause::LoadMisaligned);
+    assert_eq!(rt; made.0, ending(trap, 0, 0));
+    let words = [0x4040_0893, 0x0001_0537, 0x0005_2583, 0x0000_0073];
+    let made = run(
+        rt.alloc(),
+        guest_of(rt.alloc(), &words, b"", settings_of(8, 1000))?,
+    )?;
+    assert_eq!(rt; made.0, ending(Outcome::Deadlock, 4, 1));
+    Ok(())
+}
+
+#[test]
+fn two_harts_run(rt: HostRuntime) -> Result<(), Fail> {
+    let made = run(
+        rt.alloc(),
+        guest_of(rt.alloc(), &TWO_HARTS, b"", settings_of(8, 1000))?,
+    )?;
+    assert_eq!(rt; made.0, ending(Outcome::Exit(0), 20, 2));
+    assert_eq!(rt; made.1.harts.as_slice(), [0, 1].as_slice());
+    let made = run(
+        rt.alloc(),
+        guest_of(rt.alloc(), &TWO_HARTS, b"0 4\n1 8\n", settings_of(8, 1000))?,
+    )?;
+    assert_eq!(rt; made.0, ending(Outcome::Exit(0), 20, 2));
+    assert_eq!(rt; made.1.harts.as_slice(), [1, 0].as_slice());
+    let made = run(
+        rt.alloc(),
+        guest_of(rt.alloc(), &TWO_HARTS, b"", settings_of(1, 1000))?,
+    )?;
+    assert_eq!(rt; made.0, ending(Outcome::Exit(0), 12, 1));
+    Ok(())
+}
+
+#[test]
+fn bytes_are_put_out(rt: HostRuntime) -> Result<(), Fail> {
+    let words = [
+        0x0400_0893,
+        0x0010_0513,
+        0x0001_05b7,
+        0x0040_0613,
+        0x0000_0073,
+        0x05d0_0893,
+        0x0000_0073,
+    ];
+    let made = run(
+        rt.alloc(),
+        guest_of(rt.alloc(), &words, b"", settings_of(8, 1000))?,
+    )?;
+    assert_eq!(rt; made.0, ending(Outcome::Exit(4), 7, 0));
+    assert_eq!(rt;
+        made.1.output.as_slice(),
+        [0x93, 0x08, 0x00, 0x04].as_slice()
+    );
+    Ok(())
+}

@@ -1,0 +1,23 @@
+// What a turn of a guest answers.
+
+use predator_base::{Access, Outcome};
+
+/// What is seen of a step.
+#[derive(Clone, Copy, PartialEq, Eq, Debug)]
+pub enum Event {
+    /// Nothing.
+    Quiet,
+    /// It made this access.
+    Touch(Access),
+    /// It put out the `len` bytes of the guest's memory from `addr` on, 1 to 4096 of them.
+    Output { addr: u32, len: u32 },
+}
+
+/// What a turn of a guest was.
+#[derive(Clone, Copy, PartialEq, Eq, Debug)]
+pub enum Turn {
+    /// A hart made a step.
+    Ran(Event),
+    /// The run has ended.
+    Ended(Outcome),
+}
