@@ -1,0 +1,11 @@
+use Rattle.std.proofs.Common.{◌-◌}
+use Rattle.run_recorder.proofs.Following.{Follows}
+use Rattle.run_recorder.proofs.record.follow.Given as goal
+
+abbrev pub invariant-turns : goal.invariant-turns
+invariant-turns g l =
+    Follows l.initial.guest l.guest l.initial.recorder.detector l.recorder.detector l.initial.recorder.trace l.initial.recorder.output l.recorder.trace l.recorder.output
+    (g.S.Shelf.outside l.initial.shelf) (g.S.Shelf.outside l.shelf)
+
+abbrev pub decreases-turns : goal.decreases-turns
+decreases-turns g l = l.guest.setup.budget - l.guest.config.steps
