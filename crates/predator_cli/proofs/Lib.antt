@@ -1,8 +1,12 @@
 mod TextLemmas
 pub mod Told
-pub mod Endings
-mod ListedLaws
+pub mod StepsLaws
+pub mod Standing
+pub mod Ends
 mod DiskLaws
-mod WatchLaws
-mod ReplayLaws
+mod ContentLaws
 mod SteadyLaws
+mod WatchLaws
+mod CheckLaws
+mod RunLaws
+mod RunEnds

@@ -1,9 +1,11 @@
 -- A number that is always 0 doesn't rise.
-use Rattle.std.proofs.Common.{◌≡◌, ◌≢◌, ℕ, List, [], ◌∷◌, inl, inr, arith, subst}
+use Rattle.std.proofs.Common.{◌≡◌, ◌≢◌, ℕ, List, [], ◌∷◌, Option, inl, inr, arith, subst}
 use Rattle.shelf.specs.Shelf.{Outside}
-use Rattle.predator_cli.specs.Words.{Demand, inputs}
-use Rattle.predator_cli.specs.Meets.{IsCaused, NoFaults, RoseAt}
-use Rattle.predator_cli.specs.Statuses.{kind_of}
+use Rattle.command_line.specs.Words.{Demand}
+use Rattle.predator_cli.specs.Answer.{inputs, outputs}
+use Rattle.predator_cli.specs.Meets.{IsCaused, NoFaults}
+use Rattle.predator_cli.specs.Steps.{RoseAt}
+use Rattle.predator_cli.specs.Statuses.{kind_of, write_fault}
 use Rattle.predator_cli.specs.declared.status.Status.{Status}
 use Rattle.predator_cli.specs.declared.status.Status.TheVariants as status
 
@@ -12,11 +14,19 @@ none_rose [] before now zero rose = rose
 none_rose (n ∷ names) before now zero (inl rose) = omega (arith, zero n, rose)
 none_rose (n ∷ names) before now zero (inr rose) = none_rose names before now zero rose
 
-pub no_faults : (demand : Demand) (old new : Outside) → ((n : List ℕ) → new.read_faults n ≡ 0) → new.print_faults ≡ 0 → NoFaults demand old new
-no_faults demand old new reads prints = record { reads = none_rose (inputs demand) old.read_faults new.read_faults reads; prints = λ rose. omega (arith, prints, rose) }
+pub no_faults : (asked : Option Demand) (old new : Outside) → ((n : List ℕ) → new.read_faults n ≡ 0) → ((n : List ℕ) → new.write_faults n ≡ 0) → new.print_faults ≡ 0 → NoFaults asked old new
+no_faults asked old new reads writes prints = record {
+  reads = none_rose (inputs asked) old.read_faults new.read_faults reads;
+  writes = none_rose (outputs asked) old.write_faults new.write_faults writes;
+  prints = λ rose. omega (arith, prints, rose);
+}
 
-pub no_read_fault : (demand : Demand) (old new : Outside) (s : Status) → NoFaults demand old new → IsCaused demand old new (kind_of s) → s ≢ status.ReadFault
-no_read_fault demand old new s none caused e = none.reads (subst (λ (x : Status). IsCaused demand old new (kind_of x)) e caused)
+pub no_read_fault : (asked : Option Demand) (old new : Outside) (s : Status) → NoFaults asked old new → IsCaused asked old new (kind_of s) → s ≢ status.ReadFault
+no_read_fault asked old new s none caused e = none.reads (subst (λ (x : Status). IsCaused asked old new (kind_of x)) e caused)
 
-pub no_write_fault : (demand : Demand) (old new : Outside) (s : Status) → NoFaults demand old new → IsCaused demand old new (kind_of s) → s ≢ status.WriteFault
-no_write_fault demand old new s none caused e = none.prints (subst (λ (x : Status). IsCaused demand old new (kind_of x)) e caused)
+write_cause : (asked : Option Demand) (old new : Outside) → NoFaults asked old new → IsCaused asked old new write_fault → ⊥
+write_cause asked old new none (inl rose) = none.writes rose
+write_cause asked old new none (inr rose) = none.prints rose
+
+pub no_write_fault : (asked : Option Demand) (old new : Outside) (s : Status) → NoFaults asked old new → IsCaused asked old new (kind_of s) → s ≢ status.WriteFault
+no_write_fault asked old new s none caused e = write_cause asked old new none (subst (λ (x : Status). IsCaused asked old new (kind_of x)) e caused)

@@ -1,94 +1,105 @@
 -- What a call of the program does to the outside.
-use Rattle.std.specs.Prelude.{◌≡◌, ◌⊎◌, ℕ, List, [], ◌∷◌}
+use Rattle.std.specs.Prelude.{◌≡◌, ◌⊎◌, ℕ, List, Option, None}
 use Rattle.std.specs.Io.KnownBytes.{Appends}
-use Rattle.shelf.specs.Shelf.{Outside, Told, Rose, AppendsPrefix}
-use Rattle.predator_cli.specs.Words.{Demand, refused, inputs}
-use Rattle.predator_cli.specs.Answer.{Answer, answer_of}
+use Rattle.shelf.specs.Shelf.{Files, Outside, Told, Goes, Rose, AppendsPrefix}
+use Rattle.command_line.specs.Words.{Demand, outputs as outputs_of}
+use Rattle.predator_cli.specs.Steps.{FailsInOrder, RoseAt, first_refusal, IsAccepted}
+use Rattle.predator_cli.specs.Commands.{done_with, steps_of, work_of}
+use Rattle.run_recorder.specs.Written.{AreWhole}
+use Rattle.predator_cli.specs.Written.{OnlyAt, StandAt}
+use Rattle.predator_cli.specs.Answer.{answer_of, files_of, inputs, outputs}
+use Rattle.predator_cli.specs.Again.{Repeats, RepeatsReport}
 use Rattle.predator_cli.specs.Statuses.{Kind, kind_of, done, refusal, read_fault, write_fault, no_memory}
-use Rattle.predator_cli.specs.Texts.{fault_text}
+use Rattle.predator_cli.specs.Faults.{fault_text}
 use Rattle.predator_cli.specs.declared.status.Status.{Status}
 use Rattle.predator_cli.specs.declared.status.Status.TheVariants as status
 
--- It ends as wanted, or by a fault of the outside.
-abbrev pub EndsAs : Status → Kind → Status → Type 0
-EndsAs wanted done s = wanted ≡ s
-EndsAs wanted refusal s = wanted ≡ s
-EndsAs wanted read_fault s = Unit {0}
-EndsAs wanted write_fault s = Unit {0}
-EndsAs wanted no_memory s = Unit {0}
-
--- the faults of reading rose at one of these names
-abbrev pub RoseAt : List (List ℕ) → (List ℕ → ℕ) → (List ℕ → ℕ) → Type 0
-RoseAt [] before now = ⊥
-RoseAt (name ∷ names) before now = Rose (before name) (now name) ⊎ RoseAt names before now
+-- It ends as the answer says, or by a fault of the outside: of reading, before which no file is refused, or of the
+-- command's own work, before which none is refused at all.
+abbrev pub EndsAs : Option Demand → Files → Outside → Outside → Kind → Status → Type 0
+EndsAs asked files old new done s = (answer_of asked files).status ≡ s
+EndsAs asked files old new refusal s = (answer_of asked files).status ≡ s
+EndsAs asked files old new read_fault s = FailsInOrder (files_of asked) files old.read_faults new.read_faults
+EndsAs asked files old new write_fault s = first_refusal (files_of asked) files ≡ None
+EndsAs asked files old new no_memory s = Unit {0}
 
 -- A fault of the outside is answered only where its number rose.
-abbrev pub IsCaused : Demand → Outside → Outside → Kind → Type 0
-IsCaused demand old new done = Unit {0}
-IsCaused demand old new refusal = Unit {0}
-IsCaused demand old new read_fault = RoseAt (inputs demand) old.read_faults new.read_faults
-IsCaused demand old new write_fault = Rose old.print_faults new.print_faults
-IsCaused demand old new no_memory = Unit {0}
+abbrev pub IsCaused : Option Demand → Outside → Outside → Kind → Type 0
+IsCaused asked old new done = Unit {0}
+IsCaused asked old new refusal = Unit {0}
+IsCaused asked old new read_fault = RoseAt (inputs asked) old.read_faults new.read_faults
+IsCaused asked old new write_fault = RoseAt (outputs asked) old.write_faults new.write_faults ⊎ Rose old.print_faults new.print_faults
+IsCaused asked old new no_memory = Unit {0}
 
 -- the whole text was printed, or printing failed and a front of it was
 abbrev pub Printed : Outside → Outside → List ℕ → Type 0
 Printed old new text = Appends old.printed new.printed text ⊎ (Rose old.print_faults new.print_faults × AppendsPrefix old.printed new.printed text)
 
 -- the texts of which a front may stand where memory ran out: the answer's, or that of a fault of the outside that came
-abbrev pub IsPrintable : Demand → Answer → Outside → Outside → List ℕ → Type 0
-IsPrintable demand answer old new text =
-    (text ≡ answer.text) ⊎ (text ≡ fault_text status.NoMemory)
-    ⊎ ((text ≡ fault_text status.ReadFault) × RoseAt (inputs demand) old.read_faults new.read_faults)
+abbrev pub IsPrintable : Option Demand → Files → Outside → Outside → List ℕ → Type 0
+IsPrintable asked files old new text =
+    (text ≡ (answer_of asked files).text) ⊎ (text ≡ fault_text status.NoMemory)
+    ⊎ ((text ≡ fault_text status.ReadFault) × FailsInOrder (files_of asked) files old.read_faults new.read_faults)
+    ⊎ ((text ≡ fault_text status.WriteFault) × RoseAt (outputs asked) old.write_faults new.write_faults)
 
--- what was printed
-abbrev pub Prints : Demand → Answer → Outside → Outside → Kind → Status → Type 0
-Prints demand answer old new done s = Appends old.printed new.printed answer.text
-Prints demand answer old new refusal s = Printed old new (fault_text s)
-Prints demand answer old new read_fault s = Printed old new (fault_text s)
-Prints demand answer old new write_fault s = Rose old.print_faults new.print_faults × AppendsPrefix old.printed new.printed answer.text
-Prints demand answer old new no_memory s = (text : List ℕ) × IsPrintable demand answer old new text × AppendsPrefix old.printed new.printed text
+-- what was printed; at a fault of writing it is the fault's line, or what is left of the command's own text
+abbrev pub Prints : Option Demand → Files → Outside → Outside → Kind → Status → Type 0
+Prints asked files old new done s = Appends old.printed new.printed (answer_of asked files).text
+Prints asked files old new refusal s = Printed old new (fault_text s)
+Prints asked files old new read_fault s = Printed old new (fault_text s)
+Prints asked files old new write_fault s = Printed old new (fault_text s) ⊎ (Rose old.print_faults new.print_faults × AppendsPrefix old.printed new.printed (answer_of asked files).text)
+Prints asked files old new no_memory s = (text : List ℕ) × IsPrintable asked files old new text × AppendsPrefix old.printed new.printed text
 
--- no number of faults rose, of an input's reading or of printing
-pub record NoFaults (demand : Demand) (old new : Outside) : Type 0 where
-  pub reads : RoseAt (inputs demand) old.read_faults new.read_faults → ⊥
+-- no number of faults rose, of an input's reading, of an output's writing or of printing
+pub record NoFaults (asked : Option Demand) (old new : Outside) : Type 0 where
+  pub reads : RoseAt (inputs asked) old.read_faults new.read_faults → ⊥
+  pub writes : RoseAt (outputs asked) old.write_faults new.write_faults → ⊥
   pub prints : Rose old.print_faults new.print_faults → ⊥
 
--- without faults it ends as wanted, unless memory ran out
-abbrev pub IsComplete : Demand → Answer → Outside → Outside → Status → Type 0
-IsComplete demand answer old new s = NoFaults demand old new → (s ≡ answer.status) ⊎ (s ≡ status.NoMemory)
+-- without faults it ends as the answer says, unless memory ran out
+abbrev pub IsComplete : Option Demand → Files → Outside → Outside → Status → Type 0
+IsComplete asked files old new s = NoFaults asked old new → (s ≡ (answer_of asked files).status) ⊎ (s ≡ status.NoMemory)
 
 -- all that is said of a call
-pub record Meets (demand : Demand) (old new : Outside) (s : Status) : Type 0 where
-  pub ends : Told old.held (λ files. EndsAs (answer_of demand files).status (kind_of s) s)
-  pub usage : s ≡ status.Usage → demand ≡ refused
-  pub refuses : demand ≡ refused → (s ≡ status.Usage) ⊎ (s ≡ status.NoMemory)
-  pub caused : IsCaused demand old new (kind_of s)
-  pub prints : Told old.held (λ files. Prints demand (answer_of demand files) old new (kind_of s) s)
+pub record Meets (asked : Option Demand) (old new : Outside) (s : Status) : Type 0 where
+  pub ends : Told old.held (λ files. EndsAs asked files old new (kind_of s) s)
+  pub usage : s ≡ status.Usage → asked ≡ None
+  pub refuses : asked ≡ None → (s ≡ status.Usage) ⊎ (s ≡ status.NoMemory)
+  pub caused : IsCaused asked old new (kind_of s)
+  pub prints : Told old.held (λ files. Prints asked files old new (kind_of s) s)
+  pub writes : Told old.held (λ files. Goes old.written new.written (StandAt (kind_of s) (answer_of asked files).outputs))
+  pub only : OnlyAt (outputs asked) old new
   pub held : new.held ≡ old.held
-  pub written : new.written ≡ old.written
-  pub write_faults : new.write_faults ≡ old.write_faults
+  pub again : Told old.held (λ files. Repeats asked files (kind_of s))
 
 -- what was done from old to now, before the line of a fault is printed
-pub record IsFaulty (demand : Demand) (old now : Outside) (s : Status) : Type 0 where
-  pub fault : (kind_of s ≡ done → ⊥) × (kind_of s ≡ write_fault → ⊥)
-  pub ends : Told old.held (λ files. EndsAs (answer_of demand files).status (kind_of s) s)
-  pub usage : s ≡ status.Usage → demand ≡ refused
-  pub refuses : demand ≡ refused → (s ≡ status.Usage) ⊎ (s ≡ status.NoMemory)
-  pub caused : IsCaused demand old now (kind_of s)
-  pub printable : Told old.held (λ files. IsPrintable demand (answer_of demand files) old now (fault_text s))
+pub record IsFaulty (asked : Option Demand) (old now : Outside) (s : Status) : Type 0 where
+  pub fault : kind_of s ≡ done → ⊥
+  pub ends : Told old.held (λ files. EndsAs asked files old now (kind_of s) s)
+  pub usage : s ≡ status.Usage → asked ≡ None
+  pub refuses : asked ≡ None → (s ≡ status.Usage) ⊎ (s ≡ status.NoMemory)
+  pub caused : IsCaused asked old now (kind_of s)
+  pub printable : Told old.held (λ files. IsPrintable asked files old now (fault_text s))
+  pub writes : Told old.held (λ files. Goes old.written now.written (StandAt (kind_of s) (answer_of asked files).outputs))
+  pub only : OnlyAt (outputs asked) old now
   pub held : now.held ≡ old.held
-  pub written : now.written ≡ old.written
-  pub write_faults : now.write_faults ≡ old.write_faults
   pub printed : now.printed ≡ old.printed
   pub print_faults : now.print_faults ≡ old.print_faults
 
--- what was done from old to now, before the command's own text is printed
-pub record IsWorked (demand : Demand) (old now : Outside) (text : List ℕ) : Type 0 where
-  pub accepted : demand ≡ refused → ⊥
-  pub ends : Told old.held (λ files. (answer_of demand files).status ≡ status.Done)
-  pub same_text : Told old.held (λ files. (answer_of demand files).text ≡ text)
+-- what was done from old to now, before the command's own text is printed, and what it is to end with
+pub record IsWorked (demand : Demand) (old now : Outside) (s : Status) (text : List ℕ) : Type 0 where
+  pub accepts : Told old.held (λ files. first_refusal (steps_of demand) files ≡ None)
+  pub ends : Told old.held (λ files. (work_of demand files).status ≡ s)
+  pub same_text : Told old.held (λ files. (work_of demand files).text ≡ text)
+  pub whole : Told old.held (λ files. Goes old.written now.written (AreWhole (work_of demand files).outputs))
+  pub only : OnlyAt (outputs_of demand) old now
+  pub again : Told old.held (RepeatsReport demand)
   pub held : now.held ≡ old.held
-  pub written : now.written ≡ old.written
-  pub write_faults : now.write_faults ≡ old.write_faults
   pub printed : now.printed ≡ old.printed
   pub print_faults : now.print_faults ≡ old.print_faults
+
+-- the same of a command that writes nothing
+pub record IsAnswered (demand : Demand) (old now : Outside) (text : List ℕ) : Type 0 where
+  pub accepted : IsAccepted (steps_of demand) old now
+  pub work : Told old.held (λ files. work_of demand files ≡ done_with text)
+  pub again : (files : Files) → RepeatsReport demand files

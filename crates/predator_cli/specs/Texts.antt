@@ -1,11 +1,13 @@
 -- The texts that the program prints. Every line ends with a line feed.
-use Rattle.std.specs.Prelude.{ℕ, ℤ, ◌-◌, List, [], ◌∷◌, ◌++◌, length, codes, replicate, flat_map}
-use Rattle.std.specs.Fmt.{decimal, digits, sign_text}
-use Rattle.std.specs.Prelude.{unsigned_abs, false}
-use Rattle.std.specs.Int.{is_negative}
-use Rattle.trace_file.specs.declared.fault.TraceFault.TheVariants as fault
-use Rattle.predator_cli.specs.declared.status.Status.{Status}
-use Rattle.predator_cli.specs.declared.status.Status.TheVariants as status
+use Rattle.std.specs.Prelude.{ℕ, ℤ, pos, ◌/◌, ◌%◌, ◌+◌, ◌==◌, Bool, not, ◌&&◌, nat_lt, List, [], ◌∷◌, ◌++◌, length, codes, flat_map, if◌then◌else◌}
+use Rattle.std.specs.Fmt.{decimal}
+use Rattle.text_forms.specs.Addresses.{address_text}
+use Rattle.predator_base.specs.declared.ending.Cause.{Cause}
+use Rattle.predator_base.specs.declared.ending.Cause.TheVariants.{Illegal, Breakpoint, FetchMisaligned, FetchOutside, LoadMisaligned, LoadOutside, StoreMisaligned, StoreOutside}
+use Rattle.predator_base.specs.declared.ending.Outcome.{Outcome}
+use Rattle.predator_base.specs.declared.ending.Outcome.TheVariants.{Exit, Budget, Deadlock, Trap, Part}
+use Rattle.predator_base.specs.declared.ending.Ending.{Ending}
+use Rattle.predator_base.specs.Lines.{Grid}
 use Rattle.detector.specs.declared.line.Line.{Line}
 use Rattle.sharing_rules.specs.Lines.{range_of}
 use Rattle.sharing_rules.specs.Listed.{Finding}
@@ -13,24 +15,22 @@ use Rattle.sharing_rules.specs.Listed.{Finding}
 abbrev pub line : List ℕ → List ℕ
 line text = text ++ 10 ∷ []
 
--- the line of a refusal or of a fault of the outside
-abbrev pub fault_text : Status → List ℕ
-fault_text status.Done = []
-fault_text status.Usage = line (codes "usage: predator replay TRACE")
-fault_text (status.Trace fault.Unbuilt) = line (codes "predator: trace Unbuilt")
-fault_text (status.Trace fault.TooLong) = line (codes "predator: trace TooLong")
-fault_text (status.Trace fault.NoMemory) = line (codes "predator: trace NoMemory")
-fault_text status.ReadFault = line (codes "predator: read fault")
-fault_text status.WriteFault = line (codes "predator: write fault")
-fault_text status.NoMemory = line (codes "predator: no memory")
+-- a byte from 0x21 to 0x7e that is no backslash stands in a name as it is
+abbrev pub is_shown : ℕ → Bool
+is_shown byte = nat_lt 32 byte && (nat_lt byte 127 && not (byte == 92))
 
--- hexadecimal, at least eight digits
-abbrev pub hexadecimal : ℕ → List ℕ
-hexadecimal n = replicate (8 - length (digits 16 false n)) 48 ++ digits 16 false n
+-- a digit of base 16, in lower case
+abbrev pub digit_code : ℕ → ℕ
+digit_code d = if nat_lt d 10 then d + 48 else d + 87
 
--- an address: `-` before the absolute value of a negative one
-abbrev pub address_text : ℤ → List ℕ
-address_text z = sign_text (is_negative z) ++ codes "0x" ++ hexadecimal (unsigned_abs z)
+-- any other byte is a backslash, an x and its two digits
+abbrev pub byte_text : ℕ → List ℕ
+byte_text byte = if is_shown byte then byte ∷ [] else (92 ∷ 120 ∷ digit_code (byte / 16) ∷ digit_code (byte % 16) ∷ [])
+
+-- a name; an empty one is `?`
+abbrev pub name_text : List ℕ → List ℕ
+name_text [] = codes "?"
+name_text (byte ∷ bytes) = flat_map byte_text (byte ∷ bytes)
 
 -- a listed line
 abbrev pub line_text : ℤ → ℕ → ℕ → ℕ → List ℕ
@@ -40,23 +40,45 @@ line_text base size start count =
 abbrev pub finding_text : Finding → List ℕ
 finding_text f = line_text (range_of f.line).base (range_of f.line).size f.start f.count
 
--- a text round the lines of some things, of which there are so many
-abbrev pub report_round : ℕ → ℕ → List ℕ → List ℕ
-report_round accesses count lines =
-    line (codes "predator report 0")
-    ++ line (codes "accesses " ++ decimal accesses)
-    ++ line (codes "layout 64 0")
-    ++ line (codes "lines " ++ decimal count)
-    ++ lines
-    ++ line (codes "end")
+-- ---- the short report
 
--- the short report: the number of accesses, the layout, and the listed lines
-abbrev pub report_text : ℕ → List Finding → List ℕ
-report_text accesses lines = report_round accesses (length lines) (flat_map finding_text lines)
+abbrev pub cause_text : Cause → List ℕ
+cause_text Illegal = codes "illegal"
+cause_text Breakpoint = codes "breakpoint"
+cause_text FetchMisaligned = codes "fetch-misaligned"
+cause_text FetchOutside = codes "fetch-outside"
+cause_text LoadMisaligned = codes "load-misaligned"
+cause_text LoadOutside = codes "load-outside"
+cause_text StoreMisaligned = codes "store-misaligned"
+cause_text StoreOutside = codes "store-outside"
+
+abbrev pub outcome_text : Outcome → List ℕ
+outcome_text (Exit code) = codes "exit " ++ decimal code
+outcome_text Budget = codes "budget"
+outcome_text Deadlock = codes "deadlock"
+outcome_text (Trap hart pc cause) = codes "trap hart " ++ decimal hart ++ codes " pc " ++ address_text (pos pc) ++ codes " " ++ cause_text cause
+outcome_text Part = codes "part"
+
+-- how it ended, with how many steps and accesses, and under which layout
+abbrev pub head_text : Ending → Grid → List ℕ
+head_text ending layout =
+    line (codes "predator report 0")
+    ++ line (codes "outcome " ++ outcome_text ending.outcome)
+    ++ line (codes "steps " ++ decimal ending.steps)
+    ++ line (codes "accesses " ++ decimal ending.accesses)
+    ++ line (codes "layout " ++ decimal layout.size ++ codes " " ++ decimal layout.offset)
+
+-- a report round the texts of some lines, of which there are so many
+abbrev pub report_round : Ending → Grid → ℕ → List ℕ → List ℕ
+report_round ending layout count lines = head_text ending layout ++ line (codes "lines " ++ decimal count) ++ lines ++ line (codes "end")
+
+-- the report: its head, and the listed lines
+abbrev pub report_text : Ending → Grid → List Finding → List ℕ
+report_text ending layout lines = report_round ending layout (length lines) (flat_map finding_text lines)
 
 -- the same of lines as the detector shows them
 abbrev pub shown_text : Line → List ℕ
 shown_text l = line_text l.range.base l.range.size l.start l.count
 
-abbrev pub report_of_lines : ℕ → List Line → List ℕ
-report_of_lines accesses lines = report_round accesses (length lines) (flat_map shown_text lines)
+abbrev pub report_of_lines : Ending → Grid → List Line → List ℕ
+report_of_lines ending layout lines = report_round ending layout (length lines) (flat_map shown_text lines)

@@ -1,16 +1,23 @@
-//! The program `predator`, as one call over a shelf of files: `predator replay NAME` counts a trace's accesses and
-//! prints the lines that harts took from each other.
+//! The program `predator`, as one call over a shelf of files: `run` runs a program and `replay` reads a recorded trace,
+//! and both print the cache lines that harts took from each other; `check` tells of a program file.
 //!
-//! The call says what it answers by `answer_of` (specs/Answer.antt), over the definitions of `sharing_rules`.
+//! The call says what it answers by `answer_of` (specs/Answer.antt), over the definitions of `sharing_rules` and of
+//! `guest_run`; what it prints, writes and excuses at each end is `Meets` (specs/Meets.antt).
 #![tactic(auto)]
 
+mod check;
 mod command;
 mod disk;
+mod endings;
+mod faults;
 mod findings;
+mod program;
+mod reading;
+mod replay;
 mod report;
+mod run;
 mod status;
 mod steady;
-mod words;
 
 pub use command::predator;
 pub use disk::DiskShelf;

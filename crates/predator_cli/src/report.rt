@@ -1,60 +1,63 @@
 // The short report.
-ghost use Rattle.std.specs.Prelude.{◌≡◌, ◌++◌, IfOk, OnOk, replicate, string_bytes};
+ghost use Rattle.std.specs.Prelude.{◌≡◌, ◌++◌, IfOk, OnOk, string_bytes};
 ghost use Rattle.std.specs.List.{flat_map};
-ghost use Rattle.predator_cli.specs.Texts.{address_text, fault_text, hexadecimal as hexadecimal_of, report_of_lines, shown_text};
+ghost use Rattle.predator_cli.specs.Texts.{cause_text, head_text, outcome_text, report_of_lines, shown_text};
 
-use crate::Status;
 use detector::Line;
+use predator_base::{Cause, Ending, Hart, Layout, Outcome};
 use std::alloc::{AllocError, Global};
-use trace_file::TraceFault;
+use text_forms::address;
 
-/// The line of a refusal or of a fault of the outside.
-pub fn fault_line(status: Status) -> &'static [u8]
-    ensures { result.now ≡ fault_text status }
+fn cause_name(cause: Cause) -> &'static str
+    ensures { result.now ≡ cause_text cause }
 {
-    match status {
-        Status::Done => b"",
-        Status::Usage => b"usage: predator replay TRACE\n",
-        Status::Trace(TraceFault::Unbuilt) => b"predator: trace Unbuilt\n",
-        Status::Trace(TraceFault::TooLong) => b"predator: trace TooLong\n",
-        Status::Trace(TraceFault::NoMemory) => b"predator: trace NoMemory\n",
-        Status::ReadFault => b"predator: read fault\n",
-        Status::WriteFault => b"predator: write fault\n",
-        Status::NoMemory => b"predator: no memory\n",
+    match cause {
+        Cause::Illegal => "illegal",
+        Cause::Breakpoint => "breakpoint",
+        Cause::FetchMisaligned => "fetch-misaligned",
+        Cause::FetchOutside => "fetch-outside",
+        Cause::LoadMisaligned => "load-misaligned",
+        Cause::LoadOutside => "load-outside",
+        Cause::StoreMisaligned => "store-misaligned",
+        Cause::StoreOutside => "store-outside",
     }
 }
 
-// So many zeros.
-fn zeros(alloc: Global, count: usize) -> Result<String, AllocError>
-    ensures { IfOk result (λ text. string_bytes text ≡ replicate count 48) }
+// How a run or a trace ended by a trap.
+fn trap(alloc: Global, hart: Hart, pc: u32, cause: Cause) -> Result<String, AllocError>
+    ensures { IfOk result (λ text. string_bytes text ≡ outcome_text (Outcome.Trap hart pc cause)) }
 {
-    let mut text = String::new(alloc);
-    for _place in 0..count {
-        text.push('0')?;
-    }
-    Ok(text)
+    let number = hart.number();
+    let place = address(alloc, i64::from(pc))?;
+    let name = cause_name(cause);
+    format!(in alloc; "trap hart {number} pc {place} {name}")
 }
 
-// At least eight hexadecimal digits.
-fn hexadecimal(alloc: Global, n: u64) -> Result<String, AllocError>
-    ensures { IfOk result (λ text. string_bytes text ≡ hexadecimal_of n) }
+// How a run or a trace ended.
+fn outcome(alloc: Global, outcome: Outcome) -> Result<String, AllocError>
+    ensures { IfOk result (λ text. string_bytes text ≡ outcome_text outcome) }
 {
-    let digits = format!(in alloc; "{n:x}")?;
-    let mut text = zeros(alloc, 8usize.saturating_sub(digits.len()))?;
-    text.push_str(digits.as_str())?;
-    Ok(text)
+    match outcome {
+        Outcome::Exit(code) => format!(in alloc; "exit {code}"),
+        Outcome::Budget => String::from_str(alloc, "budget"),
+        Outcome::Deadlock => String::from_str(alloc, "deadlock"),
+        Outcome::Trap(hart, pc, cause) => trap(alloc, hart, pc, cause),
+        Outcome::Part => String::from_str(alloc, "part"),
+    }
 }
 
-// An address.
-fn address(alloc: Global, at: i64) -> Result<String, AllocError>
-    ensures { IfOk result (λ text. string_bytes text ≡ address_text at) }
+// The first lines.
+fn head(alloc: Global, ending: &Ending, layout: Layout) -> Result<String, AllocError>
+    ensures { IfOk result (λ text. string_bytes text ≡ head_text ending.now layout) }
 {
-    let digits = hexadecimal(alloc, at.unsigned_abs())?;
-    if at < 0 {
-        format!(in alloc; "-0x{digits}")
-    } else {
-        format!(in alloc; "0x{digits}")
-    }
+    let outcome = outcome(alloc, ending.outcome)?;
+    let steps = ending.steps;
+    let accesses = ending.accesses;
+    let size = layout.size();
+    let offset = layout.offset();
+    format!(in alloc;
+        "predator report 0\noutcome {outcome}\nsteps {steps}\naccesses {accesses}\nlayout {size} {offset}\n"
+    )
 }
 
 // The text of a listed line.
@@ -79,14 +82,19 @@ fn push_lines(alloc: Global, text: &mut String, lines: &[Line]) -> Result<(), Al
     Ok(())
 }
 
-/// The short report of so many accesses and these listed lines.
-pub fn report(alloc: Global, accesses: u64, lines: &[Line]) -> Result<String, AllocError>
-    ensures { IfOk result (λ text. string_bytes text ≡ report_of_lines accesses lines.now) }
+/// The short report: how a run or a trace ended, the layout, and the listed lines.
+pub fn report(
+    alloc: Global,
+    ending: &Ending,
+    layout: Layout,
+    lines: &[Line],
+) -> Result<String, AllocError>
+    ensures { IfOk result (λ text. string_bytes text ≡ report_of_lines ending.now layout lines.now) }
 {
+    let mut text = head(alloc, ending, layout)?;
     let count = lines.len();
-    let mut text = format!(in alloc;
-        "predator report 0\naccesses {accesses}\nlayout 64 0\nlines {count}\n"
-    )?;
+    let number = format!(in alloc; "lines {count}\n")?;
+    text.push_str(number.as_str())?;
     push_lines(alloc, &mut text, lines)?;
     text.push_str("end\n")?;
     Ok(text)

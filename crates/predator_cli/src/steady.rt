@@ -1,7 +1,8 @@
 // Over a shelf that never fails, no fault of the outside is answered.
 ghost use Rattle.std.specs.Prelude.{◌≡◌, ◌≢◌, ◌⊎◌};
 ghost use Rattle.predator_cli.specs.Answer.{answer_of};
-ghost use Rattle.predator_cli.specs.Words.{demand_of, texts};
+ghost use Rattle.command_line.specs.Demands.{texts};
+ghost use Rattle.command_line.specs.Words.{demand_of};
 ghost use Rattle.shelf.specs.NeverFails.{never_fails_outside};
 ghost use Rattle.shelf.specs.Shelf.{Told};
 

@@ -1,7 +1,5 @@
-use Rattle.std.proofs.Common.{◌≤◌, take}
-use Rattle.detector.specs.Standing.{StandsFor}
-use Rattle.trace_file.specs.Reading.{touches_in}
+use Rattle.predator_cli.proofs.WatchLaws.{HasSeen}
 use Rattle.predator_cli.proofs.findings.watch.Given as goal
 
 abbrev pub invariant-loop-record : goal.invariant-loop-record
-invariant-loop-record l = StandsFor (touches_in (take l.record-index l.records)) l.detector × (l.detector.position ≤ l.record-index)
+invariant-loop-record l = HasSeen l.fn.layout l.fn.thresholds l.records l.record-index l.detector

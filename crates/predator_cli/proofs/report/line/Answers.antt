@@ -2,7 +2,7 @@ use Rattle.std.proofs.Common.{rules, ◌≡◌, ◌++◌, string_bytes, codes, w
 use Rattle.std.proofs.lemmas.Int.{to_z-of_z}
 use Rattle.std.specs.Fmt.{decimal}
 use Rattle.std.specs.Result.{IfOk}
-use Rattle.predator_cli.specs.Texts.{address_text}
+use Rattle.text_forms.specs.Addresses.{address_text}
 use Rattle.predator_cli.proofs.TextLemmas.{line_pieces}
 use Rattle.predator_cli.proofs.report.line.Goals as goal
 

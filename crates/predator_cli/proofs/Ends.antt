@@ -1,0 +1,340 @@
+-- What a command has done stands after a text is printed.
+use Rattle.std.proofs.Common.{◌≡◌, ◌≢◌, ℕ, ◌≤◌, List, [], Option, Some, None, sym, ◌∙◌, ap, refl, inl, inr, ◌⊎◌}
+use Rattle.shelf.specs.Shelf.{Files, Outside, Told, Goes, Rose, OnlyPrints, OnlyReads, AppendsPrefix}
+use Rattle.std.specs.Io.KnownBytes.{Appends}
+use Rattle.command_line.specs.Words.{Demand, outputs as outputs_of}
+use Rattle.predator_cli.specs.Steps.{IsStopped, first_refusal}
+use Rattle.predator_cli.specs.Commands.{Work, done_with, steps_of, work_of}
+use Rattle.run_recorder.specs.Written.{AllMayStand, AreWhole, Output, bytes_for}
+use Rattle.predator_cli.specs.Written.{StandAt}
+use Rattle.predator_cli.specs.Again.{Repeats, RepeatsReport}
+use Rattle.predator_cli.specs.Answer.{answer_of, outputs, refusal_of}
+use Rattle.predator_cli.specs.Statuses.{Kind, kind_of, done, refusal, read_fault, write_fault, no_memory}
+use Rattle.predator_cli.specs.Meets.{EndsAs, IsAnswered, IsCaused, IsComplete, IsFaulty, IsPrintable, IsWorked, Meets, NoFaults, Printed, Prints}
+use Rattle.predator_cli.specs.Faults.{fault_text}
+use Rattle.predator_cli.specs.declared.status.Status.{Status}
+use Rattle.predator_cli.specs.declared.status.Status.TheVariants as status
+use Rattle.predator_cli.proofs.Standing.{goes_map, goes_same, only_same_names, same_may, same_stands, whole_stands}
+use Rattle.predator_cli.proofs.Told.{told, told_map, told_both, rose_later, whole_prefix}
+
+-- ---- the line of a fault
+
+caused_after : (asked : Option Demand) (a b d : Outside) (k : Kind) → OnlyPrints b d → b.print_faults ≤ d.print_faults → IsCaused asked a b k → IsCaused asked a d k
+caused_after asked a b d done only later caused = tt
+caused_after asked a b d refusal only later caused = tt
+caused_after asked a b d no_memory only later caused = tt
+caused_after asked a b d read_fault only later caused = rw only.read_faults caused
+caused_after asked a b d write_fault only later (inl rose) = inl (rw only.write_faults rose)
+caused_after asked a b d write_fault only later (inr rose) = inr (rose_later a.print_faults b.print_faults d.print_faults rose later)
+
+ends_after : (asked : Option Demand) (files : Files) (a b d : Outside) (k : Kind) (s : Status) → OnlyPrints b d → EndsAs asked files a b k s → EndsAs asked files a d k s
+ends_after asked files a b d done s only ends = ends
+ends_after asked files a b d refusal s only ends = ends
+ends_after asked files a b d no_memory s only ends = tt
+ends_after asked files a b d read_fault s only ends = rw only.read_faults ends
+ends_after asked files a b d write_fault s only ends = ends
+
+printed_prefix : (a d : Outside) (text : List ℕ) → Printed a d text → AppendsPrefix a.printed d.printed text
+printed_prefix a d text (inl whole) = whole_prefix a.printed d.printed text whole
+printed_prefix a d text (inr (rose, part)) = part
+
+printable_after : (asked : Option Demand) (files : Files) (a b d : Outside) (text : List ℕ) → OnlyPrints b d → IsPrintable asked files a b text → IsPrintable asked files a d text
+printable_after asked files a b d text only p = rw (only.read_faults, only.write_faults) p
+
+-- a fault's line was printed, whole or in part
+prints_fault : (asked : Option Demand) (files : Files) (a d : Outside) (k : Kind) (s : Status) → (k ≡ done → ⊥) → IsPrintable asked files a d (fault_text s) → Printed a d (fault_text s) → Prints asked files a d k s
+prints_fault asked files a d done s n p printed = absurd (n refl)
+prints_fault asked files a d refusal s n p printed = printed
+prints_fault asked files a d read_fault s n p printed = printed
+prints_fault asked files a d write_fault s n p printed = inl printed
+prints_fault asked files a d no_memory s n p printed = (fault_text s, p, printed_prefix a d (fault_text s) printed)
+
+-- what stands at a fault may stand where memory runs out after it
+may_stand_later : (k : Kind) (outputs : List Output) (before now : Files) → (k ≡ done → ⊥) → StandAt k outputs before now → AllMayStand outputs before now
+may_stand_later done outputs before now n stands = absurd (n refl)
+may_stand_later refusal outputs before now n stands = λ name. same_may (bytes_for outputs name) (before name) (now name) (stands name)
+may_stand_later read_fault outputs before now n stands = λ name. same_may (bytes_for outputs name) (before name) (now name) (stands name)
+may_stand_later write_fault outputs before now n stands = stands
+may_stand_later no_memory outputs before now n stands = stands
+
+later_stands : (asked : Option Demand) (a b : Outside) (k : Kind) → (k ≡ done → ⊥) → Told a.held (λ files. Goes a.written b.written (StandAt k (answer_of asked files).outputs)) → Told a.held (λ files. Goes a.written b.written (AllMayStand (answer_of asked files).outputs))
+later_stands asked a b k n stands = told_map a.held (λ files goes. goes_map a.written b.written (λ before now is. may_stand_later k (answer_of asked files).outputs before now n is) goes) stands
+
+no_repeat : (asked : Option Demand) (files : Files) (k : Kind) → (k ≡ done → ⊥) → Repeats asked files k
+no_repeat None files k n = tt
+no_repeat (Some demand) files done n = absurd (n refl)
+no_repeat (Some demand) files refusal n = tt
+no_repeat (Some demand) files read_fault n = tt
+no_repeat (Some demand) files write_fault n = tt
+no_repeat (Some demand) files no_memory n = tt
+
+pub refuse_meets : (asked : Option Demand) (a b d : Outside) (s : Status) → IsFaulty asked a b s → OnlyPrints b d → b.print_faults ≤ d.print_faults → Printed b d (fault_text s) → Meets asked a d s
+refuse_meets asked a b d s faulty only later printed =
+    let same : Printed a d (fault_text s) = rw (← faulty.printed, ← faulty.print_faults) printed in
+    record {
+      ends = told_map a.held (λ files ends. ends_after asked files a b d (kind_of s) s only ends) faulty.ends;
+      usage = faulty.usage;
+      refuses = faulty.refuses;
+      caused = caused_after asked a b d (kind_of s) only later faulty.caused;
+      prints = told_map a.held (λ files p. prints_fault asked files a d (kind_of s) s faulty.fault (printable_after asked files a b d (fault_text s) only p) same) faulty.printable;
+      writes = rw only.written faulty.writes;
+      only = rw only.written faulty.only;
+      held = only.held ∙ faulty.held;
+      again = told a.held (λ files. no_repeat asked files (kind_of s) faulty.fault);
+    }
+
+-- memory ran out while a fault's line was printed
+pub refuse_out_of_memory : (asked : Option Demand) (a b d : Outside) (s : Status) → IsFaulty asked a b s → OnlyPrints b d → AppendsPrefix b.printed d.printed (fault_text s) → Meets asked a d status.NoMemory
+refuse_out_of_memory asked a b d s faulty only printed =
+    let part : AppendsPrefix a.printed d.printed (fault_text s) = rw (← faulty.printed) printed in
+    record {
+      ends = told a.held (λ files. tt);
+      usage = λ u. cc;
+      refuses = λ r. inr refl;
+      caused = tt;
+      prints = told_map a.held (λ files p. (fault_text s, printable_after asked files a b d (fault_text s) only p, part)) faulty.printable;
+      writes = rw only.written (later_stands asked a b (kind_of s) faulty.fault faulty.writes);
+      only = rw only.written faulty.only;
+      held = only.held ∙ faulty.held;
+      again = told a.held (λ files. no_repeat asked files no_memory (λ e. cc));
+    }
+
+-- memory ran out before it was
+pub faulty_for_memory : (asked : Option Demand) (a b : Outside) (s : Status) → IsFaulty asked a b s → IsFaulty asked a b status.NoMemory
+faulty_for_memory asked a b s faulty = record {
+  fault = λ e. cc;
+  ends = told a.held (λ files. tt);
+  usage = λ u. cc;
+  refuses = λ r. inr refl;
+  caused = tt;
+  printable = told a.held (λ files. inr (inl refl));
+  writes = later_stands asked a b (kind_of s) faulty.fault faulty.writes;
+  only = faulty.only;
+  held = faulty.held;
+  printed = faulty.printed;
+  print_faults = faulty.print_faults;
+}
+
+-- ---- the command's own text
+
+-- the answer of a command whose files are accepted
+pub accepted_answer : (demand : Demand) (files : Files) → first_refusal (steps_of demand) files ≡ None → answer_of (Some demand) files ≡ work_of demand files
+accepted_answer demand files none = rw none refl
+
+finished_ends : (demand : Demand) (files : Files) (a d : Outside) (s : Status) → kind_of s ≡ done → first_refusal (steps_of demand) files ≡ None → (work_of demand files).status ≡ s → EndsAs (Some demand) files a d (kind_of s) s
+finished_ends demand files a d s kind none is = rw kind (ap (λ (w : Work). w.status) (accepted_answer demand files none) ∙ is)
+
+own_text : (demand : Demand) (files : Files) (text : List ℕ) → first_refusal (steps_of demand) files ≡ None → (work_of demand files).text ≡ text → (answer_of (Some demand) files).text ≡ text
+own_text demand files text none is = ap (λ (w : Work). w.text) (accepted_answer demand files none) ∙ is
+
+own_texts : (demand : Demand) (a b : Outside) (s : Status) (text : List ℕ) → IsWorked demand a b s text → Told a.held (λ files. (answer_of (Some demand) files).text ≡ text)
+own_texts demand a b s text worked = told_both a.held (λ files none is. own_text demand files text none is) worked.accepts worked.same_text
+
+-- the outputs of a command whose files are accepted
+pub own_outputs : (demand : Demand) (files : Files) (P : List Output → Type 0) → first_refusal (steps_of demand) files ≡ None → P (work_of demand files).outputs → P (answer_of (Some demand) files).outputs
+own_outputs demand files P none p = rw (ap (λ (w : Work). w.outputs) (accepted_answer demand files none)) p
+
+whole_after : (demand : Demand) (a b : Outside) (s : Status) (text : List ℕ) → IsWorked demand a b s text → Told a.held (λ files. Goes a.written b.written (AreWhole (answer_of (Some demand) files).outputs))
+whole_after demand a b s text worked = told_both a.held (λ files none whole. own_outputs demand files (λ outputs. Goes a.written b.written (AreWhole outputs)) none whole) worked.accepts worked.whole
+
+part_after : (demand : Demand) (a b : Outside) (s : Status) (text : List ℕ) → IsWorked demand a b s text → Told a.held (λ files. Goes a.written b.written (AllMayStand (answer_of (Some demand) files).outputs))
+part_after demand a b s text worked = told_map a.held (λ files goes. goes_map a.written b.written (λ before now is. whole_stands (answer_of (Some demand) files).outputs before now is) goes) (whole_after demand a b s text worked)
+
+kind_stands : (k : Kind) (asked : Option Demand) (a b : Outside) → k ≡ done → Told a.held (λ files. Goes a.written b.written (AreWhole (answer_of asked files).outputs)) → Told a.held (λ files. Goes a.written b.written (StandAt k (answer_of asked files).outputs))
+kind_stands k asked a b is whole = rw is whole
+
+whole_printed : (demand : Demand) (files : Files) (a d : Outside) (s : Status) (text : List ℕ) → kind_of s ≡ done → (answer_of (Some demand) files).text ≡ text → Appends a.printed d.printed text → Prints (Some demand) files a d (kind_of s) s
+whole_printed demand files a d s text kind is printed = rw (kind, is) printed
+
+no_usage : (s : Status) → kind_of s ≡ done → s ≡ status.Usage → ⊥
+no_usage s kind u = let k : kind_of status.Usage ≡ done = ap kind_of (sym u) ∙ kind in cc
+
+no_cause : (asked : Option Demand) (a d : Outside) (k : Kind) → k ≡ done → IsCaused asked a d k
+no_cause asked a d k is = rw is tt
+
+repeats_at : (k : Kind) (demand : Demand) (files : Files) → k ≡ done → RepeatsReport demand files → Repeats (Some demand) files k
+repeats_at k demand files is repeats = rw is repeats
+
+pub finish_meets : (demand : Demand) (a b d : Outside) (s : Status) (text : List ℕ) → kind_of s ≡ done → IsWorked demand a b s text → OnlyPrints b d → Appends b.printed d.printed text → Meets (Some demand) a d s
+finish_meets demand a b d s text kind worked only printed =
+    let whole : Appends a.printed d.printed text = rw (← worked.printed) printed in
+    record {
+      ends = told_both a.held (λ files none is. finished_ends demand files a d s kind none is) worked.accepts worked.ends;
+      usage = λ u. absurd (no_usage s kind u);
+      refuses = λ r. cc;
+      caused = no_cause (Some demand) a d (kind_of s) kind;
+      prints = told_map a.held (λ files is. whole_printed demand files a d s text kind is whole) (own_texts demand a b s text worked);
+      writes = rw only.written (kind_stands (kind_of s) (Some demand) a b kind (whole_after demand a b s text worked));
+      only = rw only.written worked.only;
+      held = only.held ∙ worked.held;
+      again = told_map a.held (λ files is. repeats_at (kind_of s) demand files kind is) worked.again;
+    }
+
+-- printing it failed
+pub finish_failed : (demand : Demand) (a b d : Outside) (s : Status) (text : List ℕ) → IsWorked demand a b s text → OnlyPrints b d → Rose b.print_faults d.print_faults → AppendsPrefix b.printed d.printed text → Meets (Some demand) a d status.WriteFault
+finish_failed demand a b d s text worked only rose printed =
+    let rose_a : Rose a.print_faults d.print_faults = rw (← worked.print_faults) rose in
+    let part : AppendsPrefix a.printed d.printed text = rw (← worked.printed) printed in
+    record {
+      ends = worked.accepts;
+      usage = λ u. cc;
+      refuses = λ r. cc;
+      caused = inr rose_a;
+      prints = told_map a.held (λ files is. inr (rose_a, rw is part)) (own_texts demand a b s text worked);
+      writes = rw only.written (part_after demand a b s text worked);
+      only = rw only.written worked.only;
+      held = only.held ∙ worked.held;
+      again = told a.held (λ files. tt);
+    }
+
+-- memory ran out while it was printed
+pub finish_out_of_memory : (demand : Demand) (a b d : Outside) (s : Status) (text : List ℕ) → IsWorked demand a b s text → OnlyPrints b d → AppendsPrefix b.printed d.printed text → Meets (Some demand) a d status.NoMemory
+finish_out_of_memory demand a b d s text worked only printed =
+    let part : AppendsPrefix a.printed d.printed text = rw (← worked.printed) printed in
+    record {
+      ends = told a.held (λ files. tt);
+      usage = λ u. cc;
+      refuses = λ r. inr refl;
+      caused = tt;
+      prints = told_map a.held (λ files is. (text, inl (sym is), part)) (own_texts demand a b s text worked);
+      writes = rw only.written (part_after demand a b s text worked);
+      only = rw only.written worked.only;
+      held = only.held ∙ worked.held;
+      again = told a.held (λ files. tt);
+    }
+
+-- a command that writes nothing
+pub answered_worked : (demand : Demand) (a b : Outside) (text : List ℕ) → IsAnswered demand a b text → IsWorked demand a b status.Done text
+answered_worked demand a b text answered =
+    let same = answered.accepted.same in
+    let written = ap (λ (o : Outside). o.written) same in
+    record {
+      accepts = answered.accepted.accepts;
+      ends = told_map a.held (λ files is. ap (λ (w : Work). w.status) is) answered.work;
+      same_text = told_map a.held (λ files is. ap (λ (w : Work). w.text) is) answered.work;
+      whole = rw written (told_map a.held (λ files is. goes_same _ a.written (λ before. no_outputs files before is)) answered.work);
+      only = only_same_names (outputs_of demand) a b written;
+      again = told a.held answered.again;
+      held = ap (λ (o : Outside). o.held) same;
+      printed = ap (λ (o : Outside). o.printed) same;
+      print_faults = ap (λ (o : Outside). o.print_faults) same;
+    }
+  where
+    no_outputs : (files before : Files) → work_of demand files ≡ done_with text → AreWhole (work_of demand files).outputs before before
+    no_outputs files before is = rw (ap (λ (w : Work). w.outputs) is) (λ name. refl)
+
+-- ---- where nothing is read, or the reading stopped
+
+-- refused words
+pub words_refused : (a : Outside) → IsFaulty None a a status.Usage
+words_refused a = record {
+  fault = λ e. cc;
+  ends = told a.held (λ files. refl);
+  usage = λ u. refl;
+  refuses = λ r. inl refl;
+  caused = tt;
+  printable = told a.held (λ files. inl refl);
+  writes = told a.held (λ files. goes_same _ a.written (λ before name. refl));
+  only = only_same_names [] a a refl;
+  held = refl;
+  printed = refl;
+  print_faults = refl;
+}
+
+-- memory ran out
+unchanged_at : (asked : Option Demand) (a b : Outside) (k : Kind) → (k ≡ done → ⊥) → b.written ≡ a.written → Told a.held (λ files. Goes a.written b.written (StandAt k (answer_of asked files).outputs))
+unchanged_at asked a b k n same = rw same (told a.held (λ files. goes_same _ a.written (λ before. same_stands k (answer_of asked files).outputs before (λ d. absurd (n d)))))
+
+memory_faulty : (asked : Option Demand) (a b : Outside) → OnlyReads a b → IsFaulty asked a b status.NoMemory
+memory_faulty asked a b only = record {
+  fault = λ e. cc;
+  ends = told a.held (λ files. tt);
+  usage = λ u. cc;
+  refuses = λ r. inr refl;
+  caused = tt;
+  printable = told a.held (λ files. inr (inl refl));
+  writes = unchanged_at asked a b no_memory (λ e. cc) only.written;
+  only = only_same_names (outputs asked) a b only.written;
+  held = only.held;
+  printed = only.printed;
+  print_faults = only.print_faults;
+}
+
+pub words_unread : (asked : Option Demand) (a : Outside) → IsFaulty asked a a status.NoMemory
+words_unread asked a = memory_faulty asked a a (record { held = refl; written = refl; printed = refl; write_faults = refl; print_faults = refl })
+
+refused_answer : (demand : Demand) (files : Files) (s : Status) → first_refusal (steps_of demand) files ≡ Some s → answer_of (Some demand) files ≡ refusal_of s
+refused_answer demand files s is = rw is refl
+
+-- a file is refused
+file_faulty : (demand : Demand) (a b : Outside) (s : Status) → kind_of s ≡ refusal → s ≢ status.Usage → Told a.held (λ files. first_refusal (steps_of demand) files ≡ Some s) → OnlyReads a b → IsFaulty (Some demand) a b s
+file_faulty demand a b s kind words refused only = record {
+  fault = λ e. let k : refusal ≡ done = sym kind ∙ e in cc;
+  ends = told_map a.held (λ files is. ends_so files is) refused;
+  usage = λ u. absurd (words u);
+  refuses = λ r. cc;
+  caused = caused_so;
+  printable = told_map a.held (λ files is. inl (sym (ap (λ (w : Work). w.text) (refused_answer demand files s is)))) refused;
+  writes = unchanged_at (Some demand) a b (kind_of s) (λ e. let k : refusal ≡ done = sym kind ∙ e in cc) only.written;
+  only = only_same_names (outputs (Some demand)) a b only.written;
+  held = only.held;
+  printed = only.printed;
+  print_faults = only.print_faults;
+}
+  where
+    ends_so : (files : Files) → first_refusal (steps_of demand) files ≡ Some s → EndsAs (Some demand) files a b (kind_of s) s
+    ends_so files is = rw kind (ap (λ (w : Work). w.status) (refused_answer demand files s is))
+
+    caused_so : IsCaused (Some demand) a b (kind_of s)
+    caused_so = rw kind tt
+
+-- reading a file failed
+reading_faulty : (demand : Demand) (a b : Outside) → IsStopped (steps_of demand) a b status.ReadFault → IsFaulty (Some demand) a b status.ReadFault
+reading_faulty demand a b stopped = record {
+  fault = λ e. cc;
+  ends = stopped.why.1;
+  usage = λ u. cc;
+  refuses = λ r. cc;
+  caused = stopped.why.0;
+  printable = told_map a.held (λ files fails. inr (inr (inl (refl, fails)))) stopped.why.1;
+  writes = unchanged_at (Some demand) a b read_fault (λ e. cc) stopped.only.written;
+  only = only_same_names (outputs (Some demand)) a b stopped.only.written;
+  held = stopped.only.held;
+  printed = stopped.only.printed;
+  print_faults = stopped.only.print_faults;
+}
+
+pub stopped_faulty : (demand : Demand) (a b : Outside) (s : Status) → IsStopped (steps_of demand) a b s → IsFaulty (Some demand) a b s
+stopped_faulty demand a b status.Done stopped = absurd stopped.why
+stopped_faulty demand a b status.Usage stopped = absurd (stopped.words refl)
+stopped_faulty demand a b (status.Elf fault) stopped = file_faulty demand a b (status.Elf fault) refl stopped.words stopped.why stopped.only
+stopped_faulty demand a b (status.Schedule fault) stopped = file_faulty demand a b (status.Schedule fault) refl stopped.words stopped.why stopped.only
+stopped_faulty demand a b (status.Settings fault) stopped = file_faulty demand a b (status.Settings fault) refl stopped.words stopped.why stopped.only
+stopped_faulty demand a b (status.Trace fault) stopped = file_faulty demand a b (status.Trace fault) refl stopped.words stopped.why stopped.only
+stopped_faulty demand a b status.ReadFault stopped = reading_faulty demand a b stopped
+stopped_faulty demand a b status.WriteFault stopped = absurd stopped.why
+stopped_faulty demand a b status.NoMemory stopped = memory_faulty (Some demand) a b stopped.only
+stopped_faulty demand a b status.Budget stopped = absurd stopped.why
+stopped_faulty demand a b status.Deadlock stopped = absurd stopped.why
+stopped_faulty demand a b status.Trapped stopped = absurd stopped.why
+
+-- ---- completeness
+
+-- without faults of the outside the end is the one that is asked for
+ends_without : (asked : Option Demand) (files : Files) (old new : Outside) (s : Status) → EndsAs asked files old new (kind_of s) s → IsCaused asked old new (kind_of s) → NoFaults asked old new → (s ≡ (answer_of asked files).status) ⊎ (s ≡ status.NoMemory)
+ends_without asked files old new status.Done ends caused none = inl (sym ends)
+ends_without asked files old new status.Usage ends caused none = inl (sym ends)
+ends_without asked files old new (status.Elf fault) ends caused none = inl (sym ends)
+ends_without asked files old new (status.Schedule fault) ends caused none = inl (sym ends)
+ends_without asked files old new (status.Settings fault) ends caused none = inl (sym ends)
+ends_without asked files old new (status.Trace fault) ends caused none = inl (sym ends)
+ends_without asked files old new status.ReadFault ends caused none = absurd (none.reads caused)
+ends_without asked files old new status.WriteFault ends (inl rose) none = absurd (none.writes rose)
+ends_without asked files old new status.WriteFault ends (inr rose) none = absurd (none.prints rose)
+ends_without asked files old new status.NoMemory ends caused none = inr refl
+ends_without asked files old new status.Budget ends caused none = inl (sym ends)
+ends_without asked files old new status.Deadlock ends caused none = inl (sym ends)
+ends_without asked files old new status.Trapped ends caused none = inl (sym ends)
+
+pub meets_complete : (asked : Option Demand) (old new : Outside) (s : Status) → Meets asked old new s → Told old.held (λ files. IsComplete asked files old new s)
+meets_complete asked old new s meets = told_map old.held (λ files ends none. ends_without asked files old new s ends meets.caused none) meets.ends

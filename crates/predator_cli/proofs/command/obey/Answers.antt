@@ -1,0 +1,8 @@
+use Rattle.command_line.specs.Demands.{texts}
+use Rattle.command_line.specs.Words.{demand_of}
+use Rattle.predator_cli.proofs.Ends.{words_unread}
+use Rattle.predator_cli.proofs.command.obey.Goals as goal
+
+pub returns-in-Err-NoMemory : goal.returns-in-Err-NoMemory
+returns-in-Err-NoMemory g c =
+    c.refuse.ensures (demand_of (texts c.args.words.now)) (g.S.Shelf.outside c.args.shelf.now) (words_unread (demand_of (texts c.args.words.now)) (g.S.Shelf.outside c.args.shelf.now))

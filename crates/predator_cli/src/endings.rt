@@ -1,0 +1,74 @@
+// How a command prints its last text and ends.
+ghost use Rattle.std.specs.Prelude.{◌≡◌, Option, None, Some, string_bytes};
+ghost use Rattle.command_line.specs.Words.{Demand};
+ghost use Rattle.shelf.specs.Shelf.{Outside};
+ghost use Rattle.predator_cli.specs.Faults.{fault_text};
+ghost use Rattle.predator_cli.specs.Meets.{IsAnswered, IsFaulty, IsWorked, Meets};
+ghost use Rattle.predator_cli.specs.Statuses.{kind_of, done};
+ghost use Rattle.predator_cli.specs.Steps.{IsStopped};
+ghost use Rattle.predator_cli.specs.Commands.{steps_of};
+
+use crate::Status;
+use crate::faults::{NO_MEMORY_LINE, fault_line};
+use shelf::{Shelf, ShelfError};
+use std::alloc::Global;
+
+// Prints the line of a fault, and answers how the program ends.
+fn print_fault<S: Shelf>(shelf: &mut S, status: Status, text: &str) -> Status
+    requires { text.now ≡ fault_text status }
+    ensures { (asked : Option Demand) (old : Outside) → IsFaulty asked old (S.outside shelf.old) status
+        → Meets asked old (S.outside shelf.new) result }
+{
+    match shelf.print(text.as_bytes()) {
+        Ok(()) => status,
+        Err(ShelfError::Failed) => status,
+        Err(ShelfError::NoMemory) => Status::NoMemory,
+    }
+}
+
+/// Ends with a refusal or with a fault of the outside.
+pub fn refuse<S: Shelf>(alloc: Global, shelf: &mut S, status: Status) -> Status
+    ensures { (asked : Option Demand) (old : Outside) → IsFaulty asked old (S.outside shelf.old) status
+        → Meets asked old (S.outside shelf.new) result }
+{
+    match fault_line(alloc, &status) {
+        Ok(text) => print_fault(shelf, status, text.as_str()),
+        Err(_) => print_fault(shelf, Status::NoMemory, NO_MEMORY_LINE),
+    }
+}
+
+/// Refuses the words.
+pub fn refuse_words<S: Shelf>(alloc: Global, shelf: &mut S) -> Status
+    ensures { Meets None (S.outside shelf.old) (S.outside shelf.new) result }
+{
+    refuse(alloc, shelf, Status::Usage)
+}
+
+/// Ends where the reading of a command's files stopped.
+pub fn stop<S: Shelf>(alloc: Global, shelf: &mut S, status: Status) -> Status
+    ensures { (demand : Demand) (old : Outside) → IsStopped (steps_of demand) old (S.outside shelf.old) status
+        → Meets (Some demand) old (S.outside shelf.new) result }
+{
+    refuse(alloc, shelf, status)
+}
+
+/// Prints a command's own text, and ends as its work does.
+pub fn finish<S: Shelf>(shelf: &mut S, status: Status, text: &str) -> Status
+    requires { kind_of status ≡ done }
+    ensures { (demand : Demand) (old : Outside) → IsWorked demand old (S.outside shelf.old) status text.now
+        → Meets (Some demand) old (S.outside shelf.new) result }
+{
+    match shelf.print(text.as_bytes()) {
+        Ok(()) => status,
+        Err(ShelfError::Failed) => Status::WriteFault,
+        Err(ShelfError::NoMemory) => Status::NoMemory,
+    }
+}
+
+/// Prints the text of a command that writes nothing, and ends.
+pub fn answer<S: Shelf>(shelf: &mut S, text: &str) -> Status
+    ensures { (demand : Demand) (old : Outside) → IsAnswered demand old (S.outside shelf.old) text.now
+        → Meets (Some demand) old (S.outside shelf.new) result }
+{
+    finish(shelf, Status::Done, text)
+}

@@ -1,0 +1,165 @@
+// The lines of refusals and of faults of the outside.
+ghost use Rattle.std.specs.Prelude.{◌≡◌, ◌++◌, ◌<◌, IfOk, OnOk, string_bytes};
+ghost use Rattle.std.specs.List.{flat_map};
+ghost use Rattle.settings.specs.Keys.{key_name};
+ghost use Rattle.predator_cli.specs.Texts.{byte_text, digit_code, is_shown, name_text};
+ghost use Rattle.predator_cli.specs.Faults.{elf_text, fault_text, schedule_text, settings_text, trace_text, usage_text};
+
+use crate::Status;
+use elf_loader::ElfFault;
+use hart_scheduler::ScheduleFault;
+use settings::SettingsFault;
+use std::alloc::{AllocError, Global};
+use trace_file::TraceFault;
+
+/// The line of want of memory, which takes none.
+pub const NO_MEMORY_LINE: &str = "predator: no memory\n";
+
+/// A line for each command.
+const USAGE: &str =
+    "usage: predator run PROGRAM [--settings F] [--schedule F] [--trace F] [--output F]\nusage: predator replay TRACE [--settings F] [--size N] [--shift N]\nusage: predator check PROGRAM [--settings F]\n";
+
+fn elf_name(fault: ElfFault) -> &'static str
+    ensures { result.now ≡ elf_text fault }
+{
+    match fault {
+        ElfFault::TooShort => "TooShort",
+        ElfFault::BadMagic => "BadMagic",
+        ElfFault::BadClass => "BadClass",
+        ElfFault::BadData => "BadData",
+        ElfFault::BadVersion => "BadVersion",
+        ElfFault::BadType => "BadType",
+        ElfFault::BadMachine => "BadMachine",
+        ElfFault::BadFlags => "BadFlags",
+        ElfFault::BadHeaderSize => "BadHeaderSize",
+        ElfFault::HeadersOutside => "HeadersOutside",
+        ElfFault::Dynamic => "Dynamic",
+        ElfFault::SegmentOutsideFile => "SegmentOutsideFile",
+        ElfFault::SegmentSizes => "SegmentSizes",
+        ElfFault::SegmentOverlap => "SegmentOverlap",
+        ElfFault::SegmentOutsideMemory => "SegmentOutsideMemory",
+        ElfFault::EntryMisaligned => "EntryMisaligned",
+        ElfFault::EntryNotExecutable => "EntryNotExecutable",
+        ElfFault::BadSymbols => "BadSymbols",
+        ElfFault::BadSymbolName => "BadSymbolName",
+        ElfFault::TooLong => "TooLong",
+    }
+}
+
+// What a fault of the schedule is called.
+fn schedule_name(alloc: Global, fault: ScheduleFault) -> Result<String, AllocError>
+    ensures { IfOk result (λ text. string_bytes text ≡ schedule_text fault) }
+{
+    match fault {
+        ScheduleFault::BadLine(line) => format!(in alloc; "BadLine {line}"),
+        ScheduleFault::HartOutOfRange(line) => format!(in alloc; "HartOutOfRange {line}"),
+        ScheduleFault::ZeroCount(line) => format!(in alloc; "ZeroCount {line}"),
+        ScheduleFault::TooLong => String::from_str(alloc, "TooLong"),
+        ScheduleFault::NoMemory => String::from_str(alloc, "NoMemory"),
+    }
+}
+
+// Whether a byte stands in a printed name as it is.
+fn is_shown_byte(byte: u8) -> bool
+    ensures { result ≡ is_shown byte }
+{
+    byte > b' ' && byte < 0x7f && byte != b'\\'
+}
+
+// A digit of base 16.
+fn digit(value: u8) -> u8
+    requires { value < 16 }
+    ensures { result ≡ digit_code value }
+{
+    if value < 10 {
+        value + b'0'
+    } else {
+        value + (b'a' - 10)
+    }
+}
+
+// Adds a byte of a name.
+fn push_byte(text: &mut String, byte: u8) -> Result<(), AllocError>
+    ensures { OnOk result (string_bytes text.new ≡ string_bytes text.old ++ byte_text byte) }
+{
+    if is_shown_byte(byte) {
+        return text.push(char::from(byte));
+    }
+    text.push_str("\\x")?;
+    text.push(char::from(digit(byte / 16)))?;
+    text.push(char::from(digit(byte % 16)))
+}
+
+// A name as it is printed.
+fn printed_name(alloc: Global, name: &[u8]) -> Result<String, AllocError>
+    ensures { IfOk result (λ text. string_bytes text ≡ name_text name.now) }
+{
+    if name.is_empty() {
+        return String::from_str(alloc, "?");
+    }
+    let mut text = String::new(alloc);
+    for byte in name {
+        push_byte(&mut text, *byte)?;
+    }
+    Ok(text)
+}
+
+// What a fault of the settings is called.
+fn settings_name(alloc: Global, fault: &SettingsFault) -> Result<String, AllocError>
+    ensures { IfOk result (λ text. string_bytes text ≡ settings_text fault.now) }
+{
+    match fault {
+        SettingsFault::TooLong => String::from_str(alloc, "TooLong"),
+        SettingsFault::BadToml => String::from_str(alloc, "BadToml"),
+        SettingsFault::UnknownKey(name) => {
+            let name = printed_name(alloc, name.bytes())?;
+            format!(in alloc; "UnknownKey {name}")
+        }
+        SettingsFault::OutOfRange(key) => {
+            let name = key.name();
+            format!(in alloc; "OutOfRange {name}")
+        }
+        SettingsFault::NoMemory => String::from_str(alloc, "NoMemory"),
+    }
+}
+
+fn trace_name(fault: TraceFault) -> &'static str
+    ensures { result.now ≡ trace_text fault }
+{
+    match fault {
+        TraceFault::Unbuilt => "Unbuilt",
+        TraceFault::TooLong => "TooLong",
+        TraceFault::NoMemory => "NoMemory",
+    }
+}
+
+/// The lines of a refusal or of a fault of the outside.
+pub fn fault_line(alloc: Global, status: &Status) -> Result<String, AllocError>
+    ensures { IfOk result (λ text. string_bytes text ≡ fault_text status.now) }
+{
+    match status {
+        Status::Done | Status::Budget | Status::Deadlock | Status::Trapped => {
+            Ok(String::new(alloc))
+        }
+        Status::Usage => String::from_str(alloc, USAGE),
+        Status::Elf(fault) => {
+            let name = elf_name(*fault);
+            format!(in alloc; "predator: elf {name}\n")
+        }
+        Status::Schedule(fault) => {
+            let name = schedule_name(alloc, *fault)?;
+            format!(in alloc; "predator: schedule {name}\n")
+        }
+        Status::Settings(fault) => {
+            let name = settings_name(alloc, fault)?;
+            format!(in alloc; "predator: settings {name}\n")
+        }
+        Status::Trace(fault) => {
+            let name = trace_name(*fault);
+            format!(in alloc; "predator: trace {name}\n")
+        }
+        Status::ReadFault => String::from_str(alloc, "predator: read fault\n"),
+        Status::WriteFault => String::from_str(alloc, "predator: write fault\n"),
+        Status::NoMemory => String::from_str(alloc, NO_MEMORY_LINE),
+    }
+}
