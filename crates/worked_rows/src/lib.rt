@@ -9,8 +9,22 @@ mod disk;
 #[cfg(test)]
 mod faults;
 #[cfg(test)]
-mod refusals;
+mod guests;
+#[cfg(test)]
+mod layouts;
+#[cfg(test)]
+mod linked;
+#[cfg(test)]
+mod order;
+#[cfg(test)]
+mod programs;
 #[cfg(test)]
 mod reports;
 #[cfg(test)]
 mod runs;
+#[cfg(test)]
+mod settings_files;
+#[cfg(test)]
+mod traces;
+#[cfg(test)]
+mod words;
