@@ -40,6 +40,7 @@ check_answered program name a b s bytes text read whole same none is = record {
   };
   work = told_both a.held (λ files e w. work_is files e w) read whole;
   again = λ files. tt;
+  within = λ files. tt;
 }
   where
     work_is : (files : Files) → settings_in name files ≡ Ok s → bytes ≡ content files program → work_of (check program name) files ≡ done_with text

@@ -7,7 +7,7 @@ use Rattle.predator_cli.specs.Steps.{IsStopped, first_refusal}
 use Rattle.predator_cli.specs.Commands.{Work, done_with, steps_of, work_of}
 use Rattle.run_recorder.specs.Written.{AllMayStand, AreWhole, Output, bytes_for}
 use Rattle.predator_cli.specs.Written.{StandAt}
-use Rattle.predator_cli.specs.Again.{Repeats, RepeatsReport}
+use Rattle.predator_cli.specs.Again.{RepeatsReport, StaysWithinBudget, WhereDone}
 use Rattle.predator_cli.specs.Answer.{answer_of, outputs, refusal_of}
 use Rattle.predator_cli.specs.Statuses.{Kind, kind_of, done, refusal, read_fault, write_fault, no_memory}
 use Rattle.predator_cli.specs.Meets.{EndsAs, IsAnswered, IsCaused, IsComplete, IsFaulty, IsPrintable, IsWorked, Meets, NoFaults, Printed, Prints}
@@ -60,13 +60,13 @@ may_stand_later no_memory outputs before now n stands = stands
 later_stands : (asked : Option Demand) (a b : Outside) (k : Kind) → (k ≡ done → ⊥) → Told a.held (λ files. Goes a.written b.written (StandAt k (answer_of asked files).outputs)) → Told a.held (λ files. Goes a.written b.written (AllMayStand (answer_of asked files).outputs))
 later_stands asked a b k n stands = told_map a.held (λ files goes. goes_map a.written b.written (λ before now is. may_stand_later k (answer_of asked files).outputs before now n is) goes) stands
 
-no_repeat : (asked : Option Demand) (files : Files) (k : Kind) → (k ≡ done → ⊥) → Repeats asked files k
-no_repeat None files k n = tt
-no_repeat (Some demand) files done n = absurd (n refl)
-no_repeat (Some demand) files refusal n = tt
-no_repeat (Some demand) files read_fault n = tt
-no_repeat (Some demand) files write_fault n = tt
-no_repeat (Some demand) files no_memory n = tt
+not_done : (P : Demand → Files → Type 0) (asked : Option Demand) (files : Files) (k : Kind) → (k ≡ done → ⊥) → WhereDone P asked files k
+not_done P None files k n = tt
+not_done P (Some demand) files done n = absurd (n refl)
+not_done P (Some demand) files refusal n = tt
+not_done P (Some demand) files read_fault n = tt
+not_done P (Some demand) files write_fault n = tt
+not_done P (Some demand) files no_memory n = tt
 
 pub refuse_meets : (asked : Option Demand) (a b d : Outside) (s : Status) → IsFaulty asked a b s → OnlyPrints b d → b.print_faults ≤ d.print_faults → Printed b d (fault_text s) → Meets asked a d s
 refuse_meets asked a b d s faulty only later printed =
@@ -80,7 +80,8 @@ refuse_meets asked a b d s faulty only later printed =
       writes = rw only.written faulty.writes;
       only = rw only.written faulty.only;
       held = only.held ∙ faulty.held;
-      again = told a.held (λ files. no_repeat asked files (kind_of s) faulty.fault);
+      again = told a.held (λ files. not_done RepeatsReport asked files (kind_of s) faulty.fault);
+      within = told a.held (λ files. not_done StaysWithinBudget asked files (kind_of s) faulty.fault);
     }
 
 -- memory ran out while a fault's line was printed
@@ -96,7 +97,8 @@ refuse_out_of_memory asked a b d s faulty only printed =
       writes = rw only.written (later_stands asked a b (kind_of s) faulty.fault faulty.writes);
       only = rw only.written faulty.only;
       held = only.held ∙ faulty.held;
-      again = told a.held (λ files. no_repeat asked files no_memory (λ e. cc));
+      again = told a.held (λ files. not_done RepeatsReport asked files no_memory (λ e. cc));
+      within = told a.held (λ files. not_done StaysWithinBudget asked files no_memory (λ e. cc));
     }
 
 -- memory ran out before it was
@@ -152,8 +154,8 @@ no_usage s kind u = let k : kind_of status.Usage ≡ done = ap kind_of (sym u) �
 no_cause : (asked : Option Demand) (a d : Outside) (k : Kind) → k ≡ done → IsCaused asked a d k
 no_cause asked a d k is = rw is tt
 
-repeats_at : (k : Kind) (demand : Demand) (files : Files) → k ≡ done → RepeatsReport demand files → Repeats (Some demand) files k
-repeats_at k demand files is repeats = rw is repeats
+at_done : (P : Demand → Files → Type 0) (k : Kind) (demand : Demand) (files : Files) → k ≡ done → P demand files → WhereDone P (Some demand) files k
+at_done P k demand files is holds = rw is holds
 
 pub finish_meets : (demand : Demand) (a b d : Outside) (s : Status) (text : List ℕ) → kind_of s ≡ done → IsWorked demand a b s text → OnlyPrints b d → Appends b.printed d.printed text → Meets (Some demand) a d s
 finish_meets demand a b d s text kind worked only printed =
@@ -167,7 +169,8 @@ finish_meets demand a b d s text kind worked only printed =
       writes = rw only.written (kind_stands (kind_of s) (Some demand) a b kind (whole_after demand a b s text worked));
       only = rw only.written worked.only;
       held = only.held ∙ worked.held;
-      again = told_map a.held (λ files is. repeats_at (kind_of s) demand files kind is) worked.again;
+      again = told_map a.held (λ files is. at_done RepeatsReport (kind_of s) demand files kind is) worked.again;
+      within = told_map a.held (λ files is. at_done StaysWithinBudget (kind_of s) demand files kind is) worked.within;
     }
 
 -- printing it failed
@@ -185,6 +188,7 @@ finish_failed demand a b d s text worked only rose printed =
       only = rw only.written worked.only;
       held = only.held ∙ worked.held;
       again = told a.held (λ files. tt);
+      within = told a.held (λ files. tt);
     }
 
 -- memory ran out while it was printed
@@ -201,6 +205,7 @@ finish_out_of_memory demand a b d s text worked only printed =
       only = rw only.written worked.only;
       held = only.held ∙ worked.held;
       again = told a.held (λ files. tt);
+      within = told a.held (λ files. tt);
     }
 
 -- a command that writes nothing
@@ -215,6 +220,7 @@ answered_worked demand a b text answered =
       whole = rw written (told_map a.held (λ files is. goes_same _ a.written (λ before. no_outputs files before is)) answered.work);
       only = only_same_names (outputs_of demand) a b written;
       again = told a.held answered.again;
+      within = told a.held answered.within;
       held = ap (λ (o : Outside). o.held) same;
       printed = ap (λ (o : Outside). o.printed) same;
       print_faults = ap (λ (o : Outside). o.print_faults) same;

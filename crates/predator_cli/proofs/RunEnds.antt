@@ -17,7 +17,7 @@ use Rattle.trace_file.proofs.Again.{trace_again}
 use Rattle.run_recorder.specs.Written.{AllMayStand, AreWhole, MayStand, Output, bytes_for}
 use Rattle.run_recorder.specs.Recorded.{AreApart, RoseAt as RoseAtIf, output_for, outputs_for, plain_grid, trace_for}
 use Rattle.predator_cli.specs.Written.{OnlyAt}
-use Rattle.predator_cli.specs.Again.{RepeatsReport}
+use Rattle.predator_cli.specs.Again.{RepeatsReport, StaysWithinBudget}
 use Rattle.predator_cli.specs.Commands.{Work, accepted, done_with, levels_of, plan_in, report_of, run_in, run_steps, run_work, settings_in, settings_steps, status_for, trace_refusal, trace_step, work_of}
 use Rattle.predator_cli.specs.Meets.{IsFaulty, IsWorked}
 use Rattle.predator_cli.specs.Answer.{answer_of}
@@ -153,13 +153,17 @@ run_repeats s program named schedule trace output o r good read same accepts =
     told_both o (λ files e answer. repeats s program named schedule trace output files r good e answer) read
     (told_both o (λ files none w. accepted_answer (run program named schedule trace output) files none ∙ w) accepts (works s program named schedule trace output o r read same))
 
+run_within : (s : Settings) (program : List ℕ) (named schedule trace output : Option (List ℕ)) (files : Files) (r : Run) → r.ending.steps ≤ s.budget → settings_in named files ≡ Ok s
+    → r ≡ run_in s (content files program) (plan_in s schedule files) → StaysWithinBudget (run program named schedule trace output) files
+run_within s program named schedule trace output files r short is same = rw is (subst (λ (x : Run). x.ending.steps ≤ s.budget) same short)
+
 pub run_worked : (s : Settings) (program : List ℕ) (named schedule trace output : Option (List ℕ)) (a b : Outside) (r : Run) (st : Status) (text : List ℕ)
     → Told a.held (λ files. settings_in named files ≡ Ok s) → Told a.held (λ files. r ≡ run_in s (content files program) (plan_in s schedule files))
     → Told a.held (λ files. first_refusal (run_steps program named schedule) files ≡ None)
     → st ≡ status_for r.ending.outcome → text ≡ report_of (levels_of s) plain_grid (trace_for s.harts r)
-    → IsGoodTrace (trace_for s.harts r)
+    → IsGoodTrace (trace_for s.harts r) → r.ending.steps ≤ s.budget
     → Goes a.written b.written (AreWhole (outputs_for s.harts r trace output)) → OnlyWrites a b → IsWorked (run program named schedule trace output) a b st text
-run_worked s program named schedule trace output a b r st text read same accepts ends told_text good whole only =
+run_worked s program named schedule trace output a b r st text read same accepts ends told_text good short whole only =
     let is = works s program named schedule trace output a.held r read same in
     record {
       accepts = accepts;
@@ -168,6 +172,7 @@ run_worked s program named schedule trace output a b r st text read same accepts
       whole = told_map a.held (λ files w. subst (λ (x : Work). Goes a.written b.written (AreWhole x.outputs)) (sym w) whole) is;
       only = whole_only s.harts r trace output a b whole;
       again = run_repeats s program named schedule trace output a.held r good read same accepts;
+      within = told_both a.held (λ files e f. run_within s program named schedule trace output files r short e f) read same;
       held = only.held;
       printed = only.printed;
       print_faults = only.print_faults;

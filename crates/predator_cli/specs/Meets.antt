@@ -8,7 +8,7 @@ use Rattle.predator_cli.specs.Commands.{done_with, steps_of, work_of}
 use Rattle.run_recorder.specs.Written.{AreWhole}
 use Rattle.predator_cli.specs.Written.{OnlyAt, StandAt}
 use Rattle.predator_cli.specs.Answer.{answer_of, files_of, inputs, outputs}
-use Rattle.predator_cli.specs.Again.{Repeats, RepeatsReport}
+use Rattle.predator_cli.specs.Again.{RepeatsReport, StaysWithinBudget, WhereDone}
 use Rattle.predator_cli.specs.Statuses.{Kind, kind_of, done, refusal, read_fault, write_fault, no_memory}
 use Rattle.predator_cli.specs.Faults.{fault_text}
 use Rattle.predator_cli.specs.declared.status.Status.{Status}
@@ -70,7 +70,8 @@ pub record Meets (asked : Option Demand) (old new : Outside) (s : Status) : Type
   pub writes : Told old.held (λ files. Goes old.written new.written (StandAt (kind_of s) (answer_of asked files).outputs))
   pub only : OnlyAt (outputs asked) old new
   pub held : new.held ≡ old.held
-  pub again : Told old.held (λ files. Repeats asked files (kind_of s))
+  pub again : Told old.held (λ files. WhereDone RepeatsReport asked files (kind_of s))
+  pub within : Told old.held (λ files. WhereDone StaysWithinBudget asked files (kind_of s))
 
 -- what was done from old to now, before the line of a fault is printed
 pub record IsFaulty (asked : Option Demand) (old now : Outside) (s : Status) : Type 0 where
@@ -94,6 +95,7 @@ pub record IsWorked (demand : Demand) (old now : Outside) (s : Status) (text : L
   pub whole : Told old.held (λ files. Goes old.written now.written (AreWhole (work_of demand files).outputs))
   pub only : OnlyAt (outputs_of demand) old now
   pub again : Told old.held (RepeatsReport demand)
+  pub within : Told old.held (StaysWithinBudget demand)
   pub held : now.held ≡ old.held
   pub printed : now.printed ≡ old.printed
   pub print_faults : now.print_faults ≡ old.print_faults
@@ -103,3 +105,4 @@ pub record IsAnswered (demand : Demand) (old now : Outside) (text : List ℕ) : 
   pub accepted : IsAccepted (steps_of demand) old now
   pub work : Told old.held (λ files. work_of demand files ≡ done_with text)
   pub again : (files : Files) → RepeatsReport demand files
+  pub within : (files : Files) → StaysWithinBudget demand files

@@ -4,7 +4,7 @@ ghost use Rattle.command_line.specs.Demands.{texts};
 ghost use Rattle.command_line.specs.Words.{demand_of};
 ghost use Rattle.predator_cli.specs.Meets.{EndsAs, IsCaused, IsComplete, Meets, Prints};
 ghost use Rattle.predator_cli.specs.Statuses.{kind_of};
-ghost use Rattle.predator_cli.specs.Again.{Repeats};
+ghost use Rattle.predator_cli.specs.Again.{RepeatsReport, StaysWithinBudget, WhereDone};
 ghost use Rattle.predator_cli.specs.Answer.{answer_of, outputs};
 ghost use Rattle.predator_cli.specs.Written.{OnlyAt, StandAt};
 ghost use Rattle.shelf.specs.Shelf.{Goes, Told};
@@ -84,7 +84,9 @@ pub fn predator<S: Shelf>(alloc: Global, words: &[String], shelf: &mut S) -> Sta
     ensures writes { Told (S.outside shelf.old).held (λ files. Goes (S.outside shelf.old).written (S.outside shelf.new).written (StandAt (kind_of result) (answer_of (demand_of (texts words.now)) files).outputs)) }
     // Where a run is done, the replay of the trace that it wrote, under the same settings and with no layout named, is
     // done and prints the same text.
-    ensures again { Told (S.outside shelf.old).held (λ files. Repeats (demand_of (texts words.now)) files (kind_of result)) }
+    ensures again { Told (S.outside shelf.old).held (λ files. WhereDone RepeatsReport (demand_of (texts words.now)) files (kind_of result)) }
+    // The run that is reported made at most as many steps as its budget has.
+    ensures within { Told (S.outside shelf.old).held (λ files. WhereDone StaysWithinBudget (demand_of (texts words.now)) files (kind_of result)) }
     // No other name's file changes.
     ensures only { OnlyAt (outputs (demand_of (texts words.now))) (S.outside shelf.old) (S.outside shelf.new) }
     // Where no number of faults rose it ends as it is asked, unless memory runs out.

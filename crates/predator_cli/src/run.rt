@@ -172,6 +172,7 @@ fn make_guest(
     ensures run { IfOk result (λ loaded. rest_of loaded.guest ≡ whole_run settings image schedule) }
     ensures short { IfOk result (λ loaded. IsShort loaded.guest.setup (rest_of loaded.guest)) }
     ensures harts { IfOk result (λ loaded. loaded.guest.setup.harts ≡ settings.harts) }
+    ensures budget { IfOk result (λ loaded. loaded.guest.setup.budget ≡ settings.budget) }
     ensures settings { IfOk result (λ loaded. loaded.settings ≡ settings) }
     ensures memory { IfErr result (λ status. status ≡ Status.NoMemory) }
 {
@@ -200,6 +201,7 @@ fn load_guest<S: Shelf>(
         rest_of loaded.guest ≡ run_in loaded.settings (content files program.now) (plan_in loaded.settings (text_of schedule.entry) files))) }
     ensures short { IfOk result (λ loaded. IsShort loaded.guest.setup (rest_of loaded.guest)) }
     ensures harts { IfOk result (λ loaded. loaded.guest.setup.harts ≡ loaded.settings.harts) }
+    ensures budget { IfOk result (λ loaded. loaded.guest.setup.budget ≡ loaded.settings.budget) }
     ensures accepted { OnOk result (IsAccepted (run_steps program.now (text_of settings.entry) (text_of schedule.entry)) (S.outside shelf.old) (S.outside shelf.new)) }
     ensures stopped { IfErr result (IsStopped (run_steps program.now (text_of settings.entry) (text_of schedule.entry)) (S.outside shelf.old) (S.outside shelf.new)) }
 {

@@ -1,4 +1,4 @@
-use Rattle.std.proofs.Common.{Some, rules, string_bytes}
+use Rattle.std.proofs.Common.{◌≡◌, ◌≤◌, Some, rules, string_bytes, subst}
 use Rattle.command_line.specs.Demands.{text_of}
 use Rattle.command_line.specs.Words.{run}
 use Rattle.guest_run.specs.Runs.{rest_of}
@@ -27,7 +27,7 @@ returns-in-Ok-run_guest g c =
     let only : OnlyWrites a b = rw same at c.in-Ok-run_guest.ensures.only in
     c.finish.ensures (run c.args.program.now named name trace output) a
     (rw c.as_str.ensures.value (run_worked s c.args.program.now named name trace output a b r c.in-Ok-run_guest.shown.status (string_bytes c.in-Ok-run_guest.shown.text)
-    c.in-Ok.ensures.settings c.in-Ok.ensures.run c.in-Ok.ensures.accepted.accepts c.in-Ok-run_guest.ensures.status c.in-Ok-run_guest.ensures.text c.in-Ok-run_guest.ensures.good whole only))
+    c.in-Ok.ensures.settings c.in-Ok.ensures.run c.in-Ok.ensures.accepted.accepts c.in-Ok-run_guest.ensures.status c.in-Ok-run_guest.ensures.text c.in-Ok-run_guest.ensures.good (subst (λ n. r.ending.steps ≤ n) c.in-Ok.ensures.budget c.in-Ok.ensures.short.steps) whole only))
 
 pub returns-in-Err-Failed : goal.returns-in-Err-Failed
 returns-in-Err-Failed g c =
