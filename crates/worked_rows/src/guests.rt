@@ -81,6 +81,169 @@ fn plain(alloc: Global, code: &[u32]) -> Result<Vec<u8>, AllocError> {
     file_of(alloc, &words, &[])
 }
 
+// What a hostile program asks for, its code, and its outcome. A program that answers exits with the answer to its call.
+const HOSTILE: [(&str, &[u32], &str); 11] = [
+    (
+        "a jump to nowhere",
+        &[0x8000_02b7, 0x0002_8067],
+        "trap hart 0 pc 0x80000000 fetch-outside",
+    ),
+    (
+        "an instruction that is none",
+        &[0],
+        "trap hart 0 pc 0x00010000 illegal",
+    ),
+    // file 1, from 0x10000 on: 4096 bytes are put out
+    (
+        "4294967295 bytes",
+        &[
+            0x0400_0893,
+            0x0010_0513,
+            0x0001_05b7,
+            0xfff0_0613,
+            0x0000_0073,
+            0x05d0_0893,
+            0x0000_0073,
+        ],
+        "exit 4096",
+    ),
+    (
+        "bytes that aren't there",
+        &[
+            0x0400_0893,
+            0x0020_0513,
+            0x0000_0593,
+            0x0010_0613,
+            0x0000_0073,
+            0x05d0_0893,
+            0x0000_0073,
+        ],
+        "exit 4294967282",
+    ),
+    (
+        "file 3",
+        &[
+            0x0400_0893,
+            0x0030_0513,
+            0x0001_05b7,
+            0x0010_0613,
+            0x0000_0073,
+            0x05d0_0893,
+            0x0000_0073,
+        ],
+        "exit 4294967274",
+    ),
+    (
+        "no bytes, from nowhere",
+        &[
+            0x0400_0893,
+            0x0010_0513,
+            0x0000_0593,
+            0x0000_0613,
+            0x0000_0073,
+            0x05d0_0893,
+            0x0000_0073,
+        ],
+        "exit 0",
+    ),
+    (
+        "to join itself",
+        &[
+            0x4030_0893,
+            0x0000_0513,
+            0x0000_0073,
+            0x05d0_0893,
+            0x0000_0073,
+        ],
+        "exit 4294967274",
+    ),
+    (
+        "to wait at an odd address",
+        &[
+            0x4040_0893,
+            0x0020_0513,
+            0x0000_0073,
+            0x05d0_0893,
+            0x0000_0073,
+        ],
+        "exit 4294967274",
+    ),
+    (
+        "to wait where nothing is",
+        &[
+            0x4040_0893,
+            0x0000_0513,
+            0x0000_0073,
+            0x05d0_0893,
+            0x0000_0073,
+        ],
+        "exit 4294967282",
+    ),
+    (
+        "to run data",
+        &[
+            0x4020_0893,
+            0x0008_0537,
+            0x0000_0073,
+            0x05d0_0893,
+            0x0000_0073,
+        ],
+        "exit 4294967274",
+    ),
+    (
+        "all to end",
+        &[0x05e0_0893, 0x0090_0513, 0x0000_0073],
+        "exit 9",
+    ),
+];
+
+#[test]
+fn a_hostile_program_ends(rt: HostRuntime) -> Result<(), Fail> {
+    let alloc = rt.alloc();
+    for (shows, code, outcome) in HOSTILE {
+        let program = plain(alloc, code)?;
+        let left = run(alloc, "run p", &[("p", program.as_slice())], &[])?;
+        let told = left.text.lines().nth(1).ok_or("an outcome")?;
+        assert_eq!(rt; told.strip_prefix("outcome "), Some(outcome), "{shows}");
+    }
+    Ok(())
+}
+
+const EXITS_REPORT: &str =
+    "predator report 0\noutcome exit 7\nsteps 3\naccesses 0\nlayout 64 0\nlines 0\nend\n";
+
+// A schedule for 8 harts, and what the run of a program that exits answers under it.
+const SCHEDULES: [(&str, u8, &str); 7] = [
+    ("", 0, EXITS_REPORT),
+    ("7 4294967295\n\n0 1", 0, EXITS_REPORT),
+    ("0 5\nx\n", 3, "predator: schedule BadLine 2\n"),
+    ("\n0  1\n", 3, "predator: schedule BadLine 2\n"),
+    ("00 1\n", 3, "predator: schedule BadLine 1\n"),
+    ("8 1\n", 3, "predator: schedule HartOutOfRange 1\n"),
+    ("0 0\n", 3, "predator: schedule ZeroCount 1\n"),
+];
+
+// The most bytes of a schedule.
+const LONGEST_SCHEDULE: usize = 1 << 20;
+
+#[test]
+fn a_schedule_is_read_after_the_program(rt: HostRuntime) -> Result<(), Fail> {
+    let alloc = rt.alloc();
+    let exits = plain(alloc, &EXITS)?;
+    for (schedule, status, text) in SCHEDULES {
+        let files = [("p", exits.as_slice()), ("h", schedule.as_bytes())];
+        run(alloc, "run p --schedule h", &files, &[])?.assert_is(&rt, status, text, schedule);
+        let files = [("p", "no program".as_bytes()), ("h", schedule.as_bytes())];
+        let left = run(alloc, "run p --schedule h", &files, &[])?;
+        left.assert_is(&rt, 2, "predator: elf TooShort\n", schedule);
+    }
+    let long = vec![in alloc; b'\n'; LONGEST_SCHEDULE + 1]?;
+    let files = [("p", exits.as_slice()), ("h", long.as_slice())];
+    let left = run(alloc, "run p --schedule h", &files, &[])?;
+    left.assert_is(&rt, 3, "predator: schedule TooLong\n", "a byte too many");
+    Ok(())
+}
+
 // What a run left: its status, its text, and its files `t` and `o`.
 #[derive(Drop)]
 struct Left {
@@ -136,13 +299,7 @@ const SHARED_REPORT: &str = "predator report 0\noutcome exit 0\nsteps 20\naccess
 
 // What a program does, its code, its settings, its status and its report.
 const ENDS: [(&str, &[u32], &str, u8, &str); 8] = [
-    (
-        "exits",
-        &EXITS,
-        "",
-        0,
-        "predator report 0\noutcome exit 7\nsteps 3\naccesses 0\nlayout 64 0\nlines 0\nend\n",
-    ),
+    ("exits", &EXITS, "", 0, EXITS_REPORT),
     (
         "loops",
         &LOOPS,
