@@ -1,14 +1,31 @@
 #!/usr/bin/env python3
-"""Writes a trace of N accesses: 8 harts, 64 lines of 64 bytes, three writes to a read, from a fixed seed.
+"""Writes a trace of N accesses by 8 harts, three writes to a read, from a fixed seed.
 
-usage: make_trace.py N FILE
+usage: make_trace.py N FILE [KIND]
+
+KIND says where they go: `dense`, the usual one, 64 lines of 64 bytes; `random`, 65,536 such lines in random order;
+`ends`, 32,768 words at each end of the address space.
 """
 import struct
 import sys
 
 
+def dense(r, hart):
+    return 0x10000 + 64 * (r >> 3 & 63) + 4 * (hart + 8 * (r >> 9 & 1))
+
+
+def random(r, hart):
+    return 0x100000 + 64 * (r >> 12 & 0xFFFF) + 4 * (hart + 8 * (r >> 9 & 1))
+
+
+def ends(r, hart):
+    offset = 4 * (r >> 12 & 0x7FFF)
+    return offset if r >> 28 & 1 else 0x100000000 - 4 - offset
+
+
 def main():
     count, name = int(sys.argv[1]), sys.argv[2]
+    place = {"dense": dense, "random": random, "ends": ends}[sys.argv[3] if len(sys.argv) > 3 else "dense"]
     record = struct.Struct("<BHIB")
     state = 1
     with open(name, "wb") as out:
@@ -17,9 +34,8 @@ def main():
         for _ in range(count):
             state = (state * 6364136223846793005 + 1442695040888963407) & 0xFFFFFFFFFFFFFFFF
             r = state >> 32
-            hart, line = r & 7, r >> 3 & 63
-            addr = 0x10000 + 64 * line + 4 * (hart + 8 * (r >> 9 & 1))
-            piece += record.pack(1 if r >> 10 & 3 == 0 else 2, hart, addr, 4)
+            hart = r & 7
+            piece += record.pack(1 if r >> 10 & 3 == 0 else 2, hart, place(r, hart), 4)
             if len(piece) > 1 << 20:
                 out.write(piece)
                 piece.clear()

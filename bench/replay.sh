@@ -1,6 +1,7 @@
 #!/usr/bin/env bash
-# How long the built program takes to replay a trace of 8,000,000 accesses, beside sha256sum of the same file, and how
-# much memory it takes at most. A benchmark, no test.
+# How long the built program takes to replay traces of 8,000,000 accesses, beside sha256sum of the same file, and how much
+# memory it takes at most: over 64 lines, over 65,536 lines in random order, and over lines of 4 bytes at both ends of the
+# address space. Each written line is tracked. A benchmark, no test.
 #
 # usage: bench/replay.sh [ACCESSES]
 set -eu
@@ -10,12 +11,15 @@ count=${1:-8000000}
 [ -x "$program" ] || { echo "bench: build the program first: bin/predator replay examples/counters.trace" >&2; exit 1; }
 work=$(mktemp -d)
 trap 'rm -rf "$work"' EXIT
-python3 "$top/bench/make_trace.py" "$count" "$work/trace"
-python3 - "$program" "$work/trace" <<'PY'
-import os, resource, subprocess, sys, time
+printf 'tracking = 1\nreport = 1\n' >"$work/settings"
+for kind in dense random ends; do
+    python3 "$top/bench/make_trace.py" "$count" "$work/$kind" "$kind"
+done
+python3 - "$program" "$work" "$count" <<'PY'
+import os, subprocess, sys, time
 
-program, trace = sys.argv[1:]
-size = os.path.getsize(trace)
+program, work, count = sys.argv[1], sys.argv[2], int(sys.argv[3])
+KINDS = [("dense", ["--size", "64"]), ("random", ["--size", "64"]), ("ends", ["--size", "4"])]
 
 
 def timed(words):
@@ -26,13 +30,21 @@ def timed(words):
     return time.monotonic() - begin, usage.ru_maxrss * 1024
 
 
-runs = [(timed([program, "replay", trace]), timed(["sha256sum", trace])) for _ in range(3)]
-replay = min(r[0][0] for r in runs)
-digest = min(r[1][0] for r in runs)
-peak = max(r[0][1] for r in runs)
-print(f"trace {size} bytes")
-print("replay " + " ".join(f"{r[0][0]:.2f}" for r in runs) + f" s, least {replay:.2f} s")
-print("sha256sum " + " ".join(f"{r[1][0]:.2f}" for r in runs) + f" s, least {digest:.2f} s, {size / digest / 1e6:.0f} MB/s")
-print(f"ratio {replay / digest:.2f}")
-print(f"peak memory {peak / 1e6:.0f} MB, {peak / size:.1f} bytes for each byte of the trace")
+rows = {kind: [] for kind, _ in KINDS}
+for _ in range(3):
+    for kind, layout in KINDS:
+        trace = f"{work}/{kind}"
+        replayed = timed([program, "replay", trace, "--settings", f"{work}/settings"] + layout)
+        rows[kind].append((replayed, timed(["sha256sum", trace])))
+dense = min(run[0][0] for run in rows["dense"])
+for kind, runs in rows.items():
+    size = os.path.getsize(f"{work}/{kind}")
+    replay = min(run[0][0] for run in runs)
+    digest = min(run[1][0] for run in runs)
+    peak = max(run[0][1] for run in runs)
+    print(
+        f"{kind}: replay {replay:.2f} s ({replay / count * 1e9:.0f} ns an access, {replay / dense:.2f} of dense), "
+        f"sha256sum {digest:.2f} s ({size / digest / 1e6:.0f} MB/s), ratio {replay / digest:.2f}, "
+        f"peak memory {peak / 1e6:.0f} MB ({peak / size:.1f} bytes for each byte of the trace)"
+    )
 PY
