@@ -52,8 +52,10 @@ const WRITES: [u32; 7] = [
 const CALLS_NOTHING: [u32; 4] = [0x7d00_0893, 0x0000_0073, 0x05d0_0893, 0x0000_0073];
 
 // The file of code: its header, the header of a segment at 0x10000 that may be read, written and run, and the code.
-fn plain(alloc: Global, code: &[u32]) -> Result<Vec<u8>, AllocError> {
-    let size = 4 * code.len() as u32;
+fn plain(alloc: Global, code: &[u32]) -> Result<Vec<u8>, Fail> {
+    let size = u32::try_from(code.len().saturating_mul(4))
+        .ok()
+        .ok_or("a short program")?;
     let mut words = vec![in alloc;
         0x464c_457f,
         0x0001_0101,
@@ -78,7 +80,7 @@ fn plain(alloc: Global, code: &[u32]) -> Result<Vec<u8>, AllocError> {
         0,
     ]?;
     words.extend_from_slice(code)?;
-    file_of(alloc, &words, &[])
+    Ok(file_of(alloc, &words, &[])?)
 }
 
 // What a hostile program asks for, its code, and its outcome. A program that answers exits with the answer to its call.
@@ -373,34 +375,38 @@ const SECOND_HART: usize = 29;
 
 const RUN_SHARED: &str = "run p --settings s --schedule h --trace t --output o";
 
+// The run of `TWO_HARTS` under a schedule leaves this trace, whose replay prints the same report.
+fn assert_shared(
+    rt: &impl Abort,
+    alloc: Global,
+    schedule: &str,
+    trace: Vec<u8>,
+) -> Result<(), Fail> {
+    let shares = plain(alloc, &TWO_HARTS)?;
+    let settings = String::from_str(alloc, EVERY_LINE)?;
+    let schedule = String::from_str(alloc, schedule)?;
+    let files = [
+        ("p", shares.as_slice()),
+        ("s", settings.as_bytes()),
+        ("h", schedule.as_bytes()),
+    ];
+    let left = run(alloc, RUN_SHARED, &files, &[])?;
+    left.assert_is(rt, 0, SHARED_REPORT, "a run");
+    left.assert_left(rt, Some(trace.as_slice()), Some(&[]), "its files");
+    let files = [("t", trace.as_slice()), ("s", settings.as_bytes())];
+    let replayed = run(alloc, "replay t --settings s", &files, &[])?;
+    replayed.assert_is(rt, 0, SHARED_REPORT, "its trace");
+    Ok(())
+}
+
 #[test]
 fn a_run_leaves_its_trace_and_its_output(rt: HostRuntime) -> Result<(), Fail> {
     let alloc = rt.alloc();
-    let shares = plain(alloc, &TWO_HARTS)?;
-    let settings = String::from_str(alloc, EVERY_LINE)?;
+    assert_shared(&rt, alloc, "", SHARED_TRACE.to_vec(alloc)?)?;
     let mut later = SHARED_TRACE.to_vec(alloc)?;
     *later.get_mut(FIRST_HART).ok_or("a hart")? = 1;
     *later.get_mut(SECOND_HART).ok_or("a hart")? = 0;
-    for (schedule, trace) in [
-        ("", SHARED_TRACE.as_slice()),
-        ("0 4\n1 8\n", later.as_slice()),
-    ] {
-        let files = [
-            ("p", shares.as_slice()),
-            ("s", settings.as_bytes()),
-            ("h", schedule.as_bytes()),
-        ];
-        let left = run(alloc, RUN_SHARED, &files, &[])?;
-        left.assert_is(&rt, 0, SHARED_REPORT, schedule);
-        left.assert_left(&rt, Some(trace), Some(&[]), schedule);
-        let replayed = [("t", trace), ("s", settings.as_bytes())];
-        run(alloc, "replay t --settings s", &replayed, &[])?.assert_is(
-            &rt,
-            0,
-            SHARED_REPORT,
-            schedule,
-        );
-    }
+    assert_shared(&rt, alloc, "0 4\n1 8\n", later)?;
     let writes = plain(alloc, &WRITES)?;
     let left = run(alloc, "run p --output o", &[("p", writes.as_slice())], &[])?;
     left.assert_left(&rt, None, Some(&[0x93, 0x08, 0x00, 0x04]), "four bytes");
@@ -409,19 +415,19 @@ fn a_run_leaves_its_trace_and_its_output(rt: HostRuntime) -> Result<(), Fail> {
 
 const WRITE_FAULT: &str = "predator: write fault\n";
 
-// The call that fails, the status and the text, and how many bytes of the trace stand then. A file is read to its end by two
+// The call that fails, the status and the text, and what stands of the trace then. A file is read to its end by two
 // calls, and an empty one by one.
-const FAULTS: [(u64, u8, &str, Option<usize>); 10] = [
+const FAULTS: [(u64, u8, &str, Option<&[u8]>); 10] = [
     (1, 7, READ_FAULT, None),
     (2, 7, READ_FAULT, None),
     (3, 7, READ_FAULT, None),
     (4, 7, READ_FAULT, None),
     (5, 7, READ_FAULT, None),
     (6, 8, WRITE_FAULT, None),
-    (7, 8, WRITE_FAULT, Some(0)),
-    (8, 8, WRITE_FAULT, Some(3)),
-    (9, 8, "pre", Some(61)),
-    (10, 0, SHARED_REPORT, Some(61)),
+    (7, 8, WRITE_FAULT, Some(&[])),
+    (8, 8, WRITE_FAULT, Some(b"PRD")),
+    (9, 8, "pre", Some(&SHARED_TRACE)),
+    (10, 0, SHARED_REPORT, Some(&SHARED_TRACE)),
 ];
 
 #[test]
@@ -434,11 +440,10 @@ fn each_call_of_a_run_fails_in_turn(rt: HostRuntime) -> Result<(), Fail> {
         ("s", settings.as_bytes()),
         ("h", "".as_bytes()),
     ];
-    for (call, status, text, length) in FAULTS {
+    for (call, status, text, trace) in FAULTS {
         let left = run(alloc, RUN_SHARED, &files, &[Failing { call, keep: 3 }])?;
         left.assert_is(&rt, status, text, text);
-        let front = length.map(|length| &SHARED_TRACE[..length]);
-        assert!(rt; left.trace.as_deref() == front, "{call}");
+        assert!(rt; left.trace.as_deref() == trace, "{call}");
     }
     Ok(())
 }
