@@ -1,4 +1,5 @@
--- The entries of a history: the first two harts that came to a line since its last write, as a list of one or two.
+-- The entries of a history: the first two harts that came to a line since its last write, as a
+-- list of one or two.
 use Rattle.std.specs.Prelude.{◌≢◌, ℕ, ◌<◌, ◌≤◌, Bool, not, ◌==◌, List, length, take, slice_get}
 use Rattle.std.specs.List.{list_any}
 use Rattle.sharing_rules.specs.Arrivals.{note_arrival}

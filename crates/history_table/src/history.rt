@@ -76,10 +76,13 @@ impl History {
     /// A read by a hart: it enters where it is not there and there is one entry.
     pub fn note_read(&mut self, hart: Hart)
         ensures exact { self.new ≡ entries_after_read self.old hart }
-        // where they were the first two arrivals of a list that wrote the line, they are those of the list with the read
+        // where they were the first two arrivals of a list that wrote the line, they are those of
+        // the list with the read
         ensures arrived { (inside : ℕ → Bool) (t : AccessList) (a : Touch)
-            → IsTrue (list_any (writes_to inside) t) → IsTrue (inside a.addr) → IsFalse (is_write a.kind) → a.hart ≡ hart
-            → self.old ≡ take 2 (arrivals inside t) → self.new ≡ take 2 (arrivals inside (t ++ a ∷ [])) }
+            → IsTrue (list_any (writes_to inside) t) → IsTrue (inside a.addr)
+            → IsFalse (is_write a.kind) → a.hart ≡ hart
+            → self.old ≡ take 2 (arrivals inside t)
+            → self.new ≡ take 2 (arrivals inside (t ++ a ∷ [])) }
     {
         if self.second.is_none() && self.first != hart {
             self.second = Some(hart);
@@ -94,7 +97,8 @@ impl History {
             → IsTrue (inside a.addr) → IsTrue (is_write a.kind) → a.hart ≡ hart
             → self.new ≡ take 2 (arrivals inside (t ++ a ∷ [])) }
         ensures another { result ≡ has_another self.old hart }
-        // where they were the first two arrivals of a list that wrote the line, it says whether another hart holds it
+        // where they were the first two arrivals of a list that wrote the line, it says whether
+        // another hart holds it
         ensures held { (line_of : ℕ → ℕ) (t : AccessList) (r : ℕ)
             → IsTrue (list_any (writes_to (λ addr. line_of addr == r)) t)
             → self.old ≡ take 2 (arrivals (λ addr. line_of addr == r) t)

@@ -9,12 +9,12 @@ use Rattle.sharing_rules.specs.Pairs.{all_pairs, best_pair_of, first_best, hot_p
 use Rattle.sharing_rules.specs.Places.{below}
 use Rattle.sharing_rules.specs.Search.{row_pairs}
 use Rattle.sharing_rules.specs.declared.word.Word.{Word}
-use Rattle.sharing_rules.proofs.BestLaws.{all_pairs-more}
-use Rattle.sharing_rules.proofs.PlacesLaws.{slice_cases}
+use Rattle.sharing_rules.specs.Laws.Pairs.{all_pairs-more}
 use Rattle.sharing_rules.specs.Predicted.{is_native_size}
 use Rattle.word_shadow.specs.RangeWords.{AreWords, RangeWords}
 use Rattle.hot_pairs.specs.Neighbours.{AreNeighbours, reach}
 use Rattle.hot_pairs.specs.Rows.{AreRows}
+use Rattle.sharing_rules.specs.Laws.Lists.{slice_cases}
 
 -- a list has no best pair where it is empty, and only there
 best-some : (f : ℕ × ℕ → ℕ) (p : ℕ × ℕ) (ps : List (ℕ × ℕ)) → is_some (first_best f (p ∷ ps)) ≡ true

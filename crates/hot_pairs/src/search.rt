@@ -3,7 +3,9 @@ ghost use Rattle.std.specs.Prelude.{◌≡◌, ℕ, ◌+◌, ◌*◌, ◌/◌, �
 ghost use Rattle.sharing_rules.specs.Pairs.{best_pair_of, hot_pairs, all_pairs, is_hot_at, first_best, score};
 ghost use Rattle.sharing_rules.specs.Search.{is_in, keep, row_pairs};
 ghost use Rattle.sharing_rules.specs.Search as search_of;
-ghost use Rattle.hot_pairs.specs.Neighbours.{AreNeighbours, reach, pair_at, word_at};
+ghost use Rattle.sharing_rules.specs.AccessLists.{AccessList};
+ghost use Rattle.sharing_rules.specs.Predicted.{best_between};
+ghost use Rattle.hot_pairs.specs.Neighbours.{AreNeighbours, AreObservedWords, reach, pair_at, pair_of, word_at};
 ghost use Rattle.hot_pairs.specs.Rows.{AreRows, best_of};
 
 use crate::pair::Pair;
@@ -30,6 +32,9 @@ pub fn best_pair<L: Ledger>(
     // with no distance given every hot pair is near enough
     ensures any { within ≡ None → hot_pairs lower.now.words upper.now.words (reach lower.now.range.size within)
         ≡ filter (is_hot_at lower.now.words upper.now.words) (all_pairs (length lower.now.words) (length upper.now.words)) }
+    // where they are the words of two observed lines of a list, it is the best pair of the list's definition
+    ensures observed { (T k : ℕ) (t : AccessList) → AreObservedWords lower.now.range.size T k t lower.now upper.now
+        → result ≡ option_map (pair_of lower.now.range.size k) (best_between lower.now.range.size T (reach lower.now.range.size within) k t) }
     ensures cost { steps.new ≡ steps.old + lower.now.range.size / 4 * (lower.now.range.size / 4) }
 {
     let (lower_range, upper_range) = (lower.range(), upper.range());

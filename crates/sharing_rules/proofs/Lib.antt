@@ -1,16 +1,2 @@
-pub mod PlacesLaws
-pub mod HolderLaws
-pub mod ArrivalLaws
-pub mod HeldLaws
-pub mod OpeningLaws
-pub mod WordLaws
-pub mod TrackLaws
-pub mod OrderLaws
-pub mod FindingLaws
-pub mod StartLaws
-pub mod ObservedLaws
-pub mod ListedLaws
-pub mod CountLaws
-pub mod BestLaws
-pub mod InsertLaws
 pub mod WorkedLists
+pub mod WorkedOpened

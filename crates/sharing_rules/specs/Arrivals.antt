@@ -1,6 +1,7 @@
 -- The harts of a set of addresses in the order in which they came since its last write.
 use Rattle.std.specs.Prelude.{ℕ, Bool, not, ◌==◌, if◌then◌else◌, List, [], ◌∷◌, ◌++◌, eqb, map, filter}
 use Rattle.std.specs.List.{list_any}
+use Rattle.predator_base.specs.Touch.{Touch, is_write}
 use Rattle.sharing_rules.specs.AccessLists.{AccessList, touches, writes_to}
 
 -- each number once, where it stands first
@@ -22,3 +23,8 @@ arrivals inside t = each_once (map (λ a. a.hart) (filter (touches inside) (sinc
 -- the harts in order of arrival after hart h came
 abbrev pub note_arrival : List ℕ → ℕ → List ℕ
 note_arrival hs h = if list_any (eqb h) hs then hs else hs ++ h ∷ []
+
+-- what an access makes of the arrivals; empty means that there was no write
+abbrev pub arrivals_after : (ℕ → Bool) → List ℕ → Touch → List ℕ
+arrivals_after inside hs a =
+    if inside a.addr then (if is_write a.kind then a.hart ∷ [] else elim hs [ [] ↦ [] | g ∷ gs ↦ note_arrival (g ∷ gs) a.hart ]) else hs

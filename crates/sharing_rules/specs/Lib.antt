@@ -7,7 +7,10 @@ pub mod Words
 pub mod Pairs
 pub mod Observed
 pub mod Predicted
+pub mod Members
 pub mod Listed
+pub mod Opened
 pub mod Verdicts
 pub mod Tracks
 pub mod Search
+pub mod Laws

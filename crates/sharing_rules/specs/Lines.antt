@@ -10,6 +10,10 @@ pub record Line : Type 0 where
   pub offset : ℕ
   pub number : ℕ
 
+-- line k of a layout
+abbrev pub grid_line : Grid → ℕ → Line
+grid_line g k = record { size = g.size; offset = g.offset; number = k }
+
 -- the line of an address under a layout
 abbrev pub line_at : Grid → ℕ → Line
 line_at g a = record { size = g.size; offset = g.offset; number = line_number g.size g.offset a }
@@ -26,7 +30,11 @@ range_of l = line_range l.size l.offset l.number
 abbrev pub word_place : Line → ℕ → ℕ
 word_place l a = (a + l.size - l.offset) % l.size / 4
 
--- line k of the native layout (n, 0); line 1 begins at address 0
+-- the native layout (n, 0)
+abbrev pub native_grid : ℕ → Grid
+native_grid n = record { size = n; offset = 0 }
+
+-- its line k; line 1 begins at address 0
 abbrev pub native_line : ℕ → ℕ → Line
 native_line n k = record { size = n; offset = 0; number = k }
 

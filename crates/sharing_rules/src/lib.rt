@@ -1,41 +1,20 @@
-//! The rules of sharing, as definitions over whole access lists, and a plain slow program that computes them.
+//! The rules of sharing: definitions over whole access lists, their laws, and the small values that they speak of.
 //!
-//! The definitions stand in `specs/`, their laws in `proofs/`. Nothing here is fast: the crates above keep
-//! two entries and a row of words for each line, and are proved to agree with what is defined here.
+//! The definitions stand in `specs/`, and their laws in `specs/Laws/`, each with its proof, so that other crates can
+//! cite it. Nothing here goes over a list: the crates above keep two entries and a row of words for each line, and
+//! are proved to agree with what is defined here; `sharing_oracle` computes it plainly.
 #![tactic(auto)]
 
-mod arrivals;
 mod bases;
 mod cache_line;
-mod holders;
+mod laws;
 mod line_kind;
-mod line_words;
-mod listed;
-mod listing;
-mod pairs;
-mod places;
-mod predicted;
-mod predictions;
-mod starts;
-#[cfg(test)]
-mod tests;
 mod verdicts;
 mod word;
 
-pub use arrivals::arrivals_of;
 pub use bases::{line_from, shifted_base, word_address};
 pub use cache_line::CacheLine;
-pub use holders::{count_since, is_held_elsewhere, is_holder};
+pub use laws::{a_longer_list_moves_no_start, kept_lines};
 pub use line_kind::{LineKind, Verdict};
-pub use line_words::{word_since, words_since};
-pub use listed::{TrackedLine, observed_lines, written_lines};
-pub use listing::{listed_lines, may_predict, tracked};
-pub use pairs::{Neighbours, best_pair};
-pub use places::{Question, count_places, first_place};
-pub use predicted::NativePair;
-pub use predictions::{
-    doubled_lines, predicted_lines, shifted_lines, tracked_doubled, tracked_shifted,
-};
-pub use starts::{first_write_from, is_write_to, observed_start, predicted_start, write_count};
-pub use verdicts::{is_truly_shared, verdict};
+pub use verdicts::is_truly_shared;
 pub use word::{Owner, Word};

@@ -1,1 +1,3 @@
 pub mod RangeWords
+pub mod Laws
+pub mod LineLaws

@@ -1,8 +1,11 @@
 // A range and its words.
-ghost use Rattle.std.specs.Prelude.{◌≡◌, ◌+◌, ◌*◌, ◌/◌, ◌%◌, ◌<◌, ◌≤◌, ◌^◌, IsTrue, IfOk, Some, [], length, map, sum_by, slice_get, slice_set};
+ghost use Rattle.std.specs.Prelude.{ℕ, ◌++◌, ◌∷◌, ◌≡◌, ◌+◌, ◌*◌, ◌/◌, ◌%◌, ◌<◌, ◌≤◌, ◌^◌, IsTrue, IfOk, Some, [], length, map, sum_by, slice_get, slice_set};
 ghost use Rattle.std.specs.List.{All};
+ghost use Rattle.predator_base.specs.Lines.{is_layout};
 ghost use Rattle.predator_base.specs.Ranges.{holds_address};
-ghost use Rattle.sharing_rules.specs.Words.{accesses, tally};
+ghost use Rattle.sharing_rules.specs.AccessLists.{AccessList};
+ghost use Rattle.sharing_rules.specs.Lines.{Line, range_of};
+ghost use Rattle.sharing_rules.specs.Words.{accesses, tally, words_since};
 ghost use Rattle.sharing_rules.specs.Places.{below};
 ghost use Rattle.word_shadow.specs.RangeWords.{AreWords, blank, is_hot_place, is_possible, note_words, place_of, set_word};
 
@@ -44,7 +47,7 @@ fn place_in(range: Range, addr: u32) -> u32
 }
 
 // So many words that no one touched.
-#[tactic(auto, using(crate::proofs::BlankLaws::map_below_same))]
+#[tactic(auto, using(crate::specs::Laws::map_below_same))]
 fn blank_words(alloc: Global, count: usize) -> Result<Vec<Word>, NoMemory>
     ensures { IfOk result (λ words. words.items ≡ map (λ i. tally []) (below count)) }
 {
@@ -84,6 +87,10 @@ impl Shadow {
         requires room { sum_by accesses self.old.words < 2 ^ 40 }
         ensures exact { self.new ≡ note_words self.old access }
         ensures more { sum_by accesses self.new.words ≡ sum_by accesses self.old.words + 1 }
+        // where they were the words of a line since a position, they are those of the list with the access
+        ensures since { (l : Line) (s : ℕ) (t : AccessList) → IsTrue (is_layout l.size l.offset) → s ≤ length t
+            → self.old.range ≡ range_of l → self.old.words ≡ words_since l s t
+            → self.new.words ≡ words_since l s (t ++ access ∷ []) }
     {
         let place = place_in(self.range, access.addr()) as usize;
         let word = self.words[place];

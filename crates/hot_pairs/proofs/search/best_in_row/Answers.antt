@@ -2,7 +2,7 @@
 use Rattle.std.proofs.Common.{◌++◌, sym, ap, ◌∙◌, arith}
 use Rattle.sharing_rules.specs.Pairs.{score}
 use Rattle.sharing_rules.specs.Search.{keep, is_passing, row_pairs}
-use Rattle.sharing_rules.proofs.BestLaws.{best_with, best_without, row_pairs-more}
+use Rattle.sharing_rules.specs.Laws.Pairs.{best_with, best_without, row_pairs-more}
 use Rattle.hot_pairs.proofs.search.best_in_row.Goals as goal
 use Rattle.hot_pairs.proofs.search.best_in_row.Goals.{then-is_passing, else-is_passing}
 

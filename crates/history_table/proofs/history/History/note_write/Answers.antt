@@ -10,4 +10,5 @@ returns-clause-held c = λ line_of t r written e.
     exact ∙ another-held line_of t r c.args.self.now c.args.hart written e
 
 pub returns-clause-arrived : goal.returns-clause-arrived
-returns-clause-arrived c = λ inside t a here writes same. c.self-2.view_is ∙ c.one.ensures ∙ entries-write inside t a c.args.hart here writes same
+returns-clause-arrived c = λ inside t a here writes same. c.self-2.view_is ∙ c.one.ensures
+    ∙ entries-write inside t a c.args.hart here writes same

@@ -1,6 +1,6 @@
 -- The words that no one touched are words of the range.
 use Rattle.std.proofs.Common.{◌/◌}
-use Rattle.word_shadow.proofs.BlankLaws.{blank-are, blank-sum}
+use Rattle.word_shadow.specs.Laws.{blank-are, blank-sum}
 use Rattle.word_shadow.proofs.shadow.Shadow.new.Goals as goal
 
 pub invariant_of-result : goal.invariant_of-result

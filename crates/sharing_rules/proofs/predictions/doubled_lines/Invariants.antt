@@ -1,8 +1,0 @@
--- the lines of the pairs so far
-use Rattle.std.proofs.Common.{◌≡◌, take}
-use Rattle.std.specs.Prelude.{filter_map}
-use Rattle.sharing_rules.specs.Listed.{tracked_doubled}
-use Rattle.sharing_rules.proofs.predictions.doubled_lines.Given as goal
-
-abbrev pub invariant-loop-i : goal.invariant-loop-i
-invariant-loop-i l = l.lines.items ≡ filter_map (tracked_doubled l.layout.size l.tracking l.prediction l.accesses) (take l.i l.numbers.items)

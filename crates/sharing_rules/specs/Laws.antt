@@ -1,0 +1,22 @@
+-- What follows from the definitions. A law stands here with its proof, so that other crates can cite it.
+pub mod Lists
+pub mod Places
+pub mod Holders
+pub mod Arrivals
+pub mod Held
+pub mod Counts
+pub mod Words
+pub mod Tracks
+pub mod Starts
+pub mod Openings
+pub mod Observed
+pub mod Orders
+pub mod Findings
+pub mod Listed
+pub mod Pairs
+pub mod Grown
+pub mod Opened
+pub mod Bases
+pub mod Kinds
+pub mod Kept
+pub mod Amounts

@@ -1,0 +1,49 @@
+// Laws of the definitions, for whoever reads contracts alone. Each call does nothing.
+ghost use Rattle.std.specs.Prelude.{◌≡◌, ℕ, ◌*◌, ◌<◌, ◌≤◌, Bool, [], ◌∷◌, ◌++◌, length, filter_map, Some, IsTrue};
+ghost use Rattle.std.specs.List.{IsDistinct};
+ghost use Rattle.std.specs.List.Sorted.{IsPermutation};
+ghost use Rattle.predator_base.specs.Levels.{Levels};
+ghost use Rattle.predator_base.specs.Lines.{Grid};
+ghost use Rattle.predator_base.specs.Touch.{Touch};
+ghost use Rattle.sharing_rules.specs.AccessLists.{AccessList};
+ghost use Rattle.sharing_rules.specs.Lines.{native_grid};
+ghost use Rattle.sharing_rules.specs.Listed.{may_predict, tracked};
+ghost use Rattle.sharing_rules.specs.Members.{ties};
+ghost use Rattle.sharing_rules.specs.Observed.{first_write_from, observed_start};
+ghost use Rattle.sharing_rules.specs.Opened.{doubled_ones, finding_of, is_placed_before, observed_ones, opened, opened_now, shifted_ones};
+ghost use Rattle.sharing_rules.specs.Predicted.{doubled_opening, is_native_size, shifted_line, shifted_opening};
+
+/// A longer list moves no start and no opening, and a shifted line keeps its place.
+pub fn a_longer_list_moves_no_start()
+    ensures observed { (T : ℕ) (inside : ℕ → Bool) (t s : AccessList) (i : ℕ)
+        → observed_start T inside t ≡ Some i → observed_start T inside (t ++ s) ≡ Some i }
+    ensures started { (from : ℕ) (inside : ℕ → Bool) (t s : AccessList) (i : ℕ)
+        → first_write_from from inside t ≡ Some i → first_write_from from inside (t ++ s) ≡ Some i }
+    ensures shifted { (n T P k : ℕ) (t s : AccessList) (o : ℕ)
+        → shifted_opening n T P k t ≡ Some o → shifted_opening n T P k (t ++ s) ≡ Some o }
+    ensures placed { (n T P k : ℕ) (t s : AccessList) (o : ℕ)
+        → shifted_opening n T P k t ≡ Some o
+        → shifted_line n T P k (t ++ s) ≡ shifted_line n T P k t }
+    ensures doubled { (n T P k : ℕ) (t s : AccessList) (o : ℕ)
+        → doubled_opening n T P k t ≡ Some o → doubled_opening n T P k (t ++ s) ≡ Some o }
+{}
+
+/// What is kept of a list: after one access more, by kind and base, and how much of each kind.
+pub fn kept_lines()
+    // with one access more: what was kept, and what opens at the access
+    ensures grows { (g : Grid) (v : Levels) (t : AccessList) (a : Touch)
+        → 0 < g.size → 0 < v.tracking
+        → IsPermutation (opened g v (t ++ a ∷ [])) (opened g v t ++ opened_now g v t a) }
+    // no two have one kind and one base
+    ensures apart { (g : Grid) (v : Levels) (t : AccessList) → 0 < g.size → IsTrue (may_predict g v)
+        → IsDistinct (ties is_placed_before) (opened g v t) }
+    // those with a start are the tracked lines
+    ensures tracked { (g : Grid) (v : Levels) (t : AccessList)
+        → tracked g v t ≡ filter_map (finding_of t) (opened g v t) }
+    // fewer shifted lines than observed ones, where there are any
+    ensures shifted { (n T P : ℕ) (t : AccessList) → 0 < length (observed_ones (native_grid n) T t)
+        → length (shifted_ones n T P t) < length (observed_ones (native_grid n) T t) }
+    // and at most half as many doubled ones
+    ensures doubled { (n T P : ℕ) (t : AccessList) → IsTrue (is_native_size n)
+        → 2 * length (doubled_ones n T P t) ≤ length (observed_ones (native_grid n) T t) }
+{}
