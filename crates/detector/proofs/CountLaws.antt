@@ -1,5 +1,5 @@
 -- What the counts of an index are once an entry was replaced.
-use Rattle.std.proofs.Common.{◌≡◌, ◌≢◌, ℕ, ◌+◌, Bool, true, false, eqb, List, [], ◌∷◌, Option, Some, None, map, refl, sym, ap, ◌∙◌, arith, inl, inr}
+use Rattle.std.proofs.Common.{◌≡◌, ◌≢◌, ℕ, ◌+◌, ◌-◌, ◌<◌, Bool, true, false, eqb, List, [], ◌∷◌, Option, Some, None, map, refl, sym, ap, ◌∙◌, arith, inl, inr}
 use Rattle.std.proofs.lemmas.Bool.{cases_Bool, and_left, eqb-true}
 use Rattle.std.proofs.lemmas.Bool.Decides.{nat_tests}
 use Rattle.std.specs.Prelude.{if◌then◌else◌, cond, option_map, unwrap_or, is_none, IfSome}
@@ -47,6 +47,26 @@ counts-with_entry m k e h =
     picked : (q : ℕ) (t : Bool) → option_map (λ (x : LineEntry). x.writes) (if t then kept e else finite.get m q) ≡ (if t then Some (count_at (counts_of m) k + 1) else finite.get (counts_of m) q)
     picked q true = ap (option_map (λ (x : LineEntry). x.writes)) (kept-written e (entry_at m k).writes h) ∙ ap Some (h ∙ ap (λ n. n + 1) (sym (count_at-counts_of m k)))
     picked q false = sym (get-counts_of m q)
+
+-- an entry with as many writes, of which there are some, counts the same
+pub counts-same : (m : Entries) (k : ℕ) (e : LineEntry) → e.writes ≡ (entry_at m k).writes → 0 < (entry_at m k).writes → counts_of (with_entry m k e) ≡ counts_of m
+counts-same m k e h some =
+    finite.same_map nat_cmp_total finite.nat_cmp-IsAntisymmetric _ _
+    (λ q.
+    get-counts_of (with_entry m k e) q ∙ ap (option_map (λ (x : LineEntry). x.writes)) (get-with_entry m k e q)
+    ∙ elim (cases_Bool (eqb q k)) [
+      | inl here ↦ rw here (there (finite.get m k) refl ∙ ap (λ o. option_map (λ (x : LineEntry). x.writes) o) (ap (finite.get m) (sym (eqb-true q k here))))
+      | inr other ↦ rw other
+    ]
+    ∙ sym (get-counts_of m q))
+  where
+    there : (o : Option LineEntry) → finite.get m k ≡ o → option_map (λ (x : LineEntry). x.writes) (kept e) ≡ option_map (λ (x : LineEntry). x.writes) (finite.get m k)
+    there None is = let none : (entry_at m k).writes ≡ 0 = ap (λ o. (unwrap_or o blank_entry).writes) is in absurd (omega arith)
+    there (Some x) is =
+        let was : (entry_at m k).writes ≡ x.writes = ap (λ o. (unwrap_or o blank_entry).writes) is in
+        let n : ℕ = e.writes - 1 in
+        let up : e.writes ≡ e.writes - 1 + 1 = omega arith in
+        ap (option_map (λ (z : LineEntry). z.writes)) (kept-written e (e.writes - 1) up) ∙ ap Some (h ∙ was) ∙ sym (ap (option_map (λ (z : LineEntry). z.writes)) is)
 
 -- an entry that is left as it was leaves the map as it was
 pub with_entry-same : (m : Entries) (k : ℕ) → ((q : ℕ) → IfSome (finite.get m q) (IsEntry q)) → with_entry m k (entry_at m k) ≡ m

@@ -1,8 +1,12 @@
-pub mod Rows
 pub mod Counts
+pub mod Named
+pub mod Openings
 pub mod Watch
 pub mod WatchCode
 pub mod Index
-pub mod Counting
+pub mod Noting
 pub mod Standing
-pub mod Shown
+pub mod Pairs
+pub mod Turns
+pub mod Amounts
+pub mod Quiet

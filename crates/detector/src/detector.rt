@@ -1,40 +1,41 @@
-// The rows of the tracked lines, and the index of all lines.
-ghost use Rattle.std.specs.Prelude.{◌≡◌, ◌<◌, ◌^◌, [], ◌∷◌, ◌++◌, map, OnOk, OnErr, IfOk, IsOk, IsFalse, None, length, slice_get, option_map};
-ghost use Rattle.line_counters.specs.Entries.{no_entries};
+// The tracks, and the index of all lines.
+ghost use Rattle.std.specs.Prelude.{◌≡◌, ◌+◌, ◌*◌, ◌/◌, ◌<◌, ◌≤◌, ◌^◌, [], ◌∷◌, ◌++◌, if◌then◌else◌, IsOk, IsTrue, IsFalse, OnOk, OnErr};
 ghost use Rattle.sharing_rules.specs.AccessLists.{AccessList};
-ghost use Rattle.sharing_rules.specs.Listed as rules;
-ghost use Rattle.detector.specs.Rows.{finding_of};
-ghost use Rattle.detector.specs.Watch.{nothing_seen, takes_memory, watched};
+ghost use Rattle.line_counters.specs.Entries.{no_entries};
+ghost use Rattle.sharing_rules.specs.Listed.{may_predict};
+ghost use Rattle.detector.specs.Amounts.{HasFewAtEach, HasFewEntries, HasFewWords, HasFewerShifted};
+ghost use Rattle.detector.specs.Amounts.{HasHalfDoubled, IsSmallUnpredicted};
+ghost use Rattle.detector.specs.Quiet.{AreQuietWhereFalse};
 ghost use Rattle.detector.specs.Standing.{StandsFor};
-ghost use Rattle.detector.specs.Shown.{findings_in_order, line_shown};
+ghost use Rattle.detector.specs.Watch.{nothing_seen, searches_at, takes_memory, watched};
 
-use crate::line::{Line, shown};
-use crate::listing::listed_rows;
-use crate::row::Row;
 use crate::touch::touch;
 use line_counters::LineIndex;
-use predator_base::{Access, Layout, NoMemory, Thresholds};
+use predator_base::{Access, Layout, NoMemory, Steps, Thresholds};
 use std::alloc::Global;
 use std::marker::Model;
+use std::sync::ledger::Ledger;
+use virtual_lines::{Track, Tracks};
 
 /// What is known of the accesses so far, under a layout and thresholds, over an index of lines.
 ///
-/// Contracts see its position, its layout, its thresholds, how often each line was written, and its rows in the order
-/// in which their tracks began, each with its line's number, start, count and entries.
+/// Contracts see its position, its layout, its thresholds, how often each line was written, and its tracks, in the
+/// order in which they came to be kept.
 #[derive(Drop)]
 pub struct Detector<I: LineIndex> {
     index: I,
-    rows: Vec<Row>,
+    tracks: Tracks,
     position: u64,
     layout: Layout,
     thresholds: Thresholds,
 }
 
 impl<I: LineIndex> Model for Detector<I> {
-    ghost use Rattle.std.specs.Prelude.{◌≡◌, IsTrue, None};
+    ghost use Rattle.std.specs.Prelude.{IsTrue};
     ghost use Rattle.detector.specs.Watch.{Watch};
     ghost use Rattle.detector.specs.WatchCode.{watch_code};
     ghost use Rattle.predator_base.specs.Lines.{is_layout};
+    ghost use Rattle.sharing_rules.specs.Listed.{may_predict};
     ghost use Rattle.line_counters.specs.Entries.{entry_at};
     ghost use Rattle.detector.specs.Counts.{counts_of};
     ghost use Rattle.detector.specs.Index.{IsIndexed};
@@ -48,19 +49,20 @@ impl<I: LineIndex> Model for Detector<I> {
       grid = d.layout;
       levels = d.thresholds;
       writes = counts_of (I.entries d.index);
-      rows = d.rows.items;
+      tracks = d.tracks;
     } };
 
     ghost invariant = { λ d.
-        IsIndexed (entry_at (I.entries d.index)) d.rows.items d.thresholds.tracking d.position
-        × IsTrue (is_layout d.layout.size d.layout.offset) × (d.thresholds.prediction ≡ None) };
+        IsIndexed (entry_at (I.entries d.index)) d.layout d.tracks d.thresholds.tracking d.position
+        × IsTrue (is_layout d.layout.size d.layout.offset) × IsTrue (may_predict d.layout d.thresholds) };
 }
 
 impl<I: LineIndex> Detector<I> {
-    /// A detector that has seen no access, over an index with no entry. It keeps the allocator. Nothing is predicted.
+    /// A detector that has seen no access, over an index with no entry. It keeps the allocator. Lines are predicted
+    /// only under a native layout: of offset 0, and of size 32, 64, 128 or 256.
     pub fn new(alloc: Global, index: I, layout: Layout, thresholds: Thresholds) -> Detector<I>
         requires empty { I.entries index ≡ no_entries }
-        requires unpredicted { thresholds.prediction ≡ None }
+        requires native { IsTrue (may_predict layout thresholds) }
         ensures blank { result ≡ nothing_seen layout thresholds }
         ensures stands { StandsFor [] result }
     {
@@ -68,38 +70,49 @@ impl<I: LineIndex> Detector<I> {
         let _size = layout.size();
         Detector {
             index,
-            rows: Vec::new(alloc),
+            tracks: Tracks::new(alloc),
             position: 0,
             layout,
             thresholds,
         }
     }
 
-    /// One access more. It takes memory only at the first write of a line, where the index has no place for it, and
-    /// at the write that begins a line's track.
+    /// One access more. It takes memory only where a counter begins, a track begins or a predicted line opens: at the
+    /// first write of a line, at the one with the tracking threshold's number, and at one that brings its line to a
+    /// multiple of the prediction threshold.
     ///
-    /// NoMemory comes only there, and leaves the detector as it was.
+    /// At most 4 steps, and where the pairs of its line are searched one more for each pair of their words, of which
+    /// there are at most three times the square of the words of a line. NoMemory leaves the detector as it was.
     #[inline]
-    pub fn on_access(&mut self, access: Access) -> Result<(), NoMemory>
+    pub fn on_access<L: Ledger>(
+        &mut self,
+        access: Access,
+        steps: &mut Steps<L>,
+    ) -> Result<(), NoMemory>
         requires { self.old.position < 2 ^ 40 }
         ensures watched { OnOk result (self.new ≡ watched self.old access) }
         ensures same { OnErr result (self.new ≡ self.old) }
         ensures known { IsFalse (takes_memory self.old access) → IsOk result }
+        ensures steps { steps.new ≤ steps.old + 4 + (if searches_at self.old access
+            then 3 * (self.old.grid.size / 4 * (self.old.grid.size / 4)) else 0) }
         // for each list that it stood for, it stands for the list with the access
         ensures stands { OnOk result ((t : AccessList)
             → StandsFor t self.old → StandsFor (t ++ access ∷ []) self.new) }
         // and where memory ran out, for the list that it stood for
         ensures still { OnErr result ((t : AccessList) → StandsFor t self.old → StandsFor t self.new) }
     {
-        let number = self.layout.number_of(access.addr());
-        let tracking = self.thresholds.tracking();
+        let line = self.layout.number_of(access.addr());
+        // A layout has whole words, and thresholds are at least 1, as these say.
+        let _known = (self.layout.size(), self.thresholds.tracking());
         match touch(
             &mut self.index,
-            &mut self.rows,
-            number,
-            tracking,
+            &mut self.tracks,
+            self.layout,
+            self.thresholds,
+            line,
             self.position,
             access,
+            steps,
         ) {
             Ok(()) => {
                 self.position += 1;
@@ -130,30 +143,28 @@ impl<I: LineIndex> Detector<I> {
         self.thresholds
     }
 
-    /// How many lines are tracked.
-    pub fn line_count(&self) -> usize
-        ensures { result ≡ length self.now.rows }
-    {
-        self.rows.len()
-    }
-
-    /// The line whose track began as number `i`, counted from 0: None exactly where `i` is past the count.
-    pub fn line(&self, i: usize) -> Option<Line>
-        ensures { result ≡ option_map line_shown (slice_get (map (finding_of self.now.grid) self.now.rows) i) }
-    {
-        let row = self.rows.get(i)?;
-        Some(shown(self.layout, row))
-    }
-
-    /// The tracked lines whose count is at least the report threshold, by count falling, then by base rising.
+    /// All that is kept, in the order in which it came to be kept: a track for each line that was written as often as
+    /// the tracking threshold says, and one for each predicted line that opened.
     ///
-    /// NoMemory comes where there is no memory for the result.
-    pub fn listed(&self, alloc: Global) -> Result<Vec<Line>, NoMemory>
-        ensures shown { IfOk result (λ lines. lines.items ≡ map line_shown (findings_in_order self.now)) }
-        // for each list that it stands for, they are the lines that the rules list
-        ensures listed { (t : AccessList) → StandsFor t self.now
-            → IfOk result (λ lines. lines.items ≡ map line_shown (rules.listed self.now.grid self.now.levels t)) }
+    /// With m tracks of lines of n bytes that were written so often there are, where m isn't 0,
+    /// fewer shifted ones and at most m / 2 doubled ones. All have at most 5 m entries and
+    /// 3 m n / 4 words, without prediction at most 2 m entries and m n / 4 words. At most four hold
+    /// one address.
+    ///
+    /// Where the words of one have the verdict false, the accesses from its start on would take no
+    /// word of it from a hart if each word had a line of its own.
+    pub fn tracks(&self) -> &[Track]
+        ensures value { result.now ≡ self.now.tracks }
+        // for each list that it stands for
+        ensures shifted { (t : AccessList) → StandsFor t self.now → HasFewerShifted self.now }
+        ensures doubled { (t : AccessList) → StandsFor t self.now → HasHalfDoubled self.now }
+        ensures entries { (t : AccessList) → StandsFor t self.now → HasFewEntries self.now }
+        ensures words { (t : AccessList) → StandsFor t self.now → HasFewWords self.now }
+        ensures unpredicted { (t : AccessList) → StandsFor t self.now
+            → IsSmallUnpredicted self.now }
+        ensures few_at_each { (t : AccessList) → StandsFor t self.now → HasFewAtEach self.now }
+        ensures quiet { (t : AccessList) → StandsFor t self.now → AreQuietWhereFalse t self.now }
     {
-        listed_rows(alloc, &self.rows, self.layout, self.thresholds.report())
+        self.tracks.all()
     }
 }

@@ -1,18 +1,23 @@
-//! The detector: one pass over the accesses of a run, one row for each tracked line.
+//! The detector: one pass over the accesses of a run, and a track for each line that is kept, observed or predicted.
 //!
-//! A layout cuts the addresses into lines, and an index keeps how often each line was written. A line is tracked
-//! from the write on that brings its writes to the tracking threshold. What is kept of it are its number, its
-//! start, its count and the first two harts that came since its last write.
+//! A layout cuts the addresses into lines, and an index keeps how often each line was written, and where its tracks
+//! stand. A line has a track of its own from the write on that brings its writes to the tracking threshold. At each
+//! write that brings a line to a multiple of the prediction threshold, the pairs of the line are searched, and what
+//! opens has a track from then on.
 #![tactic(auto)]
 
+mod count;
 mod detector;
-mod line;
-mod listing;
-mod row;
+mod one_access;
+mod openings;
+mod places;
 #[cfg(test)]
 mod tests;
 mod touch;
+mod turn;
+mod undo;
 
 pub use detector::Detector;
-pub use line::Line;
 pub use line_counters::{LineIndex, MapIndex, PagedIndex};
+pub use one_access::see;
+pub use virtual_lines::Track;

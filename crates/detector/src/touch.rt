@@ -1,118 +1,149 @@
-// One access: of the row of its line, and of the line's entry in the index.
-ghost use Rattle.std.specs.Prelude.{◌≡◌, ℕ, ◌+◌, ◌<◌, ◌≤◌, ◌^◌, OnOk, OnErr, IsOk, IsTrue, IsFalse, Some, length, slice_get};
+// One access: of the tracks that hold its address, and of its line's entry in the index.
+ghost use Rattle.std.specs.Prelude.{◌≡◌, ◌≢◌, ℕ, ◌+◌, ◌*◌, ◌/◌, ◌%◌, ◌==◌, ◌<◌, ◌≤◌, ◌^◌, false, if◌then◌else◌, map, IsOk, IsTrue, IsFalse, OnOk, OnErr, Some};
+ghost use Rattle.std.specs.Option.{option_map_or};
+ghost use Rattle.predator_base.specs.Lines.{Grid, is_layout, line_number};
 ghost use Rattle.predator_base.specs.Touch.{is_write};
 ghost use Rattle.line_counters.specs.Entries.{entry_at};
+ghost use Rattle.sharing_rules.specs.Listed.{may_predict};
 ghost use Rattle.detector.specs.Counts.{counts_of};
-ghost use Rattle.detector.specs.Rows.{noted_at};
-ghost use Rattle.detector.specs.Watch.{may_take_memory, rows_after, writes_after};
-ghost use Rattle.detector.specs.Index.{IsIndexed};
-ghost use Rattle.detector.specs.Counting.{counted, is_due, rows_counted};
-ghost use Rattle.detector.specs.declared.row.Row.{Row as Kept};
+ghost use Rattle.detector.specs.Index.{IsIndexed, IsReached};
+ghost use Rattle.detector.specs.Noting.{IsNotable};
+ghost use Rattle.detector.specs.Turns.{IsTurnOf};
+ghost use Rattle.detector.specs.Watch.{is_search, may_take_memory, touched, tracks_after, watch_of, writes_after};
 
-use crate::row::Row;
-use line_counters::{LineEntry, LineIndex};
-use predator_base::{Access, Kind, NoMemory};
+use crate::count::count;
+use crate::places::{note_places, places_of};
+use crate::turn::{Turn, take_turn};
+use line_counters::LineIndex;
+use predator_base::{Access, Kind, Layout, NoMemory, Steps, Thresholds};
+use std::sync::ledger::Ledger;
+use virtual_lines::Tracks;
 
-// The row at a place has one access more.
-#[inline(always)]
-fn note_at(rows: &mut Vec<Row>, place: u32, access: Access)
-    requires within { place < length rows.old.items }
-    requires few { (i : ℕ) (row : Kept) → slice_get rows.old.items i ≡ Some row → row.count < 2 ^ 40 }
-    ensures { rows.new.items ≡ noted_at access place rows.old.items }
+// Whether a number is a multiple of another one that isn't 0, if one is given.
+fn is_multiple(n: u64, of: Option<u64>) -> bool
+    requires { (m : ℕ) → of ≡ Some m → 0 < m }
+    ensures { result ≡ option_map_or (λ m. n % m == 0) of false }
 {
-    let row = &mut rows[place as usize];
-    row.note(access);
-}
-
-// One write more of a line, by its entry: its row is noted, or begins at the write with the tracking threshold's
-// number.
-#[inline(always)]
-fn count(
-    entry: &mut LineEntry,
-    rows: &mut Vec<Row>,
-    number: u64,
-    tracking: u64,
-    position: u64,
-    access: Access,
-) -> Result<(), NoMemory>
-    requires within { (i : ℕ) → entry.old.track ≡ Some i → i < length rows.old.items }
-    requires few { (i : ℕ) (row : Kept) → slice_get rows.old.items i ≡ Some row → row.count < 2 ^ 40 }
-    requires written { entry.old.writes < 2 ^ 40 }
-    requires short { length rows.old.items < 2 ^ 32 }
-    ensures counted { OnOk result (entry.new ≡ counted tracking (length rows.old.items) entry.old) }
-    ensures rows { OnOk result (rows.new.items ≡ rows_counted tracking number position access entry.old rows.old.items) }
-    ensures same { OnErr result (entry.new ≡ entry.old) }
-    ensures same_rows { OnErr result (rows.new.items ≡ rows.old.items) }
-    ensures known { IsFalse (is_due tracking entry.old) → IsOk result }
-{
-    let writes = entry.writes + 1;
-    match entry.track {
-        Some(place) => note_at(rows, place, access),
-        None => {
-            if writes == tracking {
-                let place = rows.len() as u32;
-                rows.push(Row::begun(number, position, access))?;
-                entry.track = Some(place);
-            }
-        }
+    match of {
+        Some(of) => n % of == 0,
+        None => false,
     }
-    entry.writes = writes;
-    Ok(())
 }
 
-// A read of a line: its row is noted, if it has one.
+// Notes the tracks that hold the address of an access of a line.
 #[inline(always)]
-fn read<I: LineIndex>(
+fn note<I: LineIndex, L: Ledger>(
     index: &I,
-    rows: &mut Vec<Row>,
-    number: u64,
-    tracking: u64,
+    tracks: &mut Tracks,
+    line: u64,
     position: u64,
     access: Access,
+    steps: &mut Steps<L>,
 )
-    requires indexed { IsIndexed (entry_at (I.entries index.now)) rows.old.items tracking position }
-    requires small { number ≤ 2 ^ 30 }
+    requires small { line ≤ 2 ^ 30 }
     requires early { position < 2 ^ 40 }
-    requires reads { IsFalse (is_write access.kind) }
-    ensures rows { rows.new.items ≡ rows_after tracking (counts_of (I.entries index.now)) position number access rows.old.items }
-    ensures indexed { IsIndexed (entry_at (I.entries index.now)) rows.new.items tracking (position + 1) }
+    requires notable { (g : Grid) × IsNotable (entry_at (I.entries index.now)) g tracks.old line position access }
+    ensures tracks { tracks.new ≡ map (touched position access) tracks.old }
+    ensures steps { steps.new ≤ steps.old + 4 }
 {
-    if let Some(place) = index.peek(number).track {
-        note_at(rows, place, access);
+    note_places(tracks, places_of(index, line), position, access, steps);
+}
+
+// What a write of a line may do beside being noted.
+#[inline(always)]
+fn turn_of<I: LineIndex>(index: &I, thresholds: Thresholds, line: u64) -> Turn
+    requires small { line ≤ 2 ^ 30 }
+    requires few { (entry_at (I.entries index.now) line).writes < 2 ^ 40 }
+    ensures { IsTurnOf (entry_at (I.entries index.now)) line thresholds result }
+{
+    let writes = index.peek(line).writes + 1;
+    let begins = writes == thresholds.tracking();
+    let searches = is_multiple(writes, thresholds.prediction());
+    Turn { begins, searches }
+}
+
+// A write.
+#[inline(always)]
+fn write<I: LineIndex, L: Ledger>(
+    index: &mut I,
+    tracks: &mut Tracks,
+    layout: Layout,
+    thresholds: Thresholds,
+    line: u64,
+    position: u64,
+    access: Access,
+    steps: &mut Steps<L>,
+) -> Result<(), NoMemory>
+    requires indexed { IsIndexed (entry_at (I.entries index.old)) layout tracks.old thresholds.tracking position }
+    requires small { line ≤ 2 ^ 30 }
+    requires reached { IsReached layout line }
+    requires early { position < 2 ^ 40 }
+    requires line { line ≡ line_number layout.size layout.offset access.addr }
+    requires layout { IsTrue (is_layout layout.size layout.offset) }
+    requires native { IsTrue (may_predict layout thresholds) }
+    requires some { 1 ≤ thresholds.tracking }
+    requires writes { IsTrue (is_write access.kind) }
+    ensures tracks { OnOk result (tracks.new ≡ tracks_after (watch_of (I.entries index.old) tracks.old layout thresholds position) line access) }
+    ensures counts { OnOk result (counts_of (I.entries index.new) ≡ writes_after line access (counts_of (I.entries index.old))) }
+    ensures indexed { OnOk result (IsIndexed (entry_at (I.entries index.new)) layout tracks.new thresholds.tracking (position + 1)) }
+    ensures same { OnErr result (I.entries index.new ≡ I.entries index.old) }
+    ensures same_tracks { OnErr result (tracks.new ≡ tracks.old) }
+    ensures known { IsFalse (may_take_memory (watch_of (I.entries index.old) tracks.old layout thresholds position) line access) → IsOk result }
+    ensures steps { steps.new ≤ steps.old + 4
+        + (if is_search thresholds.prediction (counts_of (I.entries index.old)) line access then 3 * (layout.size / 4 * (layout.size / 4)) else 0) }
+{
+    let turn = turn_of(index, thresholds, line);
+    if turn.begins || turn.searches {
+        return take_turn(index, tracks, layout, line, turn, position, access, steps);
+    }
+    match count(index, line) {
+        Ok(()) => {
+            note(index, tracks, line, position, access, steps);
+            Ok(())
+        }
+        Err(refused) => Err(refused),
     }
 }
 
-/// An access: its line's row is noted, or begins at the write with the tracking threshold's number, and a write is
-/// counted in the index.
+/// An access: the tracks that hold its address are noted, a write is counted, and what is due begins and opens. At
+/// most 4 steps, and where the pairs of its line are searched one more for each pair of their words.
 ///
-/// NoMemory comes only at the first write of a line, and at the one that begins a track; it leaves all as it was.
+/// NoMemory leaves all as it was.
 #[inline(always)]
-pub fn touch<I: LineIndex>(
+pub fn touch<I: LineIndex, L: Ledger>(
     index: &mut I,
-    rows: &mut Vec<Row>,
-    number: u64,
-    tracking: u64,
+    tracks: &mut Tracks,
+    layout: Layout,
+    thresholds: Thresholds,
+    line: u64,
     position: u64,
     access: Access,
+    steps: &mut Steps<L>,
 ) -> Result<(), NoMemory>
-    requires indexed { IsIndexed (entry_at (I.entries index.old)) rows.old.items tracking position }
-    requires small { number ≤ 2 ^ 30 }
+    requires indexed { IsIndexed (entry_at (I.entries index.old)) layout tracks.old thresholds.tracking position }
+    requires small { line ≤ 2 ^ 30 }
+    requires reached { IsReached layout line }
     requires early { position < 2 ^ 40 }
-    ensures writes { OnOk result (counts_of (I.entries index.new) ≡ writes_after number access (counts_of (I.entries index.old))) }
-    ensures rows { OnOk result (rows.new.items ≡ rows_after tracking (counts_of (I.entries index.old)) position number access rows.old.items) }
-    ensures indexed { OnOk result (IsIndexed (entry_at (I.entries index.new)) rows.new.items tracking (position + 1)) }
+    requires line { line ≡ line_number layout.size layout.offset access.addr }
+    requires layout { IsTrue (is_layout layout.size layout.offset) }
+    requires native { IsTrue (may_predict layout thresholds) }
+    requires some { 1 ≤ thresholds.tracking }
+    ensures tracks { OnOk result (tracks.new ≡ tracks_after (watch_of (I.entries index.old) tracks.old layout thresholds position) line access) }
+    ensures counts { OnOk result (counts_of (I.entries index.new) ≡ writes_after line access (counts_of (I.entries index.old))) }
+    ensures indexed { OnOk result (IsIndexed (entry_at (I.entries index.new)) layout tracks.new thresholds.tracking (position + 1)) }
     ensures same { OnErr result (I.entries index.new ≡ I.entries index.old) }
-    ensures same_rows { OnErr result (rows.new.items ≡ rows.old.items) }
-    ensures known { IsFalse (may_take_memory tracking (counts_of (I.entries index.old)) number access) → IsOk result }
+    ensures same_tracks { OnErr result (tracks.new ≡ tracks.old) }
+    ensures known { IsFalse (may_take_memory (watch_of (I.entries index.old) tracks.old layout thresholds position) line access) → IsOk result }
+    ensures steps { steps.new ≤ steps.old + 4
+        + (if is_search thresholds.prediction (counts_of (I.entries index.old)) line access then 3 * (layout.size / 4 * (layout.size / 4)) else 0) }
 {
     match access.kind() {
         Kind::Read => {
-            read(index, rows, number, tracking, position, access);
+            note(index, tracks, line, position, access, steps);
             Ok(())
         }
-        Kind::Write => match index.entry(number) {
-            Ok(entry) => count(entry, rows, number, tracking, position, access),
-            Err(refused) => Err(refused),
-        },
+        Kind::Write => write(
+            index, tracks, layout, thresholds, line, position, access, steps,
+        ),
     }
 }

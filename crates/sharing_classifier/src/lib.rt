@@ -1,4 +1,5 @@
-//! The verdict over the words of a line: whether its sharing is false, true or mixed, and what false means.
+//! The verdict over the words of a line: whether its sharing is false, true or mixed, and what false means; and which
+//! symbols and heap blocks stand on a line.
 #![tactic(auto)]
 
 ghost use Rattle.std.specs.Prelude.{◌≡◌, ℕ, ◌||◌, ◌==◌, ◌/◌, drop, length, IsTrue, Some};
@@ -12,8 +13,11 @@ ghost use Rattle.sharing_rules.specs.Verdicts as verdicts;
 ghost use Rattle.sharing_rules.specs.declared.line_kind.Verdict.TheVariants.{FalseSharing};
 ghost use Rattle.sharing_classifier.specs.Quiet.{HasQuietWords};
 
+mod standing;
+
 pub use sharing_rules::Verdict;
 use sharing_rules::{Word, is_truly_shared};
+pub use standing::{block_on, symbol_on};
 use word_shadow::Shadow;
 
 /// The verdict over the words of a shadow, of any range.

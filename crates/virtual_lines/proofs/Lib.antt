@@ -1,4 +1,2 @@
-pub mod LineLaws
-pub mod KeptLaws
 pub mod UndoLaws
 pub mod EvenLaws

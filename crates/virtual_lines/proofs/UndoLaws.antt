@@ -8,9 +8,9 @@ use Rattle.predator_base.specs.Touch.{Touch, is_write}
 use Rattle.sharing_rules.specs.Words.{note_word, tally}
 use Rattle.sharing_rules.specs.declared.word.Word.{Word}
 use Rattle.word_shadow.specs.RangeWords.{note_words, place_of}
-use Rattle.virtual_lines.proofs.KeptLaws.{note-range}
-use Rattle.sharing_rules.proofs.PlacesLaws.{slice_cases}
+use Rattle.virtual_lines.specs.KeptLaws.{note-range}
 use Rattle.virtual_lines.specs.Kept.{CanRestore, IsBlank, Kept, mark_of, note_from, note_kept, restored, started, word_at, words_of}
+use Rattle.sharing_rules.specs.Laws.Lists.{slice_cases}
 
 -- with other words
 abbrev with_words : Kept → List Word → Kept

@@ -1,2 +1,5 @@
 pub mod Kept
+pub mod KeptIn
 pub mod TrackView
+pub mod KeptLaws
+pub mod FewLaws

@@ -5,12 +5,14 @@
 //! that the list defines.
 #![tactic(auto)]
 
+mod laws;
 mod ranges;
 #[cfg(test)]
 mod tests;
 mod track;
 mod tracks;
 
+pub use laws::at_most_four_lines_hold_an_address;
 pub use ranges::{doubled_range, shifted_range};
 pub use sharing_rules::LineKind;
 pub use track::{Mark, Track};

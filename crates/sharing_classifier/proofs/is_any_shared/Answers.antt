@@ -1,7 +1,7 @@
 -- One word more.
 use Rattle.std.proofs.Common.{◌∙◌, sym}
 use Rattle.sharing_rules.specs.Verdicts.{is_truly_shared}
-use Rattle.sharing_classifier.proofs.QuietLaws.{any_at, any_more}
+use Rattle.sharing_classifier.specs.QuietLaws.{any_at, any_more}
 use Rattle.sharing_classifier.proofs.is_any_shared.Goals as goal
 
 pub returns-then-is_truly_shared : goal.returns-then-is_truly_shared

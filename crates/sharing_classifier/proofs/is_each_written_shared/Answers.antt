@@ -2,7 +2,7 @@
 use Rattle.std.proofs.Common.{◌∙◌, ◌||◌, eqb, sym}
 use Rattle.sharing_rules.specs.Verdicts.{is_truly_shared}
 use Rattle.sharing_rules.specs.declared.word.Word.{Word}
-use Rattle.sharing_classifier.proofs.QuietLaws.{all_fails, all_more}
+use Rattle.sharing_classifier.specs.QuietLaws.{all_fails, all_more}
 use Rattle.sharing_classifier.proofs.is_each_written_shared.Goals as goal
 
 pub returns-then-not-is_shared_if_written : goal.returns-then-not-is_shared_if_written

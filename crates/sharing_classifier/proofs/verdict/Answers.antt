@@ -5,7 +5,7 @@ use Rattle.sharing_rules.specs.Lines.{is_inside}
 use Rattle.sharing_rules.specs.Observed.{first_write_from}
 use Rattle.sharing_rules.specs.Verdicts.{is_truly_shared}
 use Rattle.sharing_rules.specs.declared.word.Word.{Word}
-use Rattle.sharing_classifier.proofs.QuietLaws.{track-words, unshared-quiet}
+use Rattle.sharing_classifier.specs.QuietLaws.{track-words, unshared-quiet}
 use Rattle.sharing_classifier.proofs.verdict.Goals as goal
 
 pub returns-then-not-is_any_shared-clause-quiet : goal.returns-then-not-is_any_shared-clause-quiet

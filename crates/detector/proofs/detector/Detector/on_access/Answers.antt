@@ -1,34 +1,49 @@
 -- What `touch` leaves is the value with one access more.
-use Rattle.std.proofs.Common.{◌≡◌, ℕ, ◌+◌, ◌∷◌, ◌++◌, [], eqb, map, sym, ap, ◌∙◌, subst}
-use Rattle.std.specs.List.{IsDistinct}
-use Rattle.line_counters.specs.Entries.{entry_at}
+use Rattle.std.proofs.Common.{◌≡◌, ◌∷◌, ◌++◌, [], sym, ap, ◌∙◌, subst, arith}
 use Rattle.predator_base.specs.Lines.{line_number}
-use Rattle.detector.specs.declared.row.Row.{Row}
-use Rattle.detector.specs.Counts.{counts_of}
-use Rattle.detector.specs.Rows.{number_of}
-use Rattle.detector.specs.Watch.{Watch, rows_after, watched, writes_after}
+use Rattle.detector.specs.Named.{number_of}
 use Rattle.detector.specs.Standing.{StandsFor}
-use Rattle.detector.proofs.IndexLaws.{rows-apart}
-use Rattle.detector.proofs.RowLaws.{layout-words}
+use Rattle.detector.specs.Watch.{Watch, may_take_memory, takes_memory, watch_of, watched}
+use Rattle.detector.proofs.AfterLaws.{levels-some, watched-is}
 use Rattle.detector.proofs.StandsLaws.{stands_watched}
 use Rattle.detector.proofs.detector.Detector.on_access.Goals as goal
+
+pub touch-requires-clause-reached : goal.touch-requires-clause-reached
+touch-requires-clause-reached g c = (c.addr.result, omega arith, sym c.number_of-line.ensures.value)
+
+pub touch-requires-clause-line : goal.touch-requires-clause-line
+touch-requires-clause-line g c = c.number_of-line.ensures.value ∙ ap (line_number c.self.inside.layout.size c.self.inside.layout.offset) c.addr.ensures
+
+pub touch-requires-clause-indexed : goal.touch-requires-clause-indexed
+touch-requires-clause-indexed g c = c.self.invariant.0
+
+pub touch-requires-clause-some : goal.touch-requires-clause-some
+touch-requires-clause-some g c = levels-some c.self.inside.thresholds c.tracking.ensures.allowed
+
+pub invariant_of-self : goal.invariant_of-self
+invariant_of-self g c = (c.in-Ok.ensures.indexed, c.self.invariant.1, c.self.invariant.2)
+
+pub returns-in-Ok-clause-watched : goal.returns-in-Ok-clause-watched
+returns-in-Ok-clause-watched g c =
+    let d = c.self.inside in
+    let line : c.number_of-line.result ≡ number_of d.layout c.args.access = c.number_of-line.ensures.value ∙ ap (line_number d.layout.size d.layout.offset) c.addr.ensures in
+    watched-is (g.I.LineIndex.entries d.index) (g.I.LineIndex.entries c.touch.new.index) d.tracks c.touch.new.tracks d.layout d.thresholds d.position c.number_of-line.result c.args.access line c.in-Ok.ensures.tracks c.in-Ok.ensures.counts
+    ∙ ap (λ (w : Watch). watched w c.args.access) c.self.view_is
 
 pub returns-in-Ok-clause-stands : goal.returns-in-Ok-clause-stands
 returns-in-Ok-clause-stands g c = λ t stands.
     let d = c.self.inside in
-    let a = c.args.access in
-    let ws = counts_of (g.I.LineIndex.entries d.index) in
-    let k : ℕ = number_of d.layout a in
-    let before : Watch = record { position = d.position; grid = d.layout; levels = d.thresholds; writes = ws; rows = d.rows.items } in
-    let stood : StandsFor t before = rw c.self.view_is stands in
-    let number : c.number_of-number.result ≡ k = c.number_of-number.ensures.value ∙ ap (line_number d.layout.size d.layout.offset) c.addr.ensures in
-    let rows : c.touch.new.rows.items ≡ (watched before a).rows =
-    c.in-Ok.ensures.rows ∙ ap (λ T. rows_after T ws d.position c.number_of-number.result a d.rows.items) c.tracking-tracking.ensures.value
-    ∙ ap (λ n. rows_after d.thresholds.tracking ws d.position n a d.rows.items) number in
-    let writes : counts_of (g.I.LineIndex.entries c.touch.new.index) ≡ (watched before a).writes = c.in-Ok.ensures.writes ∙ ap (λ n. writes_after n a ws) number in
-    let apart : IsDistinct eqb (map (λ (r : Row). r.number) (watched before a).rows) =
-    subst (λ rs. IsDistinct eqb (map (λ (r : Row). r.number) rs)) rows
-    (rows-apart (entry_at (g.I.LineIndex.entries c.touch.new.index)) c.touch.new.rows.items c.tracking-tracking.result (d.position + 1) c.in-Ok.ensures.indexed) in
-    let after : StandsFor (t ++ a ∷ []) (watched before a) = stands_watched t a before stood (layout-words d.layout c.self.invariant.1) apart in
-    subst (λ rs. StandsFor (t ++ a ∷ []) (record { position = d.position + 1; grid = d.layout; levels = d.thresholds; writes = counts_of (g.I.LineIndex.entries c.touch.new.index); rows = rs })) (sym rows)
-    (subst (λ xs. StandsFor (t ++ a ∷ []) (record { position = d.position + 1; grid = d.layout; levels = d.thresholds; writes = xs; rows = (watched before a).rows })) (sym writes) after)
+    let line : c.number_of-line.result ≡ number_of d.layout c.args.access = c.number_of-line.ensures.value ∙ ap (line_number d.layout.size d.layout.offset) c.addr.ensures in
+    let before : Watch = watch_of (g.I.LineIndex.entries d.index) d.tracks d.layout d.thresholds d.position in
+    let stood : StandsFor t before = subst (StandsFor t) (sym c.self.view_is) stands in
+    subst (λ (w : Watch). StandsFor (t ++ c.args.access ∷ []) w)
+    (sym (watched-is (g.I.LineIndex.entries d.index) (g.I.LineIndex.entries c.touch.new.index) d.tracks c.touch.new.tracks d.layout d.thresholds d.position c.number_of-line.result c.args.access line c.in-Ok.ensures.tracks c.in-Ok.ensures.counts))
+    (stands_watched t c.args.access before c.self.invariant.1 c.self.invariant.2 (levels-some d.thresholds c.tracking.ensures.allowed) stood)
+
+pub returns-in-Err-clause-known : goal.returns-in-Err-clause-known
+returns-in-Err-clause-known g c = λ none.
+    let d = c.self.inside in
+    let line : c.number_of-line.result ≡ number_of d.layout c.args.access = c.number_of-line.ensures.value ∙ ap (line_number d.layout.size d.layout.offset) c.addr.ensures in
+    c.in-Err.ensures.known
+    (ap (λ k. may_take_memory (watch_of (g.I.LineIndex.entries d.index) d.tracks d.layout d.thresholds d.position) k c.args.access) line
+    ∙ ap (λ (w : Watch). takes_memory w c.args.access) c.self.view_is ∙ none)

@@ -1,7 +1,7 @@
 -- An access elsewhere leaves the track that of the list.
 use Rattle.std.proofs.Common.{◌≡◌, false, rules}
 use Rattle.predator_base.specs.Ranges.{holds_address}
-use Rattle.virtual_lines.proofs.KeptLaws.{kept-elsewhere}
+use Rattle.virtual_lines.specs.KeptLaws.{kept-elsewhere}
 use Rattle.virtual_lines.proofs.track.Track.contains.Goals as goal
 
 pub returns-clause-elsewhere : goal.returns-clause-elsewhere

@@ -1,5 +1,5 @@
 -- The track of the list with the access.
-use Rattle.virtual_lines.proofs.KeptLaws.{kept-push}
+use Rattle.virtual_lines.specs.KeptLaws.{kept-push}
 use Rattle.virtual_lines.proofs.track.Track.note.Goals as goal
 
 pub returns-clause-follows : goal.returns-clause-follows

@@ -1,6 +1,6 @@
 -- Before the start no word was touched.
 use Rattle.std.proofs.Common.{arith}
-use Rattle.virtual_lines.proofs.KeptLaws.{untouched-none}
+use Rattle.virtual_lines.specs.KeptLaws.{untouched-none}
 use Rattle.virtual_lines.proofs.track.Track.take.Goals as goal
 
 pub note-requires-clause-room : goal.note-requires-clause-room

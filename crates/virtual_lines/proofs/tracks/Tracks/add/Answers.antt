@@ -1,5 +1,5 @@
 -- A new track has no start.
-use Rattle.virtual_lines.proofs.KeptLaws.{kept-new}
+use Rattle.virtual_lines.specs.KeptLaws.{kept-new}
 use Rattle.virtual_lines.proofs.tracks.Tracks.add.Goals as goal
 
 pub returns-in-Ok-clause-stands : goal.returns-in-Ok-clause-stands

@@ -1,0 +1,16 @@
+use Rattle.std.proofs.Common.{◌≡◌, ap, ◌∙◌}
+use Rattle.std.specs.Prelude.{is_ok}
+use Rattle.line_counters.specs.Entries.{entry_at}
+use Rattle.line_counters.specs.declared.line_entry.LineEntry.{LineEntry}
+use Rattle.detector.specs.Counts.{counts_of}
+use Rattle.detector.proofs.CountLaws.{counts-same}
+use Rattle.detector.proofs.SettleLaws.{with_place-writes}
+use Rattle.detector.proofs.turn.name.Goals as goal
+
+pub returns-in-Ok-clause-counts : goal.returns-in-Ok-clause-counts
+returns-in-Ok-clause-counts g c =
+    let m = g.I.LineIndex.entries c.args.index.now in
+    let change = (c.entry.follows.holds c.set_place.new.entry (ap is_ok c.in-Ok.is)).0 in
+    let same : c.set_place.new.entry.writes ≡ (entry_at m c.args.line).writes =
+    ap (λ (e : LineEntry). e.writes) c.set_place.ensures ∙ with_place-writes _ c.args.kind _ ∙ ap (λ (e : LineEntry). e.writes) c.in-Ok.ensures.value in
+    ap counts_of change.whole ∙ counts-same m c.args.line c.set_place.new.entry same (c.requires.written c.in-Some.place c.in-Some.is)

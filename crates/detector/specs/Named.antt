@@ -1,0 +1,26 @@
+-- Lines of a layout, and the tracks that stand for them.
+use Rattle.std.specs.Prelude.{ℕ, ◌/◌, Bool, ◌&&◌, ◌==◌, pos, ◌+ℤ◌, ◌-ℤ◌, nat_abs, List, Option}
+use Rattle.std.specs.List.{find}
+use Rattle.predator_base.specs.Lines.{Grid, line_number}
+use Rattle.predator_base.specs.Touch.{Touch}
+use Rattle.predator_base.specs.declared.layout.Range.{Range}
+use Rattle.sharing_rules.specs.Listed.{rank}
+use Rattle.sharing_rules.specs.declared.line_kind.LineKind.{LineKind}
+use Rattle.virtual_lines.specs.Kept.{Kept}
+
+-- the number of the line of an access
+abbrev pub number_of : Grid → Touch → ℕ
+number_of g a = line_number g.size g.offset a.addr
+
+-- the number of the line in which a range begins
+abbrev pub line_of_base : Grid → Range → ℕ
+line_of_base g r = nat_abs (r.base +ℤ pos g.size -ℤ pos g.offset) / g.size
+
+-- Whether a track is the one of a kind and a line: an observed one has the line's range, a shifted one begins in the
+-- lower line of its pair, and a doubled one where the lower line of its pair begins.
+abbrev pub is_named : Grid → LineKind → ℕ → Kept → Bool
+is_named g kind k x = (rank x.kind == rank kind) && (line_of_base g x.range == k)
+
+-- the track of a kind and a line
+abbrev pub track_named : Grid → LineKind → ℕ → List Kept → Option Kept
+track_named g kind k tracks = find (is_named g kind k) tracks

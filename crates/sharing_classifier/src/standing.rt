@@ -1,0 +1,110 @@
+// What stands on a line.
+ghost use Rattle.std.specs.Prelude.{◌≡◌, ◌↔◌, IsTrue};
+ghost use Rattle.sharing_classifier.specs.Standing.{BlockStands, SymbolStands};
+ghost use Rattle.sharing_classifier.specs.Standing.{block_stands, last_position, symbol_stands};
+
+use heap_objects::Block;
+use predator_base::Range;
+
+/// Whether a symbol of `size` bytes at `addr` stands on a line: some address of its bytes is in the
+/// range. One of no bytes stands nowhere.
+pub fn symbol_on(range: Range, addr: u32, size: u32) -> bool
+    ensures exact { IsTrue result ↔ SymbolStands range addr size }
+    ensures test { result ≡ symbol_stands range addr size }
+{
+    do_meet(range, addr, size)
+}
+
+/// Whether a block stands on a line that is kept from the position `start` up to `end`: its asked
+/// bytes meet the range, and at some position from `start` on and before `end` it is born and has
+/// not died.
+pub fn block_on(range: Range, start: u64, end: u64, block: &Block) -> bool
+    ensures exact { IsTrue result ↔ BlockStands range start end block.now }
+    ensures test { result ≡ block_stands range start end block.now }
+{
+    stands_between(range, start, end, block)
+}
+
+// Whether a range and `size` bytes from `addr` on have an address in common.
+fn do_meet(range: Range, addr: u32, size: u32) -> bool
+    ensures { result ≡ symbol_stands range addr size }
+{
+    let first = i64::from(addr);
+    let begins = range.base > first || first < range.base + i64::from(range.size);
+    size > 0 && range.size > 0 && begins && range.base < first + i64::from(size)
+}
+
+fn stands_between(range: Range, start: u64, end: u64, block: &Block) -> bool
+    ensures { result ≡ block_stands range start end block.now }
+{
+    do_meet(range, block.addr, block.size) && block.born.max(start) < last(block.died, end)
+}
+
+// Up to which position a block is kept.
+fn last(died: Option<u64>, end: u64) -> u64
+    ensures { result ≡ last_position died end }
+{
+    match died {
+        Some(died) => died.min(end),
+        None => end,
+    }
+}
+
+#[cfg(test)]
+mod tests {
+    use super::*;
+
+    const LINE: Range = Range {
+        base: 0x1000,
+        size: 64,
+    };
+
+    // Where the first lines begin whose layout has an offset.
+    const EARLY: Range = Range {
+        base: -32,
+        size: 64,
+    };
+
+    #[test]
+    fn symbols_that_meet_a_line_stand_on_it(rt: HostRuntime) {
+        for (range, addr, size, want) in [
+            (LINE, 0x1000, 32, true),
+            (LINE, 0xff0, 16, false),
+            (LINE, 0xff0, 17, true),
+            (LINE, 0x103f, 1, true),
+            (LINE, 0x1040, 4, false),
+            (LINE, 0x1010, 0, false),
+            (LINE, 0, u32::MAX, true),
+            (EARLY, 31, 1, true),
+            (EARLY, 32, 1, false),
+        ] {
+            assert_eq!(rt;
+                symbol_on(range, addr, size),
+                want,
+                "{size} bytes at {addr}"
+            );
+        }
+    }
+
+    #[test]
+    fn blocks_that_live_with_a_line_stand_on_it(rt: HostRuntime) {
+        for (born, died, start, end, want) in [
+            (0, Some(2), 0, 2, true),
+            (0, Some(2), 2, 9, false),
+            (3, None, 2, 3, false),
+            (3, None, 2, 4, true),
+            (5, Some(5), 0, 9, false),
+        ] {
+            let block = Block {
+                addr: 0x1010,
+                size: 24,
+                sites: [0; 4],
+                born,
+                died,
+            };
+            assert_eq!(rt; block_on(LINE, start, end, &block), want, "born at {born}");
+            let empty = Block { size: 0, ..block };
+            assert!(rt; !block_on(LINE, start, end, &empty), "no bytes");
+        }
+    }
+}
