@@ -18,9 +18,11 @@ map-or f (Some x) p = refl
 -- the first fault of two tables
 first_fault-append : (a b : Faults) (file : List ℕ) → first_fault (a ++ b) file ≡ option_or (first_fault a file) (first_fault b file)
 first_fault-append a b file =
-    ap (option_map (λ row. row.0)) (find-append (λ row. row.1 file) a b) ∙ map-or (λ row. row.0) (find (λ row. row.1 file) a) (find (λ row. row.1 file) b)
+    ap (option_map (λ row. row.0)) (find-append (λ row. row.1 file) a b)
+    ∙ map-or (λ row. row.0) (find (λ row. row.1 file) a) (find (λ row. row.1 file) b)
 
-none_first : (b : Bool) (x : ElfFault × (List ℕ → Bool)) (o : Option (ElfFault × (List ℕ → Bool))) → option_map (λ row. row.0) (cond b (Some x) o) ≡ None → (b ≡ false) × (option_map (λ row. row.0) o ≡ None)
+none_first : (b : Bool) (x : ElfFault × (List ℕ → Bool)) (o : Option (ElfFault × (List ℕ → Bool)))
+    → option_map (λ row. row.0) (cond b (Some x) o) ≡ None → (b ≡ false) × (option_map (λ row. row.0) o ≡ None)
 none_first true x o h = absurd (cc)
 none_first false x o h = (refl, h)
 
@@ -51,15 +53,19 @@ long_enough file h =
     grind (arith, nat_tests)
 
 -- and its tables lie in the file
-pub programs_inside : (file : List ℕ) → first_fault table_faults file ≡ None → is_table_outside 32 (program_count file) (program_offset file) file ≡ false
+pub programs_inside : (file : List ℕ) → first_fault table_faults file ≡ None
+    → is_table_outside 32 (program_count file) (program_offset file) file ≡ false
 programs_inside file h =
     let all = no_fault table_faults file h in
-    or_left (is_table_outside 32 (program_count file) (program_offset file) file) (is_table_outside 40 (section_count file) (section_offset file) file) all.1.0
+    or_left (is_table_outside 32 (program_count file) (program_offset file) file)
+    (is_table_outside 40 (section_count file) (section_offset file) file) all.1.0
 
-pub sections_inside : (file : List ℕ) → first_fault table_faults file ≡ None → is_table_outside 40 (section_count file) (section_offset file) file ≡ false
+pub sections_inside : (file : List ℕ) → first_fault table_faults file ≡ None
+    → is_table_outside 40 (section_count file) (section_offset file) file ≡ false
 sections_inside file h =
     let all = no_fault table_faults file h in
-    or_right (is_table_outside 32 (program_count file) (program_offset file) file) (is_table_outside 40 (section_count file) (section_offset file) file) all.1.0
+    or_right (is_table_outside 32 (program_count file) (program_offset file) file)
+    (is_table_outside 40 (section_count file) (section_offset file) file) all.1.0
 
 -- no segment has bytes outside the file
 pub segments_inside : (file : List ℕ) → first_fault segment_faults file ≡ None → list_any (is_outside file) (program_headers file) ≡ false
@@ -68,7 +74,8 @@ segments_inside file h =
     all.1.0
 
 -- the first fault of the three tables one after another
-read_fault-is : (file : List ℕ) → read_fault file ≡ option_or (option_or (first_fault header_faults file) (first_fault table_faults file)) (first_fault segment_faults file)
+read_fault-is : (file : List ℕ) → read_fault file ≡ option_or (option_or (first_fault header_faults file) (first_fault table_faults file))
+    (first_fault segment_faults file)
 read_fault-is file =
     first_fault-append (header_faults ++ table_faults) segment_faults file
     ∙ ap (λ o. option_or o (first_fault segment_faults file)) (first_fault-append header_faults table_faults file)
@@ -76,10 +83,12 @@ read_fault-is file =
 pub first_of_header : (file : List ℕ) (fault : ElfFault) → Some fault ≡ first_fault header_faults file → Some fault ≡ read_fault file
 first_of_header file fault h = sym (rw (read_fault-is file, ← h) refl)
 
-pub first_of_tables : (file : List ℕ) (fault : ElfFault) → None ≡ first_fault header_faults file → Some fault ≡ first_fault table_faults file → Some fault ≡ read_fault file
+pub first_of_tables : (file : List ℕ) (fault : ElfFault) → None ≡ first_fault header_faults file
+    → Some fault ≡ first_fault table_faults file → Some fault ≡ read_fault file
 first_of_tables file fault none h = sym (rw (read_fault-is file, ← none, ← h) refl)
 
-pub first_of_segments : (file : List ℕ) (r : Option ElfFault) → None ≡ first_fault header_faults file → None ≡ first_fault table_faults file → r ≡ first_fault segment_faults file → r ≡ read_fault file
+pub first_of_segments : (file : List ℕ) (r : Option ElfFault) → None ≡ first_fault header_faults file → None ≡ first_fault table_faults file
+    → r ≡ first_fault segment_faults file → r ≡ read_fault file
 first_of_segments file r none neither h = sym (rw (read_fault-is file, ← none, ← neither, ← h) refl)
 
 -- what the reading of a file cites
@@ -91,9 +100,11 @@ none_of_parts None None (Some x) h = absurd (cc)
 none_of_parts None (Some x) q h = absurd (cc)
 none_of_parts (Some x) p q h = absurd (cc)
 
-none_of_tables : (file : List ℕ) → read_fault file ≡ None → (first_fault header_faults file ≡ None) × (first_fault table_faults file ≡ None) × (first_fault segment_faults file ≡ None)
+none_of_tables : (file : List ℕ) → read_fault file ≡ None → (first_fault header_faults file ≡ None) × (first_fault table_faults file ≡ None)
+    × (first_fault segment_faults file ≡ None)
 none_of_tables file h =
-    none_of_parts (first_fault header_faults file) (first_fault table_faults file) (first_fault segment_faults file) (sym (read_fault-is file) ∙ h)
+    none_of_parts (first_fault header_faults file) (first_fault table_faults file) (first_fault segment_faults file)
+    (sym (read_fault-is file) ∙ h)
 
 -- what a file that was read promises
 pub view_long : (file : List ℕ) → read_fault file ≡ None → 52 ≤ length file

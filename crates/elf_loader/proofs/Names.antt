@@ -23,9 +23,11 @@ found_or_end : (n m : ℕ) → n ≤ m → unwrap_or (cond (nat_lt n m) (Some n)
 found_or_end n m h = grind (arith, nat_tests)
 
 -- the place of the first zero byte, or the end
-pub zero_or_end : (bytes : List ℕ) (r : Option ℕ) → r ≡ position (λ b. b == 0) bytes → unwrap_or r (length bytes) ≡ position_or_len (λ b. b == 0) bytes
+pub zero_or_end : (bytes : List ℕ) (r : Option ℕ) → r ≡ position (λ b. b == 0) bytes
+    → unwrap_or r (length bytes) ≡ position_or_len (λ b. b == 0) bytes
 zero_or_end bytes r h =
-    ap (λ o. unwrap_or o (length bytes)) h ∙ found_or_end (position_or_len (λ b. b == 0) bytes) (length bytes) (prefix_len-le-length (λ b. not (b == 0)) bytes)
+    ap (λ o. unwrap_or o (length bytes)) h ∙ found_or_end (position_or_len (λ b. b == 0) bytes) (length bytes)
+    (prefix_len-le-length (λ b. not (b == 0)) bytes)
 
 pub zero_within : (bytes : List ℕ) → position_or_len (λ b. b == 0) bytes ≤ length bytes
 zero_within bytes = prefix_len-le-length (λ b. not (b == 0)) bytes

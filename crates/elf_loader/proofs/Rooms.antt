@@ -8,10 +8,12 @@ use Rattle.elf_loader.specs.Faults.{first_fault}
 use Rattle.elf_loader.specs.Images.{least, greatest_end, base_of, heap_start_of, runs_at, place_faults}
 use Rattle.elf_loader.proofs.Firsts.{no_fault}
 
-high_enough : (n top heap stacks : ℕ) → 0 < n → (nat_lt 0 n && (nat_lt 0xfffff000 top || nat_lt top (heap + stacks))) ≡ false → top ≤ 0xfffff000
+high_enough : (n top heap stacks : ℕ) → 0 < n → (nat_lt 0 n && (nat_lt 0xfffff000 top || nat_lt top (heap + stacks))) ≡ false
+    → top ≤ 0xfffff000
 high_enough n top heap stacks some h = grind (arith, nat_tests)
 
-wide_enough : (n top heap stacks : ℕ) → 0 < n → (nat_lt 0 n && (nat_lt 0xfffff000 top || nat_lt top (heap + stacks))) ≡ false → heap + stacks ≤ top
+wide_enough : (n top heap stacks : ℕ) → 0 < n → (nat_lt 0 n && (nat_lt 0xfffff000 top || nat_lt top (heap + stacks))) ≡ false
+    → heap + stacks ≤ top
 wide_enough n top heap stacks some h = grind (arith, nat_tests)
 
 some_segment : (a : ℕ) (segments : List Loaded) → not (list_any (runs_at a) segments) ≡ false → 0 < length segments
@@ -27,17 +29,22 @@ is_some_there memory stacks file h =
     let all = no_fault (place_faults memory stacks) file h in
     some_segment (entry_of file) (segments_of file) all.1.1.0
 
-pub top_low : (memory stacks : ℕ) (file : List ℕ) → first_fault (place_faults memory stacks) file ≡ None → base_of (segments_of file) + memory ≤ 0xfffff000
+pub top_low : (memory stacks : ℕ) (file : List ℕ) → first_fault (place_faults memory stacks) file ≡ None
+    → base_of (segments_of file) + memory ≤ 0xfffff000
 top_low memory stacks file h =
     let all = no_fault (place_faults memory stacks) file h in
-    high_enough (length (segments_of file)) (base_of (segments_of file) + memory) (heap_start_of (segments_of file)) stacks (is_some_there memory stacks file h) all.0
+    high_enough (length (segments_of file)) (base_of (segments_of file) + memory) (heap_start_of (segments_of file)) stacks
+    (is_some_there memory stacks file h) all.0
 
-pub has_room : (memory stacks : ℕ) (file : List ℕ) → first_fault (place_faults memory stacks) file ≡ None → heap_start_of (segments_of file) + stacks ≤ base_of (segments_of file) + memory
+pub has_room : (memory stacks : ℕ) (file : List ℕ) → first_fault (place_faults memory stacks) file ≡ None
+    → heap_start_of (segments_of file) + stacks ≤ base_of (segments_of file) + memory
 has_room memory stacks file h =
     let all = no_fault (place_faults memory stacks) file h in
-    wide_enough (length (segments_of file)) (base_of (segments_of file) + memory) (heap_start_of (segments_of file)) stacks (is_some_there memory stacks file h) all.0
+    wide_enough (length (segments_of file)) (base_of (segments_of file) + memory) (heap_start_of (segments_of file)) stacks
+    (is_some_there memory stacks file h) all.0
 
-pub heap_behind : (memory stacks : ℕ) (file : List ℕ) → first_fault (place_faults memory stacks) file ≡ None → base_of (segments_of file) ≤ heap_start_of (segments_of file)
+pub heap_behind : (memory stacks : ℕ) (file : List ℕ) → first_fault (place_faults memory stacks) file ≡ None
+    → base_of (segments_of file) ≤ heap_start_of (segments_of file)
 heap_behind memory stacks file h =
     let extent = some_extent (segments_of file) (is_some_there memory stacks file h) in
     omega arith

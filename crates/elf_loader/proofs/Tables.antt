@@ -11,7 +11,8 @@ fewer_rows n (suc k) zero bytes h = absurd (omega arith)
 fewer_rows n (suc k) (suc m) bytes h = ap (λ rest. take n bytes ∷ rest) (fewer_rows n k m (drop n bytes) (omega arith))
 
 -- the first rows of all that fit from a place on
-pub rows_within : (n k place : ℕ) (file rest : List ℕ) (all : List (List ℕ)) → 0 < n → place + n * k ≤ length file → rest ≡ drop place file → all ≡ first_chunks n (length rest / n) rest → take k all ≡ rows n k place file
+pub rows_within : (n k place : ℕ) (file rest : List ℕ) (all : List (List ℕ)) → 0 < n → place + n * k ≤ length file → rest ≡ drop place file
+    → all ≡ first_chunks n (length rest / n) rest → take k all ≡ rows n k place file
 rows_within n k place file rest all some within is_rest is_all =
     let long = length-drop place file in
     let same = ap length is_rest in

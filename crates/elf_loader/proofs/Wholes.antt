@@ -10,7 +10,8 @@ use Rattle.elf_loader.specs.Programs.{Loaded}
 use Rattle.elf_loader.specs.Images.{base_of, top_of, heap_start_of, image_byte, image_page, memory_of, IsImage}
 
 -- a list that has a function's value at each place
-from_each : {X : Type 0} (f : ℕ → X) (d : X) (n : ℕ) (xs : List X) → length xs ≡ n → ((i : ℕ) → i < n → get_or xs i d ≡ f i) → xs ≡ map f (range_with_len 0 n)
+from_each : {X : Type 0} (f : ℕ → X) (d : X) (n : ℕ) (xs : List X) → length xs ≡ n → ((i : ℕ) → i < n → get_or xs i d ≡ f i)
+    → xs ≡ map f (range_with_len 0 n)
 from_each f d n xs long each =
     ext_get_or d xs (map f (range_with_len 0 n)) (long ∙ sym (length-map-range_with_len f 0 n))
     (λ i within. each i (omega arith) ∙ sym (get_or-map-range_with_len f 0 n i i d (omega arith) (omega arith)))
@@ -34,13 +35,15 @@ page_from_base m k = rw (not_below m.base (4096 * k), past_pages m.base k) refl
 abbrev same_type : Space → Space → Type 0
 same_type m n = m ≡ n
 
-same_space : (base first : ℕ) (bytes others : List ℕ) (pages rights : List Page) → base ≡ first → bytes ≡ others → pages ≡ rights → same_type (record { base = base; bytes = bytes; pages = pages }) (record { base = first; bytes = others; pages = rights })
+same_space : (base first : ℕ) (bytes others : List ℕ) (pages rights : List Page) → base ≡ first → bytes ≡ others → pages ≡ rights
+    → same_type (record { base = base; bytes = bytes; pages = pages }) (record { base = first; bytes = others; pages = rights })
 same_space base first bytes others pages rights b c p = rw (b, c, p) refl
 
 page_count : (size count : ℕ) → size ≡ 4096 * count → count ≡ size / 4096
 page_count size count h = omega arith
 
-pub whole_memory : (segments : List Loaded) (memory : ℕ) (m : Space) → IsImage segments memory m → size_of m ≡ 4096 * length m.pages → m ≡ memory_of memory segments
+pub whole_memory : (segments : List Loaded) (memory : ℕ) (m : Space) → IsImage segments memory m → size_of m ≡ 4096 * length m.pages
+    → m ≡ memory_of memory segments
 unfolding memory_of
 whole_memory segments memory m image pages =
     let base = base_of segments in

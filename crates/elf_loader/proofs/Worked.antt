@@ -20,7 +20,8 @@ bytes words = flat_map (little_bytes 4) words
 -- A file header: entry 0x10000, program headers behind it and section headers at 152, so many of each.
 header : ℕ → ℕ → ℕ → ℕ → List ℕ
 header machine flags programs sections =
-    bytes (0x464c457f ∷ 0x00010101 ∷ 0 ∷ 0 ∷ (machine * 65536 + 2) ∷ 1 ∷ 0x10000 ∷ 52 ∷ 152 ∷ flags ∷ 0x00200034 ∷ (0x00280000 + programs) ∷ sections ∷ [])
+    bytes (0x464c457f ∷ 0x00010101 ∷ 0 ∷ 0 ∷ (machine * 65536 + 2) ∷ 1 ∷ 0x10000 ∷ 52 ∷ 152 ∷ flags ∷ 0x00200034 ∷ (0x00280000 + programs)
+    ∷ sections ∷ [])
 
 -- the header of a loadable segment
 segment : ℕ → ℕ → ℕ → ℕ → List ℕ
@@ -38,7 +39,12 @@ accepted : read_fault (file 243 0 12) ≡ None
 unfolding field16 field32 file header segment code bytes
 accepted = refl
 
-placed : segments_of (file 243 0 12) ≡ record { addr = 0x10000; size = 12; flags = 7; content = 147 ∷ 8 ∷ 208 ∷ 5 ∷ 19 ∷ 5 ∷ 112 ∷ 0 ∷ 115 ∷ 0 ∷ 0 ∷ 0 ∷ [] } ∷ []
+placed : segments_of (file 243 0 12) ≡ record {
+  addr = 0x10000;
+  size = 12;
+  flags = 7;
+  content = 147 ∷ 8 ∷ 208 ∷ 5 ∷ 19 ∷ 5 ∷ 112 ∷ 0 ∷ 115 ∷ 0 ∷ 0 ∷ 0 ∷ [];
+} ∷ []
 unfolding field16 field32 file header segment code bytes
 placed = refl
 
@@ -65,11 +71,19 @@ byte_behind : image_byte (segments_of (file 243 0 12)) 0x1000c ≡ 0
 unfolding field16 field32 file header segment code bytes
 byte_behind = refl
 
-page_of_code : image_page (segments_of (file 243 0 12)) 0x11000 0x1010000 0x10ffc ≡ record { mapped = true; writable = true; executable = true }
+page_of_code : image_page (segments_of (file 243 0 12)) 0x11000 0x1010000 0x10ffc ≡ record {
+  mapped = true;
+  writable = true;
+  executable = true;
+}
 unfolding field16 field32 file header segment code bytes
 page_of_code = refl
 
-page_of_the_heap : image_page (segments_of (file 243 0 12)) 0x11000 0x1010000 0x11000 ≡ record { mapped = true; writable = true; executable = false }
+page_of_the_heap : image_page (segments_of (file 243 0 12)) 0x11000 0x1010000 0x11000 ≡ record {
+  mapped = true;
+  writable = true;
+  executable = false;
+}
 unfolding field16 field32 file header segment code bytes
 page_of_the_heap = refl
 

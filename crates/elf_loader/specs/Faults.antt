@@ -1,4 +1,5 @@
--- The faults of a program file in their order, each with the test of the file that says where it has that fault.
+-- The faults of a program file in their order, each with the test of the file that says where it
+-- has that fault.
 use Rattle.std.specs.Prelude.{ℕ, ◌*◌, ◌%◌, ◌==◌, Bool, not, ◌&&◌, ◌||◌, nat_lt, nat_eq, List, [], ◌∷◌, ◌++◌, length, find, slice_index, Option}
 use Rattle.std.specs.Option.{option_map}
 use Rattle.std.specs.List.{list_any, starts_with}
@@ -42,9 +43,16 @@ header_faults =
 
 -- what it must say of the two tables
 abbrev pub table_faults : Faults
-table_faults =
-    (BadHeaderSize, λ file. has_other_rows 32 (program_count file) (program_row_size file) || has_other_rows 40 (section_count file) (section_row_size file))
-    ∷ (HeadersOutside, λ file. is_table_outside 32 (program_count file) (program_offset file) file || is_table_outside 40 (section_count file) (section_offset file) file)
+table_faults = (
+  BadHeaderSize,
+  λ file. has_other_rows 32 (program_count file) (program_row_size file) ||
+      has_other_rows 40 (section_count file) (section_row_size file),
+)
+    ∷ (
+      HeadersOutside,
+      λ file. is_table_outside 32 (program_count file) (program_offset file)
+          file || is_table_outside 40 (section_count file) (section_offset file) file,
+    )
     ∷ []
 
 -- what the program headers must say

@@ -1,4 +1,5 @@
--- The fields of an ELF file of 32 bits at their places, as the ELF specification lays them out. Numbers are little endian.
+-- The fields of an ELF file of 32 bits at their places, as the ELF specification lays them out.
+-- Numbers are little endian.
 use Rattle.std.specs.Prelude.{ℕ, ◌+◌, List, take, drop, length, Bool, nat_le}
 use Rattle.std.specs.Simd.{first_chunks}
 use Rattle.byteorder.specs.Endian.{little_number}

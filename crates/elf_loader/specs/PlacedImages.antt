@@ -8,7 +8,8 @@ use Rattle.elf_loader.specs.declared.fault.ElfFault.{ElfFault}
 use Rattle.elf_loader.specs.declared.image.Space.{Space}
 use Rattle.elf_loader.specs.declared.image.Image.{Image}
 
--- 64 KiB to 64 MiB of memory, 4 KiB to 1 MiB for each stack, all of whole pages, and 1 to 256 harts
+-- 64 KiB to 64 MiB of memory, 4 KiB to 1 MiB for each stack, all of whole pages, and 1 to 256
+-- harts
 pub record IsAllowedSpace (space : Space) : Type 0 where
   pub memory_low : 0x10000 ≤ space.memory
   pub memory_high : space.memory ≤ 0x4000000
@@ -39,4 +40,12 @@ abbrev pub image_of : Space → List ℕ → Image
 image_of space file =
     let segments = segments_of file in
     let top = top_of space.memory segments in
-    record { memory = memory_of space.memory segments; entry = entry_of file; heap_start = heap_start_of segments; heap_end = top - space.harts * space.stack; top = top; stack = space.stack; harts = space.harts }
+    record {
+      memory = memory_of space.memory segments;
+      entry = entry_of file;
+      heap_start = heap_start_of segments;
+      heap_end = top - space.harts * space.stack;
+      top = top;
+      stack = space.stack;
+      harts = space.harts;
+    }

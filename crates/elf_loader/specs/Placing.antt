@@ -17,9 +17,11 @@ AreApart (s ∷ others) = (length s.content ≤ s.size) × IsApart s others × A
 -- each lies from an address on and below another
 abbrev pub AreWithin : ℕ → ℕ → List Loaded → Type 0
 AreWithin low high [] = Unit {0}
-AreWithin low high (s ∷ others) = (low ≤ s.addr) × (s.addr + s.size ≤ high) × AreWithin low high others
+AreWithin low high (s ∷ others) = (low ≤ s.addr) × (s.addr + s.size ≤ high)
+    × AreWithin low high others
 
 -- a page's rights once segments are mapped
 abbrev pub with_segments : List Loaded → ℕ → Page → Page
 with_segments [] a page = page
-with_segments (s ∷ others) a page = with_segments others a (if touches s.addr s.size a then granted (may_write s) (may_run s) page else page)
+with_segments (s ∷ others) a page = with_segments others a
+    (if touches s.addr s.size a then granted (may_write s) (may_run s) page else page)

@@ -14,7 +14,13 @@ use Rattle.elf_loader.specs.declared.symbol.SymbolEntry.{SymbolEntry}
 -- the header that a row of 40 bytes says
 abbrev pub section_header : List ℕ → SectionHeader
 section_header row =
-    record { kind = field32 row 4; offset = field32 row 16; size = field32 row 20; link = field32 row 24; entry_size = field32 row 36 }
+    record {
+      kind = field32 row 4;
+      offset = field32 row 16;
+      size = field32 row 20;
+      link = field32 row 24;
+      entry_size = field32 row 36;
+    }
 
 -- the section headers, in their order
 abbrev pub section_headers : List ℕ → List SectionHeader
@@ -36,7 +42,13 @@ is_table file s = (s.entry_size == 16) && ((s.size % 16 == 0) && lies_in file s.
 
 -- the symbol that a row of 16 bytes says
 abbrev pub symbol_entry : List ℕ → SymbolEntry
-symbol_entry row = record { name = field32 row 0; addr = field32 row 4; size = field32 row 8; info = slice_index row 12; section = field16 row 14 }
+symbol_entry row = record {
+  name = field32 row 0;
+  addr = field32 row 4;
+  size = field32 row 8;
+  info = slice_index row 12;
+  section = field16 row 14;
+}
 
 -- the symbols, and the bytes among which their names stand
 pub record SymbolTable : Type 0 where
@@ -51,19 +63,26 @@ names_in file s = if is_names file s then Some (part file s.offset s.size) else 
 abbrev pub table_in : List ℕ → SectionHeader → Option SymbolTable
 table_in file s =
     if is_table file s
-    then option_map (λ names. record { symbols = map symbol_entry (rows 16 (s.size / 16) s.offset file); names = names })
+    then option_map (λ names. record {
+      symbols =
+          map symbol_entry (rows 16 (s.size / 16) s.offset file);
+      names = names;
+    })
     (option_and_then (names_in file) (slice_get (section_headers file) s.link))
     else None
 
--- the table of the first section of symbols: an empty one where there is no such section, and None where it is not laid out as it must be
+-- the table of the first section of symbols: an empty one where there is no such section, and None
+-- where it is not laid out as it must be
 abbrev pub symbol_table : List ℕ → Option SymbolTable
-symbol_table file = option_map_or (table_in file) (find is_symbols (section_headers file)) (Some (record { symbols = []; names = [] }))
+symbol_table file = option_map_or (table_in file) (find is_symbols (section_headers file))
+    (Some (record { symbols = []; names = [] }))
 
 -- ---- symbols that are kept
 
 -- STT_OBJECT and STT_FUNC
 abbrev pub kind_of : ℕ → Option SymbolKind
-kind_of info = if info % 16 == 1 then Some Object else (if info % 16 == 2 then Some Function else None)
+kind_of info = if info % 16 == 1 then Some Object else
+    (if info % 16 == 2 then Some Function else None)
 
 -- A symbol is kept if it has one of the two kinds, a section and a size.
 abbrev pub kept_kind : SymbolEntry → Option SymbolKind
@@ -83,15 +102,22 @@ has_open_name names s = is_some (kept_kind s) && not (ends names s.name)
 
 -- the symbol of an entry that is kept
 abbrev pub symbol_in : List ℕ → SymbolEntry → Option Symbol
-symbol_in names s = option_map (λ kind. record { kind = kind; addr = s.addr; size = s.size; name = name_at names s.name }) (kept_kind s)
+symbol_in names s = option_map (λ kind. record {
+  kind = kind;
+  addr = s.addr;
+  size = s.size;
+  name = name_at names s.name;
+}) (kept_kind s)
 
 -- the symbols that are kept, in the order of the table
 abbrev pub symbols_of : List ℕ → List Symbol
-symbols_of file = option_map_or (λ table. filter_map (symbol_in table.names) table.symbols) (symbol_table file) []
+symbols_of file = option_map_or (λ table. filter_map (symbol_in table.names) table.symbols)
+    (symbol_table file) []
 
 -- the faults of the symbol table
 abbrev pub has_no_table : List ℕ → Bool
 has_no_table file = not (is_some (symbol_table file))
 
 abbrev pub has_open_names : List ℕ → Bool
-has_open_names file = option_map_or (λ table. list_any (has_open_name table.names) table.symbols) (symbol_table file) false
+has_open_names file = option_map_or (λ table. list_any (has_open_name table.names) table.symbols)
+    (symbol_table file) false

@@ -86,8 +86,10 @@ pub(crate) fn tables_fault(content: &[u8]) -> Option<ElfFault>
 // The rows of the program headers.
 pub(crate) fn program_rows(content: &[u8]) -> &[[u8; 32]]
     requires long { 52 ≤ length content.now }
-    requires inside { is_table_outside 32 (program_count content.now) (program_offset content.now) content.now ≡ false }
-    ensures { result.now ≡ rows 32 (program_count content.now) (program_offset content.now) content.now }
+    requires inside { is_table_outside 32 (program_count content.now) (program_offset content.now)
+        content.now ≡ false }
+    ensures { result.now ≡ rows 32 (program_count content.now) (program_offset content.now)
+        content.now }
 {
     let n = u16_at(content, 44);
     if n == 0 {
@@ -99,8 +101,10 @@ pub(crate) fn program_rows(content: &[u8]) -> &[[u8; 32]]
 // The rows of the section headers.
 pub(crate) fn section_rows(content: &[u8]) -> &[[u8; 40]]
     requires long { 52 ≤ length content.now }
-    requires inside { is_table_outside 40 (section_count content.now) (section_offset content.now) content.now ≡ false }
-    ensures { result.now ≡ rows 40 (section_count content.now) (section_offset content.now) content.now }
+    requires inside { is_table_outside 40 (section_count content.now) (section_offset content.now)
+        content.now ≡ false }
+    ensures { result.now ≡ rows 40 (section_count content.now) (section_offset content.now)
+        content.now }
 {
     let n = u16_at(content, 48);
     if n == 0 {

@@ -53,8 +53,13 @@ fn put_segment(memory: &mut Memory, segment: Segment<'_>)
     requires fits { length segment.content.now ≤ segment.size }
     ensures base { memory.new.base ≡ memory.old.base }
     ensures size { size_of memory.new ≡ size_of memory.old }
-    ensures bytes { (a : ℕ) → byte_at memory.new a ≡ (if is_among segment.entry.addr (length segment.entry.content.now) a then slice_index segment.entry.content.now (a - segment.entry.addr) else byte_at memory.old a) }
-    ensures pages { (a : ℕ) → page_at memory.new a ≡ (if touches segment.entry.addr segment.entry.size a then granted (segment.entry.flags / 2 % 2 == 1) (segment.entry.flags % 2 == 1) (page_at memory.old a) else page_at memory.old a) }
+    ensures bytes { (a : ℕ) → byte_at memory.new
+        a ≡ (if is_among segment.entry.addr (length segment.entry.content.now) a then slice_index
+        segment.entry.content.now (a - segment.entry.addr) else byte_at memory.old a) }
+    ensures pages { (a : ℕ) → page_at memory.new
+        a ≡ (if touches segment.entry.addr segment.entry.size a then granted
+        (segment.entry.flags / 2 % 2 == 1) (segment.entry.flags % 2 == 1)
+        (page_at memory.old a) else page_at memory.old a) }
 {
     memory.map(
         segment.addr,
@@ -73,7 +78,8 @@ fn put_segments(memory: &mut Memory, mut segments: Segments<'_>)
     ensures base { memory.new.base ≡ memory.old.base }
     ensures size { size_of memory.new ≡ size_of memory.old }
     ensures bytes { (a : ℕ) → byte_at memory.new a ≡ image_byte segments.entry a }
-    ensures pages { (a : ℕ) → page_at memory.new a ≡ with_segments segments.entry a (page_at memory.old a) }
+    ensures pages { (a : ℕ) → page_at memory.new a ≡ with_segments segments.entry a
+        (page_at memory.old a) }
 {
     while let Some(segment) = segments.next() {
         put_segment(memory, segment);
@@ -140,7 +146,8 @@ pub struct Image {
 /// Why a program file is not placed.
 #[derive(Clone, Copy, PartialEq, Eq, Debug)]
 pub enum PlaceFault {
-    /// The file's first fault of `SegmentOutsideMemory`, `EntryMisaligned` and `EntryNotExecutable`.
+    /// The file's first fault of `SegmentOutsideMemory`, `EntryMisaligned` and
+    /// `EntryNotExecutable`.
     Refused(ElfFault),
     /// Memory ran out.
     NoMemory,
@@ -229,23 +236,28 @@ fn places_of(view: &ElfView<'_>, memory: u32, stacks: u32) -> (u32, u32)
     (base as u32, heap_start as u32)
 }
 
-/// Places a program file in memory: its segments with their rights, the heap behind them, and the stacks at the top.
+/// Places a program file in memory: its segments with their rights, the heap behind them, and the
+/// stacks at the top.
 /// It takes memory for all of the space.
 ///
-/// Refused with the first fault of `SegmentOutsideMemory`, `EntryMisaligned` and `EntryNotExecutable`.
+/// Refused with the first fault of `SegmentOutsideMemory`, `EntryMisaligned` and
+/// `EntryNotExecutable`.
 #[tactic(auto, using(crate::proofs::Wholes::whole_memory, crate::proofs::Rooms::whole_below))]
 pub fn place(alloc: Global, view: &ElfView<'_>, space: Space) -> Result<Image, PlaceFault>
     requires { IsAllowedSpace space }
 
-    // Placed exactly where there is no fault, and else refused with the first one, unless memory runs out.
+    // Placed exactly where there is no fault, and else refused with the first one, unless memory
+    // runs out.
     ensures accepted { OnOk result (place_fault space view.now ≡ None) }
-    ensures refused { IfErr result (λ fault. (e : ElfFault) → fault ≡ PlaceFault.Refused e → place_fault space view.now ≡ Some e) }
+    ensures refused { IfErr result (λ fault. (e : ElfFault) → fault ≡ PlaceFault.Refused e
+        → place_fault space view.now ≡ Some e) }
 
     // What is placed is the image, said address by address and as a value.
     ensures placed { IfOk result (λ image. IsImageOf view.now space image) }
     ensures whole { IfOk result (λ image. image ≡ image_of space view.now) }
 
-    // A guest can start in it: at a whole instruction, with a heap of whole blocks below the stacks.
+    // A guest can start in it: at a whole instruction, with a heap of whole blocks below the
+    // stacks.
     ensures entry { IfOk result (λ image. image.entry % 4 ≡ 0) }
     ensures heap_start { IfOk result (λ image. image.heap_start % 16 ≡ 0) }
     ensures heap_end { IfOk result (λ image. image.heap_end % 16 ≡ 0) }

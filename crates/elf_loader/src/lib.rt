@@ -1,6 +1,8 @@
-//! Program files: ELF of 32 bits, little endian, static, for RISC-V, as the ELF specification lays it out.
+//! Program files: ELF of 32 bits, little endian, static, for RISC-V, as the ELF specification lays
+//! it out.
 //!
-//! Any bytes are a program file or are refused with their first fault. Segments, symbols and names are slices of the file.
+//! Any bytes are a program file or are refused with their first fault. Segments, symbols and names
+//! are slices of the file.
 #![tactic(auto)]
 
 mod fault;
@@ -18,7 +20,5 @@ pub use program::{Segment, Segments};
 pub use symbol::{SymbolView, Symbols};
 pub use view::ElfView;
 
-#[cfg(test)]
-mod linked;
 #[cfg(test)]
 mod tests;

@@ -106,7 +106,8 @@ impl ProgramHeader {
     }
 }
 
-/// The loadable segments of a program file that have bytes in memory, in the order of their headers.
+/// The loadable segments of a program file that have bytes in memory, in the order of their
+/// headers.
 ///
 /// Contracts see the list of the segments that are left.
 #[derive(Drop)]
@@ -124,7 +125,8 @@ impl<'a> Model for Segments<'a> {
 
     ghost view = { λ s. segments_in s.file.now (map program_header s.rows.now) };
 
-    ghost invariant = { λ s. list_any (is_outside s.file.now) (map program_header s.rows.now) ≡ false };
+    ghost invariant = { λ s. list_any (is_outside s.file.now)
+        (map program_header s.rows.now) ≡ false };
 }
 
 impl<'a> Segments<'a> {
@@ -139,9 +141,14 @@ impl<'a> Segments<'a> {
 
 // The header of the first segment among the rows, and the rows behind it.
 fn next_segment<'a>(rows: &'a [[u8; 32]]) -> Option<(ProgramHeader, &'a [[u8; 32]])>
-    ensures first { MatchOption result (filter is_segment (map program_header rows.now) ≡ []) (λ p. filter is_segment (map program_header rows.now) ≡ p.0 ∷ filter is_segment (map program_header p.1.now)) }
+    ensures first { MatchOption result (filter is_segment (map program_header rows.now) ≡ [])
+        (λ p. filter is_segment (map program_header rows.now) ≡ p.0 ∷ filter is_segment
+        (map program_header p.1.now)) }
     ensures segment { IfSome result (λ p. is_segment p.0 ≡ true) }
-    ensures inside { IfSome result (λ p. (file : List ℕ) → list_any (is_outside file) (map program_header rows.now) ≡ false → (is_outside file p.0 ≡ false) × (list_any (is_outside file) (map program_header p.1.now) ≡ false)) }
+    ensures inside { IfSome result (λ p. (file : List ℕ)
+        → list_any (is_outside file) (map program_header rows.now) ≡ false
+        → (is_outside file p.0 ≡ false) × (list_any (is_outside file)
+        (map program_header p.1.now) ≡ false)) }
 {
     let mut rest = rows;
     while let Some((row, others)) = rest.split_first() {

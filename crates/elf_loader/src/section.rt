@@ -76,7 +76,8 @@ pub(crate) fn symbol_section(rows: &[[u8; 40]]) -> Option<SectionHeader>
 
 // The bytes of the section of names that is linked to.
 pub(crate) fn linked_names<'a>(file: &'a [u8], rows: &[[u8; 40]], link: u32) -> Option<&'a [u8]>
-    ensures { option_map (λ names. names.now) result ≡ option_and_then (names_in file.now) (slice_get (map section_header rows.now) link) }
+    ensures { option_map (λ names. names.now) result ≡ option_and_then (names_in file.now)
+        (slice_get (map section_header rows.now) link) }
 {
     let row = rows.get(link as usize)?;
     SectionHeader::read(row).names_in(file)

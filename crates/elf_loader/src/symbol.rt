@@ -110,7 +110,8 @@ pub(crate) struct SymbolRows<'a> {
 
 impl<'a> SymbolRows<'a> {
     pub(crate) fn some_open_name(&self) -> bool
-        ensures { result ≡ list_any (has_open_name self.now.names.now) (map symbol_entry self.now.rows.now) }
+        ensures { result ≡ list_any (has_open_name self.now.names.now)
+            (map symbol_entry self.now.rows.now) }
     {
         self.rows
             .iter()
@@ -151,7 +152,8 @@ impl<'a> Model for Symbols<'a> {
 
     ghost view = { λ s. filter_map (symbol_in s.names.now) (map symbol_entry s.rows.now) };
 
-    ghost invariant = { λ s. list_any (has_open_name s.names.now) (map symbol_entry s.rows.now) ≡ false };
+    ghost invariant = { λ s. list_any (has_open_name s.names.now)
+        (map symbol_entry s.rows.now) ≡ false };
 }
 
 impl<'a> Symbols<'a> {
@@ -172,8 +174,20 @@ struct Kept<'a> {
 }
 
 fn next_kept<'a>(rows: &'a [[u8; 16]]) -> Option<Kept<'a>>
-    ensures none { (names : List ℕ) → MatchOption result (filter_map (symbol_in names) (map symbol_entry rows.now) ≡ []) (λ k. filter_map (symbol_in names) (map symbol_entry rows.now) ≡ (record { kind = k.kind; addr = k.entry.addr; size = k.entry.size; name = name_at names k.entry.name }) ∷ filter_map (symbol_in names) (map symbol_entry k.rest.now)) }
-    ensures ended { IfSome result (λ k. (names : List ℕ) → list_any (has_open_name names) (map symbol_entry rows.now) ≡ false → (ends names k.entry.name ≡ true) × (list_any (has_open_name names) (map symbol_entry k.rest.now) ≡ false)) }
+    ensures none { (names : List ℕ) → MatchOption result
+        (filter_map (symbol_in names) (map symbol_entry rows.now) ≡ [])
+        (λ k. filter_map (symbol_in names) (map symbol_entry rows.now)
+        ≡ (record {
+          kind = k.kind;
+          addr = k.entry.addr;
+          size = k.entry.size;
+          name = name_at names k.entry.name;
+        }) ∷ filter_map (symbol_in names)
+        (map symbol_entry k.rest.now)) }
+    ensures ended { IfSome result (λ k. (names : List ℕ)
+        → list_any (has_open_name names) (map symbol_entry rows.now) ≡ false
+        → (ends names k.entry.name ≡ true) × (list_any (has_open_name names)
+        (map symbol_entry k.rest.now) ≡ false)) }
 {
     let mut rest = rows;
     while let Some((row, others)) = rest.split_first() {

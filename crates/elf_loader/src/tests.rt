@@ -4,7 +4,8 @@ use crate::{ElfFault, ElfView, PlaceFault, Space, place};
 use std::alloc::{AllocError, Global};
 use std::test::Fail;
 
-// A file of three instructions, with a symbol table after them: nothing, the function `run`, and a symbol of no section.
+// A file of three instructions, with a symbol table after them: nothing, the function `run`, and a
+// symbol of no section.
 const FILE_HEADER: [u32; 13] = [
     0x464c_457f,
     0x0001_0101,
@@ -170,7 +171,8 @@ fn refuses_symbols(rt: HostRuntime) -> Result<(), Fail> {
     Ok(())
 }
 
-// Numbers at their ends: a segment at the last page of all addresses, and one that has no bytes in the file.
+// Numbers at their ends: a segment at the last page of all addresses, and one that has no bytes in
+// the file.
 #[test]
 fn judges_sums_past_the_end(rt: HostRuntime) -> Result<(), Fail> {
     let last = (15, 0xffff_f000);
@@ -197,7 +199,8 @@ fn judges_sums_past_the_end(rt: HostRuntime) -> Result<(), Fail> {
     Ok(())
 }
 
-// A file that is cut lacks its section headers, which stand last. One without sections may end behind its segment.
+// A file that is cut lacks its section headers, which stand last. One without sections may end
+// behind its segment.
 #[test]
 fn judges_every_cut(rt: HostRuntime) -> Result<(), Fail> {
     let file = good(rt.alloc())?;

@@ -18,7 +18,8 @@ use std::marker::Model;
 // The first fault of the program headers.
 fn segment_fault(content: &[u8]) -> Option<ElfFault>
     requires long { 52 ≤ length content.now }
-    requires inside { is_table_outside 32 (program_count content.now) (program_offset content.now) content.now ≡ false }
+    requires inside { is_table_outside 32 (program_count content.now) (program_offset content.now)
+        content.now ≡ false }
     ensures { result ≡ first_fault segment_faults content.now }
 {
     let rows = program_rows(content);
@@ -55,7 +56,8 @@ fn table_in<'a>(
     sections: &[[u8; 40]],
     table: SectionHeader,
 ) -> Option<SymbolRows<'a>>
-    requires { sections.now ≡ rows 40 (section_count content.now) (section_offset content.now) content.now }
+    requires { sections.now ≡ rows 40 (section_count content.now) (section_offset content.now)
+        content.now }
     ensures { option_map table_shown result ≡ table_in content.now table }
 {
     if !table.is_table(content) {
@@ -69,7 +71,8 @@ fn table_in<'a>(
 // The symbol table of the file, an empty one where it has none.
 fn symbol_table(content: &[u8]) -> Option<SymbolRows<'_>>
     requires long { 52 ≤ length content.now }
-    requires inside { is_table_outside 40 (section_count content.now) (section_offset content.now) content.now ≡ false }
+    requires inside { is_table_outside 40 (section_count content.now) (section_offset content.now)
+        content.now ≡ false }
     ensures { option_map table_shown result ≡ symbol_table content.now }
 {
     let sections = section_rows(content);
@@ -126,7 +129,8 @@ impl<'a> ElfView<'a> {
         u32_at(self.content, 24)
     }
 
-    /// The loadable segments that have bytes in memory, in the order of their headers. The content of each is a slice
+    /// The loadable segments that have bytes in memory, in the order of their headers. The content
+    /// of each is a slice
     /// of the file.
     #[tactic(auto, using(crate::proofs::Firsts::views))]
     pub fn segments(&self) -> Segments<'a>
@@ -135,8 +139,10 @@ impl<'a> ElfView<'a> {
         Segments::of(self.content, program_rows(self.content))
     }
 
-    /// The symbols that are kept, in the order of the symbol table: those of data or code that have a section and a
-    /// size above 0. A file without a symbol table has none. The name of each is a slice of the file. Refused as
+    /// The symbols that are kept, in the order of the symbol table: those of data or code that
+    /// have a section and a
+    /// size above 0. A file without a symbol table has none. The name of each is a slice of the
+    /// file. Refused as
     /// `BadSymbols` and `BadSymbolName`.
     #[tactic(auto, using(crate::proofs::Firsts::views))]
     pub fn symbols(&self) -> Result<Symbols<'a>, ElfFault>

@@ -1,5 +1,6 @@
 -- The entries of a table's map beside the symbols that they are.
-use Rattle.std.proofs.Common.{◌≡◌, ℕ, Bool, true, false, cond, ◌&&◌, ◌||◌, List, [], ◌∷◌, ◌++◌, map, Option, Some, is_some, refl, ap, sym, true≢false}
+use Rattle.std.proofs.Common.{◌≡◌, ℕ, Bool, true, false, cond, ◌&&◌, ◌||◌, List, []}
+use Rattle.std.proofs.Common.{◌∷◌, ◌++◌, map, Option, Some, is_some, refl, ap, sym, ◌∙◌, true≢false}
 use Rattle.std.proofs.lemmas.Bool.{cases_Bool}
 use Rattle.std.proofs.Common.{inl, inr}
 use Rattle.std.specs.List.{list_any}
@@ -10,7 +11,9 @@ use Rattle.heap_objects.specs.declared.symbol.SymbolKind.{SymbolKind}
 use Rattle.heap_objects.specs.declared.symbol.SymbolKind.TheVariants.{Object, Function}
 use Rattle.heap_objects.specs.contracts.symbol.SymbolKind.{the_type}
 use Rattle.heap_objects.specs.contracts.symbol.PlacePartialEq.TheImpl.{eq-value}
-use Rattle.heap_objects.specs.Symbols.{Symbol, is_same_kind, is_in_place_of, symbols_after}
+use Rattle.heap_objects.specs.Names.{name_of}
+use Rattle.heap_objects.specs.Symbols.{Symbol, is_same_kind, is_in_place_of}
+use Rattle.heap_objects.proofs.SymbolLaws.{symbols_after}
 use denote.Enum.Bare.{sameb}
 
 abbrev pub Entry : Type 0
@@ -35,7 +38,8 @@ found_or true v rest = refl
 found_or false v rest = refl
 
 -- the map has a place exactly where a symbol of that place is there
-seen : (new : Entry) (es : List Entry) → list_any (is_in_place_of (symbol_in new)) (map symbol_in es) ≡ is_some (lookup ((eq-value).it new.0) es)
+pub seen : (new : Entry) (es : List Entry) → list_any (is_in_place_of (symbol_in new)) (map symbol_in es) ≡ is_some (lookup
+    ((eq-value).it new.0) es)
 seen new [] = refl
 seen new (e ∷ es) = rw (seen new es, ← same new e) (sym (found_or ((eq-value).it new.0 e.0) e.1 (lookup ((eq-value).it new.0) es)))
 
@@ -50,9 +54,18 @@ added new [] h = refl
 added new (e ∷ es) h =
     elim (cases_Bool ((eq-value).it new.0 e.0)) [
       | inl same ↦ absurd (true≢false (rw same at h))
-      | inr other ↦ let rest : is_some (lookup ((eq-value).it new.0) es) ≡ false = rw other at h in rw other (ap (λ t. symbol_in e ∷ t) (added new es rest))
+      | inr other ↦ let rest : is_some (lookup ((eq-value).it new.0) es) ≡ false = rw other at h in rw other (ap (λ t. symbol_in e ∷ t)
+          (added new es rest))
     ]
 
 pub noted : (new : Entry) (es : List Entry) → is_some (lookup ((eq-value).it new.0) es) ≡ false
     → map symbol_in (insert_entry (eq-value).it es new.0 new.1) ≡ symbols_after (map symbol_in es) (symbol_in new)
 noted new es h = rw (seen new es, h) (added new es h)
+
+-- the entry of a symbol with its name cut
+abbrev pub entry_of : SymbolKind → ℕ → ℕ → List ℕ → Entry
+entry_of kind addr size name = (record { kind = kind; addr = addr; size = size }, name_of name)
+
+pub unknown : (new : Entry) (es : List Entry) → is_some (lookup ((eq-value).it new.0) es) ≡ false
+    → list_any (is_in_place_of (symbol_in new)) (map symbol_in es) ≡ true → ⊥
+unknown new es fresh known = true≢false (sym known ∙ seen new es ∙ fresh)

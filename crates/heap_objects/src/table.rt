@@ -1,13 +1,22 @@
 // The table of what stands in the guest's memory.
-ghost use Rattle.std.specs.Prelude.{◌≡◌, ◌<◌, ◌↔◌, [], length, slice_get, option_map, IsSome, OnOk, OnErr};
-ghost use Rattle.heap_objects.specs.Names.{name_of};
-ghost use Rattle.heap_objects.specs.Symbols.{symbols_after};
+ghost use Rattle.std.specs.Prelude.{◌≡◌, ◌<◌, ◌↔◌, ◌++◌, [], ◌∷◌, List, length, IsTrue, Some};
+ghost use Rattle.std.specs.Prelude.{slice_get, slice_index_or, slice_set, vec_capacity, vec_len};
+ghost use Rattle.std.specs.Prelude.{option_map, IsSome, IfSome, IsOk, OnOk, OnErr, MatchOption};
+ghost use Rattle.heap_objects.specs.declared.block.Block.{Block};
+ghost use Rattle.std.specs.List.{list_any};
+ghost use Rattle.heap_objects.specs.Symbols.{Symbol, NoTwoAlike, function_at, symbols_of};
+ghost use Rattle.heap_objects.specs.Symbols.{is_in_place_of, is_same_kind, kept_symbol};
+ghost use Rattle.heap_objects.specs.declared.symbol.SymbolKind.TheVariants.{Function};
+ghost use Rattle.heap_objects.specs.Blocks.{blocks_after_alloc, blocks_after_free};
+ghost use Rattle.heap_objects.specs.Objects.{no_objects};
 
+use crate::block::Block;
 use crate::name::Name;
 use crate::symbol::{Place, SymbolKind};
 use indexmap::IndexMap;
 use predator_base::NoMemory;
 use std::alloc::Global;
+use std::collections::BTreeMap;
 use std::marker::Model;
 
 /// One symbol of a table.
@@ -23,37 +32,85 @@ pub struct SymbolRow<'a> {
     pub name: &'a Name,
 }
 
-/// The symbols of a program, in first-seen order. No two have the same kind, address and size.
+impl SymbolRow<'_> {
+    ghost use Rattle.heap_objects.specs.Symbols.{is_function_at};
+    ghost use Rattle.heap_objects.specs.Rows.{symbol_of};
+
+    // Whether it is a function whose bytes hold an address.
+    fn is_function_at(&self, pc: u32) -> bool
+        ensures { result ≡ is_function_at pc (symbol_of self.now) }
+    {
+        let end = u64::from(self.addr) + u64::from(self.size);
+        is_function(self.kind) && self.addr <= pc && u64::from(pc) < end
+    }
+}
+
+fn is_function(kind: SymbolKind) -> bool
+    ensures { result ≡ is_same_kind kind Function }
+{
+    kind == SymbolKind::Function
+}
+
+/// The symbols of a program in first-seen order, no two of the same kind, address and size, and
+/// the heap blocks that were ever made, in order of making.
 ///
-/// Contracts see the list of the symbols.
+/// Contracts see both lists.
 #[derive(Drop)]
 pub struct ObjectTable {
     symbols: IndexMap<Place, Name>,
+    blocks: Vec<Block>,
+    // the number of the live block at an address
+    live: BTreeMap<u32, usize>,
 }
 
 impl Model for ObjectTable {
-    ghost use Rattle.std.specs.Prelude.{List, map};
-    ghost use Rattle.heap_objects.specs.Symbols.{Symbol};
+    ghost use Rattle.std.specs.Prelude.{map};
+    ghost use Rattle.std.specs.Ordering.{nat_cmp};
+    ghost use Rattle.std.specs.BTreeMap as tree;
+    ghost use Rattle.heap_objects.specs.Symbols.{NoTwoAlike};
+    ghost use Rattle.heap_objects.specs.Blocks.{is_live_at};
+    ghost use Rattle.heap_objects.specs.Objects.{Objects};
+    ghost use Rattle.heap_objects.specs.Indexes.{IsIndex};
 
-    ghost Value = { List Symbol };
+    ghost Value = { Objects };
 
-    ghost view = { λ t. map (λ e. record { kind = e.0.kind; addr = e.0.addr; size = e.0.size; name = e.1 }) t.symbols.entries };
+    ghost view = { λ t. record {
+      symbols = map (λ e. record {
+        kind = e.0.kind;
+        addr = e.0.addr;
+        size = e.0.size;
+        name = e.1;
+      }) t.symbols.entries;
+      blocks = t.blocks.items;
+    } };
+
+    ghost invariant = { λ t.
+        NoTwoAlike (map (λ e. record {
+          kind = e.0.kind;
+          addr = e.0.addr;
+          size = e.0.size;
+          name = e.1;
+        }) t.symbols.entries)
+        × IsIndex is_live_at (tree.get nat_cmp t.live) t.blocks.items };
 }
 
 impl ObjectTable {
     ghost use Rattle.heap_objects.specs.Rows.{symbol_of};
 
-    /// A table with no symbols.
+    /// A table with no symbols and no blocks.
     pub fn new(alloc: Global) -> ObjectTable
-        ensures { result ≡ [] }
+        ensures { result ≡ no_objects }
     {
         ObjectTable {
             symbols: IndexMap::new(alloc),
+            blocks: Vec::new(alloc),
+            live: BTreeMap::new(alloc),
         }
     }
 
-    /// Notes a symbol. One with the kind, address and size of an earlier one is dropped; of a name of
-    /// more than 1024 bytes the first 1024 are kept. It takes memory for a symbol that is kept.
+    /// Notes a symbol. One with the kind, address and size of an earlier one is dropped; of a name
+    /// of more than 1024 bytes the first 1024 are kept. It takes memory for a symbol that is kept;
+    /// where there is none, nothing changes.
     pub fn note_symbol(
         &mut self,
         kind: SymbolKind,
@@ -61,9 +118,17 @@ impl ObjectTable {
         size: u32,
         name: &[u8],
     ) -> Result<(), NoMemory>
-        ensures noted { OnOk result (self.new ≡ symbols_after self.old
-            (record { kind = kind; addr = addr; size = size; name = name_of name.now })) }
+        ensures noted { OnOk result (self.new ≡ record self.old {
+          symbols = symbols_of (self.old.symbols ++ kept_symbol kind addr size name.now ∷ []);
+        }) }
+        // so the symbols are those of the whole list that was noted
+        ensures whole { (seen : List Symbol) → self.old.symbols ≡ symbols_of seen
+            → OnOk result (self.new.symbols
+            ≡ symbols_of (seen ++ kept_symbol kind addr size name.now ∷ [])) }
         ensures refused { OnErr result (self.new ≡ self.old) }
+        // for a symbol that is dropped it needs no memory
+        ensures known { let new = kept_symbol kind addr size name.now in
+            IsTrue (list_any (is_in_place_of new) self.old.symbols) → IsOk result }
     {
         let place = Place { kind, addr, size };
         if self.symbols.contains_key(&place) {
@@ -77,17 +142,59 @@ impl ObjectTable {
         Ok(())
     }
 
+    /// Notes a block of `size` asked bytes at `addr`, born at a position; `sites` are the last four
+    /// calls of the hart that made it, the newest first. A live block of that address dies at the
+    /// position first. It takes memory; where there is none, nothing changes.
+    pub fn note_alloc(
+        &mut self,
+        position: u64,
+        addr: u32,
+        size: u32,
+        sites: [u32; 4],
+    ) -> Result<(), NoMemory>
+        ensures noted { OnOk result (self.new ≡ record self.old {
+          blocks = blocks_after_alloc self.old.blocks position addr size sites;
+        }) }
+        ensures refused { OnErr result (self.new ≡ self.old) }
+    {
+        self.blocks.reserve(1)?;
+        let old = self.live.insert(addr, self.blocks.len())?;
+        end_life(&mut self.blocks, old, position);
+        self.blocks.push_reserved(Block {
+            addr,
+            size,
+            sites,
+            born: position,
+            died: None,
+        });
+        Ok(())
+    }
+
+    /// Notes that the live block at an address dies at a position. With no live block there,
+    /// nothing changes.
+    pub fn note_free(&mut self, position: u64, addr: u32)
+        ensures { self.new ≡ record self.old {
+          blocks = blocks_after_free self.old.blocks position addr;
+        } }
+    {
+        let old = self.live.remove(&addr);
+        end_life(&mut self.blocks, old, position);
+    }
+
     /// How many symbols it has.
     pub fn symbol_count(&self) -> usize
-        ensures { result ≡ length self.now }
+        ensures value { result ≡ length self.now.symbols }
+        // and no two of them have the same kind, address and size
+        ensures distinct { NoTwoAlike self.now.symbols }
     {
         self.symbols.len()
     }
 
-    /// The symbol of a number, counted from 0 in first-seen order: None exactly where there are no more.
+    /// The symbol of a number, counted from 0 in first-seen order: None exactly where there are no
+    /// more.
     pub fn symbol(&self, i: usize) -> Option<SymbolRow<'_>>
-        ensures row { option_map symbol_of result ≡ slice_get self.now i }
-        ensures found { IsSome result ↔ (i < length self.now) }
+        ensures row { option_map symbol_of result ≡ slice_get self.now.symbols i }
+        ensures found { IsSome result ↔ (i < length self.now.symbols) }
     {
         let (place, name) = self.symbols.get_index(i)?;
         Some(SymbolRow {
@@ -96,5 +203,40 @@ impl ObjectTable {
             size: place.size,
             name,
         })
+    }
+
+    /// The blocks that were ever made, live or dead, in order of making.
+    pub fn blocks(&self) -> &[Block]
+        ensures { result.now ≡ self.now.blocks }
+    {
+        self.blocks.as_slice()
+    }
+
+    /// The name of the first function whose bytes hold an address: None exactly where there is
+    /// none.
+    pub fn function_at(&self, pc: u32) -> Option<&Name>
+        ensures { option_map (λ n. n.now) result ≡ function_at self.now.symbols pc }
+    {
+        for i in 0..self.symbol_count() {
+            let row = self.symbol(i)?;
+            if row.is_function_at(pc) {
+                return Some(row.name);
+            }
+        }
+        None
+    }
+}
+
+// Lets the block of a number die at a position.
+fn end_life(blocks: &mut Vec<Block>, number: Option<usize>, position: u64)
+    requires { IfSome number (λ n. n < length blocks.old.items) }
+    ensures items { (d : Block) → MatchOption number (blocks.new.items ≡ blocks.old.items)
+        (λ n. blocks.new.items ≡ slice_set blocks.old.items n
+        (record (slice_index_or blocks.old.items n d) { died = Some position })) }
+    ensures len { vec_len blocks.new ≡ vec_len blocks.old }
+    ensures capacity { vec_capacity blocks.new ≡ vec_capacity blocks.old }
+{
+    if let Some(number) = number {
+        blocks[number].died = Some(position);
     }
 }

@@ -71,7 +71,7 @@ fn range_line(alloc: Global, name: &str, first: u32, end: u32) -> Result<String,
 
 // The lines of how many symbols there are.
 fn count_lines(alloc: Global, symbols: &ObjectTable) -> Result<String, AllocError>
-    ensures { IfOk result (λ text. string_bytes text ≡ count_text (codes "objects ") (Rattle.program_summary.specs.Noted.count_of Object symbols.now) ++ count_text (codes "functions ") (Rattle.program_summary.specs.Noted.count_of Function symbols.now)) }
+    ensures { IfOk result (λ text. string_bytes text ≡ count_text (codes "objects ") (Rattle.program_summary.specs.Noted.count_of Object symbols.now.symbols) ++ count_text (codes "functions ") (Rattle.program_summary.specs.Noted.count_of Function symbols.now.symbols)) }
 {
     let objects = count_of(symbols, SymbolKind::Object);
     let functions = count_of(symbols, SymbolKind::Function);
@@ -85,7 +85,7 @@ fn summary_of(
     image: &Image,
     symbols: &ObjectTable,
 ) -> Result<String, AllocError>
-    ensures { IfOk result (λ text. string_bytes text ≡ summary_text view.now image.now.heap_start image.now.heap_end image.now.top symbols.now) }
+    ensures { IfOk result (λ text. string_bytes text ≡ summary_text view.now image.now.heap_start image.now.heap_end image.now.top symbols.now.symbols) }
 {
     let entry = guest_address(alloc, view.entry())?;
     let segments = segment_lines(alloc, view.segments())?;
@@ -104,10 +104,10 @@ pub fn summary(
     image: &Image,
     symbols: &ObjectTable,
 ) -> Result<String, NoMemory>
-    ensures text { IfOk result (λ text. string_bytes text ≡ summary_text view.now image.now.heap_start image.now.heap_end image.now.top symbols.now) }
+    ensures text { IfOk result (λ text. string_bytes text ≡ summary_text view.now image.now.heap_start image.now.heap_end image.now.top symbols.now.symbols) }
 
     // Of the file's own image and symbols it is a text of the file and the space alone.
-    ensures placed { IfOk result (λ text. (space : Space) → IsImageOf view.now space image.now → symbols.now ≡ noted (symbols_of view.now) → string_bytes text ≡ placed_text space view.now) }
+    ensures placed { IfOk result (λ text. (space : Space) → IsImageOf view.now space image.now → symbols.now.symbols ≡ noted (symbols_of view.now) → string_bytes text ≡ placed_text space view.now) }
 {
     match summary_of(alloc, view, image, symbols) {
         Ok(text) => Ok(text),

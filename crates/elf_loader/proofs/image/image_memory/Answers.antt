@@ -16,8 +16,10 @@ map-requires c =
 
 pub returns : goal.returns
 returns c =
-    image_made (segments_of c.args.view.now) c.args.size c.args.base c.args.heap_start c.in_ok-memory.memory c.put_segments.new.memory c.map.new.self
-    c.requires.base c.requires.heap c.requires.pages c.requires.room c.in_ok-memory.ensures c.put_segments.ensures.base c.put_segments.ensures.size
+    image_made (segments_of c.args.view.now) c.args.size c.args.base c.args.heap_start c.in_ok-memory.memory c.put_segments.new.memory
+    c.map.new.self
+    c.requires.base c.requires.heap c.requires.pages c.requires.room c.in_ok-memory.ensures c.put_segments.ensures.base
+    c.put_segments.ensures.size
     (λ a. c.put_segments.ensures.bytes a ∙ ap (λ s. image_byte s a) c.segments.ensures)
     (λ a. c.put_segments.ensures.pages a ∙ ap (λ s. with_segments s a (page_at c.in_ok-memory.memory a)) c.segments.ensures)
     c.map.ensures

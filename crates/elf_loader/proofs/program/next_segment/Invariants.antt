@@ -7,7 +7,8 @@ use Rattle.elf_loader.proofs.program.next_segment.Given as goal
 abbrev pub invariant-loop-row : goal.invariant-loop-row
 invariant-loop-row l =
     (filter is_segment (map program_header l.fn.rows) ≡ filter is_segment (map program_header l.rest))
-    × ((file : List ℕ) → list_any (is_outside file) (map program_header l.fn.rows) ≡ false → list_any (is_outside file) (map program_header l.rest) ≡ false)
+    × ((file : List ℕ) → list_any (is_outside file) (map program_header l.fn.rows) ≡ false
+    → list_any (is_outside file) (map program_header l.rest) ≡ false)
 
 abbrev pub decreases-loop-row : goal.decreases-loop-row
 decreases-loop-row l = length l.rest

@@ -9,7 +9,7 @@ pub returns : goal.returns
 returns c =
     let image = c.args.image.now in
     IfOk-weaker c.format.result _ _
-    (λ text made. made ∙ summary_joined c.args.view.now image.heap_start image.heap_end image.top c.args.symbols.now _ _ _ _ _
+    (λ text made. made ∙ summary_joined c.args.view.now image.heap_start image.heap_end image.top c.args.symbols.now.symbols _ _ _ _ _
     (c.in_ok-entry.ensures ∙ ap address c.entry.ensures.value) (c.in_ok-segments.ensures ∙ ap (flat_map segment_text) c.segments.ensures)
     c.in_ok-counts.ensures c.in_ok-heap.ensures c.in_ok-stacks.ensures)
     c.format.ensures.ok

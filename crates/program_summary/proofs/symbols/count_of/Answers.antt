@@ -6,7 +6,7 @@ use Rattle.program_summary.proofs.symbols.count_of.Goals.{then-is_of_kind, else-
 
 pub loop-i-preserved : goal.loop-i-preserved
 loop-i-preserved c =
-    let symbols = c.args.symbols.now in
+    let symbols = c.args.symbols.now.symbols in
     let i = c.loop-i.i in
     let inside : i < length symbols = omega (arith, c.symbol_count-i-end.ensures, c.loop-i-test.true) in
     elim c.if-is_of_kind.branch [

@@ -4,4 +4,4 @@ use Rattle.program_summary.specs.Noted.{count_of}
 use Rattle.program_summary.proofs.symbols.count_of.Given as goal
 
 abbrev pub invariant-loop-i : goal.invariant-loop-i
-invariant-loop-i l = (l.count ≡ count_of l.kind (take l.i l.symbols)) × (l.count ≤ l.i)
+invariant-loop-i l = (l.count ≡ count_of l.kind (take l.i l.symbols.symbols)) × (l.count ≤ l.i)

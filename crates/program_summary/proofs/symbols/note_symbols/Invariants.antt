@@ -1,10 +1,13 @@
--- The table, and what is left to be noted in it, make up the table of all.
-use Rattle.std.proofs.Common.{◌≡◌, length}
-use Rattle.program_summary.specs.Noted.{noted, with_symbols}
+-- The table has the symbols of a list that what is left to be noted makes up to that of all.
+use Rattle.std.proofs.Common.{◌≡◌, List, [], ◌++◌, map, length}
+use Rattle.heap_objects.specs.Symbols.{Symbol, symbols_of}
+use Rattle.program_summary.specs.Noted.{kept}
 use Rattle.program_summary.proofs.symbols.note_symbols.Given as goal
 
 abbrev pub invariant-loop-symbol : goal.invariant-loop-symbol
-invariant-loop-symbol l = with_symbols l.table l.symbols ≡ noted l.initial.symbols
+invariant-loop-symbol l =
+    (l.table.blocks ≡ [])
+    × (seen : List Symbol) × (l.table.symbols ≡ symbols_of seen) × (seen ++ map kept l.symbols ≡ map kept l.initial.symbols)
 
 abbrev pub decreases-loop-symbol : goal.decreases-loop-symbol
 decreases-loop-symbol l = length l.symbols

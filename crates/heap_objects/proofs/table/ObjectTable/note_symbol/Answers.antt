@@ -1,12 +1,54 @@
-use Rattle.std.proofs.Common.{◌∙◌, sym}
-use Rattle.heap_objects.proofs.Places.{kept, noted}
+use Rattle.std.proofs.Common.{◌≡◌, ◌∙◌, sym, map}
+use Rattle.heap_objects.specs.Symbols.{kept_symbol}
+use Rattle.heap_objects.proofs.Lives.{other_symbols}
+use Rattle.heap_objects.proofs.Places.{entry_of, kept, noted, symbol_in, unknown}
+use Rattle.heap_objects.proofs.SymbolLaws.{added, still, symbols_after, whole}
 use Rattle.heap_objects.proofs.table.ObjectTable.note_symbol.Goals as goal
 
 pub returns-then-contains_key-clause-noted : goal.returns-then-contains_key-clause-noted
 returns-then-contains_key-clause-noted c =
-    rw (← c.self.view_is) (kept (_, _) c.self.inside.symbols.entries (sym c.contains_key.ensures ∙ c.if-contains_key.true))
+    let new = kept (entry_of c.args.kind c.args.addr c.args.size c.args.name.now) c.self.inside.symbols.entries (sym
+    c.contains_key.ensures ∙ c.if-contains_key.true) in
+    rw (← c.self.view_is) (other_symbols _ _ _ (added _ _ (kept_symbol c.args.kind c.args.addr c.args.size c.args.name.now) new
+    c.self.invariant.0))
+
+pub returns-then-contains_key-clause-whole : goal.returns-then-contains_key-clause-whole
+returns-then-contains_key-clause-whole c =
+    let new = kept (entry_of c.args.kind c.args.addr c.args.size c.args.name.now) c.self.inside.symbols.entries (sym
+    c.contains_key.ensures ∙ c.if-contains_key.true) in
+    rw (← c.self.view_is) (λ list same. whole _ _ (kept_symbol c.args.kind c.args.addr c.args.size c.args.name.now) new list same)
+
+pub returns-in-Err-clause-known : goal.returns-in-Err-clause-known
+returns-in-Err-clause-known c =
+    rw (← c.self.view_is) (λ known. absurd (unknown (entry_of c.args.kind c.args.addr c.args.size c.args.name.now)
+    c.self.inside.symbols.entries (sym c.contains_key.ensures ∙ c.if-contains_key.false) known))
+
+pub returns-in_err-insert-clause-known : goal.returns-in_err-insert-clause-known
+returns-in_err-insert-clause-known c =
+    rw (← c.self.view_is) (λ known. absurd (unknown (entry_of c.args.kind c.args.addr c.args.size c.args.name.now)
+    c.self.inside.symbols.entries (sym c.contains_key.ensures ∙ c.if-contains_key.false) known))
+
+pub invariant_of-self-2 : goal.invariant_of-self-2
+invariant_of-self-2 c =
+    let new : map symbol_in c.insert.new.self.entries ≡ symbols_after (map symbol_in c.self.inside.symbols.entries) (kept_symbol
+    c.args.kind c.args.addr c.args.size c.args.name.now) =
+    rw (c.in_ok-insert.ensures.entries, c.in-Ok.ensures) (noted (entry_of c.args.kind c.args.addr c.args.size c.args.name.now)
+    c.self.inside.symbols.entries (sym c.contains_key.ensures ∙ c.if-contains_key.false)) in
+    (still _ _ (kept_symbol c.args.kind c.args.addr c.args.size c.args.name.now) new c.self.invariant.0, c.self.invariant.1)
 
 pub returns-clause-noted : goal.returns-clause-noted
 returns-clause-noted c =
-    let fresh = sym c.contains_key.ensures ∙ c.if-contains_key.false in
-    rw (← c.self.view_is, c.in_ok-insert.ensures.entries, ← c.in-Ok.ensures) (noted (_, c.in-Ok.name) c.self.inside.symbols.entries fresh)
+    let new : map symbol_in c.insert.new.self.entries ≡ symbols_after (map symbol_in c.self.inside.symbols.entries) (kept_symbol
+    c.args.kind c.args.addr c.args.size c.args.name.now) =
+    rw (c.in_ok-insert.ensures.entries, c.in-Ok.ensures) (noted (entry_of c.args.kind c.args.addr c.args.size c.args.name.now)
+    c.self.inside.symbols.entries (sym c.contains_key.ensures ∙ c.if-contains_key.false)) in
+    rw (← c.self.view_is) (other_symbols _ _ _ (added _ _ (kept_symbol c.args.kind c.args.addr c.args.size c.args.name.now) new
+    c.self.invariant.0))
+
+pub returns-clause-whole : goal.returns-clause-whole
+returns-clause-whole c =
+    let new : map symbol_in c.insert.new.self.entries ≡ symbols_after (map symbol_in c.self.inside.symbols.entries) (kept_symbol
+    c.args.kind c.args.addr c.args.size c.args.name.now) =
+    rw (c.in_ok-insert.ensures.entries, c.in-Ok.ensures) (noted (entry_of c.args.kind c.args.addr c.args.size c.args.name.now)
+    c.self.inside.symbols.entries (sym c.contains_key.ensures ∙ c.if-contains_key.false)) in
+    rw (← c.self.view_is) (λ list same. whole _ _ (kept_symbol c.args.kind c.args.addr c.args.size c.args.name.now) new list same)

@@ -1,0 +1,85 @@
+//! How long a heap takes: `heap_bench COUNT KIND` makes COUNT blocks of 16 bytes, at most 2^20, on a heap that just holds
+//! them, asks for one more, and frees them in the order of making, or in the reverse order where KIND is `reverse`. With
+//! `table` or `reverse-table` a table of objects notes as many blocks and frees. It prints what was done. Without words
+//! there are 1,000 blocks.
+#![tactic(auto)]
+
+ghost use Rattle.std.specs.Prelude.{◌+◌, ◌*◌, ◌≤◌, ◌<◌, ◌^◌};
+
+use heap_objects::{GuestHeap, ObjectTable};
+use predator_base::NoMemory;
+use std::alloc::Global;
+use std::{env, io};
+
+const START: u32 = 0x10000;
+
+const MOST: u32 = 1 << 20;
+
+// The address of the block that is freed at a turn.
+fn freed_at(turn: u32, count: u32, is_reverse: bool) -> u32
+    requires turn { turn < count }
+    requires count { count ≤ 2 ^ 20 }
+{
+    let number = if is_reverse { count - 1 - turn } else { turn };
+    START + 16 * number
+}
+
+// How many blocks a heap made, and how many it freed.
+fn use_heap(alloc: Global, count: u32, is_reverse: bool) -> Result<(u32, u32), NoMemory>
+    requires { count ≤ 2 ^ 20 }
+{
+    let mut heap = GuestHeap::new(alloc, START, START + 16 * count);
+    let (mut made, mut freed) = (0u32, 0u32);
+    for _turn in 0..count {
+        if heap.alloc(16)?.is_some() {
+            made = made.saturating_add(1);
+        }
+    }
+    if heap.alloc(16)?.is_some() {
+        made = made.saturating_add(1);
+    }
+    for turn in 0..count {
+        if heap.free(freed_at(turn, count, is_reverse)).is_ok() {
+            freed = freed.saturating_add(1);
+        }
+    }
+    Ok((made, freed))
+}
+
+// How many blocks a table has, and how many of them died.
+fn use_table(alloc: Global, count: u32, is_reverse: bool) -> Result<(usize, usize), NoMemory>
+    requires { count ≤ 2 ^ 20 }
+{
+    let mut table = ObjectTable::new(alloc);
+    for turn in 0..count {
+        table.note_alloc(u64::from(turn), START + 16 * turn, 16, [0; 4])?;
+    }
+    for turn in 0..count {
+        table.note_free(u64::from(count), freed_at(turn, count, is_reverse));
+    }
+    let blocks = table.blocks();
+    let died = blocks.iter().filter(|block| block.died.is_some()).count();
+    Ok((blocks.len(), died))
+}
+
+fn main(rt: HostRuntime) -> io::Result<()> {
+    let mut words = env::args(&rt)?.skip(1);
+    let asked = words
+        .next()
+        .and_then(|word| word.parse::<u32>().ok())
+        .unwrap_or(1000);
+    let count = asked.min(MOST);
+    let kind = words.next();
+    let kind = kind.as_ref().map_or("", |word| word.as_str());
+    let is_reverse = kind.starts_with("reverse");
+    if kind.ends_with("table") {
+        let Ok((made, died)) = use_table(rt.alloc(), count, is_reverse) else {
+            return println!(rt; "no memory");
+        };
+        return println!(rt; "noted {made} died {died}");
+    }
+    let Ok((made, freed)) = use_heap(rt.alloc(), count, is_reverse) else {
+        return println!(rt; "no memory");
+    };
+    println!(rt; "made {made} freed {freed}")
+}
