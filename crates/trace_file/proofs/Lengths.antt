@@ -11,7 +11,7 @@ use Rattle.trace_file.specs.declared.record.TraceRecord.TheVariants as records
 use Rattle.trace_file.specs.declared.fault.TraceFault.{TraceFault}
 use Rattle.trace_file.specs.Spelling.{Trace, spell_header, spell_touch, spell_ending, spell_rest, spell}
 use Rattle.trace_file.specs.Reading.{trace_of, touches_in, trace_from}
-use Rattle.trace_file.proofs.Again.{length-spell_ending}
+use Rattle.trace_file.specs.Again.{length-spell_ending}
 use Rattle.trace_file.proofs.Found.{IsBytes, trace_found}
 
 length-spell_header : (h : Header) → length (spell_header h) ≡ 20

@@ -3,7 +3,7 @@ use Rattle.std.proofs.lemmas.Option.{none-some}
 use Rattle.std.proofs.lemmas.Result.{IfOk-weaker}
 use Rattle.trace_file.specs.Spelling.{IsGoodTrace, spell}
 use Rattle.trace_file.specs.Reading.{trace_of, trace_from}
-use Rattle.trace_file.proofs.Again.{trace_again}
+use Rattle.trace_file.specs.Again.{trace_again}
 use Rattle.trace_file.proofs.Found.{trace_found}
 use Rattle.trace_file.proofs.Lengths.{length_found}
 use Rattle.trace_file.proofs.reading.parse_whole.Goals as goal

@@ -5,7 +5,8 @@ use Rattle.predator_base.specs.Touch.{Touch}
 use Rattle.trace_file.specs.declared.record.TraceRecord.{TraceRecord}
 use Rattle.trace_file.specs.declared.record.TraceRecord.TheVariants as records
 use Rattle.trace_file.specs.Reading.{touch_in, touches_in}
-use Rattle.trace_file.proofs.Loop.{IsAtEnd, Cuts, goes_on, refuses, at_end, ends, never_ends}
+use Rattle.trace_file.specs.Ends.{IsAtEnd}
+use Rattle.trace_file.proofs.Loop.{Cuts, goes_on, refuses, at_end, ends, never_ends}
 use Rattle.trace_file.proofs.reading.read_rest.Goals as goal
 use Rattle.trace_file.proofs.reading.read_rest.Goals.{in-Some+then-record-eq-END_TAG, in_default}
 

@@ -1,0 +1,96 @@
+//! How fast traces are read: `trace_bench VERSION PIECES` reads so many pieces of 8192 accesses each, of version 1 or 2,
+//! and prints how many accesses it read. Each piece ends inside a record. Without words it reads two pieces of version 1.
+#![tactic(auto)]
+
+ghost use Rattle.std.specs.Prelude.{◌≡◌, ◌<◌, IfOk};
+
+use predator_base::{Access, Hart, Kind, NoMemory};
+use std::alloc::Global;
+use std::{env, io};
+use trace_grammar::{Header, TraceFault, TraceRecord, Version};
+use trace_reader::TraceReader;
+use trace_writer::TraceWriter;
+
+// How many accesses a piece has.
+const ACCESSES: u32 = 8192;
+
+// How many bytes of the next piece's first record stand at the end of a piece.
+const OVERLAP: usize = 2;
+
+const HEADER: Header = Header { first: 0, harts: 8 };
+
+fn access_of(i: u32) -> Option<Access>
+    requires { i < 8192 }
+{
+    let hart = Hart::new((i % 8) as u16)?;
+    let addr = 0x10000 + 64 * (i * 37 % 64) + 4 * (i % 8);
+    let kind = if i % 4 == 0 { Kind::Read } else { Kind::Write };
+    Access::new(hart, addr, kind, 4)
+}
+
+// Appends the accesses of a piece.
+fn put_accesses(writer: &mut TraceWriter, into: &mut Vec<u8>) -> Result<(), NoMemory> {
+    for i in 0..ACCESSES {
+        if let Some(access) = access_of(i) {
+            writer.item(&TraceRecord::Touch(access), into)?;
+        }
+    }
+    Ok(())
+}
+
+// The bytes before the first piece, and a piece that may follow itself.
+fn pieces_of(alloc: Global, version: Version) -> Result<(Vec<u8>, Vec<u8>), NoMemory> {
+    let mut writer = TraceWriter::new(version);
+    let mut front = Vec::new(alloc);
+    writer.header(HEADER, &mut front)?;
+    put_accesses(&mut writer, &mut front)?;
+    let mut once = Vec::new(alloc);
+    put_accesses(&mut writer, &mut once)?;
+    let overlap = OVERLAP.min(once.len());
+    let (begin, rest) = once.split_at(overlap);
+    front.extend_from_slice(begin)?;
+    let mut piece = Vec::from_slice(alloc, rest)?;
+    piece.extend_from_slice(begin)?;
+    Ok((front, piece))
+}
+
+// How many accesses are read in so many pieces.
+fn read(alloc: Global, version: Version, pieces: u32) -> Result<u64, TraceFault> {
+    let (front, piece) = match pieces_of(alloc, version) {
+        Ok(both) => both,
+        Err(_) => return Err(TraceFault::NoMemory),
+    };
+    let Ok(mut reader) = TraceReader::new(alloc) else {
+        return Err(TraceFault::NoMemory);
+    };
+    let mut records = Vec::new(alloc);
+    let mut count = 0u64;
+    match reader.feed(&front, &mut records) {
+        Ok(()) => {}
+        Err(fault) => return Err(fault),
+    }
+    for _ in 0..pieces {
+        records.clear();
+        match reader.feed(&piece, &mut records) {
+            Ok(()) => count = count.saturating_add(records.len() as u64),
+            Err(fault) => return Err(fault),
+        }
+    }
+    Ok(count)
+}
+
+fn main(rt: HostRuntime) -> io::Result<()> {
+    let mut words = env::args(&rt)?.skip(1);
+    let version = match words.next().as_deref() {
+        Some("2") => Version::Two,
+        _ => Version::One,
+    };
+    let pieces = words
+        .next()
+        .and_then(|word| word.parse().ok())
+        .unwrap_or(2u32);
+    match read(rt.alloc(), version, pieces) {
+        Ok(count) => println!(rt; "accesses {count}"),
+        Err(_) => println!(rt; "no memory"),
+    }
+}

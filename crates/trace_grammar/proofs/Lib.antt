@@ -1,0 +1,7 @@
+pub mod Worked
+pub mod Bytes
+pub mod FoundSteps
+pub mod FoundRecords
+pub mod FoundEnds
+pub mod FoundRecord
+pub mod FoundTrace

@@ -1,0 +1,11 @@
+use Rattle.trace_grammar.proofs.Bytes.{bytes_of}
+use Rattle.trace_grammar.proofs.FoundRecord as one
+use Rattle.trace_grammar.proofs.FoundTrace as all
+use Rattle.trace_grammar.proofs.laws.what_is_read_was_spelled.Goals as goal
+
+pub returns-clause-record_found : goal.returns-clause-record_found
+returns-clause-record_found c = λ p bytes item few low is whole judged.
+    one.record_found p bytes item few low (bytes_of bytes is) whole judged
+
+pub returns-clause-trace_found : goal.returns-clause-trace_found
+returns-clause-trace_found c = λ bytes e is ends. all.trace_found bytes e is ends

@@ -1,0 +1,12 @@
+pub mod Tags
+pub mod Numbers
+pub mod Spelling
+pub mod Rules
+pub mod Judging
+pub mod Reading
+pub mod ReadingLaws
+pub mod ExtentLaws
+pub mod SpellingLaws
+pub mod AgainLaws
+pub mod TraceLaws
+pub mod Found

@@ -1,0 +1,21 @@
+// Laws of what is read, for callers whose own clauses speak of traces.
+ghost use Rattle.std.specs.Prelude.{◌≡◌, ℕ, ◌^◌, ◌<◌, ◌≤◌, List, length, Ok};
+ghost use Rattle.std.specs.List.{All};
+ghost use Rattle.predator_base.specs.declared.ending.Ending.{Ending};
+ghost use Rattle.trace_grammar.specs.declared.record.TraceRecord.{TraceRecord};
+ghost use Rattle.trace_grammar.specs.declared.progress.Progress.{Progress};
+ghost use Rattle.trace_grammar.specs.Found.{IsFound, IsTraceOf};
+ghost use Rattle.trace_grammar.specs.Judging.{record_extent, record_judged};
+ghost use Rattle.trace_grammar.specs.Reading.{ending_of, reading_of};
+
+/// What is read is what was spelled. Nothing is done.
+pub fn what_is_read_was_spelled()
+    // whole bytes that are judged a record are the one spelling of it, and it is good
+    ensures record_found { (p : Progress) (bytes : List ℕ) (item : TraceRecord)
+        → p.header.harts ≤ 256 → p.last < 2 ^ 32 → All (λ b. b < 256) bytes
+        → length bytes ≡ record_extent p.version bytes
+        → record_judged p bytes ≡ Ok item → IsFound p bytes item }
+    // bytes that end with no fault are a trace of the records that are read and of that end
+    ensures trace_found { (bytes : List ℕ) (e : Ending) → All (λ b. b < 256) bytes
+        → ending_of (reading_of bytes).1 ≡ Ok e → IsTraceOf bytes (reading_of bytes).0 e }
+{}

@@ -1,0 +1,158 @@
+// One record, all of whose bytes are there.
+ghost use Rattle.std.specs.Prelude.{◌≡◌, ◌^◌, ◌≤◌, ◌≢◌, Err, length};
+ghost use Rattle.std.specs.Int.{w64};
+ghost use Rattle.predator_base.specs.Touch.{Touch};
+ghost use Rattle.trace_grammar.specs.Judging.{alloc_at, end_counted, extent_of, record_extent, record_judged, tagged_judged, touch_counted};
+ghost use Rattle.trace_grammar.specs.Tags.{IsTag};
+ghost use Rattle.trace_reader.specs.Sound.{IsSound};
+
+use crate::access::{group_count, step_of, touch_of};
+use crate::ending::outcome_of;
+use crate::fields::{u32_at, u64_at};
+use crate::header::LAST_POSITION;
+use crate::symbol::{symbol_extent, symbol_of};
+use predator_base::{Access, Ending};
+use std::alloc::Global;
+use trace_grammar::{Progress, Tag, TraceFault, TraceRecord, Version};
+
+// How many bytes a record of a tag has, as far as they are there.
+#[inline(always)]
+fn extent_of(tag: Tag, bytes: &[u8]) -> usize
+    ensures { result ≡ extent_of tag bytes.now }
+{
+    match tag {
+        Tag::Touch(_) => 8,
+        Tag::Step(_, _) => 2 + group_count(bytes.get(2..).unwrap_or(&[])),
+        Tag::Alloc | Tag::End => 25,
+        Tag::Free => 5,
+        Tag::Symbol => symbol_extent(bytes),
+    }
+}
+
+// How many bytes the record that begins here has, as far as they are there.
+#[tactic(auto, unfolding(trace_grammar::specs::Judging::record_extent))]
+#[inline(always)]
+pub(crate) fn record_extent(version: Version, bytes: &[u8]) -> usize
+    ensures { result ≡ record_extent version bytes.now }
+{
+    let Some(first) = bytes.first() else {
+        return 1;
+    };
+    match Tag::read(version, *first) {
+        Some(tag) => extent_of(tag, bytes),
+        None => 1,
+    }
+}
+
+#[tactic(auto, unfolding(trace_grammar::specs::Judging::alloc_at))]
+fn alloc_of(bytes: &[u8]) -> TraceRecord
+    requires { 25 ≤ length bytes.now }
+    ensures { result ≡ alloc_at bytes.now }
+{
+    TraceRecord::Alloc {
+        addr: u32_at(bytes, 1),
+        size: u32_at(bytes, 5),
+        sites: [
+            u32_at(bytes, 9),
+            u32_at(bytes, 13),
+            u32_at(bytes, 17),
+            u32_at(bytes, 21),
+        ],
+    }
+}
+
+#[tactic(auto, using(std::proofs::lemmas::Bool::Decides::nat_tests))]
+#[inline(always)]
+fn counted(
+    progress: &Progress,
+    access: Result<Access, TraceFault>,
+) -> Result<TraceRecord, TraceFault>
+    requires sound { IsSound progress.now }
+    requires low { progress.now.place ≤ 2 ^ 44 }
+    ensures { result ≡ touch_counted progress.now access }
+{
+    match access {
+        Ok(access) => {
+            if progress.header.first + progress.counted < LAST_POSITION {
+                Ok(TraceRecord::Touch(access))
+            } else {
+                Err(TraceFault::TooLong)
+            }
+        }
+        Err(fault) => Err(fault),
+    }
+}
+
+#[tactic(auto, using(std::proofs::lemmas::Bool::Decides::nat_tests))]
+fn end_of(progress: &Progress, bytes: &[u8]) -> Result<TraceRecord, TraceFault>
+    requires long { 25 ≤ length bytes.now }
+    requires sound { IsSound progress.now }
+    requires low { progress.now.place ≤ 2 ^ 44 }
+    ensures { result ≡ tagged_judged progress.now Tag.End bytes.now }
+{
+    let outcome = match outcome_of(bytes, progress.header.harts, progress.place) {
+        Ok(outcome) => outcome,
+        Err(fault) => return Err(fault),
+    };
+    let (steps, told) = (u64_at(bytes, 9), u64_at(bytes, 17));
+    if told != progress.counted {
+        return Err(TraceFault::CountMismatch {
+            told,
+            counted: progress.counted,
+        });
+    }
+    Ok(TraceRecord::End(Ending {
+        outcome,
+        steps,
+        accesses: told,
+    }))
+}
+
+#[inline(always)]
+fn tagged_of(
+    alloc: Global,
+    progress: &Progress,
+    tag: Tag,
+    bytes: &[u8],
+) -> Result<TraceRecord, TraceFault>
+    requires long { length bytes.now ≡ extent_of tag bytes.now }
+    requires sound { IsSound progress.now }
+    requires low { progress.now.place ≤ 2 ^ 44 }
+    requires tagged { IsTag tag }
+    ensures { result ≢ Err TraceFault.NoMemory → result ≡ tagged_judged progress.now tag bytes.now }
+{
+    let (harts, place) = (progress.header.harts, progress.place);
+    match tag {
+        Tag::Touch(kind) => counted(progress, touch_of(bytes, kind, harts, place)),
+        Tag::Step(kind, size) => counted(
+            progress,
+            step_of(bytes, kind, size, harts, progress.last, place),
+        ),
+        Tag::Alloc => Ok(alloc_of(bytes)),
+        Tag::Free => Ok(TraceRecord::Free {
+            addr: u32_at(bytes, 1),
+        }),
+        Tag::Symbol => symbol_of(alloc, bytes, place),
+        Tag::End => end_of(progress, bytes),
+    }
+}
+
+// The record in the bytes, which are all that it has. It takes memory for a name alone.
+#[tactic(auto, unfolding(trace_grammar::specs::Judging::record_judged, trace_grammar::specs::Judging::record_extent))]
+#[inline(always)]
+pub(crate) fn record_of(
+    alloc: Global,
+    progress: &Progress,
+    bytes: &[u8],
+) -> Result<TraceRecord, TraceFault>
+    requires long { length bytes.now ≡ record_extent progress.now.version bytes.now }
+    requires some { 1 ≤ length bytes.now }
+    requires sound { IsSound progress.now }
+    requires low { progress.now.place ≤ 2 ^ 44 }
+    ensures { result ≢ Err TraceFault.NoMemory → result ≡ record_judged progress.now bytes.now }
+{
+    match Tag::read(progress.version, bytes[0]) {
+        Some(tag) => tagged_of(alloc, progress, tag, bytes),
+        None => Err(TraceFault::BadTag(progress.place)),
+    }
+}

@@ -1,0 +1,188 @@
+// How far a trace is read, without what is left over.
+ghost use Rattle.std.specs.Prelude.{◌≡◌, ◌^◌, ◌≤◌, ◌+◌, ◌≢◌, Some, None, Err, [], ◌++◌, length, ◌<◌, IsSome};
+ghost use Rattle.std.specs.Option.{ForSome};
+ghost use Rattle.trace_grammar.specs.Judging.{header_judged, record_extent};
+ghost use Rattle.trace_grammar.specs.Reading.{ending_in, header_read, part_at, place_of, progress_after};
+ghost use Rattle.trace_grammar.specs.Rules.{longest_trace};
+ghost use Rattle.trace_reader.specs.Sound.{IsSound};
+ghost use Rattle.trace_reader.specs.States.{AddsSome, HeadStays, ReadsOn, ReadsPart};
+ghost use Rattle.trace_reader.specs.States.{extent_in, reading_with};
+
+use crate::header::{HEADER_LENGTH, header_of};
+use crate::record::{record_extent, record_of};
+use predator_base::Ending;
+use std::alloc::Global;
+use trace_grammar::{Progress, TraceFault, TraceRecord};
+
+/// How far a trace is read, without what is left over.
+#[derive(Clone, Copy)]
+pub struct State {
+    /// What the records so far say, once the header is accepted.
+    pub progress: Option<Progress>,
+    /// The end record.
+    pub ending: Option<Ending>,
+    /// The first fault.
+    pub fault: Option<TraceFault>,
+}
+
+// How many bytes what begins here has, as far as they are there.
+#[inline(always)]
+fn extent_in(state: &State, bytes: &[u8]) -> usize
+    ensures { result ≡ extent_in state.now bytes.now }
+{
+    match (state.progress, state.ending) {
+        (None, _) => HEADER_LENGTH,
+        (Some(progress), None) => record_extent(progress.version, bytes),
+        (Some(_), Some(_)) => 1,
+    }
+}
+
+// How far a trace is read once a record of some bytes is.
+#[inline(always)]
+fn progress_after(progress: &Progress, item: &TraceRecord, size: usize) -> Progress
+    requires sound { IsSound progress.now }
+    requires some { 1 ≤ size }
+    requires low { progress.now.place + size ≤ longest_trace }
+    ensures value { result ≡ progress_after progress.now item.now size }
+    ensures sound { IsSound result }
+{
+    let place = progress.place + size as u64;
+    match item {
+        TraceRecord::Touch(access) => Progress {
+            counted: progress.counted + 1,
+            last: access.addr(),
+            place,
+            ..*progress
+        },
+        _ => Progress { place, ..*progress },
+    }
+}
+
+#[inline(always)]
+fn ending_in(item: &TraceRecord) -> Option<Ending>
+    ensures { result ≡ ending_in item.now }
+{
+    match item {
+        TraceRecord::End(ending) => Some(*ending),
+        _ => None,
+    }
+}
+
+// Reads the 20 bytes of a header.
+fn read_header(state: &mut State, bytes: &[u8])
+    requires long { 20 ≤ length bytes.now }
+    requires first { state.old.progress ≡ None }
+    requires clean { state.old.fault ≡ None }
+    ensures sound { ForSome state.new.progress IsSound }
+    ensures place { place_of state.new.progress ≤ 20 }
+    ensures exact { state.new.fault ≡ None → place_of state.new.progress ≡ 20 }
+    ensures read { reading_with state.new [] ≡ (header_read (reading_with state.old []) (header_judged bytes.now)).1 }
+    ensures never { state.new.fault ≢ Some TraceFault.NoMemory }
+{
+    match header_of(bytes) {
+        Ok(progress) => state.progress = Some(progress),
+        Err(fault) => state.fault = Some(fault),
+    }
+}
+
+// Reads one record, whose bytes are these. At want of memory nothing is appended.
+#[inline(always)]
+fn read_record(
+    alloc: Global,
+    progress: Progress,
+    state: &mut State,
+    bytes: &[u8],
+    into: &mut Vec<TraceRecord>,
+)
+    requires at { state.old.progress ≡ Some progress }
+    requires open { state.old.ending ≡ None }
+    requires clean { state.old.fault ≡ None }
+    requires long { length bytes.now ≡ record_extent progress.version bytes.now }
+    requires some { 1 ≤ length bytes.now }
+    requires sound { IsSound progress }
+    requires low { progress.place + length bytes.now ≤ longest_trace }
+    ensures sound { ForSome state.new.progress IsSound }
+    ensures place { place_of state.new.progress ≤ progress.place + length bytes.now }
+    ensures exact { state.new.fault ≡ None →
+        place_of state.new.progress ≡ progress.place + length bytes.now }
+    ensures head { HeadStays state.old.progress state.new.progress }
+    ensures read { state.new.fault ≢ Some TraceFault.NoMemory →
+        ReadsPart state.old bytes.now state.new into.old.items into.new.items }
+    ensures no_memory { state.new.fault ≡ Some TraceFault.NoMemory → into.new.items ≡ into.old.items }
+{
+    match record_of(alloc, &progress, bytes) {
+        Ok(item) => {
+            let later = progress_after(&progress, &item, bytes.len());
+            let ending = ending_in(&item);
+            match into.push(item) {
+                Ok(()) => {
+                    state.progress = Some(later);
+                    state.ending = ending;
+                }
+                Err(_) => state.fault = Some(TraceFault::NoMemory),
+            }
+        }
+        Err(fault) => state.fault = Some(fault),
+    }
+}
+
+// Reads the header or a record, whose bytes are these. At want of memory nothing is appended.
+#[inline(always)]
+fn read_part(alloc: Global, state: &mut State, bytes: &[u8], into: &mut Vec<TraceRecord>)
+    requires clean { state.old.fault ≡ None }
+    requires long { length bytes.now ≡ extent_in state.old bytes.now }
+    requires some { 1 ≤ length bytes.now }
+    requires sound { ForSome state.old.progress IsSound }
+    requires low { place_of state.old.progress + length bytes.now ≤ longest_trace }
+    ensures sound { ForSome state.new.progress IsSound }
+    ensures place { place_of state.new.progress ≤ place_of state.old.progress + length bytes.now }
+    ensures exact { state.new.fault ≡ None →
+        place_of state.new.progress ≡ place_of state.old.progress + length bytes.now }
+    ensures head { HeadStays state.old.progress state.new.progress }
+    ensures read { state.new.fault ≢ Some TraceFault.NoMemory →
+        ReadsPart state.old bytes.now state.new into.old.items into.new.items }
+    ensures no_memory { state.new.fault ≡ Some TraceFault.NoMemory → into.new.items ≡ into.old.items }
+{
+    match (state.progress, state.ending) {
+        (None, _) => read_header(state, bytes),
+        (Some(progress), None) => read_record(alloc, progress, state, bytes, into),
+        (Some(progress), Some(_)) => state.fault = Some(TraceFault::AfterEnd(progress.place)),
+    }
+}
+
+// Reads what is whole at the front of some bytes, and gives the bytes behind it.
+pub(crate) fn read_parts<'a>(
+    alloc: Global,
+    state: &mut State,
+    bytes: &'a [u8],
+    into: &mut Vec<TraceRecord>,
+) -> &'a [u8]
+    requires clean { state.old.fault ≡ None }
+    requires sound { ForSome state.old.progress IsSound }
+    requires low { place_of state.old.progress + length bytes.now ≤ longest_trace }
+    ensures sound { ForSome state.new.progress IsSound }
+    ensures place { place_of state.new.progress + length result.now ≤
+        place_of state.old.progress + length bytes.now }
+    ensures exact { state.new.fault ≡ None → place_of state.new.progress + length result.now ≡
+        place_of state.old.progress + length bytes.now }
+    ensures head { HeadStays state.old.progress state.new.progress }
+    ensures waits { state.new.fault ≡ None → length result.now < extent_in state.new result.now }
+    ensures read { state.new.fault ≡ None →
+        ReadsOn (reading_with state.old []) bytes.now (reading_with state.new result.now) into.old.items into.new.items }
+    ensures fault { IsSome state.new.fault → state.new.fault ≢ Some TraceFault.NoMemory →
+        ReadsOn (reading_with state.old []) bytes.now (reading_with state.new []) into.old.items into.new.items }
+    ensures no_memory { state.new.fault ≡ Some TraceFault.NoMemory →
+        AddsSome (reading_with state.old []) bytes.now into.old.items into.new.items }
+{
+    let mut rest = bytes;
+    while state.fault.is_none() {
+        let size = extent_in(state, rest);
+        if rest.len() < size {
+            break;
+        }
+        let (part, after) = rest.split_at(size);
+        read_part(alloc, state, part, into);
+        rest = after;
+    }
+    rest
+}
