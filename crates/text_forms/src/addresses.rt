@@ -1,31 +1,38 @@
 // Addresses, in hexadecimal.
-ghost use Rattle.std.specs.Prelude.{◌≡◌, IfOk, replicate, string_bytes};
+ghost use Rattle.std.specs.Prelude.{◌≡◌, ◌++◌, ◌<◌, ◌^◌, ◌+ℤ◌, pos, IfOk, OnOk, string_bytes};
 ghost use Rattle.text_forms.specs.Addresses.{address_text, hexadecimal as hexadecimal_of};
 
 use std::alloc::{AllocError, Global};
 
-// How many digits an address has at least.
-const FEWEST_DIGITS: usize = 8;
-
-// So many zeros.
-fn zeros(alloc: Global, count: usize) -> Result<String, AllocError>
-    ensures { IfOk result (λ text. string_bytes text ≡ replicate count 48) }
+// Adds at least eight hexadecimal digits.
+fn push_hexadecimal(text: &mut String, n: u64) -> Result<(), AllocError>
+    ensures { OnOk result (string_bytes text.new ≡ string_bytes text.old ++ hexadecimal_of n) }
 {
-    let mut text = String::new(alloc);
-    for _place in 0..count {
-        text.push('0')?;
-    }
-    Ok(text)
+    write!(text, "{n:08x}")
 }
 
-// At least eight hexadecimal digits.
-fn hexadecimal(alloc: Global, n: u64) -> Result<String, AllocError>
-    ensures { IfOk result (λ text. string_bytes text ≡ hexadecimal_of n) }
+/// Adds the text of an address from 0 on. It takes memory for the text.
+pub fn push_address(text: &mut String, at: u64) -> Result<(), AllocError>
+    ensures { OnOk result (string_bytes text.new ≡ string_bytes text.old ++ address_text (pos at)) }
 {
-    let digits = format!(in alloc; "{n:x}")?;
-    let mut text = zeros(alloc, FEWEST_DIGITS.saturating_sub(digits.len()))?;
-    text.push_str(digits.as_str())?;
-    Ok(text)
+    text.push_str("0x")?;
+    push_hexadecimal(text, at)
+}
+
+/// Adds the text of the address `offset` bytes past `base`, which may be below 0. It takes memory for the text.
+pub fn push_address_past(text: &mut String, base: i64, offset: u64) -> Result<(), AllocError>
+    requires { offset < 2 ^ 63 }
+    ensures { OnOk result (string_bytes text.new ≡ string_bytes text.old ++ address_text (base +ℤ pos offset)) }
+{
+    let below = base.unsigned_abs();
+    if base >= 0 {
+        push_address(text, below + offset)
+    } else if below <= offset {
+        push_address(text, offset - below)
+    } else {
+        text.push_str("-0x")?;
+        push_hexadecimal(text, below - offset)
+    }
 }
 
 /// The text of an address: `0x` and at least eight lower-case hexadecimal digits, behind a `-` where it is
@@ -33,10 +40,7 @@ fn hexadecimal(alloc: Global, n: u64) -> Result<String, AllocError>
 pub fn address(alloc: Global, at: i64) -> Result<String, AllocError>
     ensures { IfOk result (λ text. string_bytes text ≡ address_text at) }
 {
-    let digits = hexadecimal(alloc, at.unsigned_abs())?;
-    if at < 0 {
-        format!(in alloc; "-0x{digits}")
-    } else {
-        format!(in alloc; "0x{digits}")
-    }
+    let mut text = String::new(alloc);
+    push_address_past(&mut text, at, 0)?;
+    Ok(text)
 }

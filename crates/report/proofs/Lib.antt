@@ -1,0 +1,4 @@
+pub mod TextLaws
+pub mod StableLaws
+pub mod ShownLaws
+pub mod ChunkLaws

@@ -1,0 +1,9 @@
+pub mod Shown
+pub mod Lines
+pub mod Reports
+pub mod OfLists
+pub mod Added
+pub mod Rows
+pub mod Bounds
+pub mod Chunks
+pub mod Laws

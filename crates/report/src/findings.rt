@@ -1,0 +1,19 @@
+// What a report is written of.
+use heap_objects::ObjectTable;
+use predator_base::{Ending, Layout, Thresholds};
+use virtual_lines::Track;
+
+/// What a run or a trace has shown.
+#[derive(Clone, Copy)]
+pub struct Findings<'a> {
+    /// How it ended. Its accesses are the position at the end.
+    pub ending: Ending,
+    /// The layout of the observed lines.
+    pub layout: Layout,
+    /// The thresholds.
+    pub thresholds: Thresholds,
+    /// Every track, in any order.
+    pub tracks: &'a [Track],
+    /// What stands in memory.
+    pub objects: &'a ObjectTable,
+}

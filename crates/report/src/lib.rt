@@ -1,0 +1,17 @@
+//! The report of what was found.
+#![tactic(auto)]
+
+mod chunks;
+mod findings;
+mod head;
+mod lines;
+mod listing;
+mod near;
+mod objects;
+mod report;
+#[cfg(test)]
+mod tests;
+mod words;
+
+pub use findings::Findings;
+pub use report::write_report;

@@ -1,0 +1,93 @@
+// The listed tracks in their order.
+ghost use Rattle.std.specs.Prelude.{◌≡◌, ◌++◌, ◌||◌, ◌&&◌, ◌==◌, nat_lt, int_lt, filter};
+ghost use Rattle.std.specs.Prelude.{filter_map, map, option_to_list, IfOk, OnOk};
+ghost use Rattle.std.specs.Ordering.{is_lt};
+ghost use Rattle.sharing_rules.specs.Listed.{rank as rank_of};
+ghost use Rattle.report.specs.Shown.{is_shown_before, listed_tracks, reaches, shown_of};
+ghost use Rattle.report.specs.Rows.{row_shown};
+
+use predator_base::NoMemory;
+use sharing_rules::LineKind;
+use std::alloc::Global;
+use std::cmp::Ordering;
+use virtual_lines::Track;
+
+/// A track that has a start.
+#[derive(Clone, Copy)]
+pub struct Row<'a> {
+    /// Its start.
+    pub start: u64,
+    /// The track.
+    pub track: &'a Track,
+}
+
+// The place of a kind in the order.
+fn rank(kind: LineKind) -> u8
+    ensures { result ≡ rank_of kind }
+{
+    match kind {
+        LineKind::Observed => 0,
+        LineKind::Shifted => 1,
+        LineKind::Doubled => 2,
+    }
+}
+
+// By kind, then by base rising.
+fn order_by_kind(one: &Track, other: &Track) -> Ordering
+    ensures { is_lt result ≡ (nat_lt (rank_of one.now.kind) (rank_of other.now.kind)
+        || ((rank_of one.now.kind == rank_of other.now.kind)
+        && int_lt one.now.range.base other.now.range.base)) }
+{
+    match rank(one.kind()).cmp(&rank(other.kind())) {
+        Ordering::Equal => one.range().base.cmp(&other.range().base),
+        by_kind => by_kind,
+    }
+}
+
+// By count falling, then by kind, then by base rising.
+fn order(one: &Row<'_>, other: &Row<'_>) -> Ordering
+    ensures { is_lt result ≡ is_shown_before (row_shown one.now) (row_shown other.now) }
+{
+    match other.track.count().cmp(&one.track.count()) {
+        Ordering::Equal => order_by_kind(one.track, other.track),
+        by_count => by_count,
+    }
+}
+
+// Puts a track behind the others, if it has a start and its count is at least `report`.
+fn push_row<'a>(rows: &mut Vec<Row<'a>>, track: &'a Track, report: u64) -> Result<(), NoMemory>
+    ensures { OnOk result (map row_shown rows.new.items
+        ≡ map row_shown rows.old.items
+        ++ filter (reaches report) (option_to_list (shown_of track.now))) }
+{
+    if let Some(start) = track.start() {
+        if report <= track.count() {
+            rows.push(Row { start, track })?;
+        }
+    }
+    Ok(())
+}
+
+// The tracks with a start whose count is at least `report`, as they stand.
+fn reported<'a>(alloc: Global, tracks: &'a [Track], report: u64) -> Result<Vec<Row<'a>>, NoMemory>
+    ensures { IfOk result (λ rows. map row_shown rows.items
+        ≡ filter (reaches report) (filter_map shown_of tracks.now)) }
+{
+    let mut rows = Vec::new(alloc);
+    for track in tracks {
+        push_row(&mut rows, track, report)?;
+    }
+    Ok(rows)
+}
+
+/// The listed tracks: those with a start whose count is at least `report`, by count falling, then
+/// by kind, then by base rising; those that tie in all three stay as they stand.
+///
+/// NoMemory comes where there is no memory for the result, or for the sort.
+pub fn listed<'a>(alloc: Global, tracks: &'a [Track], report: u64) -> Result<Vec<Row<'a>>, NoMemory>
+    ensures { IfOk result (λ rows. map row_shown rows.items ≡ listed_tracks report tracks.now) }
+{
+    let mut rows = reported(alloc, tracks, report)?;
+    rows.sort_by(order)?;
+    Ok(rows)
+}

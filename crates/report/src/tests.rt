@@ -1,0 +1,176 @@
+// Worked reports, written by hand.
+use crate::{Findings, write_report};
+use heap_objects::{ObjectTable, SymbolKind};
+use history_table::History;
+use predator_base::Kind::{Read, Write};
+use predator_base::{Access, Cause, Ending, Hart, Kind, Layout, Outcome, Range, Thresholds};
+use std::alloc::Global;
+use std::process::Abort;
+use std::test::Fail;
+use virtual_lines::{LineKind, Track, Tracks};
+use word_shadow::Shadow;
+
+// The words of 64 bytes after accesses of 4 bytes, each told by its hart, its address and its kind.
+fn shadow_of(
+    rt: &impl Abort,
+    alloc: Global,
+    base: i64,
+    told: &[(u16, u32, Kind)],
+) -> Result<Shadow, Fail> {
+    let mut shadow = Shadow::new(alloc, Range { base, size: 64 })?;
+    for (number, addr, kind) in told {
+        let hart = Hart::new(*number).ok_or("a hart")?;
+        let access = Access::new(hart, *addr, *kind, 4).ok_or("a word")?;
+        assert!(rt; shadow.range().contains(access.addr()));
+        assert!(rt; shadow.total() < 1 << 40);
+        shadow.note(access);
+    }
+    Ok(shadow)
+}
+
+// Adds a track of such words with a start and a count.
+fn add(
+    rt: &impl Abort,
+    tracks: &mut Tracks,
+    kind: LineKind,
+    shadow: Shadow,
+    start: u64,
+    count: u64,
+) -> Result<(), Fail> {
+    let hart = Hart::new(0).ok_or("a hart")?;
+    assert!(rt; tracks.all().len() < 1 << 31);
+    tracks.add_saved(kind, shadow, Some((start, History::one(hart))), count)?;
+    Ok(())
+}
+
+// Adds a track that has no start.
+fn add_waiting(rt: &impl Abort, tracks: &mut Tracks) -> Result<(), Fail> {
+    assert!(rt; tracks.all().len() < 1 << 31);
+    tracks.add(LineKind::Observed, Range { base: 0, size: 64 })?;
+    Ok(())
+}
+
+// Whether the findings of these tracks and objects are reported by a text.
+fn is_reported(
+    alloc: Global,
+    outcome: Outcome,
+    levels: (u64, Option<u64>, u64),
+    tracks: &[Track],
+    objects: &ObjectTable,
+    text: &str,
+) -> Result<bool, Fail> {
+    let findings = Findings {
+        ending: Ending {
+            outcome,
+            steps: 9,
+            accesses: 8,
+        },
+        layout: Layout::new(64, 0).ok_or("a layout")?,
+        thresholds: Thresholds::new(levels.0, levels.1, levels.2).ok_or("thresholds")?,
+        tracks,
+        objects,
+    };
+    let written = write_report(alloc, &findings)?;
+    Ok(written.as_slice() == text.as_bytes())
+}
+
+const NOTHING: &str =
+    "predator report 1\noutcome trap hart 3 pc 0x00010004 load-misaligned\nsteps 9\naccesses 8\nlayout 64 0\nthresholds 1 none 1099511627776\nlines 0\nend\n";
+
+#[test]
+fn tells_of_no_lines(rt: HostRuntime) -> Result<(), Fail> {
+    let alloc = rt.alloc();
+    let objects = ObjectTable::new(alloc);
+    let hart = Hart::new(3).ok_or("a hart")?;
+    let trap = Outcome::Trap(hart, 0x10004, Cause::LoadMisaligned);
+    let mut tracks = Tracks::new(alloc);
+    let shadow = shadow_of(&rt, alloc, 0x1000, &[(0, 0x1000, Write)])?;
+    add(
+        &rt,
+        &mut tracks,
+        LineKind::Observed,
+        shadow,
+        0,
+        (1 << 40) - 1,
+    )?;
+    add_waiting(&rt, &mut tracks)?;
+    let levels = (1, None, 1 << 40);
+    assert!(rt; is_reported(alloc, trap, levels, tracks.all(), &objects, NOTHING)?);
+    Ok(())
+}
+
+const IN_ORDER: &str =
+    "predator report 1\noutcome exit 7\nsteps 9\naccesses 8\nlayout 64 0\nthresholds 2 4 1\nlines 5\nline observed 0x00001000 64 start 0 count 3 verdict false\nword 0x00001000 reads 0 writes 2 hart 0\nword 0x00001004 reads 1 writes 0 hart 255\nline observed -0x00000020 64 start 0 count 2 verdict true\nword 0x00000000 reads 1 writes 1 many\nline observed 0xffffffe0 64 start 1 count 2 verdict false\nword 0xffffffe0 reads 0 writes 1 hart 0\nline observed 0xffffffe0 64 start 2 count 2 verdict false\nline shifted -0x00000040 64 start 4 count 2 verdict false\nend\n";
+
+#[test]
+fn puts_lines_in_order(rt: HostRuntime) -> Result<(), Fail> {
+    let alloc = rt.alloc();
+    let objects = ObjectTable::new(alloc);
+    let mut tracks = Tracks::new(alloc);
+    let blank = shadow_of(&rt, alloc, -0x40, &[])?;
+    add(&rt, &mut tracks, LineKind::Shifted, blank, 4, 2)?;
+    let past = shadow_of(&rt, alloc, 0xffff_ffe0, &[(0, 0xffff_ffe0, Write)])?;
+    add(&rt, &mut tracks, LineKind::Observed, past, 1, 2)?;
+    let tied = shadow_of(&rt, alloc, 0xffff_ffe0, &[])?;
+    add(&rt, &mut tracks, LineKind::Observed, tied, 2, 2)?;
+    let below = shadow_of(&rt, alloc, -0x20, &[(0, 0, Write), (1, 0, Read)])?;
+    add(&rt, &mut tracks, LineKind::Observed, below, 0, 2)?;
+    let most = [(0, 0x1000, Write), (255, 0x1004, Read), (0, 0x1000, Write)];
+    let most = shadow_of(&rt, alloc, 0x1000, &most)?;
+    add(&rt, &mut tracks, LineKind::Observed, most, 0, 3)?;
+    let levels = (2, Some(4), 1);
+    assert!(rt;
+        is_reported(
+            alloc,
+            Outcome::Exit(7),
+            levels,
+            tracks.all(),
+            &objects,
+            IN_ORDER
+        )?
+    );
+    Ok(())
+}
+
+const WITH_OBJECTS: &str =
+    "predator report 1\noutcome part\nsteps 9\naccesses 8\nlayout 64 0\nthresholds 1 1 1\nlines 1\nline observed 0x00001000 64 start 2 count 1 verdict false\nobject symbol a\\x20b\\x5c\\xff 0x00000ff0 32\nobject symbol ? 0x0000103f 1\nobject block 0x00001000 24 born 0 died 3\nsite 0x000100b0 worker\nsite 0x00000004 -\nobject block 0x00001020 4 born 7 live\nend\n";
+
+// What stands on a line, beside it, or died before.
+fn objects_of(alloc: Global) -> Result<ObjectTable, Fail> {
+    let mut objects = ObjectTable::new(alloc);
+    objects.note_symbol(SymbolKind::Object, 0xff0, 32, b"a b\\\xff")?;
+    objects.note_symbol(SymbolKind::Object, 0xff0, 16, b"before")?;
+    objects.note_symbol(SymbolKind::Object, 0x1040, 4, b"after")?;
+    objects.note_symbol(SymbolKind::Function, 0x1000, 64, b"no_object")?;
+    objects.note_symbol(SymbolKind::Object, 0x103f, 1, b"")?;
+    objects.note_symbol(SymbolKind::Function, 0x100a0, 64, b"worker")?;
+    objects.note_symbol(SymbolKind::Function, 0x100b0, 64, b"second")?;
+    objects.note_alloc(0, 0x1000, 24, [0x100b0, 0, 4, 0])?;
+    objects.note_alloc(0, 0x1020, 24, [0x100b0, 0, 0, 0])?;
+    objects.note_free(2, 0x1020);
+    objects.note_free(3, 0x1000);
+    objects.note_alloc(7, 0x1020, 4, [0; 4])?;
+    objects.note_alloc(8, 0x1030, 4, [0; 4])?;
+    Ok(objects)
+}
+
+#[test]
+fn tells_what_stands_on_a_line(rt: HostRuntime) -> Result<(), Fail> {
+    let alloc = rt.alloc();
+    let objects = objects_of(alloc)?;
+    let mut tracks = Tracks::new(alloc);
+    let shadow = shadow_of(&rt, alloc, 0x1000, &[])?;
+    add(&rt, &mut tracks, LineKind::Observed, shadow, 2, 1)?;
+    let levels = (1, Some(1), 1);
+    assert!(rt;
+        is_reported(
+            alloc,
+            Outcome::Part,
+            levels,
+            tracks.all(),
+            &objects,
+            WITH_OBJECTS
+        )?
+    );
+    Ok(())
+}

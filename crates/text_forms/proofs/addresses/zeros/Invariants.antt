@@ -1,5 +1,0 @@
-use Rattle.std.proofs.Common.{◌≡◌, replicate, string_bytes}
-use Rattle.text_forms.proofs.addresses.zeros.Given as goal
-
-abbrev pub invariant-loop-place : goal.invariant-loop-place
-invariant-loop-place l = string_bytes l.text ≡ replicate l._place 48
