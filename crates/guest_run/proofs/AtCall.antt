@@ -23,6 +23,16 @@ read_state c hart place old same inside read =
     let at : old ≡ get_or c.states hart old = rw same at read in
     sym (get_or_from_slice_get c.states hart old unused (slice_get_read c.states (length c.states) hart old refl inside at))
 
+-- a step that left all as it was leaves the whole configuration
+pub whole_left : (hart place : ℕ) (c : Config) (old new : Registers) (m : Space) (held : List (Option ℕ))
+    → place ≡ hart → hart < length c.states → old ≡ get_or c.states place old → machine new m held ≡ machine old c.memory c.held
+    → record c { states = set c.states place new; memory = m; held = held } ≡ c
+whole_left hart place c old new m held same inside read left =
+    let is_old : old ≡ state_of c hart = read_state c hart place old same inside read in
+    let before : machine old c.memory c.held ≡ machine_of hart c = ap (λ (r : Registers). machine r c.memory c.held) is_old in
+    let moved : set c.states place new ≡ set c.states hart new = ap (λ (k : ℕ). set c.states k new) same in
+    ap (λ (states : List Registers). record c { states = states; memory = m; held = held }) moved ∙ put-back hart c (machine new m held) (left ∙ before)
+
 pub called : (s : Setup) (hart place : ℕ) (c : Config) (old new : Registers) (m : Space) (held : List (Option ℕ)) (t : RunTurn)
     → place ≡ hart → hart < length c.states → old ≡ get_or c.states place old
     → outcome Call (machine new m held) ≡ stepped hart (machine old c.memory c.held) → machine new m held ≡ machine old c.memory c.held
@@ -30,7 +40,5 @@ pub called : (s : Setup) (hart place : ℕ) (c : Config) (old new : Registers) (
 called s hart place c old new m held t same inside read effect left turn =
     let is_old : old ≡ state_of c hart = read_state c hart place old same inside read in
     let before : machine old c.memory c.held ≡ machine_of hart c = ap (λ (r : Registers). machine r c.memory c.held) is_old in
-    let moved : set c.states place new ≡ set c.states hart new = ap (λ (k : ℕ). set c.states k new) same in
-    let whole : record c { states = set c.states place new; memory = m; held = held } ≡ c =
-    ap (λ (states : List Registers). record c { states = states; memory = m; held = held }) moved ∙ put-back hart c (machine new m held) (left ∙ before) in
-    turn ∙ ap (λ (d : Config). call_turn s hart d) whole ∙ sym (turn-at-call s hart c (machine new m held) (effect ∙ ap (λ (x : Machine). stepped hart x) before))
+    turn ∙ ap (λ (d : Config). call_turn s hart d) (whole_left hart place c old new m held same inside read left)
+    ∙ sym (turn-at-call s hart c (machine new m held) (effect ∙ ap (λ (x : Machine). stepped hart x) before))

@@ -15,8 +15,11 @@ use Rattle.thread_calls.specs.declared.phase.JoinEnd.TheVariants.{Bad, Done, Wai
 use Rattle.thread_calls.specs.Calls.{exited, joiner_of, join_end, joined, lowest_free, finished_code}
 use Rattle.hart_scheduler.specs.Choices.{choice}
 use Rattle.guest_run.specs.declared.setup.Setup.{Setup}
-use Rattle.guest_run.specs.Configs.{Config, value_in, passed, answered, counted}
-use Rattle.guest_run.specs.Calls.{RunEvent, RunTurn, ran, over, quietly, minus, refused, are_mapped, put_out, written, write_turn, given_to, exit_turn, started_with, spawn_turn, joined_with, join_turn, looked, wait_turn, wake_turn, call_turn}
+use Rattle.std.specs.List.{list_any}
+use Rattle.heap_objects.specs.Heaps.{after_alloc, after_free, lives_at}
+use Rattle.guest_run.specs.Places.{least_place}
+use Rattle.guest_run.specs.Configs.{Config, state_of, value_in, noted, passed, answered, counted}
+use Rattle.guest_run.specs.Calls.{RunEvent, RunTurn, ran, over, quietly, minus, refused, are_mapped, put_out, written, write_turn, block_answered, alloc_turn, free_turn, given_to, exit_turn, started_with, spawn_turn, joined_with, join_turn, looked, wait_turn, wake_turn, call_turn}
 use Rattle.guest_run.specs.Turns.{machine_of, with_machine, made, after_step, hart_turn, runnable_in, chosen, turn_with, turn_unless, turn_of}
 use Rattle.guest_run.specs.Runs.{touch_in}
 
@@ -45,20 +48,35 @@ quiet_one s c d room steps accesses = record { room = room; steps = omega arith;
 refused_one : (hart fault : ℕ) (s : Setup) (c : Config) → c.steps < s.budget → Counted s c (refused hart fault c)
 refused_one hart fault s c room = quiet_one s c (answered hart (minus fault) c) room refl refl
 
-no_touch : (bytes : List ℕ) → length (touch_in (put_out bytes)) ≡ 0
-no_touch [] = refl
-no_touch (b ∷ bytes) = refl
+no_touch : (at : ℕ) (bytes : List ℕ) → length (touch_in (put_out at bytes)) ≡ 0
+no_touch at [] = refl
+no_touch at (b ∷ bytes) = refl
 
 written_one : (hart at len : ℕ) (s : Setup) (c : Config) → c.steps < s.budget → Counted s c (written hart at len c)
 written_one hart at len s c room =
-    either (are_mapped c.memory at len) s c (ran (put_out (bytes_at c.memory at len)) (counted (answered hart len c))) (refused hart 14 c)
-    (record { room = room; steps = refl; accesses = omega (arith, no_touch (bytes_at c.memory at len)) })
+    either (are_mapped c.memory at len) s c (ran (put_out at (bytes_at c.memory at len)) (counted (answered hart len c))) (refused hart 14 c)
+    (record { room = room; steps = refl; accesses = omega (arith, no_touch at (bytes_at c.memory at len)) })
     (refused_one hart 14 s c room)
 
 write_one : (hart : ℕ) (s : Setup) (c : Config) → c.steps < s.budget → Counted s c (write_turn hart c)
 write_one hart s c room =
     either (nat_eq (value_in c hart 10) 1 || nat_eq (value_in c hart 10) 2) s c (written hart (value_in c hart 11) (min (value_in c hart 12) 4096) c) (refused hart 22 c)
     (written_one hart (value_in c hart 11) (min (value_in c hart 12) 4096) s c room) (refused_one hart 22 s c room)
+
+block_one : (hart size : ℕ) (s : Setup) (c d : Config) (o : Option ℕ) → c.steps < s.budget → d.steps ≡ c.steps → d.accesses ≡ c.accesses
+    → Counted s c (block_answered hart size o d)
+block_one hart size s c d None room steps accesses = quiet_one s c (answered hart 0 d) room steps accesses
+block_one hart size s c d (Some place) room steps accesses = record { room = room; steps = omega arith; accesses = omega arith }
+
+alloc_one : (hart : ℕ) (s : Setup) (c : Config) → c.steps < s.budget → Counted s c (alloc_turn hart c)
+alloc_one hart s c room =
+    let size = value_in c hart 10 in
+    block_one hart size s c (record c { heap = after_alloc c.heap size (least_place c.heap size) }) (least_place c.heap size) room refl refl
+
+free_one : (hart : ℕ) (s : Setup) (c : Config) → c.steps < s.budget → Counted s c (free_turn hart c)
+free_one hart s c room =
+    either (list_any (lives_at (value_in c hart 10)) c.heap.blocks) s c _ (refused hart 22 c)
+    (record { room = room; steps = refl; accesses = omega arith }) (refused_one hart 22 s c room)
 
 given_one : (o : Option ℕ) (code : ℕ) (s : Setup) (c d : Config) → c.steps < s.budget → d.steps ≡ c.steps → d.accesses ≡ c.accesses → Counted s c (quietly (given_to o code d))
 given_one None code s c d room steps accesses = quiet_one s c d room steps accesses
@@ -113,12 +131,14 @@ call_one hart s c room =
     either (nat_eq number 64) s c _ _ (write_one hart s c room)
     (either (nat_eq number 93) s c _ _ (exit_one hart s c room)
     (either (nat_eq number 94) s c _ _ (record { steps = omega arith; accesses = refl; memory = refl; least = omega arith })
+    (either (nat_eq number 1024) s c _ _ (alloc_one hart s c room)
+    (either (nat_eq number 1025) s c _ _ (free_one hart s c room)
     (either (nat_eq number 1026) s c _ _ (spawn_one hart s c room)
     (either (nat_eq number 1027) s c _ _ (join_one hart s c room)
     (either (nat_eq number 1028) s c _ _ (wait_one hart s c room)
     (either (nat_eq number 1029) s c _ _ (wake_one hart s c room)
     (either (nat_eq number 1030) s c _ (refused hart 38 c) (record { room = room; steps = refl; accesses = omega arith })
-    (refused_one hart 38 s c room))))))))
+    (refused_one hart 38 s c room))))))))))
 
 made_one : (a : Option Touch) (s : Setup) (c d : Config) → c.steps < s.budget → d.steps ≡ c.steps → d.accesses ≡ c.accesses → Counted s c (made a d)
 made_one None s c d room steps accesses = quiet_one s c d room steps accesses
@@ -130,7 +150,7 @@ moved_to s c (ran e x) h = record { room = h.room; steps = h.steps; accesses = h
 moved_to s c (over o x) h = record { steps = h.steps; accesses = h.accesses; memory = h.memory; least = h.least }
 
 step_one : (hart : ℕ) (s : Setup) (c : Config) (e : StepEnd) (x : Machine) → c.steps < s.budget → Counted s c (after_step s hart c e x)
-step_one hart s c (Next i a) x room = made_one a s c (with_machine hart x c) room refl refl
+step_one hart s c (Next i a) x room = made_one a s c (noted hart i (state_of c hart).pc (with_machine hart x c)) room refl refl
 step_one hart s c Call x room = call_one hart s c room
 step_one hart s c (Trap cause) x room = record { steps = omega arith; accesses = refl; memory = refl; least = omega arith }
 

@@ -8,3 +8,5 @@ pub mod Turning
 pub mod TurnCounts
 pub mod Owning
 pub mod AtCall
+pub mod Placing
+pub mod Answering

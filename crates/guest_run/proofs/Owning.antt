@@ -1,4 +1,9 @@
 -- A step of a hart makes no other hart's access.
+use Rattle.std.specs.Option.{option_map_or}
+use Rattle.guest_run.specs.Configs.{Config}
+use Rattle.guest_run.specs.declared.turn.Event.TheVariants.{Quiet, Touch as Touched}
+use Rattle.guest_run.specs.declared.turn.Turn.TheVariants.{Ran}
+use Rattle.guest_run.specs.Facts.{IsSeen}
 use Rattle.std.proofs.Common.{◌≡◌, ℕ, ◌<◌, Bool, true, false, Option, Some, None, Result, Ok, Err, refl, sym, subst}
 use Rattle.std.specs.Prelude.{if◌then◌else◌, nat_eq, ◌%◌}
 use Rattle.predator_base.specs.Touch.{Touch}
@@ -83,7 +88,11 @@ own_step hart x = own_fetch hart x (fetched x.memory x.state.pc)
 own_access : (hart : ℕ) (x y : Machine) (i : Instr) (a : Touch) → outcome (Next i (Some a)) y ≡ stepped hart x → a.hart ≡ hart
 own_access hart x y i a h = let P : Outcome → Type 0 = λ o. IsOwn hart o in subst P (sym h) (own_step hart x)
 
-pub own_below : (hart harts : ℕ) (x y : Machine) (i : Instr) (o : Option Touch) (a b : Touch) → outcome (Next i o) y ≡ stepped hart x → o ≡ Some a → b ≡ a → hart < harts → b.hart < harts
-own_below hart harts x y i o a b h some same below =
-    let own : a.hart ≡ hart = own_access hart x y i a (rw some at h) in
-    rw (same, own) below
+own_below : (hart harts : ℕ) (x y : Machine) (i : Instr) (a : Touch) → outcome (Next i (Some a)) y ≡ stepped hart x → hart < harts → a.hart < harts
+own_below hart harts x y i a h below = rw (own_access hart x y i a h) below
+
+-- what is seen of a step is an access of its hart, or nothing
+pub own_seen : (hart harts : ℕ) (x y : Machine) (i : Instr) (o : Option Touch) (c : Config) → outcome (Next i o) y ≡ stepped hart x → hart < harts
+    → IsSeen harts (Ran (option_map_or Touched o Quiet)) c
+own_seen hart harts x y i None c h below = tt
+own_seen hart harts x y i (Some a) c h below = own_below hart harts x y i a h below

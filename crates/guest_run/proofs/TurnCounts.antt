@@ -3,7 +3,7 @@ use Rattle.std.proofs.Common.{◌≡◌, ◌+◌, ◌≤◌, length, refl, arith
 use Rattle.guest_memory.specs.Space.{Space}
 use Rattle.guest_run.specs.declared.setup.Setup.{Setup}
 use Rattle.guest_run.specs.declared.turn.Event.{Event}
-use Rattle.guest_run.specs.declared.turn.Event.TheVariants.{Quiet, Touch, Output}
+use Rattle.guest_run.specs.declared.turn.Event.TheVariants.{Quiet, Touch, Alloc, Free, Output}
 use Rattle.guest_run.specs.declared.turn.Turn.{Turn}
 use Rattle.guest_run.specs.declared.turn.Turn.TheVariants.{Ran, Ended}
 use Rattle.guest_run.specs.Configs.{Config}
@@ -20,11 +20,15 @@ pub record Made (s : Setup) (c : Config) (t : Turn) (d : Config) : Type 0 where
 touches-seen : (m : Space) (e : Event) → length (touch_in (seen m e)) ≡ accesses_in e
 touches-seen m Quiet = refl
 touches-seen m (Touch a) = refl
+touches-seen m (Alloc addr size sites) = refl
+touches-seen m (Free addr) = refl
 touches-seen m (Output addr len) = refl
 
 at-most-one : (e : Event) → accesses_in e ≤ 1
 at-most-one Quiet = omega arith
 at-most-one (Touch a) = omega arith
+at-most-one (Alloc addr size sites) = omega arith
+at-most-one (Free addr) = omega arith
 at-most-one (Output addr len) = omega arith
 
 made-by : (s : Setup) (c : Config) (t : Turn) (d : Config) → Counted s c (turn_seen t d) → c.accesses ≤ c.steps → Made s c t d

@@ -26,33 +26,26 @@ turn_idle s c runnable able none = idle s c (finished_code c.phases) (sym (rw ab
 with_made : (s : Setup) (c : Config) (o : Option ℕ) (hart : ℕ) → o ≡ Some hart → nat_lt c.steps s.budget ≡ true → hart_turn s hart (chosen c) ≡ turn_with s c o
 with_made s c o hart some left = rw (some, left) refl
 
-with_spent : (s : Setup) (c : Config) (o : Option ℕ) (hart : ℕ) → o ≡ Some hart → nat_lt c.steps s.budget ≡ false → over Budget (chosen c) ≡ turn_with s c o
+with_spent : (s : Setup) (c : Config) (o : Option ℕ) (hart : ℕ) → o ≡ Some hart → nat_lt c.steps s.budget ≡ false → over Budget c ≡ turn_with s c o
 with_spent s c o hart some left = rw (some, left) refl
 
 unless_not : (s : Setup) (c : Config) (o : Option ℕ) (t : RunTurn) → o ≡ None → t ≡ turn_with s c (choice (runnable_in c) c.plan) → t ≡ turn_unless s c o
 unless_not s c o t none h = rw none h
 
-chosen-is : (c : Config) (plan : Plan) (runnable : List Bool) → runnable ≡ runnable_in c → plan ≡ plan_after runnable c.plan → record c { plan = plan } ≡ chosen c
-chosen-is c plan runnable able after =
-    let e : plan ≡ plan_after (runnable_in c) c.plan = rw able at after in
-    ap (λ (p : Plan). record c { plan = p }) e
-
 -- a hart can, and a step is left
-pub turn_made : (s : Setup) (c : Config) (hart : ℕ) (plan : Plan) (runnable : List Bool) → runnable ≡ runnable_in c → Some hart ≡ choice runnable c.plan
-    → plan ≡ plan_after runnable c.plan → phase_of c.phases hart ≡ Runnable → c.steps < s.budget
-    → hart_turn s hart (record c { plan = plan }) ≡ turn_of s c
+pub turn_made : (s : Setup) (c : Config) (hart : ℕ) (runnable : List Bool) → runnable ≡ runnable_in c → Some hart ≡ choice runnable c.plan
+    → phase_of c.phases hart ≡ Runnable → c.steps < s.budget → hart_turn s hart (chosen c) ≡ turn_of s c
 unfolding turn_of
-turn_made s c hart plan runnable able some after runs left =
+turn_made s c hart runnable able some runs left =
     let e : choice (runnable_in c) c.plan ≡ Some hart = sym (rw able at some) in
-    let moved : hart_turn s hart (record c { plan = plan }) ≡ hart_turn s hart (chosen c) = ap (λ (d : Config). hart_turn s hart d) (chosen-is c plan runnable able after) in
-    unless_not s c (finished_code c.phases) _ (not_finished c.phases hart runs) (moved ∙ with_made s c (choice (runnable_in c) c.plan) hart e (lt-ltb c.steps s.budget left))
+    unless_not s c (finished_code c.phases) _ (not_finished c.phases hart runs)
+    (with_made s c (choice (runnable_in c) c.plan) hart e (lt-ltb c.steps s.budget left))
 
 -- a hart can, and no step is left
-pub turn_spent : (s : Setup) (c : Config) (hart : ℕ) (plan : Plan) (runnable : List Bool) → runnable ≡ runnable_in c → Some hart ≡ choice runnable c.plan
-    → plan ≡ plan_after runnable c.plan → phase_of c.phases hart ≡ Runnable → s.budget ≤ c.steps
-    → over Budget (record c { plan = plan }) ≡ turn_of s c
+pub turn_spent : (s : Setup) (c : Config) (hart : ℕ) (runnable : List Bool) → runnable ≡ runnable_in c → Some hart ≡ choice runnable c.plan
+    → phase_of c.phases hart ≡ Runnable → s.budget ≤ c.steps → over Budget c ≡ turn_of s c
 unfolding turn_of
-turn_spent s c hart plan runnable able some after runs left =
+turn_spent s c hart runnable able some runs left =
     let e : choice (runnable_in c) c.plan ≡ Some hart = sym (rw able at some) in
-    let moved : over Budget (record c { plan = plan }) ≡ over Budget (chosen c) = ap (λ (d : Config). over Budget d) (chosen-is c plan runnable able after) in
-    unless_not s c (finished_code c.phases) _ (not_finished c.phases hart runs) (moved ∙ with_spent s c (choice (runnable_in c) c.plan) hart e (le-ltb c.steps s.budget left))
+    unless_not s c (finished_code c.phases) _ (not_finished c.phases hart runs)
+    (with_spent s c (choice (runnable_in c) c.plan) hart e (le-ltb c.steps s.budget left))

@@ -1,6 +1,6 @@
 -- The calls of a guest. A call's number stands in x17, what it is given in x10, x11 and x12, and its answer in x10.
 use Rattle.std.specs.Prelude.{ℕ, ◌-◌, ◌%◌, ◌^◌, Bool, ◌&&◌, ◌||◌, if◌then◌else◌, nat_eq, min, List, [], ◌∷◌, Option, None, Some, Result, Ok, Err, slice_set}
-use Rattle.std.specs.List.{list_all, range_with_len}
+use Rattle.std.specs.List.{list_all, list_any, range_with_len}
 use Rattle.predator_base.specs.Touch.{Touch}
 use Rattle.predator_base.specs.declared.ending.Outcome.{Outcome}
 use Rattle.predator_base.specs.declared.ending.Outcome.TheVariants.{Exit}
@@ -14,13 +14,19 @@ use Rattle.thread_calls.specs.declared.phase.JoinEnd.{JoinEnd}
 use Rattle.thread_calls.specs.declared.phase.JoinEnd.TheVariants.{Bad, Done, Waits}
 use Rattle.thread_calls.specs.Calls.{exited, joiner_of, join_end, joined, lowest_free, spawned, woken, woken_count}
 use Rattle.guest_run.specs.declared.setup.Setup.{Setup}
-use Rattle.guest_run.specs.Configs.{Config, stack_end, value_in, given, passed, answered, counted}
+use Rattle.heap_objects.specs.Heaps.{after_alloc, after_free, lives_at}
+use Rattle.callsites.specs.Calls.{last_four}
+use Rattle.guest_run.specs.Places.{least_place}
+use Rattle.guest_run.specs.Configs.{Config, stack_end, value_in, calls_of, given, passed, answered, counted}
 
--- what is seen of a step: nothing, the access that it made, or the bytes that it put out
+-- What is seen of a step: nothing, the access that it made, the block that it made, by its address, its size and the
+-- last calls of its hart, the block that it freed, or the bytes that it put out, from an address on.
 pub data RunEvent : Type 0 where
   quiet : RunEvent
   touch : Touch → RunEvent
-  output : List ℕ → RunEvent
+  alloc : ℕ → ℕ → List ℕ → RunEvent
+  free : ℕ → RunEvent
+  output : ℕ → List ℕ → RunEvent
 
 -- a turn is a step to another configuration, or the end of the run at one
 pub data RunTurn : Type 0 where
@@ -45,14 +51,14 @@ abbrev pub are_mapped : Space → ℕ → ℕ → Bool
 are_mapped m at len = list_all (λ a. (page_at m a).mapped) (range_with_len at len)
 
 -- no bytes are not seen
-abbrev pub put_out : List ℕ → RunEvent
-put_out [] = quiet
-put_out (b ∷ bytes) = output (b ∷ bytes)
+abbrev pub put_out : ℕ → List ℕ → RunEvent
+put_out at [] = quiet
+put_out at (b ∷ bytes) = output at (b ∷ bytes)
 
 -- the bytes from an address on are put out
 abbrev pub written : ℕ → ℕ → ℕ → Config → RunTurn
 written hart at len c =
-    if are_mapped c.memory at len then ran (put_out (bytes_at c.memory at len)) (counted (answered hart len c))
+    if are_mapped c.memory at len then ran (put_out at (bytes_at c.memory at len)) (counted (answered hart len c))
     else refused hart 14 c
 
 -- to the file 1 or 2, of so many bytes from an address on, of which it takes 4096 at most
@@ -60,6 +66,32 @@ abbrev pub write_turn : ℕ → Config → RunTurn
 write_turn hart c =
     let file = value_in c hart 10 in
     if nat_eq file 1 || nat_eq file 2 then written hart (value_in c hart 11) (min (value_in c hart 12) 4096) c
+    else refused hart 22 c
+
+-- ---- alloc and free
+
+-- the answer once a block is made, 0 where there is no place for it
+abbrev pub block_answered : ℕ → ℕ → Option ℕ → Config → RunTurn
+block_answered hart size None c = quietly (answered hart 0 c)
+block_answered hart size (Some place) c =
+    ran (alloc place size (last_four (calls_of c hart))) (counted (answered hart place c))
+
+-- a block is made at the least place that the heap has for it
+abbrev pub allocated : ℕ → ℕ → Config → Option ℕ → RunTurn
+allocated hart size c place =
+    block_answered hart size place (record c { heap = after_alloc c.heap size place })
+
+abbrev pub alloc_turn : ℕ → Config → RunTurn
+alloc_turn hart c =
+    let size = value_in c hart 10 in
+    allocated hart size c (least_place c.heap size)
+
+-- the live block that begins at an address
+abbrev pub free_turn : ℕ → Config → RunTurn
+free_turn hart c =
+    let addr = value_in c hart 10 in
+    if list_any (lives_at addr) c.heap.blocks
+    then ran (free addr) (counted (answered hart 0 (record c { heap = after_free c.heap addr })))
     else refused hart 22 c
 
 -- ---- exit and exit_group
@@ -75,11 +107,11 @@ exit_turn hart c =
     quietly (given_to (joiner_of c.phases hart) code (passed hart (record c { phases = exited c.phases hart code })))
 
 abbrev pub exit_group_turn : ℕ → Config → RunTurn
-exit_group_turn hart c = over (Exit (value_in c hart 10)) (counted c)
+exit_group_turn hart c = over (Exit (value_in c hart 10)) (counted (passed hart c))
 
 -- ---- spawn
 
--- the hart starts with the caller's x3, and has no reservation
+-- the hart starts with the caller's x3, has no reservation, and has made no call
 abbrev pub started_with : Setup → ℕ → ℕ → Config → Option ℕ → RunTurn
 started_with s hart pc c None = refused hart 11 c
 started_with s hart pc c (Some new) =
@@ -87,6 +119,7 @@ started_with s hart pc c (Some new) =
       states = slice_set c.states new (started pc (stack_end s new) (value_in c hart 3) (value_in c hart 11));
       held = slice_set c.held new None;
       phases = spawned c.phases;
+      calls = slice_set c.calls new [];
     }))
 
 -- at an address that can be fetched from, with an argument
@@ -144,6 +177,8 @@ call_turn s hart c =
     if nat_eq number 64 then write_turn hart c
     else if nat_eq number 93 then exit_turn hart c
     else if nat_eq number 94 then exit_group_turn hart c
+    else if nat_eq number 1024 then alloc_turn hart c
+    else if nat_eq number 1025 then free_turn hart c
     else if nat_eq number 1026 then spawn_turn s hart c
     else if nat_eq number 1027 then join_turn hart c
     else if nat_eq number 1028 then wait_turn hart c

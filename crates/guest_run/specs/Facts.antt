@@ -5,18 +5,20 @@ use Rattle.predator_base.specs.declared.ending.Outcome.{Outcome}
 use Rattle.predator_base.specs.declared.ending.Outcome.TheVariants.{Exit, Budget, Deadlock, Trap, Part}
 use Rattle.guest_memory.specs.Space.{Space, bytes_at, AllMapped}
 use Rattle.guest_run.specs.declared.turn.Event.{Event}
-use Rattle.guest_run.specs.declared.turn.Event.TheVariants.{Quiet, Touch, Output}
+use Rattle.guest_run.specs.declared.turn.Event.TheVariants.{Quiet, Touch, Alloc, Free, Output}
 use Rattle.guest_run.specs.declared.turn.Turn.{Turn}
 use Rattle.guest_run.specs.declared.turn.Turn.TheVariants.{Ran, Ended}
 use Rattle.guest_run.specs.Configs.{Config}
-use Rattle.guest_run.specs.Calls.{RunEvent, quiet, touch, output, RunTurn, ran, over}
+use Rattle.guest_run.specs.Calls.{RunEvent, quiet, touch, alloc, free, output, RunTurn, ran, over}
 use Rattle.guest_run.specs.Runs.{Run, ending_with, led_by, ended_run, Progress, rest_of}
 
 -- what is seen of a step that leaves this memory
 abbrev pub seen : Space → Event → RunEvent
 seen m Quiet = quiet
 seen m (Touch a) = touch a
-seen m (Output addr len) = output (bytes_at m addr len)
+seen m (Alloc addr size sites) = alloc addr size sites
+seen m (Free addr) = free addr
+seen m (Output addr len) = output addr (bytes_at m addr len)
 
 -- a turn with this answer, which leaves this configuration
 abbrev pub turn_seen : Turn → Config → RunTurn
@@ -36,6 +38,8 @@ ending_after (Ended o) c = Some (ending_with o c)
 abbrev pub accesses_in : Event → ℕ
 accesses_in Quiet = 0
 accesses_in (Touch a) = 1
+accesses_in (Alloc addr size sites) = 0
+accesses_in (Free addr) = 0
 accesses_in (Output addr len) = 0
 
 -- a step is counted, and so is its access; the end leaves the memory as it was
@@ -47,7 +51,6 @@ Counts old (Ended o) new = new.memory ≡ old.memory
 pub record IsWithin (p : Progress) : Type 0 where
   pub accesses : p.config.accesses ≤ p.config.steps
   pub steps : p.config.steps ≤ p.setup.budget
-  pub budget : p.setup.budget ≤ 2 ^ 36
 
 -- a code is a word; a trap is that of one of so many harts, at an address that is a multiple of 4; a run is whole
 abbrev pub IsEndOf : ℕ → Outcome → Type 0
@@ -61,5 +64,7 @@ IsEndOf harts Part = ⊥
 abbrev pub IsSeen : ℕ → Turn → Config → Type 0
 IsSeen harts (Ran Quiet) c = Unit {0}
 IsSeen harts (Ran (Touch a)) c = a.hart < harts
+IsSeen harts (Ran (Alloc addr size sites)) c = Unit {0}
+IsSeen harts (Ran (Free addr)) c = Unit {0}
 IsSeen harts (Ran (Output addr len)) c = (1 ≤ len) × (len ≤ 4096) × AllMapped c.memory addr len
 IsSeen harts (Ended o) c = IsEndOf harts o

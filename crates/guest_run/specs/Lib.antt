@@ -1,4 +1,5 @@
 pub mod Configs
+pub mod Places
 pub mod Calls
 pub mod Turns
 pub mod Runs

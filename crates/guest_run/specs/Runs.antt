@@ -6,7 +6,7 @@ use Rattle.predator_base.specs.declared.ending.Outcome.{Outcome}
 use Rattle.predator_base.specs.declared.ending.Outcome.TheVariants.{Budget}
 use Rattle.guest_run.specs.declared.setup.Setup.{Setup}
 use Rattle.guest_run.specs.Configs.{Config}
-use Rattle.guest_run.specs.Calls.{RunEvent, quiet, touch, output, RunTurn, ran, over}
+use Rattle.guest_run.specs.Calls.{RunEvent, quiet, touch, alloc, free, output, RunTurn, ran, over}
 use Rattle.guest_run.specs.Turns.{turn_of}
 
 -- what is seen of each step, and the end
@@ -48,7 +48,9 @@ run_of s c = run_for s (s.budget - c.steps) c
 abbrev pub touch_in : RunEvent → List Touch
 touch_in quiet = []
 touch_in (touch a) = a ∷ []
-touch_in (output bytes) = []
+touch_in (alloc at size sites) = []
+touch_in (free at) = []
+touch_in (output at bytes) = []
 
 abbrev pub touches_in : List RunEvent → List Touch
 touches_in [] = []
@@ -61,7 +63,9 @@ touches_of r = touches_in r.events
 abbrev pub bytes_in : RunEvent → List ℕ
 bytes_in quiet = []
 bytes_in (touch a) = []
-bytes_in (output bytes) = bytes
+bytes_in (alloc at size sites) = []
+bytes_in (free at) = []
+bytes_in (output at bytes) = bytes
 
 abbrev pub output_in : List RunEvent → List ℕ
 output_in [] = []

@@ -1,5 +1,6 @@
 -- One turn of a guest: it is judged whether the run is over, and else a hart makes one step.
-use Rattle.std.specs.Prelude.{ℕ, ◌+◌, Bool, if◌then◌else◌, nat_lt, List, map, Option, None, Some, slice_set}
+use Rattle.std.specs.Prelude.{ℕ, ◌+◌, Bool, true, false, ◌&&◌, if◌then◌else◌, nat_eq, nat_lt, List, map, Option, None, Some, slice_set}
+use Rattle.std.specs.Option.{option_map_or}
 use Rattle.predator_base.specs.Touch.{Touch}
 use Rattle.predator_base.specs.declared.ending.Outcome.TheVariants.{Exit, Budget, Deadlock, Trap as Trapped}
 use Rattle.rv32_machine.specs.Effect.{Machine, machine, stepped}
@@ -9,7 +10,7 @@ use Rattle.thread_calls.specs.Phases.{is_runnable}
 use Rattle.thread_calls.specs.Calls.{finished_code}
 use Rattle.hart_scheduler.specs.Choices.{choice, plan_after}
 use Rattle.guest_run.specs.declared.setup.Setup.{Setup}
-use Rattle.guest_run.specs.Configs.{Config, state_of, counted}
+use Rattle.guest_run.specs.Configs.{Config, state_of, value_in, noted, counted}
 use Rattle.guest_run.specs.Calls.{touch, RunTurn, ran, over, quietly, call_turn}
 
 -- what a step of a hart sees, and the configuration that the step leaves
@@ -24,9 +25,9 @@ abbrev pub made : Option Touch → Config → RunTurn
 made None c = quietly c
 made (Some a) c = ran (touch a) (counted (record c { accesses = c.accesses + 1 }))
 
--- a trap ends the run, and is no step
+-- the hart's call list sees each instruction that is made; a trap ends the run, and is no step
 abbrev pub after_step : Setup → ℕ → Config → StepEnd → Machine → RunTurn
-after_step s hart c (Next instr a) x = made a (with_machine hart x c)
+after_step s hart c (Next instr a) x = made a (noted hart instr (state_of c hart).pc (with_machine hart x c))
 after_step s hart c Call x = call_turn s hart c
 after_step s hart c (Trap cause) x = over (Trapped hart (state_of c hart).pc cause) c
 
@@ -46,11 +47,23 @@ chosen c = record c { plan = plan_after (runnable_in c) c.plan }
 
 abbrev pub turn_with : Setup → Config → Option ℕ → RunTurn
 turn_with s c None = over Deadlock c
-turn_with s c (Some hart) = if nat_lt c.steps s.budget then hart_turn s hart (chosen c) else over Budget (chosen c)
+turn_with s c (Some hart) = if nat_lt c.steps s.budget then hart_turn s hart (chosen c) else over Budget c
 
 abbrev pub turn_unless : Setup → Config → Option ℕ → RunTurn
 turn_unless s c (Some code) = over (Exit code) c
 turn_unless s c None = turn_with s c (choice (runnable_in c) c.plan)
+
+-- whether the next step is the call that makes a block, if a step is left
+abbrev pub is_at_call : StepEnd → Bool
+is_at_call (Next instr a) = false
+is_at_call Call = true
+is_at_call (Trap cause) = false
+
+abbrev pub is_at_alloc : Config → ℕ → Bool
+is_at_alloc c hart = is_at_call (stepped hart (machine_of hart c)).end && nat_eq (value_in c hart 17) 1024
+
+abbrev pub makes_block : Config → Bool
+makes_block c = option_map_or (is_at_alloc c) (choice (runnable_in c) c.plan) false
 
 -- A turn: all harts have ended, or none can run, or all steps that the run may take are taken, or else the hart that is
 -- next carries out an instruction.

@@ -1,10 +1,11 @@
 // The calls of a guest, each a counted step.
-ghost use Rattle.std.specs.Prelude.{◌≡◌, ℕ, ◌<◌, ◌≤◌, ◌%◌, ◌^◌, length};
+ghost use Rattle.std.specs.Prelude.{◌≡◌, ◌≢◌, ℕ, ◌+◌, ◌<◌, ◌≤◌, ◌%◌, ◌^◌, length, IfOk, IsOk, OnErr};
 ghost use Rattle.std.specs.Bool.{OnTrue};
 ghost use Rattle.guest_memory.specs.Space.{AllMapped};
 ghost use Rattle.thread_calls.specs.Calls.{lowest_free};
-ghost use Rattle.guest_run.specs.Configs.{CanStep, answered};
-ghost use Rattle.guest_run.specs.Calls.{are_mapped, call_turn, exit_group_turn, exit_turn, join_turn, minus, quietly, refused, spawn_turn, started_with, wait_turn, wake_turn, write_turn, written};
+ghost use Rattle.guest_run.specs.Configs.{CanStep, answered, value_in};
+ghost use Rattle.guest_run.specs.Turns.{chosen};
+ghost use Rattle.guest_run.specs.Calls.{alloc_turn, are_mapped, block_answered, call_turn, exit_group_turn, exit_turn, free_turn, join_turn, minus, quietly, refused, spawn_turn, started_with, wait_turn, wake_turn, write_turn, written};
 ghost use Rattle.guest_run.specs.Inside.{config_of};
 ghost use Rattle.guest_run.specs.Facts.{IsSeen, turn_seen};
 
@@ -12,7 +13,8 @@ use crate::configuration::Configuration;
 use crate::setup::Setup;
 use crate::turn::{Event, Turn};
 use guest_memory::{MemFault, Memory};
-use predator_base::{Hart, Outcome};
+use heap_objects::NotLive;
+use predator_base::{Hart, NoMemory, Outcome};
 use rv32_machine::HartState;
 use thread_calls::JoinEnd;
 
@@ -27,6 +29,9 @@ const A7: u8 = 17;
 
 // The global pointer.
 const GP: u8 = 3;
+
+// The number of the call that makes a block.
+const MAKE_BLOCK: u32 = 1024;
 
 // The faults that calls answer with.
 const AGAIN: u32 = 11;
@@ -63,7 +68,7 @@ fn are_mapped(memory: &Memory, addr: u32, len: u32) -> bool
 impl Configuration {
     // A step of which nothing is seen.
     fn quietly(&mut self) -> Turn
-        requires { self.old.steps < 2 ^ 36 }
+        requires { self.old.steps + 1 < 2 ^ 64 }
         ensures turn { turn_seen result (config_of self.new) ≡ quietly (config_of self.old) }
         ensures quiet { result ≡ Turn.Ran Event.Quiet }
     {
@@ -74,7 +79,7 @@ impl Configuration {
     // Answers a call, of which nothing is seen.
     fn answer_quietly(&mut self, hart: Hart, value: u32) -> Turn
         requires there { hart < length self.old.states.items }
-        requires few { self.old.steps < 2 ^ 36 }
+        requires few { self.old.steps + 1 < 2 ^ 64 }
         ensures turn { turn_seen result (config_of self.new) ≡ quietly (answered hart value (config_of self.old)) }
         ensures quiet { result ≡ Turn.Ran Event.Quiet }
     {
@@ -85,7 +90,7 @@ impl Configuration {
     // Refuses a call with a fault.
     fn refuse(&mut self, hart: Hart, fault: u32) -> Turn
         requires there { hart < length self.old.states.items }
-        requires few { self.old.steps < 2 ^ 36 }
+        requires few { self.old.steps + 1 < 2 ^ 64 }
         requires fault { 1 ≤ fault }
         ensures turn { turn_seen result (config_of self.new) ≡ refused hart fault (config_of self.old) }
         ensures quiet { result ≡ Turn.Ran Event.Quiet }
@@ -149,6 +154,7 @@ impl Configuration {
         ensures seen { (harts : ℕ) → IsSeen harts result (config_of self.new) }
     {
         let code = self.value_in(hart, A0);
+        self.pass(hart);
         self.steps += 1;
         Turn::Ended(Outcome::Exit(code))
     }
@@ -184,6 +190,7 @@ impl Configuration {
                     arg,
                 );
                 self.held.clear(new);
+                self.calls[usize::from(new.number())].clear();
                 self.answer_quietly(hart, u32::from(new.number()))
             }
             None => self.refuse(hart, AGAIN),
@@ -244,9 +251,64 @@ impl Configuration {
         self.answer_quietly(hart, count)
     }
 
-    /// The call of a hart that is at an ECALL.
-    pub fn call(&mut self, setup: &Setup, hart: Hart) -> Turn
+    // 1024: makes a block at the least place that the heap has for it, and then the hart has its turn.
+    fn make_block(&mut self, hart: Hart) -> Result<Turn, NoMemory>
+        requires ready { CanStep hart (config_of self.old) }
+        requires plan { self.old.schedule.harts ≡ length self.old.threads }
+        ensures turn { IfOk result (λ turn. turn_seen turn (config_of self.new) ≡ alloc_turn hart (chosen (config_of self.old))) }
+        ensures seen { IfOk result (λ turn. (harts : ℕ) → IsSeen harts turn (config_of self.new)) }
+        ensures refused { OnErr result (config_of self.new ≡ config_of self.old) }
+    {
+        let size = self.value_in(hart, A0);
+        match self.heap.alloc(size) {
+            Ok(place) => {
+                self.take_turn();
+                Ok(self.answer_block(hart, size, place))
+            }
+            Err(refused) => Err(refused),
+        }
+    }
+
+    // The answer to a hart that asked for a block, once it is made.
+    fn answer_block(&mut self, hart: Hart, size: u32, place: Option<u32>) -> Turn
+        requires there { hart < length self.old.states.items }
+        requires calls { hart < length self.old.calls.items }
+        requires few { self.old.steps + 1 < 2 ^ 64 }
+        ensures turn { turn_seen result (config_of self.new) ≡ block_answered hart size place (config_of self.old) }
+        ensures seen { (harts : ℕ) → IsSeen harts result (config_of self.new) }
+    {
+        match place {
+            None => self.answer_quietly(hart, 0),
+            Some(addr) => {
+                let sites = self.calls[usize::from(hart.number())].last_four();
+                self.answer(hart, addr);
+                self.steps += 1;
+                Turn::Ran(Event::Alloc { addr, size, sites })
+            }
+        }
+    }
+
+    // 1025: frees the live block that begins at an address.
+    fn free(&mut self, hart: Hart) -> Turn
         requires { CanStep hart (config_of self.old) }
+        ensures turn { turn_seen result (config_of self.new) ≡ free_turn hart (config_of self.old) }
+        ensures seen { (harts : ℕ) → IsSeen harts result (config_of self.new) }
+    {
+        let addr = self.value_in(hart, A0);
+        match self.heap.free(addr) {
+            Ok(()) => {
+                self.answer(hart, 0);
+                self.steps += 1;
+                Turn::Ran(Event::Free { addr })
+            }
+            Err(NotLive) => self.refuse(hart, INVALID),
+        }
+    }
+
+    // A call that takes no memory.
+    fn other_call(&mut self, setup: &Setup, hart: Hart) -> Turn
+        requires ready { CanStep hart (config_of self.old) }
+        requires other { value_in (config_of self.old) hart 17 ≢ 1024 }
         ensures turn { turn_seen result (config_of self.new) ≡ call_turn setup.now hart (config_of self.old) }
         ensures seen { (harts : ℕ) → IsSeen harts result (config_of self.new) }
     {
@@ -254,12 +316,33 @@ impl Configuration {
             64 => self.write(hart),
             93 => self.exit(hart),
             94 => self.exit_group(hart),
+            1025 => self.free(hart),
             1026 => self.spawn(setup, hart),
             1027 => self.join(hart),
             1028 => self.wait(hart),
             1029 => self.wake(hart),
             1030 => self.answer_quietly(hart, u32::from(hart.number())),
             _ => self.refuse(hart, NO_CALL),
+        }
+    }
+
+    /// The call of a hart that is at an ECALL, with its turn. Only the call that makes a block takes memory, and it does so
+    /// before the hart has its turn.
+    ///
+    /// NoMemory leaves all as it was.
+    pub fn call(&mut self, setup: &Setup, hart: Hart) -> Result<Turn, NoMemory>
+        requires ready { CanStep hart (config_of self.old) }
+        requires plan { self.old.schedule.harts ≡ length self.old.threads }
+        ensures turn { IfOk result (λ turn. turn_seen turn (config_of self.new) ≡ call_turn setup.now hart (chosen (config_of self.old))) }
+        ensures seen { IfOk result (λ turn. (harts : ℕ) → IsSeen harts turn (config_of self.new)) }
+        ensures refused { OnErr result (config_of self.new ≡ config_of self.old) }
+        ensures settled { value_in (config_of self.old) hart 17 ≢ 1024 → IsOk result }
+    {
+        if self.value_in(hart, A7) == MAKE_BLOCK {
+            self.make_block(hart)
+        } else {
+            self.take_turn();
+            Ok(self.other_call(setup, hart))
         }
     }
 }

@@ -1,24 +1,30 @@
 // What the steps of a guest change.
-ghost use Rattle.std.specs.Prelude.{◌≡◌, ◌%◌, ◌<◌, ◌≤◌, length, replicate, IfOk};
-ghost use Rattle.guest_run.specs.Configs.{answered, first_config, given, passed, state_of, unused, value_in};
+ghost use Rattle.std.specs.Prelude.{◌≡◌, ◌%◌, ◌<◌, ◌≤◌, [], length, replicate, IfOk};
+ghost use Rattle.guest_run.specs.Configs.{answered, first_config, given, noted, passed, state_of, unused, value_in};
+ghost use Rattle.guest_run.specs.Turns.{chosen};
 ghost use Rattle.guest_run.specs.Inside.{config_of};
 
 use crate::setup::Setup;
+use callsites::CallList;
 use guest_memory::Memory;
 use hart_scheduler::Schedule;
+use heap_objects::GuestHeap;
 use predator_base::{Hart, NoMemory};
-use rv32_decode::Reg;
+use rv32_decode::{Instr, Reg};
 use rv32_machine::{HartState, Reservations};
 use std::alloc::Global;
 use thread_calls::Threads;
 
-/// The memory, the registers, reservation and phase of each hart, what the schedule has still to say, and the counts.
+/// The memory, the registers, reservation, phase and calls of each hart, the heap, what the schedule has still to say,
+/// and the counts.
 #[derive(Drop)]
 pub struct Configuration {
     pub memory: Memory,
     pub states: Vec<HartState>,
     pub held: Reservations,
     pub threads: Threads,
+    pub calls: Vec<CallList>,
+    pub heap: GuestHeap,
     pub schedule: Schedule,
     pub steps: u64,
     pub accesses: u64,
@@ -49,29 +55,50 @@ fn unused_harts(alloc: Global, harts: u16) -> Result<Vec<HartState>, NoMemory>
     Ok(states)
 }
 
+// The call lists of harts that made no call.
+fn no_calls(alloc: Global, harts: u16) -> Result<Vec<CallList>, NoMemory>
+    ensures { IfOk result (λ calls. calls.items ≡ replicate harts []) }
+{
+    let mut calls = Vec::new(alloc);
+    for _hart in 0..harts {
+        match CallList::new(alloc) {
+            Ok(list) => match calls.push(list) {
+                Ok(()) => {}
+                Err(_) => return Err(NoMemory),
+            },
+            Err(refused) => return Err(refused),
+        }
+    }
+    Ok(calls)
+}
+
 impl Configuration {
     /// The first configuration of a run. It takes memory for what is kept of each hart.
     pub fn first(
         alloc: Global,
         setup: &Setup,
         memory: Memory,
+        heap: GuestHeap,
         entry: u32,
         schedule: Schedule,
     ) -> Result<Configuration, NoMemory>
         requires some { 1 ≤ setup.now.harts }
         requires most { setup.now.harts ≤ 256 }
         requires aligned { entry % 4 ≡ 0 }
-        ensures { IfOk result (λ x. config_of x ≡ first_config setup.now memory entry schedule) }
+        ensures { IfOk result (λ x. config_of x ≡ first_config setup.now memory heap entry schedule) }
     {
         let mut states = unused_harts(alloc, setup.harts)?;
         states[0] = HartState::new(entry, setup.top, 0, 0);
         let held = Reservations::new(alloc, setup.harts)?;
         let threads = Threads::new(alloc, setup.harts)?;
+        let calls = no_calls(alloc, setup.harts)?;
         Ok(Configuration {
             memory,
             states,
             held,
             threads,
+            calls,
+            heap,
             schedule,
             steps: 0,
             accesses: 0,
@@ -96,6 +123,25 @@ impl Configuration {
     {
         let state = &self.states[usize::from(hart.number())];
         state.pc()
+    }
+
+    /// A hart made an instruction at an address.
+    #[inline]
+    pub fn note_call(&mut self, hart: Hart, instr: Instr, pc: u32)
+        requires { hart < length self.old.calls.items }
+        ensures { config_of self.new ≡ noted hart instr pc (config_of self.old) }
+    {
+        let calls = &mut self.calls[usize::from(hart.number())];
+        calls.note(instr, pc);
+    }
+
+    /// The choice of a hart is made, as the schedule says.
+    #[inline]
+    pub fn take_turn(&mut self)
+        requires { self.old.schedule.harts ≡ length self.old.threads }
+        ensures { config_of self.new ≡ chosen (config_of self.old) }
+    {
+        let _taken = self.schedule.next(self.threads.runnable());
     }
 
     /// Puts a value into a hart's x10.

@@ -1,8 +1,9 @@
 // A guest, and its turns.
-ghost use Rattle.std.specs.Prelude.{◌≡◌, ◌≤◌, ◌<◌, ◌↔◌, ◌%◌, ◌^◌, length, None, IfOk, IfSome, OnSome, IsSome};
+ghost use Rattle.std.specs.Prelude.{◌≡◌, ◌+◌, ◌*◌, ◌≤◌, ◌<◌, ◌↔◌, ◌%◌, length, None, Ok, IfOk, IsOk, OnErr, IsFalse, IfSome, OnSome, IsSome};
 ghost use Rattle.guest_memory.specs.Space.{AllMapped, bytes_at};
+ghost use Rattle.guest_run.specs.Places.{heap_over};
 ghost use Rattle.guest_run.specs.Configs.{first_config};
-ghost use Rattle.guest_run.specs.Turns.{turn_of};
+ghost use Rattle.guest_run.specs.Turns.{makes_block, turn_of};
 ghost use Rattle.guest_run.specs.Runs.{IsShort, rest_of};
 ghost use Rattle.guest_run.specs.Facts.{Counts, IsSeen, IsWithin, begun_with, ending_after, turn_seen};
 
@@ -11,6 +12,7 @@ use crate::setup::{RunSettings, Setup};
 use crate::turn::Turn;
 use elf_loader::Image;
 use hart_scheduler::Schedule;
+use heap_objects::GuestHeap;
 use predator_base::{Ending, NoMemory};
 use std::alloc::Global;
 use std::marker::Model;
@@ -42,7 +44,7 @@ impl Guest {
     /// zero. It takes memory for what is kept of each hart.
     ///
     /// The image, the schedule and the settings are for the same harts, 1 to 256, and the schedule has the settings' quantum.
-    /// The entry is a multiple of 4, and the budget at most 2^36.
+    /// The entry is a multiple of 4; the heap begins and ends at multiples of 16, and ends where the stacks begin.
     pub fn new(
         alloc: Global,
         image: Image,
@@ -54,10 +56,13 @@ impl Guest {
         requires image { image.harts ≡ settings.harts }
         requires schedule { schedule.harts ≡ settings.harts }
         requires quantum { schedule.quantum ≡ settings.quantum }
-        requires budget { settings.budget ≤ 2 ^ 36 }
         requires aligned { image.entry % 4 ≡ 0 }
+        requires heap_start { image.heap_start % 16 ≡ 0 }
+        requires heap_end { image.heap_end % 16 ≡ 0 }
+        requires heap { image.heap_start ≤ image.heap_end }
+        requires stacks { image.heap_end + image.harts * image.stack ≡ image.top }
         ensures setup { IfOk result (λ guest. guest.setup ≡ record { harts = settings.harts; budget = settings.budget; top = image.top; stack = image.stack }) }
-        ensures config { IfOk result (λ guest. guest.config ≡ first_config guest.setup image.memory image.entry schedule) }
+        ensures config { IfOk result (λ guest. guest.config ≡ first_config guest.setup image.memory (heap_over image.heap_start image.heap_end) image.entry schedule) }
         ensures ending { IfOk result (λ guest. guest.ending ≡ None) }
         // the whole run has at most as many steps as the budget
         ensures short { IfOk result (λ guest. IsShort guest.setup (rest_of guest)) }
@@ -68,7 +73,15 @@ impl Guest {
             top: image.top,
             stack: image.stack,
         };
-        let config = Configuration::first(alloc, &setup, image.memory, image.entry, schedule)?;
+        let heap = GuestHeap::new(alloc, image.heap_start, image.heap_end);
+        let config = Configuration::first(
+            alloc,
+            &setup,
+            image.memory,
+            heap,
+            image.entry,
+            schedule,
+        )?;
         Ok(Guest {
             setup,
             config,
@@ -81,28 +94,34 @@ impl Guest {
     /// ends the run and is no step, and `exit_group` is a step that ends it.
     ///
     /// Once it has answered `Ended` it answers the same again, and all stays.
+    ///
+    /// NoMemory comes only at the call that makes a heap block, and leaves the guest as it was, its schedule included.
     #[inline]
-    pub fn step(&mut self) -> Turn
+    pub fn step(&mut self) -> Result<Turn, NoMemory>
         // the turn of the definition, and the configuration that it gives
-        ensures exact { self.old.ending ≡ None → turn_seen result self.new.config ≡ turn_of self.old.setup self.old.config }
+        ensures exact { self.old.ending ≡ None → IfOk result (λ turn. turn_seen turn self.new.config ≡ turn_of self.old.setup self.old.config) }
         // once the run has ended, the same end again
-        ensures again { IfSome self.old.ending (λ e. (result ≡ Turn.Ended e.outcome) × (self.new ≡ self.old)) }
+        ensures again { IfSome self.old.ending (λ e. (result ≡ Ok (Turn.Ended e.outcome)) × (self.new ≡ self.old)) }
         // the run that was left begins with this turn, and goes on as the one that is left now
-        ensures run { rest_of self.old ≡ begun_with result self.new }
+        ensures run { IfOk result (λ turn. rest_of self.old ≡ begun_with turn self.new) }
         ensures setup { self.new.setup ≡ self.old.setup }
-        ensures ending { self.new.ending ≡ ending_after result self.new.config }
-        ensures counts { Counts self.old.config result self.new.config }
+        ensures ending { IfOk result (λ turn. self.new.ending ≡ ending_after turn self.new.config) }
+        ensures counts { IfOk result (λ turn. Counts self.old.config turn self.new.config) }
         ensures within { IsWithin self.new }
-        ensures seen { IsSeen self.new.setup.harts result self.new.config }
+        ensures seen { IfOk result (λ turn. IsSeen self.new.setup.harts turn self.new.config) }
+        ensures refused { OnErr result (self.new ≡ self.old) }
+        // only the call that makes a block takes memory
+        ensures settled { IsFalse (makes_block self.old.config) → IsOk result }
     {
         match self.ending {
-            Some(ending) => Turn::Ended(ending.outcome),
+            Some(ending) => Ok(Turn::Ended(ending.outcome)),
             None => match self.config.turn(&self.setup) {
-                Turn::Ran(event) => Turn::Ran(event),
-                Turn::Ended(outcome) => {
+                Ok(Turn::Ran(event)) => Ok(Turn::Ran(event)),
+                Ok(Turn::Ended(outcome)) => {
                     self.ending = Some(self.config.ending(&outcome));
-                    Turn::Ended(outcome)
+                    Ok(Turn::Ended(outcome))
                 }
+                Err(refused) => Err(refused),
             },
         }
     }

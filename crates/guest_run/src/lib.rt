@@ -7,6 +7,7 @@
 mod calls;
 mod configuration;
 mod guest;
+mod laws;
 mod setup;
 mod steps;
 #[cfg(test)]
@@ -14,5 +15,6 @@ mod tests;
 mod turn;
 
 pub use guest::Guest;
+pub use laws::runs_are_short;
 pub use setup::RunSettings;
 pub use turn::{Event, Turn};

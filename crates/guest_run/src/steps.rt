@@ -1,17 +1,20 @@
 // One turn of a configuration.
-ghost use Rattle.std.specs.Prelude.{◌≡◌, ℕ, ◌≤◌, ◌^◌, length};
+ghost use Rattle.std.specs.Prelude.{◌≡◌, ℕ, ◌≤◌, length, IfOk, IsOk, OnOk, OnErr, IsFalse};
 ghost use Rattle.std.specs.Option.{option_map_or};
 ghost use Rattle.thread_calls.specs.Calls.{finished_code};
-ghost use Rattle.guest_run.specs.Configs.{CanStep, Fits};
+ghost use Rattle.guest_run.specs.Configs.{CanStep, Fits, noted};
+ghost use Rattle.guest_run.specs.Calls.{over};
 ghost use Rattle.guest_run.specs.Runs.{ending_with};
-ghost use Rattle.guest_run.specs.Turns.{hart_turn, turn_of};
+ghost use Rattle.guest_run.specs.declared.setup.Setup.{Setup};
+ghost use Rattle.guest_run.specs.Turns.{chosen, hart_turn, is_at_alloc, made, makes_block, turn_of};
 ghost use Rattle.guest_run.specs.Inside.{config_of};
 ghost use Rattle.guest_run.specs.Facts.{IsEndOf, IsSeen, turn_seen};
 
 use crate::configuration::Configuration;
 use crate::setup::Setup;
 use crate::turn::{Event, Turn};
-use predator_base::{Ending, Hart, Outcome};
+use predator_base::{Access, Ending, Hart, NoMemory, Outcome};
+use rv32_decode::Instr;
 use rv32_machine::{StepEnd, step};
 
 impl Configuration {
@@ -26,28 +29,49 @@ impl Configuration {
         }
     }
 
-    // A hart's instruction.
+    // A step that made an instruction: its hart has its turn, and its access is counted.
     #[inline]
-    fn run(&mut self, setup: &Setup, hart: Hart) -> Turn
+    fn go_on(&mut self, hart: Hart, instr: Instr, pc: u32, access: Option<Access>) -> Turn
         requires ready { CanStep hart (config_of self.old) }
         requires accesses { self.old.accesses ≤ self.old.steps }
-        ensures turn { turn_seen result (config_of self.new) ≡ hart_turn setup.now hart (config_of self.old) }
+        requires plan { self.old.schedule.harts ≡ length self.old.threads }
+        ensures turn { turn_seen result (config_of self.new) ≡ made access (noted hart instr pc (chosen (config_of self.old))) }
         ensures fits { (harts : ℕ) → Fits harts (config_of self.old) → Fits harts (config_of self.new) }
-        ensures seen { IsSeen (length self.old.threads) result (config_of self.new) }
+        ensures seen { result ≡ Turn.Ran (option_map_or Event.Touch access Event.Quiet) }
     {
-        let state = &mut self.states[usize::from(hart.number())];
-        match step(hart, state, &mut self.memory, &mut self.held) {
-            StepEnd::Next(_, None) => {
-                self.steps += 1;
-                Turn::Ran(Event::Quiet)
-            }
-            StepEnd::Next(_, Some(access)) => {
-                self.steps += 1;
+        self.take_turn();
+        self.note_call(hart, instr, pc);
+        self.steps += 1;
+        match access {
+            None => Turn::Ran(Event::Quiet),
+            Some(access) => {
                 self.accesses += 1;
                 Turn::Ran(Event::Touch(access))
             }
+        }
+    }
+
+    // A hart's instruction.
+    #[inline]
+    fn run(&mut self, setup: &Setup, hart: Hart) -> Result<Turn, NoMemory>
+        requires ready { CanStep hart (config_of self.old) }
+        requires accesses { self.old.accesses ≤ self.old.steps }
+        requires plan { self.old.schedule.harts ≡ length self.old.threads }
+        ensures turn { IfOk result (λ turn. turn_seen turn (config_of self.new) ≡ hart_turn setup.now hart (chosen (config_of self.old))) }
+        ensures fits { OnOk result ((harts : ℕ) → Fits harts (config_of self.old) → Fits harts (config_of self.new)) }
+        ensures seen { IfOk result (λ turn. IsSeen (length self.old.threads) turn (config_of self.new)) }
+        ensures refused { OnErr result (config_of self.new ≡ config_of self.old) }
+        ensures settled { IsFalse (is_at_alloc (config_of self.old) hart) → IsOk result }
+    {
+        let pc = self.pc(hart);
+        let state = &mut self.states[usize::from(hart.number())];
+        match step(hart, state, &mut self.memory, &mut self.held) {
+            StepEnd::Next(instr, access) => Ok(self.go_on(hart, instr, pc, access)),
             StepEnd::Call => self.call(setup, hart),
-            StepEnd::Trap(cause) => Turn::Ended(Outcome::Trap(hart, self.pc(hart), cause)),
+            StepEnd::Trap(cause) => {
+                self.take_turn();
+                Ok(Turn::Ended(Outcome::Trap(hart, pc, cause)))
+            }
         }
     }
 
@@ -62,25 +86,36 @@ impl Configuration {
         }
     }
 
+    // The end of the run where all steps of the budget are taken. No hart is taken from the schedule.
+    fn budget_end(&self) -> Outcome
+        requires fits { Fits self.now.schedule.harts (config_of self.now) }
+        ensures outcome { (s : Setup) → s.budget ≤ self.now.steps → over result (config_of self.now) ≡ turn_of s (config_of self.now) }
+        ensures end { (harts : ℕ) → IsEndOf harts result }
+    {
+        match self.schedule.peek(self.threads.runnable()) {
+            None => self.rest(),
+            Some(_) => Outcome::Budget,
+        }
+    }
+
     /// One turn: the end of the run, or the step of the hart that the schedule chooses.
     #[inline]
-    pub fn turn(&mut self, setup: &Setup) -> Turn
+    pub fn turn(&mut self, setup: &Setup) -> Result<Turn, NoMemory>
         requires fits { Fits setup.now.harts (config_of self.old) }
         requires accesses { self.old.accesses ≤ self.old.steps }
-        requires budget { setup.now.budget ≤ 2 ^ 36 }
-        ensures turn { turn_seen result (config_of self.new) ≡ turn_of setup.now (config_of self.old) }
+        ensures turn { IfOk result (λ turn. turn_seen turn (config_of self.new) ≡ turn_of setup.now (config_of self.old)) }
         ensures fits { Fits setup.now.harts (config_of self.new) }
-        ensures seen { IsSeen setup.now.harts result (config_of self.new) }
+        ensures seen { IfOk result (λ turn. IsSeen setup.now.harts turn (config_of self.new)) }
+        ensures refused { OnErr result (config_of self.new ≡ config_of self.old) }
+        ensures settled { IsFalse (makes_block (config_of self.old)) → IsOk result }
     {
-        match self.schedule.next(self.threads.runnable()) {
-            None => Turn::Ended(self.rest()),
-            Some(hart) => {
-                if self.steps < setup.budget {
-                    self.run(setup, hart)
-                } else {
-                    Turn::Ended(Outcome::Budget)
-                }
+        if self.steps < setup.budget {
+            match self.schedule.peek(self.threads.runnable()) {
+                None => Ok(Turn::Ended(self.rest())),
+                Some(hart) => self.run(setup, hart),
             }
+        } else {
+            Ok(Turn::Ended(self.budget_end()))
         }
     }
 }

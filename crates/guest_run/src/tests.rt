@@ -44,10 +44,12 @@ fn file_of(alloc: Global, words: &[u32]) -> Result<Vec<u8>, AllocError>
     Ok(file)
 }
 
-// What is seen of a run: the harts of its accesses, and the bytes that it put out.
+// What is seen of a run: the harts of its accesses, where it made and freed blocks, and the bytes that it put out.
 #[derive(Drop)]
 struct Seen {
     harts: Vec<u16>,
+    blocks: Vec<(u32, u32)>,
+    freed: Vec<u32>,
     output: Vec<u8>,
 }
 
@@ -59,6 +61,8 @@ impl Seen {
                 let hart = access.hart();
                 self.harts.push(hart.number())?;
             }
+            Event::Alloc { addr, size, .. } => self.blocks.push((addr, size))?,
+            Event::Free { addr } => self.freed.push(addr)?,
             Event::Output { addr, len } => {
                 let bytes = guest.bytes(addr, len).ok_or("no bytes")?;
                 self.output.extend_from_slice(bytes)?;
@@ -80,7 +84,6 @@ fn guest_of(
     requires some { 1 ≤ settings.harts }
     requires quantum { 1 ≤ settings.quantum }
     requires most { settings.quantum ≤ 2 ^ 20 }
-    requires budget { settings.budget ≤ 2 ^ 36 }
 {
     let file = file_of(alloc, words)?;
     let view = ElfView::read(&file)?;
@@ -103,10 +106,12 @@ fn guest_of(
 fn run(alloc: Global, mut guest: Guest) -> Result<(Ending, Seen), Fail> {
     let mut seen = Seen {
         harts: Vec::new(alloc),
+        blocks: Vec::new(alloc),
+        freed: Vec::new(alloc),
         output: Vec::new(alloc),
     };
     for _turn in 0..100u32 {
-        match guest.step() {
+        match guest.step()? {
             Turn::Ran(event) => seen.see(&guest, event)?,
             Turn::Ended(_) => break,
         }
@@ -233,5 +238,47 @@ fn bytes_are_put_out(rt: HostRuntime) -> Result<(), Fail> {
         made.1.output.as_slice(),
         [0x93, 0x08, 0x00, 0x04].as_slice()
     );
+    Ok(())
+}
+
+#[test]
+fn blocks_are_made_and_freed(rt: HostRuntime) -> Result<(), Fail> {
+    let words = [
+        0x4000_0893,
+        0x0180_0513,
+        0x0000_0073,
+        0x0005_0293,
+        0x0000_0513,
+        0x0000_0073,
+        0x0002_a023,
+        0x4010_0893,
+        0x0000_0073,
+        0x0000_0073,
+        0x05d0_0893,
+        0x0000_0073,
+    ];
+    let made = run(
+        rt.alloc(),
+        guest_of(rt.alloc(), &words, b"", settings_of(8, 1000))?,
+    )?;
+    // The second free finds no live block, and the answer -22 is the code of the exit.
+    assert_eq!(rt; made.0, ending(Outcome::Exit(4_294_967_274), 12, 1));
+    assert_eq!(rt;
+        made.1.blocks.as_slice(),
+        [(0x11000, 24), (0x11020, 0)].as_slice()
+    );
+    assert_eq!(rt; made.1.freed.as_slice(), [0x11020].as_slice());
+    let words = [
+        0x4000_0893,
+        0xfff0_0513,
+        0x0000_0073,
+        0x05d0_0893,
+        0x0000_0073,
+    ];
+    let made = run(
+        rt.alloc(),
+        guest_of(rt.alloc(), &words, b"", settings_of(8, 1000))?,
+    )?;
+    assert_eq!(rt; made.0, ending(Outcome::Exit(0), 5, 0));
     Ok(())
 }

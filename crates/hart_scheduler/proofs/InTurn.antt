@@ -7,7 +7,7 @@ use Rattle.std.proofs.lemmas.Option.{none-some}
 use Rattle.std.specs.Prelude.{◌↔◌, IsTrue}
 use Rattle.std.specs.List.{find, range_with_len}
 use Rattle.std.specs.Option.{option_or, IfSome}
-use Rattle.hart_scheduler.specs.declared.streak.Streak.{Streak}
+use Rattle.hart_scheduler.specs.Values.{Turn}
 use Rattle.hart_scheduler.specs.Choices.{Plan, is_runnable, NoneRunnable, harts_after, goes_on, choice_after, choice_in_turn, choice}
 
 option_or-none : (first second : Option ℕ) → option_or first second ≡ None → (first ≡ None) × (second ≡ None)
@@ -45,11 +45,11 @@ pub range_past : (runnable : List Bool) (a end : ℕ) → a < end → is_runnabl
     → find (is_runnable runnable) (range_with_len a (end - a)) ≡ find (is_runnable runnable) (range_with_len (a + 1) (end - (a + 1)))
 range_past runnable a end below miss = range-past (is_runnable runnable) a end below miss
 
-pub successor_is : (runnable : List Bool) (harts quantum : ℕ) (streak : Streak) (first second : Option ℕ) (n : ℕ) → n ≡ streak.hart
-    → goes_on runnable quantum streak ≡ false
+pub successor_is : (runnable : List Bool) (harts : ℕ) (streak : Turn) (first second : Option ℕ) (n : ℕ) → n ≡ streak.hart
+    → goes_on runnable streak ≡ false
     → first ≡ find (is_runnable runnable) (range_with_len (n + 1) (harts - (n + 1))) → second ≡ find (is_runnable runnable) (range_with_len 0 (n + 1 - 0))
-    → option_or first second ≡ choice_after runnable harts quantum streak
-successor_is runnable harts quantum streak first second n same off is_first is_second =
+    → option_or first second ≡ choice_after runnable harts streak
+successor_is runnable harts streak first second n same off is_first is_second =
     let z : n + 1 - 0 ≡ n + 1 = omega arith in
     rw (is_first, is_second, z, same, off) (sym (find-append (is_runnable runnable) (range_with_len (streak.hart + 1) (harts - (streak.hart + 1))) (range_with_len 0 (streak.hart + 1))))
 
@@ -74,28 +74,28 @@ none-after runnable harts n all none = λ hart.
       ]
     ]
 
-none-after-streak : (runnable : List Bool) (harts quantum : ℕ) (streak : Streak) → length runnable ≡ harts
-    → choice_after runnable harts quantum streak ≡ None → NoneRunnable runnable
-none-after-streak runnable harts quantum streak all none =
-    elim (cases_Bool (goes_on runnable quantum streak)) [
+none-after-streak : (runnable : List Bool) (harts : ℕ) (streak : Turn) → length runnable ≡ harts
+    → choice_after runnable harts streak ≡ None → NoneRunnable runnable
+none-after-streak runnable harts streak all none =
+    elim (cases_Bool (goes_on runnable streak)) [
       | inl on ↦ absurd (none-some streak.hart (sym (rw on at none)))
       | inr off ↦ none-after runnable harts streak.hart all (rw off at none)
     ]
 
-none-in-turn : (runnable : List Bool) (harts quantum : ℕ) (listed : List ℕ) (streak : Option Streak) → length runnable ≡ harts
+none-in-turn : (runnable : List Bool) (harts quantum : ℕ) (listed : List ℕ) (streak : Option Turn) → length runnable ≡ harts
     → choice_in_turn runnable (record { listed = listed; streak = streak; harts = harts; quantum = quantum }) ≡ None → NoneRunnable runnable
 none-in-turn runnable harts quantum listed None all none = none-in-order runnable harts all none
-none-in-turn runnable harts quantum listed (Some streak) all none = none-after-streak runnable harts quantum streak all none
+none-in-turn runnable harts quantum listed (Some streak) all none = none-after-streak runnable harts streak all none
 
 -- and there is none where no hart is runnable
-off-where-none : (runnable : List Bool) (quantum : ℕ) (streak : Streak) → NoneRunnable runnable → goes_on runnable quantum streak ≡ false
-off-where-none runnable quantum streak none = and_left _ _ (none streak.hart)
+off-where-none : (runnable : List Bool) (streak : Turn) → NoneRunnable runnable → goes_on runnable streak ≡ false
+off-where-none runnable streak none = and_left _ _ (none streak.hart)
 
-in-turn-none : (runnable : List Bool) (harts quantum : ℕ) (listed : List ℕ) (streak : Option Streak) → NoneRunnable runnable
+in-turn-none : (runnable : List Bool) (harts quantum : ℕ) (listed : List ℕ) (streak : Option Turn) → NoneRunnable runnable
     → choice_in_turn runnable (record { listed = listed; streak = streak; harts = harts; quantum = quantum }) ≡ None
 in-turn-none runnable harts quantum listed None none = find-none (is_runnable runnable) (range_with_len 0 harts) none
 in-turn-none runnable harts quantum listed (Some streak) none =
-    let off : goes_on runnable quantum streak ≡ false = off-where-none runnable quantum streak none in
+    let off : goes_on runnable streak ≡ false = off-where-none runnable streak none in
     rw off (find-none (is_runnable runnable) (harts_after harts streak.hart) none)
 
 pub choice_none : (runnable : List Bool) (plan : Plan) → length runnable ≡ plan.harts → (choice runnable plan ≡ None) ↔ NoneRunnable runnable
@@ -106,17 +106,17 @@ choice_none runnable plan all = (
 )
 
 -- what is chosen is runnable
-able-after : (runnable : List Bool) (harts quantum : ℕ) (streak : Streak) → IfSome (choice_after runnable harts quantum streak) (λ hart. IsTrue (is_runnable runnable hart))
-able-after runnable harts quantum streak =
-    elim (cases_Bool (goes_on runnable quantum streak)) [
+able-after : (runnable : List Bool) (harts : ℕ) (streak : Turn) → IfSome (choice_after runnable harts streak) (λ hart. IsTrue (is_runnable runnable hart))
+able-after runnable harts streak =
+    elim (cases_Bool (goes_on runnable streak)) [
       | inl on ↦ rw on (and_parts _ _ on).0
       | inr off ↦ rw off (found-passes (is_runnable runnable) (harts_after harts streak.hart))
     ]
 
-able-in-turn : (runnable : List Bool) (harts quantum : ℕ) (listed : List ℕ) (streak : Option Streak)
+able-in-turn : (runnable : List Bool) (harts quantum : ℕ) (listed : List ℕ) (streak : Option Turn)
     → IfSome (choice_in_turn runnable (record { listed = listed; streak = streak; harts = harts; quantum = quantum })) (λ hart. IsTrue (is_runnable runnable hart))
 able-in-turn runnable harts quantum listed None = found-passes (is_runnable runnable) (range_with_len 0 harts)
-able-in-turn runnable harts quantum listed (Some streak) = able-after runnable harts quantum streak
+able-in-turn runnable harts quantum listed (Some streak) = able-after runnable harts streak
 
 either : (first second : Option ℕ) (P : ℕ → Type 0) → IfSome first P → IfSome second P → IfSome (option_or first second) P
 either None second P a b = b

@@ -8,7 +8,7 @@ use Rattle.std.proofs.lemmas.List.{take_all, drop_all}
 use Rattle.std.proofs.lemmas.List.Splits.{slice_split_first, slice_split_none}
 use Rattle.std.proofs.lemmas.List.Sums.{fails_before_first}
 use Rattle.std.specs.List.{filter_map, cons_option, before_first, after_first, position_or_len, enumerate_from}
-use Rattle.hart_scheduler.specs.declared.entry.Entry.{Entry}
+use Rattle.hart_scheduler.specs.Values.{ListEntry}
 use Rattle.hart_scheduler.specs.declared.fault.ScheduleFault.{ScheduleFault}
 use Rattle.hart_scheduler.specs.declared.fault.ScheduleFault.TheVariants.{BadLine, HartOutOfRange, ZeroCount, TooLong, NoMemory}
 use Rattle.hart_scheduler.specs.Numbers.{number_of}
@@ -75,14 +75,14 @@ faults_here harts number text line fault is_line bad =
     ap (λ (faults : List ScheduleFault). slice_get faults 0)
     (faults_more harts number text ∙ ap (λ (o : Option ScheduleFault). cons_option o (faults_from harts (number + 1) (after_first line_end text))) here)
 
-one_before : (o : Option Entry) (front back : List Entry) → front ++ cons_option o back ≡ (front ++ option_to_list o) ++ back
-one_before None front back = ap (λ (xs : List Entry). xs ++ back) (sym (append-nil front))
+one_before : (o : Option ListEntry) (front back : List ListEntry) → front ++ cons_option o back ≡ (front ++ option_to_list o) ++ back
+one_before None front back = ap (λ (xs : List ListEntry). xs ++ back) (sym (append-nil front))
 one_before (Some entry) front back = sym (append_assoc front (entry ∷ []) back)
 
-pub entries_on : (text line after : List ℕ) (front : List Entry) → line ≡ before_first line_end text → after ≡ after_first line_end text
+pub entries_on : (text line after : List ℕ) (front : List ListEntry) → line ≡ before_first line_end text → after ≡ after_first line_end text
     → front ++ entries_of text ≡ (front ++ option_to_list (entry_of line)) ++ entries_of after
 entries_on text line after front is_line is_after =
-    rw (is_line, is_after) (ap (λ (xs : List Entry). front ++ xs) (entries_more text)
+    rw (is_line, is_after) (ap (λ (xs : List ListEntry). front ++ xs) (entries_more text)
     ∙ one_before (entry_of (before_first line_end text)) front (entries_of (after_first line_end text)))
 
 pub shorter_after : (text after : List ℕ) → after ≡ after_first line_end text → 0 < length text → length after < length text

@@ -63,7 +63,7 @@ before : Plan
 before = record { listed = 1 ∷ 0 ∷ 2 ∷ []; streak = None; harts = 3; quantum = 2 }
 
 in_turn : List ℕ → ℕ → ℕ → Plan
-in_turn listed hart turns = record { listed = listed; streak = Some (record { hart = hart; turns = turns }); harts = 3; quantum = 2 }
+in_turn listed hart left = record { listed = listed; streak = Some (record { hart = hart; left = left }); harts = 3; quantum = 2 }
 
 passes_over : plan_after (true ∷ false ∷ true ∷ []) before ≡ record { listed = 2 ∷ []; streak = None; harts = 3; quantum = 2 }
 unfolding before
@@ -76,20 +76,20 @@ starts_lowest : plan_after (false ∷ true ∷ true ∷ []) (record { listed = 0
 unfolding in_turn
 starts_lowest = refl
 
-goes_on_once : plan_after (true ∷ true ∷ true ∷ []) (in_turn [] 1 1) ≡ in_turn [] 1 2
+goes_on_once : plan_after (true ∷ true ∷ true ∷ []) (in_turn [] 1 1) ≡ in_turn [] 1 0
 unfolding in_turn
 goes_on_once = refl
 
-then_the_next : plan_after (true ∷ true ∷ true ∷ []) (in_turn [] 1 2) ≡ in_turn [] 2 1
+then_the_next : plan_after (true ∷ true ∷ true ∷ []) (in_turn [] 1 0) ≡ in_turn [] 2 1
 unfolding in_turn
 then_the_next = refl
 
-round_the_end : choice (true ∷ true ∷ true ∷ []) (in_turn [] 2 2) ≡ Some 0
+round_the_end : choice (true ∷ true ∷ true ∷ []) (in_turn [] 2 0) ≡ Some 0
 unfolding in_turn
 round_the_end = refl
 
 -- a lone hart follows itself, and has had its turns where another comes up
-alone : plan_after (false ∷ true ∷ false ∷ []) (in_turn [] 1 2) ≡ in_turn [] 1 2
+alone : plan_after (false ∷ true ∷ false ∷ []) (in_turn [] 1 0) ≡ in_turn [] 1 0
 unfolding in_turn
 alone = refl
 

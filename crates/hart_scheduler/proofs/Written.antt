@@ -13,7 +13,7 @@ use Rattle.std.specs.List.{list_all, before_first, after_first, position_or_len}
 use Rattle.std.specs.Option.{option_map, option_and_then}
 use Rattle.std.specs.Prelude.{◌&&◌, ◌||◌, not, nat_eq, nat_lt, slice_index}
 use Rattle.std.specs.Str.Parse.{digits_value}
-use Rattle.hart_scheduler.specs.declared.entry.Entry.{Entry}
+use Rattle.hart_scheduler.specs.Values.{ListEntry}
 use Rattle.hart_scheduler.specs.Numbers.{is_numeral, number_of}
 use Rattle.hart_scheduler.specs.Texts.{is_byte, space, entry_with, entry_of}
 use Rattle.hart_scheduler.specs.Spelling.{LinesAreWritten}
@@ -99,7 +99,7 @@ no_number-empty = no_number [] refl
 hart_in : (h k : Option ℕ) (hart count : ℕ) → option_and_then (λ n. option_map (entry_with n) k) h ≡ Some (entry_with hart count) → (h ≡ Some hart) × (k ≡ Some count)
 hart_in None k hart count is = absurd (none-some _ is)
 hart_in (Some m) None hart count is = absurd (none-some _ is)
-hart_in (Some m) (Some n) hart count is = let same : entry_with m n ≡ entry_with hart count = same_Some _ _ is in (ap (λ (e : Entry). Some e.hart) same, ap (λ (e : Entry). Some e.count) same)
+hart_in (Some m) (Some n) hart count is = let same : entry_with m n ≡ entry_with hart count = same_Some _ _ is in (ap (λ (e : ListEntry). Some e.hart) same, ap (λ (e : ListEntry). Some e.count) same)
 
 line-written : (line : List ℕ) (hart count : ℕ) → entry_of line ≡ Some (entry_with hart count) → line ≡ decimal hart ++ space ∷ decimal count
 line-written line hart count is =

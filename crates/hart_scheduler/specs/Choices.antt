@@ -1,14 +1,14 @@
 -- Which hart runs next: the one that the list names, and in turn after the list.
-use Rattle.std.specs.Prelude.{ℕ, ◌+◌, ◌-◌, min, Bool, false, ◌&&◌, nat_eq, nat_lt, if◌then◌else◌, List, ◌++◌, Option, Some, is_some, slice_index_or, IsFalse}
+use Rattle.std.specs.Prelude.{ℕ, ◌+◌, ◌-◌, Bool, false, ◌&&◌, nat_eq, nat_lt, if◌then◌else◌, List, ◌++◌, Option, Some, is_some, slice_index_or, IsFalse}
 use Rattle.std.specs.List.{find, after_first, range_with_len}
 use Rattle.std.specs.Option.{option_or, option_map_or}
-use Rattle.hart_scheduler.specs.declared.streak.Streak.{Streak}
+use Rattle.hart_scheduler.specs.Values.{Turn}
 
 -- What a schedule has still to say: the harts that its list still names, in their order, and who is in turn after
 -- them, from the first such choice on.
 pub record Plan : Type 0 where
   pub listed : List ℕ
-  pub streak : Option Streak
+  pub streak : Option Turn
   pub harts : ℕ
   pub quantum : ℕ
 
@@ -26,20 +26,20 @@ harts_in_order harts = range_with_len 0 harts
 abbrev pub harts_after : ℕ → ℕ → List ℕ
 harts_after harts hart = range_with_len (hart + 1) (harts - (hart + 1)) ++ range_with_len 0 (hart + 1)
 
--- the hart of a streak goes on: it is runnable, and has had fewer turns in a row than the quantum, so never where that is 0
-abbrev pub goes_on : List Bool → ℕ → Streak → Bool
-goes_on runnable quantum streak = is_runnable runnable streak.hart && nat_lt streak.turns quantum
+-- the hart of a streak goes on: it is runnable, and has turns left of its quantum, so never where that is 0 or 1
+abbrev pub goes_on : List Bool → Turn → Bool
+goes_on runnable streak = is_runnable runnable streak.hart && nat_lt 0 streak.left
 
 -- the choice in turn after a streak
-abbrev pub choice_after : List Bool → ℕ → ℕ → Streak → Option ℕ
-choice_after runnable harts quantum streak =
-    if goes_on runnable quantum streak then Some streak.hart
+abbrev pub choice_after : List Bool → ℕ → Turn → Option ℕ
+choice_after runnable harts streak =
+    if goes_on runnable streak then Some streak.hart
     else find (is_runnable runnable) (harts_after harts streak.hart)
 
 -- The choice in turn: at first the lowest runnable hart.
 abbrev pub choice_in_turn : List Bool → Plan → Option ℕ
 choice_in_turn runnable plan =
-    option_map_or (choice_after runnable plan.harts plan.quantum) plan.streak (find (is_runnable runnable) (harts_in_order plan.harts))
+    option_map_or (choice_after runnable plan.harts) plan.streak (find (is_runnable runnable) (harts_in_order plan.harts))
 
 -- the choice from the list: the first runnable hart that it still names
 abbrev pub choice_listed : List Bool → Plan → Option ℕ
@@ -49,13 +49,14 @@ choice_listed runnable plan = find (is_runnable runnable) plan.listed
 abbrev pub choice : List Bool → Plan → Option ℕ
 choice runnable plan = option_or (choice_listed runnable plan) (choice_in_turn runnable plan)
 
--- how many turns in a row a hart has had with this one, counted up to the quantum
-abbrev pub turns_with : ℕ → ℕ → Streak → ℕ
-turns_with quantum hart streak = if nat_eq streak.hart hart then min (streak.turns + 1) quantum else 1
+-- How many turns in a row a hart has left once it was chosen: of a hart that follows itself one less, and of another one
+-- less than the quantum. Where none is left, none is.
+abbrev pub left_with : ℕ → ℕ → Turn → ℕ
+left_with quantum hart streak = if nat_eq streak.hart hart then streak.left - 1 else quantum - 1
 
 -- the streak once a hart was chosen in turn
-abbrev pub streak_with : ℕ → Plan → Streak
-streak_with hart plan = record { hart = hart; turns = option_map_or (turns_with plan.quantum hart) plan.streak 1 }
+abbrev pub streak_with : ℕ → Plan → Turn
+streak_with hart plan = record { hart = hart; left = option_map_or (left_with plan.quantum hart) plan.streak (plan.quantum - 1) }
 
 -- The plan once a hart was chosen: what the list names up to its first runnable hart is used up, and all of it where
 -- none is runnable. Only a hart that was chosen in turn has a streak.

@@ -1,6 +1,6 @@
 -- What is true of every schedule.
 use Rattle.std.specs.Prelude.{ℕ, ◌≤◌, ◌<◌, Option, Some, None}
-use Rattle.hart_scheduler.specs.declared.streak.Streak.{Streak}
+use Rattle.hart_scheduler.specs.Values.{Turn}
 use Rattle.hart_scheduler.specs.declared.schedule.Schedule.TheInside.{Inside}
 use Rattle.hart_scheduler.specs.Choices.{Plan}
 
@@ -8,7 +8,7 @@ abbrev pub plan_in : Inside → Plan
 plan_in a = record { listed = a.listed; streak = a.streak; harts = a.harts; quantum = a.quantum }
 
 -- the hart of a streak is one of so many
-abbrev pub IsGoodStreak : ℕ → Option Streak → Type 0
+abbrev pub IsGoodStreak : ℕ → Option Turn → Type 0
 IsGoodStreak harts None = Unit {0}
 IsGoodStreak harts (Some streak) = streak.hart < harts
 

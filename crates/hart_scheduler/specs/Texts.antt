@@ -2,7 +2,7 @@
 use Rattle.std.specs.Prelude.{ℕ, ◌^◌, Bool, nat_eq, nat_lt, nat_le, if◌then◌else◌, List, [], ◌∷◌, length, replicate, Option, Some, None, option_and_then, Result, Ok, Err}
 use Rattle.std.specs.Option.{option_map, option_map_or}
 use Rattle.std.specs.List.{filter_map, flat_map, before_first, after_first, slice_split, enumerate_from}
-use Rattle.hart_scheduler.specs.declared.entry.Entry.{Entry}
+use Rattle.hart_scheduler.specs.Values.{ListEntry}
 use Rattle.hart_scheduler.specs.declared.fault.ScheduleFault.{ScheduleFault}
 use Rattle.hart_scheduler.specs.declared.fault.ScheduleFault.TheVariants.{BadLine, HartOutOfRange, ZeroCount, TooLong, NoMemory}
 use Rattle.hart_scheduler.specs.Choices.{Plan}
@@ -26,17 +26,17 @@ abbrev pub lines_of : List ℕ → List (List ℕ)
 lines_of content = slice_split (is_byte line_feed) content
 
 -- the entry of a hart and a count
-abbrev pub entry_with : ℕ → ℕ → Entry
+abbrev pub entry_with : ℕ → ℕ → ListEntry
 entry_with hart count = record { hart = hart; count = count }
 
 -- the hart and the count that a line says, None where it has another form
-unfoldable pub entry_of : List ℕ → Option Entry
+unfoldable pub entry_of : List ℕ → Option ListEntry
 entry_of line =
     option_and_then (λ hart. option_map (entry_with hart) (number_of (after_first (is_byte space) line)))
     (number_of (before_first (is_byte space) line))
 
 -- the fault of an entry on the line of a number, if it has one
-abbrev pub entry_fault : ℕ → ℕ → Entry → Option ScheduleFault
+abbrev pub entry_fault : ℕ → ℕ → ListEntry → Option ScheduleFault
 entry_fault harts number entry =
     if nat_le harts entry.hart then Some (HartOutOfRange number)
     else (if nat_eq entry.count 0 then Some (ZeroCount number) else None)
@@ -52,15 +52,15 @@ abbrev pub faults_from : ℕ → ℕ → List ℕ → List ScheduleFault
 faults_from harts number content = filter_map (line_fault harts) (enumerate_from number (lines_of content))
 
 -- the entries of a text
-abbrev pub entries_of : List ℕ → List Entry
+abbrev pub entries_of : List ℕ → List ListEntry
 entries_of content = filter_map entry_of (lines_of content)
 
 -- the harts of a list of entries, each as often as it counts
-abbrev pub harts_of : List Entry → List ℕ
+abbrev pub harts_of : List ListEntry → List ℕ
 harts_of entries = flat_map (λ entry. replicate entry.count entry.hart) entries
 
 -- the plan of a list of entries, with no choice in turn made yet
-abbrev pub plan_of : ℕ → ℕ → List Entry → Plan
+abbrev pub plan_of : ℕ → ℕ → List ListEntry → Plan
 plan_of harts quantum entries = record { listed = harts_of entries; streak = None; harts = harts; quantum = quantum }
 
 -- the plan unless there is a fault, which is the first

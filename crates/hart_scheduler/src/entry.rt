@@ -8,12 +8,23 @@ ghost use Rattle.hart_scheduler.specs.Texts.{is_byte, entry_with, entry_of, line
 
 use crate::fault::ScheduleFault;
 use predator_base::Hart;
+use std::marker::Model;
 
 /// A hart that runs so many times.
 #[derive(Clone, Copy, Debug)]
 pub struct Entry {
     pub(crate) hart: Hart,
     pub(crate) count: u32,
+}
+
+impl Model for Entry {
+    ghost use Rattle.hart_scheduler.specs.Values.{ListEntry};
+
+    ghost Value = { ListEntry };
+
+    ghost view = { λ e. record { hart = e.hart; count = e.count } };
+
+    ghost inverse = { λ e. record { hart = e.hart; count = e.count } };
 }
 
 // The place of the first byte of a code in a text, or the text's length.

@@ -1,7 +1,7 @@
 // The list of a schedule, and what is left of it.
 ghost use Rattle.std.specs.Prelude.{◌≡◌, ◌≤◌, ◌<◌, Bool, length, true, slice_index_or};
 ghost use Rattle.std.specs.List.{find, after_first};
-ghost use Rattle.hart_scheduler.specs.declared.entry.Entry.{Entry as AnEntry};
+ghost use Rattle.hart_scheduler.specs.Values.{ListEntry};
 ghost use Rattle.hart_scheduler.specs.Choices.{is_runnable};
 ghost use Rattle.hart_scheduler.specs.Listed.{is_able, harts_from};
 ghost use Rattle.hart_scheduler.specs.Texts.{harts_of};
@@ -43,7 +43,7 @@ fn is_able(entry: Entry, runnable: &[bool]) -> bool
 fn first_able(entries: &[Entry], place: usize, runnable: &[bool]) -> usize
     requires { place ≤ length entries.now }
     ensures bound { result ≤ length entries.now }
-    ensures able { (d : AnEntry) → result < length entries.now → is_able runnable.now (slice_index_or entries.now result d) ≡ true }
+    ensures able { (d : ListEntry) → result < length entries.now → is_able runnable.now (slice_index_or entries.now result d) ≡ true }
     ensures found { find (is_runnable runnable.now) (harts_from entries.now place) ≡ find (is_runnable runnable.now) (harts_from entries.now result) }
     ensures left { after_first (is_runnable runnable.now) (harts_from entries.now place) ≡ after_first (is_runnable runnable.now) (harts_from entries.now result) }
 {
@@ -81,7 +81,8 @@ impl Listed {
     {
         let place = first_able(self.entries.as_slice(), self.place, runnable);
         if place < self.entries.len() {
-            self.entries[place].count -= 1;
+            let entry = &mut self.entries[place];
+            entry.count -= 1;
         }
         self.place = place;
     }

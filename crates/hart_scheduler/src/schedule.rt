@@ -52,7 +52,7 @@ impl Schedule {
         ensures { result ≡ choice_in_turn runnable.now self.now }
     {
         match self.streak {
-            Some(streak) => streak.successor(runnable, self.harts, self.quantum),
+            Some(streak) => streak.successor(runnable, self.harts),
             None => lowest_runnable(runnable, 0, self.harts),
         }
     }
@@ -61,11 +61,11 @@ impl Schedule {
     fn streak_with(&self, hart: Hart) -> Streak
         ensures { result ≡ streak_with hart self.now }
     {
-        let turns = match self.streak {
-            Some(streak) => streak.turns_with(hart, self.quantum),
-            None => 1,
+        let left = match self.streak {
+            Some(streak) => streak.left_with(hart, self.quantum),
+            None => self.quantum.saturating_sub(1),
         };
-        Streak { hart, turns }
+        Streak::new(hart, left)
     }
 
     // The hart that is chosen: from the list, or else in turn.

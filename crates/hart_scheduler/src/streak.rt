@@ -1,49 +1,66 @@
 // Whose turn it is after the list.
 ghost use Rattle.std.specs.Prelude.{◌≡◌, ◌≤◌, ◌<◌, ◌-◌, ◌^◌, length};
-ghost use Rattle.hart_scheduler.specs.Choices.{goes_on, choice_after, turns_with};
+ghost use Rattle.hart_scheduler.specs.Choices.{goes_on, choice_after, left_with};
 
 use crate::runnable::{is_runnable, lowest_runnable};
 use predator_base::Hart;
+use std::marker::Model;
 
-/// The hart that was last chosen in turn, and how many turns in a row it has had, counted up to the
-/// quantum.
+/// The hart that was last chosen in turn, and how many turns in a row it has left of its quantum.
 #[derive(Clone, Copy, Debug)]
 pub struct Streak {
-    pub(crate) hart: Hart,
-    pub(crate) turns: u32,
+    hart: Hart,
+    left: u32,
+}
+
+impl Model for Streak {
+    ghost use Rattle.hart_scheduler.specs.Values.{Turn};
+
+    ghost Value = { Turn };
+
+    ghost view = { λ s. record { hart = s.hart; left = s.left } };
+
+    ghost inverse = { λ t. record { hart = t.hart; left = t.left } };
 }
 
 impl Streak {
-    // Whether its hart goes on.
-    fn goes_on(self, runnable: &[bool], quantum: u32) -> bool
-        ensures { result ≡ goes_on runnable.now quantum self }
+    // A hart with so many turns left.
+    pub(crate) fn new(hart: Hart, left: u32) -> Streak
+        ensures { result ≡ record { hart = hart; left = left } }
     {
-        is_runnable(runnable, self.hart) && self.turns < quantum
+        Streak { hart, left }
+    }
+
+    // Whether its hart goes on.
+    fn goes_on(self, runnable: &[bool]) -> bool
+        ensures { result ≡ goes_on runnable.now self }
+    {
+        is_runnable(runnable, self.hart) && self.left > 0
     }
 
     // The hart whose turn comes after it.
-    pub(crate) fn successor(self, runnable: &[bool], harts: u16, quantum: u32) -> Option<Hart>
+    pub(crate) fn successor(self, runnable: &[bool], harts: u16) -> Option<Hart>
         requires bound { harts ≤ 256 }
         requires inside { harts ≤ length runnable.now }
         requires own { self.hart < harts }
-        ensures { result ≡ choice_after runnable.now harts quantum self }
+        ensures { result ≡ choice_after runnable.now harts self }
     {
         let hart = self.hart;
-        if self.goes_on(runnable, quantum) {
+        if self.goes_on(runnable) {
             return Some(hart);
         }
         let next = hart.number() + 1;
         lowest_runnable(runnable, next, harts).or(lowest_runnable(runnable, 0, next))
     }
 
-    // How many turns in a row a hart has had with one more, counted up to the quantum.
-    pub(crate) fn turns_with(self, hart: Hart, quantum: u32) -> u32
-        ensures { result ≡ turns_with quantum hart self }
+    // How many turns in a row a hart has left once it was chosen.
+    pub(crate) fn left_with(self, hart: Hart, quantum: u32) -> u32
+        ensures { result ≡ left_with quantum hart self }
     {
         if self.hart == hart {
-            self.turns.saturating_add(1).min(quantum)
+            self.left.saturating_sub(1)
         } else {
-            1
+            quantum.saturating_sub(1)
         }
     }
 }

@@ -1,7 +1,4 @@
-pub mod Calls
-pub mod Files
-pub mod Steps
+pub mod Putting
+pub mod Beginning
 pub mod Events
-pub mod Noting
 pub mod Following
-pub mod Whole

@@ -1,3 +1,2 @@
-pub mod Written
 pub mod Recorded
 pub mod Recording

@@ -1,14 +1,17 @@
-//! A run, recorded while it goes on: a detector sees each access, and the files that are named get the trace and what
-//! the guest puts out.
+//! A run, recorded while it goes on: a detector sees each access, and each file that is named gets what its content says.
 //!
 //! [`record_run`] runs a guest to its end. Nothing of the run is kept but what the detector knows, and the bytes that
-//! wait for their file.
+//! wait for their file. What a file gets of a moment of the run is said in one place, [`moment`]: a record more of the
+//! trace is a variant more there.
 #![tactic(auto)]
 
-mod named;
+mod file;
+mod files;
+mod moment;
 mod record;
 mod recorder;
 #[cfg(test)]
 mod tests;
 
-pub use record::{Recorded, RunFiles, record_run};
+pub use file::{Content, RunFile};
+pub use record::{Recorded, record_run};

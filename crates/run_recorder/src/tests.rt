@@ -1,14 +1,16 @@
-// Small programs, recorded.
-
-ghost use Rattle.std.specs.Prelude.{◌≡◌, ◌≤◌, length, None, IfOk};
+// A small program, recorded.
+ghost use Rattle.std.specs.Prelude.{◌≡◌, ◌≤◌, ◌^◌, [], length, None, IfOk};
+ghost use Rattle.detector.specs.Standing.{StandsFor};
+ghost use Rattle.outputs.specs.OnTheirWay.{AreApart};
+ghost use Rattle.run_recorder.specs.Recorded.{names_of};
 ghost use Rattle.guest_run.specs.Runs.{IsShort, rest_of};
 
-use crate::{Recorded, RunFiles, record_run};
-use detector::Line;
+use crate::{Content, Recorded, RunFile, record_run};
+use detector::{Detector, PagedIndex};
 use elf_loader::{ElfView, Space, place};
 use guest_run::{Guest, RunSettings};
 use hart_scheduler::Schedule;
-use predator_base::{Ending, Outcome, Range, Thresholds};
+use predator_base::{Ending, Layout, Outcome, Thresholds};
 use shelf::{Failing, MemoryShelf, ShelfError};
 use std::alloc::{AllocError, Global};
 use std::test::Fail;
@@ -34,47 +36,26 @@ const HEAD: [u32; 17] = [
     0,
 ];
 
-// Two harts add to one word.
-const TWO_HARTS: [u32; 12] = [
-    0x4020_0893,
-    0x0001_0537,
-    0x0105_0513,
-    0x0000_0073,
-    0x0001_02b7,
-    0x4002_8293,
-    0x0010_0313,
-    0x0062_a02f,
-    0x1862_a3af,
-    0x05d0_0893,
-    0x0000_0513,
-    0x0000_0073,
-];
-
-// A hart puts out its first instruction.
+// A hart puts out its first instruction, and ends.
 const WRITER: [u32; 7] = [
-    0x0400_0893,
-    0x0010_0513,
-    0x0001_05b7,
-    0x0040_0613,
-    0x0000_0073,
-    0x05d0_0893,
-    0x0000_0073,
-];
-
-// The trace of the two harts: its beginning, two writes of a word at 0x10400, and the end.
-const TWO_HARTS_TRACE: [u8; 61] = [
-    b'P', b'R', b'D', b'T', b'R', b'C', b'0', b'1', 0, 0, 0, 0, 0, 0, 0, 0, 8, 0, 0, 0, 2, 0, 0, 0,
-    4, 1, 0, 4, 2, 1, 0, 0, 4, 1, 0, 4, 6, 0, 0, 0, 0, 0, 0, 0, 0, 20, 0, 0, 0, 0, 0, 0, 0, 2, 0,
-    0, 0, 0, 0, 0, 0,
+    0x0400_0893, // li a7, 64
+    0x0010_0513, // li a0, 1
+    0x0001_05b7, // lui a1, 0x10
+    0x0040_0613, // li a2, 4
+    0x0000_0073, // ecall
+    0x05d0_0893, // li a7, 93
+    0x0000_0073, // ecall
 ];
 
 // The program file of some words.
-fn file_of(alloc: Global, words: &[u32]) -> Result<Vec<u8>, AllocError>
-    requires { length words.now ≤ 16 }
-{
+fn file_of(alloc: Global, words: &[u32; 7]) -> Result<Vec<u8>, AllocError> {
     let size = words.len() as u32 * 4;
     let mut file = Vec::new(alloc);
-    for part in [HEAD.as_slice(), [size, size, 7, 0].as_slice(), words] {
+    for part in [
+        HEAD.as_slice(),
+        [size, size, 7, 0].as_slice(),
+        words.as_slice(),
+    ] {
         for word in part {
             file.extend_from_slice(&word.to_le_bytes())?;
         }
@@ -83,9 +64,9 @@ fn file_of(alloc: Global, words: &[u32]) -> Result<Vec<u8>, AllocError>
 }
 
 // The guest of a program, of 8 harts.
-fn guest_of(alloc: Global, words: &[u32]) -> Result<Guest, Fail>
-    requires { length words.now ≤ 16 }
+fn guest_of(alloc: Global, words: &[u32; 7]) -> Result<Guest, Fail>
     ensures short { IfOk result (λ guest. IsShort guest.setup (rest_of guest)) }
+    ensures budget { IfOk result (λ guest. guest.setup.budget ≤ 2 ^ 36) }
     ensures harts { IfOk result (λ guest. guest.setup.harts ≡ 8) }
 {
     let file = file_of(alloc, words)?;
@@ -114,13 +95,16 @@ fn guest_of(alloc: Global, words: &[u32]) -> Result<Guest, Fail>
 }
 
 // Each line is tracked from its first write on, and listed from its first invalidation on.
-fn levels() -> Thresholds
-    ensures { result.prediction ≡ None }
+fn blank_detector(alloc: Global) -> Detector<PagedIndex>
+    ensures { StandsFor [] result }
 {
-    match Thresholds::new(1, None, 1) {
-        Some(thresholds) => thresholds,
-        None => unreachable!(),
-    }
+    let Some(layout) = Layout::new(64, 0) else {
+        unreachable!()
+    };
+    let Some(thresholds) = Thresholds::new(1, None, 1) else {
+        unreachable!()
+    };
+    Detector::new(alloc, PagedIndex::new(alloc), layout, thresholds)
 }
 
 // A shelf of whose calls these fail.
@@ -128,54 +112,38 @@ fn shelf_with(alloc: Global, failing: &[Failing]) -> Result<MemoryShelf, Fail> {
     Ok(MemoryShelf::new(alloc, Vec::new(alloc), failing.to_vec(alloc)?)?)
 }
 
-// A program, recorded under two names.
+// The program, recorded in these files.
 fn record(
     alloc: Global,
     shelf: &mut MemoryShelf,
-    words: &[u32],
+    files: &[RunFile<'_>],
 ) -> Result<Result<Recorded, ShelfError>, Fail>
-    requires { length words.now ≤ 16 }
+    requires { AreApart (names_of files.now) }
 {
-    let files = RunFiles {
-        trace: Some("t"),
-        output: Some("o"),
-    };
-    let guest = guest_of(alloc, words)?;
-    Ok(record_run(alloc, shelf, guest, files, levels()))
+    let guest = guest_of(alloc, &WRITER)?;
+    Ok(record_run(alloc, shelf, guest, blank_detector(alloc), files))
 }
 
-#[test]
-fn two_harts_are_recorded(rt: HostRuntime) -> Result<(), Fail> {
-    let alloc = rt.alloc();
-    let mut shelf = shelf_with(alloc, &[])?;
-    let shown = record(alloc, &mut shelf, &TWO_HARTS)??;
-    let ending = Ending {
-        outcome: Outcome::Exit(0),
-        steps: 20,
-        accesses: 2,
-    };
-    assert_eq!(rt; shown.ending, ending);
-    let line = Line {
-        range: Range {
-            base: 0x10400,
-            size: 64,
-        },
-        start: 0,
-        count: 1,
-    };
-    assert_eq!(rt; shown.lines.as_slice(), [line].as_slice());
-    assert_eq!(rt; shelf.written("t"), Some(TWO_HARTS_TRACE.as_slice()));
-    assert_eq!(rt; shelf.written("o"), Some(b"".as_slice()));
-    Ok(())
+// The file that a content is written to.
+fn file_for<'a>(name: &'a str, content: Content) -> [RunFile<'a>; 1]
+    ensures { AreApart (names_of result) }
+{
+    [RunFile { name, content }]
 }
 
 #[test]
 fn what_is_put_out_is_written(rt: HostRuntime) -> Result<(), Fail> {
     let alloc = rt.alloc();
     let mut shelf = shelf_with(alloc, &[])?;
-    let shown = record(alloc, &mut shelf, &WRITER)??;
-    assert_eq!(rt; shown.lines.len(), 0);
-    assert_eq!(rt; shelf.written("t").map(|bytes| bytes.len()), Some(45));
+    let files = file_for("o", Content::Output);
+    let shown = record(alloc, &mut shelf, &files)??;
+    let ending = Ending {
+        outcome: Outcome::Exit(4),
+        steps: 7,
+        accesses: 0,
+    };
+    assert_eq!(rt; shown.ending, ending);
+    assert_eq!(rt; shown.detector.position(), 0);
     assert_eq!(rt;
         shelf.written("o"),
         Some([0x93, 0x08, 0x00, 0x04].as_slice())
@@ -184,32 +152,31 @@ fn what_is_put_out_is_written(rt: HostRuntime) -> Result<(), Fail> {
 }
 
 #[test]
-fn a_run_without_names_writes_nothing(rt: HostRuntime) -> Result<(), Fail> {
+fn a_trace_has_a_beginning_and_an_end(rt: HostRuntime) -> Result<(), Fail> {
     let alloc = rt.alloc();
-    let mut shelf = shelf_with(alloc, &[Failing { call: 1, keep: 0 }])?;
-    let files = RunFiles {
-        trace: None,
-        output: None,
-    };
-    let guest = guest_of(alloc, &TWO_HARTS)?;
-    let shown = record_run(alloc, &mut shelf, guest, files, levels())?;
-    assert_eq!(rt; shown.lines.len(), 1);
+    let mut shelf = shelf_with(alloc, &[])?;
+    let files = file_for("t", Content::Trace);
+    record(alloc, &mut shelf, &files)??;
+    assert_eq!(rt; shelf.written("t").map(|bytes| bytes.len()), Some(45));
     Ok(())
 }
 
-// The calls are the two begins, and an append of each file that has bytes.
+// The calls are the begin, and an append of what waits at the end.
 #[test]
-fn a_failing_call_leaves_fronts(rt: HostRuntime) -> Result<(), Fail> {
+fn a_failing_call_leaves_a_front(rt: HostRuntime) -> Result<(), Fail> {
     let alloc = rt.alloc();
-    let mut shelf = shelf_with(alloc, &[Failing { call: 2, keep: 0 }])?;
-    let refused = record(alloc, &mut shelf, &WRITER)?.err();
-    assert_eq!(rt; refused, Some(ShelfError::Failed));
-    assert_eq!(rt; shelf.written("t"), Some(b"".as_slice()));
-    assert_eq!(rt; shelf.written("o"), None);
-    let mut shelf = shelf_with(alloc, &[Failing { call: 3, keep: 8 }])?;
-    let refused = record(alloc, &mut shelf, &WRITER)?.err();
+    let mut shelf = shelf_with(alloc, &[Failing { call: 2, keep: 8 }])?;
+    let files = file_for("t", Content::Trace);
+    let refused = record(alloc, &mut shelf, &files)?.err();
     assert_eq!(rt; refused, Some(ShelfError::Failed));
     assert_eq!(rt; shelf.written("t"), Some(b"PRDTRC01".as_slice()));
-    assert_eq!(rt; shelf.written("o"), Some(b"".as_slice()));
+    Ok(())
+}
+
+#[test]
+fn a_run_without_files_calls_no_shelf(rt: HostRuntime) -> Result<(), Fail> {
+    let alloc = rt.alloc();
+    let mut shelf = shelf_with(alloc, &[Failing { call: 1, keep: 0 }])?;
+    record(alloc, &mut shelf, &[])??;
     Ok(())
 }

@@ -25,7 +25,8 @@ same_pages m = record { base = refl; size = refl; pages = refl }
 
 length-with_number : (bytes : List ℕ) (at n value : ℕ) → length (with_number bytes at n value) ≡ length bytes
 length-with_number bytes at zero value = refl
-length-with_number bytes at (suc n) value = length-with_number (set bytes at (value % 256)) (at + 1) n (value / 256) ∙ length-set bytes at (value % 256)
+length-with_number bytes at (suc n) value = length-with_number (set bytes at (value % 256)) (at + 1) n (value / 256)
+    ∙ length-set bytes at (value % 256)
 
 stored_pages : (m : Space) (a size value : ℕ) → KeepsPages m (stored m a size value)
 stored_pages m a size value = record { base = refl; size = length-with_number m.bytes (a - m.base) size value; pages = refl }
@@ -37,12 +38,18 @@ either : (b : Bool) (x : Machine) (o p : Outcome) → Kept x o → Kept x p → 
 either true x o p h k = h
 either false x o p h k = k
 
-kept_load : (hart : ℕ) (i : Instr) (d a size : ℕ) (f : ℕ → ℕ) (x : Machine) (r : Result ℕ MemFault) → Kept x (after_load hart i d a size f x r)
+kept_load : (hart : ℕ) (i : Instr) (d a size : ℕ) (f : ℕ → ℕ) (x : Machine) (r : Result ℕ MemFault)
+    → Kept x (after_load hart i d a size f x r)
 kept_load hart i d a size f x (Ok v) = record { left = tt; harts = refl; pages = same_pages x.memory }
 kept_load hart i d a size f x (Err e) = record { left = refl; harts = refl; pages = same_pages x.memory }
 
-kept_store : (hart : ℕ) (i : Instr) (a size value : ℕ) (s : Registers) (x : Machine) (r : Option MemFault) → Kept x (after_store hart i a size value s x r)
-kept_store hart i a size value s x None = record { left = tt; harts = length-released hart (word_at a) x.held; pages = stored_pages x.memory a size value }
+kept_store : (hart : ℕ) (i : Instr) (a size value : ℕ) (s : Registers) (x : Machine) (r : Option MemFault)
+    → Kept x (after_store hart i a size value s x r)
+kept_store hart i a size value s x None = record {
+  left = tt;
+  harts = length-released hart (word_at a) x.held;
+  pages = stored_pages x.memory a size value;
+}
 kept_store hart i a size value s x (Some e) = record { left = refl; harts = refl; pages = same_pages x.memory }
 
 kept_lr : (hart : ℕ) (i : Instr) (d a : ℕ) (x : Machine) (r : Result ℕ MemFault) → Kept x (after_lr hart i d a x r)
@@ -52,7 +59,11 @@ kept_lr hart i d a x (Err e) = record { left = refl; harts = refl; pages = same_
 kept_sc : (hart : ℕ) (i : Instr) (d a value : ℕ) (x : Machine) (r : Option MemFault) → Kept x (after_sc hart i d a value x r)
 kept_sc hart i d a value x None =
     either (is_of (held_by x.held hart) a) x _ _
-    (record { left = tt; harts = length-set (released hart a x.held) hart None ∙ length-released hart a x.held; pages = stored_pages x.memory a 4 value })
+    (record {
+      left = tt;
+      harts = length-set (released hart a x.held) hart None ∙ length-released hart a x.held;
+      pages = stored_pages x.memory a 4 value;
+    })
     (record { left = tt; harts = length-set x.held hart None; pages = same_pages x.memory })
 kept_sc hart i d a value x (Some e) = record { left = refl; harts = refl; pages = same_pages x.memory }
 

@@ -10,7 +10,8 @@ abs_bound : (z : ℤ) → SFits w32 z → unsigned_abs z ≤ 2 ^ 31
 abs_bound (pos n) f = omega (arith, f.sfits)
 abs_bound (negsuc n) f = omega (arith, f.sfits)
 
-pub product_high : (a b x y : ℤ) (r : ℕ) → SFits w32 a → SFits w32 b → x ≡ to_z w32 (of_z w32 a) → y ≡ to_z w32 (of_z w32 b) → r ≡ of_z w64 (to_z w64 (of_z w64 (to_z w64 (of_z w64 x) *ℤ to_z w64 (of_z w64 y)))) → r / 2 ^ 32 ≡ high (a *ℤ b)
+pub product_high : (a b x y : ℤ) (r : ℕ) → SFits w32 a → SFits w32 b → x ≡ to_z w32 (of_z w32 a) → y ≡ to_z w32 (of_z w32 b)
+    → r ≡ of_z w64 (to_z w64 (of_z w64 (to_z w64 (of_z w64 x) *ℤ to_z w64 (of_z w64 y)))) → r / 2 ^ 32 ≡ high (a *ℤ b)
 product_high a b x y r f g p q h =
     let pa : x ≡ a = p ∙ to_z-of_z w32 a f in
     let qb : y ≡ b = q ∙ to_z-of_z w32 b g in

@@ -9,12 +9,14 @@ use Rattle.rv32_machine.specs.Reserved.{count_held, released, without}
 abbrev pub released_at : ℕ → ℕ → ℕ → Option ℕ → Option ℕ
 released_at writer word hart held = cond (nat_eq hart writer) held (without word held)
 
-released_one : (writer word : ℕ) (held : List (Option ℕ)) → writer < length held → (k : ℕ) → k < length held → get_or (released writer word held) k None ≡ released_at writer word k (get_or held k None)
+released_one : (writer word : ℕ) (held : List (Option ℕ)) → writer < length held → (k : ℕ) → k < length held
+    → get_or (released writer word held) k None ≡ released_at writer word k (get_or held k None)
 released_one writer word held within k below =
     elim (cases_Bool (nat_eq k writer)) [
       | inl same ↦
           let here : k ≡ writer = eqb-true k writer same in
-          rw (same, here) (get_or-set_same (map (without word) held) writer (get_or held writer None) None (omega (arith, length-map held (without word))))
+          rw (same, here) (get_or-set_same (map (without word) held) writer (get_or held writer None) None
+          (omega (arith, length-map held (without word))))
       | inr other ↦
           rw other (
           get_or-set_other (map (without word) held) writer k (get_or held writer None) None (eqb-false k writer other)
@@ -23,7 +25,8 @@ released_one writer word held within k below =
     ]
 
 -- a list is the released one where each hart has what it has there
-pub released_by_hart : (writer word : ℕ) (held new : List (Option ℕ)) → writer < length held → length new ≡ length held → ((k : ℕ) → k < length held → get_or new k None ≡ released_at writer word k (get_or held k None)) → new ≡ released writer word held
+pub released_by_hart : (writer word : ℕ) (held new : List (Option ℕ)) → writer < length held → length new ≡ length held
+    → ((k : ℕ) → k < length held → get_or new k None ≡ released_at writer word k (get_or held k None)) → new ≡ released writer word held
 released_by_hart writer word held new within same each =
     let lengths : length (released writer word held) ≡ length held =
     length-set (map (without word) held) writer (get_or held writer None) ∙ length-map held (without word) in
@@ -42,6 +45,7 @@ kept true held = refl
 kept false held = refl
 
 -- where no hart has reserved a word, no reservation ends
-pub released_none : (writer word : ℕ) (held : List (Option ℕ)) → writer < length held → count_held held ≡ 0 → held ≡ released writer word held
+pub released_none : (writer word : ℕ) (held : List (Option ℕ)) → writer < length held → count_held held ≡ 0
+    → held ≡ released writer word held
 released_none writer word held within none =
     released_by_hart writer word held held within refl (λ k below. rw (none_at held none k) (kept (nat_eq k writer) None))

@@ -16,7 +16,8 @@ signed_word a = cast_signed w32 a
 abbrev pub high : ℤ → ℕ
 high z = cast_unsigned w64 z / 2 ^ 32
 
--- shifts use the low five bits; division rounds towards zero, and by zero it gives all ones, and the
+-- shifts use the low five bits; division rounds towards zero, and by zero it gives all ones, and
+-- the
 -- dividend as remainder
 abbrev pub alu : AluOp → ℕ → ℕ → ℕ
 alu Add a b = (a + b) % 2 ^ 32
@@ -33,7 +34,8 @@ alu Mul a b = (a * b) % 2 ^ 32
 alu Mulh a b = high (signed_word a *ℤ signed_word b)
 alu Mulhsu a b = high (signed_word a *ℤ pos b)
 alu Mulhu a b = a * b / 2 ^ 32
-alu Div a b = if nat_eq b 0 then 2 ^ 32 - 1 else cast_unsigned w32 (int_div (signed_word a) (signed_word b))
+alu Div a b = if nat_eq b 0 then 2 ^ 32 - 1 else cast_unsigned w32
+    (int_div (signed_word a) (signed_word b))
 alu Divu a b = if nat_eq b 0 then 2 ^ 32 - 1 else (a / b)
 alu Rem a b = if nat_eq b 0 then a else cast_unsigned w32 (int_rem (signed_word a) (signed_word b))
 alu Remu a b = if nat_eq b 0 then a else (a % b)

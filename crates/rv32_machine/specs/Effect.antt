@@ -83,7 +83,8 @@ branches i target x =
 
 abbrev pub branch_effect : Test → ℕ → ℕ → ℤ → Machine → Outcome
 branch_effect t s r z x =
-    if holds t (reg x.state s) (reg x.state r) then branches (Branch t s r z) (moved x.state.pc z) x
+    if holds t (reg x.state s) (reg x.state r) then branches (Branch t s r z) (moved x.state.pc z)
+    x
     else goes (Branch t s r z) None (advanced x.state) x.memory x.held
 
 abbrev pub load_size : LoadKind → ℕ
@@ -114,24 +115,29 @@ store_cause fault = StoreOutside
 
 -- after a load that gave this: the value into a register, or the trap
 abbrev pub after_load : ℕ → Instr → ℕ → ℕ → ℕ → (ℕ → ℕ) → Machine → Result ℕ MemFault → Outcome
-after_load hart i d a size f x (Ok v) = goes i (access hart a Read size) (advanced (with_reg x.state d (f v))) x.memory x.held
+after_load hart i d a size f x (Ok v) = goes i (access hart a Read size)
+    (advanced (with_reg x.state d (f v))) x.memory x.held
 after_load hart i d a size f x (Err fault) = traps (load_cause fault) x
 
 abbrev pub load_effect : ℕ → LoadKind → ℕ → ℕ → ℤ → Machine → Outcome
 load_effect hart k d s z x =
     let a = moved (reg x.state s) z in
-    after_load hart (Load k d s z) d a (load_size k) (extended k) x (loaded x.memory a (load_size k))
+    after_load hart (Load k d s z) d a (load_size k) (extended k) x
+    (loaded x.memory a (load_size k))
 
--- a store with this fault, or none: the value in memory and what the registers become, or the trap.
+-- a store with this fault, or none: the value in memory and what the registers become, or the
+-- trap.
 -- Other harts' reservations of the word end.
 abbrev pub after_store : ℕ → Instr → ℕ → ℕ → ℕ → Registers → Machine → Option MemFault → Outcome
-after_store hart i a size value s x None = goes i (access hart a Write size) (advanced s) (stored x.memory a size value) (released hart (word_at a) x.held)
+after_store hart i a size value s x None = goes i (access hart a Write size) (advanced s)
+    (stored x.memory a size value) (released hart (word_at a) x.held)
 after_store hart i a size value s x (Some fault) = traps (store_cause fault) x
 
 abbrev pub store_effect : ℕ → StoreKind → ℕ → ℕ → ℤ → Machine → Outcome
 store_effect hart k s t z x =
     let a = moved (reg x.state s) z in
-    after_store hart (Store k s t z) a (store_size k) (reg x.state t) x.state x (store_fault x.memory a (store_size k))
+    after_store hart (Store k s t z) a (store_size k) (reg x.state t) x.state x
+    (store_fault x.memory a (store_size k))
 
 -- the value of a load that is not refused
 abbrev pub value_of : Result ℕ MemFault → ℕ
@@ -143,39 +149,47 @@ abbrev pub amo_effect : ℕ → AmoOp → ℕ → ℕ → ℕ → ℕ → Machin
 amo_effect hart op d s t o x =
     let a = reg x.state s in
     let old = value_of (loaded x.memory a 4) in
-    after_store hart (Amo op d s t o) a 4 (amo op old (reg x.state t)) (with_reg x.state d old) x (store_fault x.memory a 4)
+    after_store hart (Amo op d s t o) a 4 (amo op old (reg x.state t)) (with_reg x.state d old) x
+    (store_fault x.memory a 4)
 
 -- a load that reserves its word
 abbrev pub after_lr : ℕ → Instr → ℕ → ℕ → Machine → Result ℕ MemFault → Outcome
-after_lr hart i d a x (Ok v) = goes i (access hart a Read 4) (advanced (with_reg x.state d v)) x.memory (slice_set x.held hart (Some a))
+after_lr hart i d a x (Ok v) = goes i (access hart a Read 4) (advanced (with_reg x.state d v))
+    x.memory (slice_set x.held hart (Some a))
 after_lr hart i d a x (Err fault) = traps (load_cause fault) x
 
 abbrev pub lr_effect : ℕ → ℕ → ℕ → ℕ → Machine → Outcome
-lr_effect hart d s o x = after_lr hart (Lr d s o) d (reg x.state s) x (loaded x.memory (reg x.state s) 4)
+lr_effect hart d s o x = after_lr hart (Lr d s o) d (reg x.state s) x
+    (loaded x.memory (reg x.state s) 4)
 
--- the address is judged as a store's first; the store is made, and the register 0, exactly where the
+-- the address is judged as a store's first; the store is made, and the register 0, exactly where
+-- the
 -- hart has reserved the address, and else the register is 1 and there is no access; either way the
 -- hart's reservation ends
 abbrev pub after_sc : ℕ → Instr → ℕ → ℕ → ℕ → Machine → Option MemFault → Outcome
 after_sc hart i d a value x None =
     if is_of (held_by x.held hart) a
-    then goes i (access hart a Write 4) (advanced (with_reg x.state d 0)) (stored x.memory a 4 value) (slice_set (released hart a x.held) hart None)
+    then goes i (access hart a Write 4) (advanced (with_reg x.state d 0))
+    (stored x.memory a 4 value) (slice_set (released hart a x.held) hart None)
     else goes i None (advanced (with_reg x.state d 1)) x.memory (slice_set x.held hart None)
 after_sc hart i d a value x (Some fault) = traps (store_cause fault) x
 
 abbrev pub sc_effect : ℕ → ℕ → ℕ → ℕ → ℕ → Machine → Outcome
-sc_effect hart d s t o x = after_sc hart (Sc d s t o) d (reg x.state s) (reg x.state t) x (store_fault x.memory (reg x.state s) 4)
+sc_effect hart d s t o x = after_sc hart (Sc d s t o) d (reg x.state s) (reg x.state t) x
+    (store_fault x.memory (reg x.state s) 4)
 
 -- the effect of an instruction of a hart
 abbrev pub effect : ℕ → Instr → Machine → Outcome
 effect hart (Lui d n) x = gives (Lui d n) d n x
 effect hart (Auipc d n) x = gives (Auipc d n) d ((x.state.pc + n) % 2 ^ 32) x
 effect hart (Jal d z) x = jumps (Jal d z) d ((x.state.pc + 4) % 2 ^ 32) (moved x.state.pc z) x
-effect hart (Jalr d s z) x = jumps (Jalr d s z) d ((x.state.pc + 4) % 2 ^ 32) (moved (reg x.state s) z / 2 * 2) x
+effect hart (Jalr d s z) x = jumps (Jalr d s z) d ((x.state.pc + 4) % 2 ^ 32)
+    (moved (reg x.state s) z / 2 * 2) x
 effect hart (Branch t s r z) x = branch_effect t s r z x
 effect hart (Load k d s z) x = load_effect hart k d s z x
 effect hart (Store k s t z) x = store_effect hart k s t z x
-effect hart (Imm o d s z) x = gives (Imm o d s z) d (alu (plain o) (reg x.state s) (cast_unsigned w32 z)) x
+effect hart (Imm o d s z) x = gives (Imm o d s z) d
+    (alu (plain o) (reg x.state s) (cast_unsigned w32 z)) x
 effect hart (Op o d s t) x = gives (Op o d s t) d (alu o (reg x.state s) (reg x.state t)) x
 effect hart (Fence d s n) x = goes (Fence d s n) None (advanced x.state) x.memory x.held
 effect hart Ecall x = outcome Call x

@@ -14,7 +14,11 @@ pub record IsHart (s : Registers) : Type 0 where
 
 -- all zero but the stack pointer x2, the global pointer x3 and the argument x10
 abbrev pub started : ℕ → ℕ → ℕ → ℕ → Registers
-started pc sp gp arg = record { pc = pc; values = slice_set (slice_set (slice_set (replicate 32 0) 2 sp) 3 gp) 10 arg }
+started pc sp gp arg = record {
+  pc = pc;
+  values =
+      slice_set (slice_set (slice_set (replicate 32 0) 2 sp) 3 gp) 10 arg;
+}
 
 -- what a register holds
 abbrev pub reg : Registers → ℕ → ℕ

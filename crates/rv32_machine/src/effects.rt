@@ -112,7 +112,9 @@ pub fn give(instr: Instr, rd: Reg, value: u32, state: &mut HartState) -> StepEnd
 }
 
 pub fn branch(test: Test, rs1: Reg, rs2: Reg, offset: i32, state: &mut HartState) -> StepEnd
-    ensures { (m : Space) (h : List (Option ℕ)) → outcome result (machine state.new m h) ≡ branch_effect test rs1 rs2 offset (machine state.old m h) }
+    ensures { (m : Space) (h : List (Option ℕ))
+        → outcome result (machine state.new m h) ≡ branch_effect test rs1 rs2 offset
+        (machine state.old m h) }
 {
     let instr = Instr::Branch {
         test,
@@ -141,7 +143,8 @@ pub fn load(
     state: &mut HartState,
     memory: &Memory,
 ) -> StepEnd
-    ensures { (h : List (Option ℕ)) → outcome result (machine state.new memory.now h) ≡ load_effect hart kind rd rs1 offset (machine state.old memory.now h) }
+    ensures { (h : List (Option ℕ)) → outcome result (machine state.new memory.now h) ≡ load_effect
+        hart kind rd rs1 offset (machine state.old memory.now h) }
 {
     let addr = moved_by(state.reg(rs1), offset);
     let size = size_of_load(kind);
@@ -174,7 +177,8 @@ pub fn store(
     held: &mut Reservations,
 ) -> StepEnd
     requires { hart < length held.old }
-    ensures { outcome result (machine state.new memory.new held.new) ≡ store_effect hart kind rs1 rs2 offset (machine state.old memory.old held.old) }
+    ensures { outcome result (machine state.new memory.new held.new) ≡ store_effect hart kind rs1
+        rs2 offset (machine state.old memory.old held.old) }
 {
     let addr = moved_by(state.reg(rs1), offset);
     let size = size_of_store(kind);
@@ -198,7 +202,9 @@ pub fn store(
 }
 
 pub fn jump(instr: Instr, rd: Reg, target: u32, state: &mut HartState) -> StepEnd
-    ensures { (m : Space) (h : List (Option ℕ)) → outcome result (machine state.new m h) ≡ jumps instr rd ((state.old.pc + 4) % 2 ^ 32) target (machine state.old m h) }
+    ensures { (m : Space) (h : List (Option ℕ))
+        → outcome result (machine state.new m h) ≡ jumps instr rd ((state.old.pc + 4) % 2 ^ 32)
+        target (machine state.old m h) }
 {
     if target % 4 != 0 {
         return StepEnd::Trap(Cause::FetchMisaligned);
@@ -221,7 +227,8 @@ pub fn amo(
     held: &mut Reservations,
 ) -> StepEnd
     requires { hart < length held.old }
-    ensures { outcome result (machine state.new memory.new held.new) ≡ amo_effect hart op rd rs1 rs2 order (machine state.old memory.old held.old) }
+    ensures { outcome result (machine state.new memory.new held.new) ≡ amo_effect hart op rd rs1
+        rs2 order (machine state.old memory.old held.old) }
 {
     let addr = state.reg(rs1);
     let old = match memory.load(addr, 4) {
@@ -258,7 +265,8 @@ pub fn load_reserved(
     held: &mut Reservations,
 ) -> StepEnd
     requires { hart < length held.old }
-    ensures { outcome result (machine state.new memory.now held.new) ≡ lr_effect hart rd rs1 order (machine state.old memory.now held.old) }
+    ensures { outcome result (machine state.new memory.now held.new) ≡ lr_effect hart rd rs1 order
+        (machine state.old memory.now held.old) }
 {
     let addr = state.reg(rs1);
     match memory.load(addr, 4) {
@@ -286,7 +294,8 @@ pub fn store_conditional(
     held: &mut Reservations,
 ) -> StepEnd
     requires { hart < length held.old }
-    ensures { outcome result (machine state.new memory.new held.new) ≡ sc_effect hart rd rs1 rs2 order (machine state.old memory.old held.old) }
+    ensures { outcome result (machine state.new memory.new held.new) ≡ sc_effect hart rd rs1 rs2
+        order (machine state.old memory.old held.old) }
 {
     let instr = Instr::Sc {
         rd,

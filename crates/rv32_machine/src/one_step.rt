@@ -15,10 +15,14 @@ use rv32_decode::{Instr, decode};
 
 /// One step of a hart: the instruction at its pc is fetched, decoded and has its effect.
 ///
-/// `Next` is the effect, with the one access that the instruction made, if it made one. `Call` comes
-/// exactly at ECALL. `Trap` tells the first cause that there is: FetchOutside where no instruction can
-/// be fetched at the pc, Illegal where the word is none, Breakpoint at EBREAK, FetchMisaligned where a
-/// taken jump's target is no multiple of 4, and the fault of the access, where memory refuses it. At a
+/// `Next` is the effect, with the one access that the instruction made, if it made one. `Call`
+/// comes
+/// exactly at ECALL. `Trap` tells the first cause that there is: FetchOutside where no instruction
+/// can
+/// be fetched at the pc, Illegal where the word is none, Breakpoint at EBREAK, FetchMisaligned
+/// where a
+/// taken jump's target is no multiple of 4, and the fault of the access, where memory refuses it.
+/// At a
 /// call and at a trap all stays as it was, the pc included.
 #[inline(always)]
 #[tactic(auto, using(crate::proofs::Kept::kept))]
@@ -29,10 +33,12 @@ pub fn step(
     held: &mut Reservations,
 ) -> StepEnd
     requires { hart < length held.old }
-    ensures effect { outcome result (machine state.new memory.new held.new) ≡ stepped hart (machine state.old memory.old held.old) }
+    ensures effect { outcome result (machine state.new memory.new held.new) ≡ stepped hart
+        (machine state.old memory.old held.old) }
 
     // All stays at a call and at a trap.
-    ensures left { LeavesUnlessNext (machine state.old memory.old held.old) result (machine state.new memory.new held.new) }
+    ensures left { LeavesUnlessNext (machine state.old memory.old held.old) result
+        (machine state.new memory.new held.new) }
 
     // No instruction changes how many harts or bytes there are, or the rights of a page.
     ensures harts { length held.new ≡ length held.old }
@@ -50,7 +56,8 @@ fn run_step(
     held: &mut Reservations,
 ) -> StepEnd
     requires { hart < length held.old }
-    ensures { outcome result (machine state.new memory.new held.new) ≡ stepped hart (machine state.old memory.old held.old) }
+    ensures { outcome result (machine state.new memory.new held.new) ≡ stepped hart
+        (machine state.old memory.old held.old) }
 {
     let word = match memory.fetch(state.pc()) {
         Ok(word) => word,
@@ -71,7 +78,8 @@ fn act(
     held: &mut Reservations,
 ) -> StepEnd
     requires { hart < length held.old }
-    ensures { outcome result (machine state.new memory.new held.new) ≡ effect hart instr (machine state.old memory.old held.old) }
+    ensures { outcome result (machine state.new memory.new held.new) ≡ effect hart instr
+        (machine state.old memory.old held.old) }
 {
     match instr {
         Instr::Lui { rd, imm } => give(instr, rd, imm, state),

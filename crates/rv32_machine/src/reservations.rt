@@ -23,7 +23,8 @@ impl Model for Reservations {
 
     ghost view = { λ r. r.words.items };
 
-    ghost invariant = { λ r. (r.count ≡ count_held r.words.items) × (length r.words.items < 2 ^ 16) };
+    ghost invariant = { λ r. (r.count ≡ count_held r.words.items)
+        × (length r.words.items < 2 ^ 16) };
 }
 
 impl Reservations {
@@ -42,20 +43,22 @@ impl Reservations {
         self.words.len() as u16
     }
 
-    /// The address that a hart has reserved.
+    /// The address that a hart has reserved. A hart past the last has none.
     pub fn held(&self, hart: Hart) -> Option<u32>
-        requires { hart < length self.now }
         ensures { result ≡ held_by self.now hart }
     {
-        self.words[usize::from(hart.number())]
+        let word = self.words.get(usize::from(hart.number()))?;
+        *word
     }
 
-    /// Ends a hart's reservation.
+    /// Ends a hart's reservation. For a hart past the last it changes nothing.
     pub fn clear(&mut self, hart: Hart)
-        requires { hart < length self.old }
         ensures { self.new ≡ slice_set self.old hart None }
     {
-        self.set(usize::from(hart.number()), None);
+        let place = usize::from(hart.number());
+        if place < self.words.len() {
+            self.set(place, None);
+        }
     }
 
     /// Reserves a word for a hart.

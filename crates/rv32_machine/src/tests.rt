@@ -25,7 +25,8 @@ fn reg(rt: &impl Abort, number: u8) -> Reg {
     Reg::new(number).expect(rt, "a register")
 }
 
-// Two pages from BASE on that hold these words: the first may be written and run, the second only read.
+// Two pages from BASE on that hold these words: the first may be written and run, the second only
+// read.
 fn memory_of(rt: &impl Abort, alloc: Global, words: &[u32]) -> Result<Memory, Fail> {
     let mut memory = Memory::new(alloc, BASE, 0x3000)?;
     memory.map(BASE, 0x1000, true, true);

@@ -1,5 +1,6 @@
 // Programs of random operations: 16 words put numbers into x1 to x8, and 24 operations on them and
-// on their results follow. Beside each are x0 to x30 as `qemu-riscv32` 7.2 leaves them, where clang 14
+// on their results follow. Beside each are x0 to x30 as `qemu-riscv32` 7.2 leaves them, where
+// clang 14
 // assembled the words and they stood at BASE.
 pub const PROGRAMS: [([u32; 40], [u32; 31]); 8] = [
     (

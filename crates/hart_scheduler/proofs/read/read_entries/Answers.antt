@@ -1,7 +1,7 @@
 use Rattle.std.proofs.Common.{arith, ◌<◌, ◌++◌, List, length, sym, ◌∙◌, ap, append-nil}
 use Rattle.std.proofs.lemmas.Bool.Decides.{nat_tests}
 use Rattle.std.specs.Prelude.{slice_get}
-use Rattle.hart_scheduler.specs.declared.entry.Entry.{Entry}
+use Rattle.hart_scheduler.specs.Values.{ListEntry}
 use Rattle.hart_scheduler.specs.declared.fault.ScheduleFault.{ScheduleFault}
 use Rattle.hart_scheduler.specs.Texts.{entries_of}
 use Rattle.hart_scheduler.proofs.Reading.{faults_on, faults_here, entries_on, entries_none, shorter_after, unless_memory}
@@ -25,7 +25,7 @@ loop-rest-preserved c =
       faults = c.loop-rest.invariant.faults ∙ faults_on c.args.harts c.loop-rest.number rest line after c.cut_at.ensures.front c.cut_at.ensures.back c.in-Ok.ensures.good;
       entries =
           c.loop-rest.invariant.entries ∙ entries_on rest line after c.loop-rest.entries.items c.cut_at.ensures.front c.cut_at.ensures.back
-          ∙ ap (λ (front : List Entry). front ++ entries_of after) (sym c.in-Ok.ensures.added);
+          ∙ ap (λ (front : List ListEntry). front ++ entries_of after) (sym c.in-Ok.ensures.added);
       room = omega arith;
     }
 
@@ -33,4 +33,4 @@ pub returns-clause-read : goal.returns-clause-read
 returns-clause-read c =
     let items = c.loop-rest.entries.items in
     sym (c.loop-rest.invariant.entries
-    ∙ ap (λ (back : List Entry). items ++ back) (entries_none c.loop-rest.rest.now (sym c.is_empty.ensures ∙ c.loop-rest-test.false)) ∙ append-nil items)
+    ∙ ap (λ (back : List ListEntry). items ++ back) (entries_none c.loop-rest.rest.now (sym c.is_empty.ensures ∙ c.loop-rest-test.false)) ∙ append-nil items)

@@ -4,7 +4,8 @@ use Rattle.run_recorder.proofs.record.follow.Given as goal
 
 abbrev pub invariant-turns : goal.invariant-turns
 invariant-turns g l =
-    Follows l.initial.guest l.guest l.initial.recorder.detector l.recorder.detector l.initial.recorder.trace l.initial.recorder.output l.recorder.trace l.recorder.output
+    Follows l.initial.guest l.guest l.initial.recorder.detector l.recorder.detector l.files l.initial.recorder.outputs
+    l.recorder.outputs
     (g.S.Shelf.outside l.initial.shelf) (g.S.Shelf.outside l.shelf)
 
 abbrev pub decreases-turns : goal.decreases-turns

@@ -1,20 +1,26 @@
 use Rattle.std.proofs.Common.{◌∙◌, arith}
 use Rattle.guest_run.specs.Inside.{config_of}
+use Rattle.guest_run.specs.Turns.{chosen}
+use Rattle.guest_run.proofs.Answering.{if_ok-map, on_ok-if}
 use Rattle.guest_run.proofs.AtCall.{called}
-use Rattle.guest_run.proofs.Fitting.{fits_called}
-use Rattle.guest_run.proofs.Owning.{own_below}
+use Rattle.guest_run.proofs.Fitting.{fits_called, fits_chosen}
+use Rattle.guest_run.proofs.Owning.{own_seen}
 use Rattle.guest_run.proofs.configuration.Configuration.run.Goals as goal
 
-pub returns-in-Next-default-Some-clause-seen : goal.returns-in-Next-default-Some-clause-seen
-returns-in-Next-default-Some-clause-seen c =
-    own_below c.args.hart _ _ _ _ _ c.in-Next-default-Some.access _ c.in-Next-default-Some.ensures.effect c.in-Next-default-Some.field-1-is c.in-Next-default-Some.access-is c.requires.ready.inside
+pub returns-in-Next-clause-seen : goal.returns-in-Next-clause-seen
+returns-in-Next-clause-seen c =
+    rw c.go_on.ensures.seen (own_seen c.args.hart _ _ _ c.in-Next.instr c.in-Next.access _ c.in-Next.ensures.effect c.requires.ready.inside)
 
 pub returns-in-Call-clause-turn : goal.returns-in-Call-clause-turn
 returns-in-Call-clause-turn c =
-    called c.args.setup.now c.args.hart c.from.result (config_of c.args.self.now) c.index_mut-state.result.now c.step.new.state c.step.new.memory c.step.new.held _
-    (c.from.ensures ∙ c.number.ensures.value) (omega arith) c.index_mut-state.ensures.value c.in-Call.ensures.effect c.in-Call.ensures.left c.call.ensures.turn
+    if_ok-map c.call.result _ _
+    (λ turn h. called c.args.setup.now c.args.hart c.from.result (chosen (config_of c.args.self.now)) c.index_mut-state.result.now c.step.new.state c.step.new.memory c.step.new.held _
+    (c.from.ensures ∙ c.number.ensures.value) (omega arith) c.index_mut-state.ensures.value c.in-Call.ensures.effect c.in-Call.ensures.left h)
+    c.call.ensures.turn
 
 pub returns-in-Call-clause-fits : goal.returns-in-Call-clause-fits
-returns-in-Call-clause-fits c = λ harts fits.
-    fits_called harts c.args.hart c.from.result c.args.setup.now (config_of c.args.self.now) c.step.new.state c.step.new.memory c.step.new.held c.call.result (config_of c.call.new.self)
-    c.call.ensures.turn c.step.ensures.harts fits
+returns-in-Call-clause-fits c =
+    on_ok-if c.call.result _ _
+    (λ turn h harts fits. fits_called harts c.args.hart c.from.result c.args.setup.now (chosen (config_of c.args.self.now)) c.step.new.state c.step.new.memory c.step.new.held
+    turn (config_of c.call.new.self) h c.step.ensures.harts (fits_chosen harts (config_of c.args.self.now) fits))
+    c.call.ensures.turn

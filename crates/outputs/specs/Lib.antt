@@ -1,0 +1,4 @@
+pub mod Files
+pub mod OneFile
+pub mod OnTheirWay
+pub mod Laws

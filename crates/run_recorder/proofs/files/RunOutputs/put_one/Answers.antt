@@ -1,0 +1,50 @@
+use Rattle.std.proofs.Common.{◌≡◌, ◌⊎◌, ◌∙◌, [], ℕ, inl, inr, List, ap, subst, sym}
+use Rattle.predator_base.specs.declared.access.Access.{Access}
+use Rattle.predator_base.specs.declared.ending.Ending.{Ending}
+use Rattle.run_recorder.specs.declared.moment.Moment.{Moment}
+use Rattle.run_recorder.specs.declared.moment.Moment.TheVariants.{Start, Touch, End}
+use Rattle.run_recorder.specs.Recording.{output_bytes}
+use Rattle.outputs.specs.Files.{Output}
+use Rattle.outputs.specs.OnTheirWay.{IsOutputs, outputs_with}
+use Rattle.outputs.specs.Laws.{outputs_with-nothing}
+use Rattle.run_recorder.proofs.files.RunOutputs.put_one.Goals as goal
+
+-- the output gets nothing of a start, an access or an end
+silent : (m : Moment) → ((harts : ℕ) × (m ≡ Start harts)) ⊎ (((a : Access) × (m ≡ Touch a)) ⊎ ((e : Ending) × (m ≡ End e)))
+    → output_bytes m ≡ []
+silent m (inl is) = ap output_bytes is.1
+silent m (inr (inl is)) = ap output_bytes is.1
+silent m (inr (inr is)) = ap output_bytes is.1
+
+pub returns-in-Trace-clause-outputs : goal.returns-in-Trace-clause-outputs
+returns-in-Trace-clause-outputs g c = rw c.in-Trace.is c.put_record.ensures.outputs
+
+pub returns-in-Trace-clause-cut : goal.returns-in-Trace-clause-cut
+returns-in-Trace-clause-cut g c = rw c.in-Trace.is c.put_record.ensures.cut
+
+pub returns-in-Output-moment-clause-outputs : goal.returns-in-Output-moment-clause-outputs
+returns-in-Output-moment-clause-outputs g c = rw (c.in-Output.is, c.in-Output-moment.is, ← c.self.view_is) c.put.ensures.outputs
+
+pub returns-in-Output-moment-clause-cut : goal.returns-in-Output-moment-clause-cut
+returns-in-Output-moment-clause-cut g c = rw (c.in-Output.is, c.in-Output-moment.is, ← c.self.view_is) c.put.ensures.cut
+
+pub returns-in-Start-clause-outputs : goal.returns-in-Start-clause-outputs
+returns-in-Start-clause-outputs g c =
+    let none : output_bytes c.args.moment.now ≡ [] = silent c.args.moment.now c.in-Start.is in
+    rw c.in-Output.is
+    (λ outputs before on. subst (λ (l : List Output). IsOutputs c.args.self.now l before (g.S.Shelf.outside c.args.shelf.now))
+    (sym (ap (outputs_with outputs c.args.place) none ∙ outputs_with-nothing outputs c.args.place)) on)
+
+pub returns-in-Start-2-clause-outputs : goal.returns-in-Start-2-clause-outputs
+returns-in-Start-2-clause-outputs g c =
+    let none : output_bytes c.args.moment.now ≡ [] = silent c.args.moment.now c.in-Start.is in
+    rw c.in-Output.is
+    (λ outputs before on. subst (λ (l : List Output). IsOutputs c.args.self.now l before (g.S.Shelf.outside c.args.shelf.now))
+    (sym (ap (outputs_with outputs c.args.place) none ∙ outputs_with-nothing outputs c.args.place)) on)
+
+pub returns-in-Start-3-clause-outputs : goal.returns-in-Start-3-clause-outputs
+returns-in-Start-3-clause-outputs g c =
+    let none : output_bytes c.args.moment.now ≡ [] = silent c.args.moment.now c.in-Start.is in
+    rw c.in-Output.is
+    (λ outputs before on. subst (λ (l : List Output). IsOutputs c.args.self.now l before (g.S.Shelf.outside c.args.shelf.now))
+    (sym (ap (outputs_with outputs c.args.place) none ∙ outputs_with-nothing outputs c.args.place)) on)
