@@ -2,5 +2,9 @@ pub mod Numbers
 pub mod Layouts
 pub mod Names
 pub mod Apps
-pub mod Words
+pub mod Asked
 pub mod Demands
+pub mod Replay
+pub mod Check
+pub mod Run
+pub mod Words

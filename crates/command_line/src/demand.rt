@@ -1,40 +1,20 @@
 // What words ask for, and why they are refused.
-use predator_base::Layout;
+ghost use Rattle.std.specs.Prelude.{◌≡◌};
 
-/// What the words ask for. A name is a text as it stands in the words.
+use crate::check::CheckOptions;
+use crate::replay::ReplayOptions;
+use crate::run::RunOptions;
+use std::alloc::AllocError;
+
+/// What the words ask for: a command, with its options.
 #[derive(Clone, Copy, PartialEq, Eq, Debug)]
 pub enum Demand<'a> {
-    /// `replay TRACE [--settings F] [--size N] [--shift N]`: count a trace's accesses, and report.
-    Replay {
-        /// The name of the trace.
-        trace: &'a str,
-        /// The name of the settings file, where one is given.
-        settings: Option<&'a str>,
-        /// The layout, where a size or a shift is given. A missing size is 64 bytes, a missing shift 0.
-        layout: Option<Layout>,
-    },
-    /// `check PROGRAM [--settings F]`: load and place a program, and tell of it.
-    Check {
-        /// The name of the program file.
-        program: &'a str,
-        /// The name of the settings file, where one is given.
-        settings: Option<&'a str>,
-    },
-    /// `run PROGRAM [--settings F] [--schedule F] [--trace F] [--output F]`: run a program, and report.
-    ///
-    /// No file that it writes has the name of another that it reads or writes.
-    Run {
-        /// The name of the program file.
-        program: &'a str,
-        /// The name of the settings file, where one is given.
-        settings: Option<&'a str>,
-        /// The name of the schedule, where one is given.
-        schedule: Option<&'a str>,
-        /// The name under which the trace is written, where one is given.
-        trace: Option<&'a str>,
-        /// The name under which what the guest writes is written, where one is given.
-        output: Option<&'a str>,
-    },
+    /// Count a trace's accesses, and report.
+    Replay(ReplayOptions<'a>),
+    /// Load and place a program, and tell of it.
+    Check(CheckOptions<'a>),
+    /// Run a program, and report. No file that it writes has the name of another that it reads or writes.
+    Run(RunOptions<'a>),
 }
 
 /// Why words give no demand.
@@ -45,4 +25,14 @@ pub enum WordsFault {
     Usage,
     /// Memory ran out.
     NoMemory,
+}
+
+impl From<AllocError> for WordsFault {
+    ghost use Rattle.command_line.specs.declared.demand.WordsFault.TheVariants.{NoMemory};
+
+    ghost from_gives = { λ _ e. e ≡ NoMemory };
+
+    fn from(_: AllocError) -> Self {
+        WordsFault::NoMemory
+    }
 }

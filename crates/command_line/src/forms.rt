@@ -1,13 +1,13 @@
 // Commands and arguments as all of them are, and what `clap` makes of the words of one.
-ghost use Rattle.std.specs.Prelude.{◌≡◌, ◌≢◌, IfOk, IfErr, [], true, false};
-ghost use Rattle.clap.specs.Words.{app_of, fault_of, found_of, is_simple_and_free, matches_of, rows_of, rule_of};
-ghost use Rattle.command_line.specs.Apps.{long_option, plain_app, positional};
-ghost use Rattle.command_line.specs.Demands.{texts, UnlessMemory};
+ghost use Rattle.std.specs.Prelude.{◌≡◌, ◌≢◌, IfOk, IfErr, [], true};
+ghost use Rattle.clap.specs.Words.{app_of, fault_of, first_of, found_of, is_simple_and_free, matches_of, rows_of};
+ghost use Rattle.command_line.specs.Apps.{plain_app, with_option, with_word};
+ghost use Rattle.command_line.specs.Demands.{text_of, texts, UnlessMemory};
 
 use crate::demand::WordsFault;
 use clap::error::ErrorKind;
 use clap::{Arg, ArgMatches, Command};
-use std::alloc::Global;
+use std::alloc::{AllocError, Global};
 
 // A command without arguments. `--help` is a word like any other.
 pub fn plain_command<'a>(alloc: Global, name: &'a str) -> Command<'a>
@@ -16,20 +16,28 @@ pub fn plain_command<'a>(alloc: Global, name: &'a str) -> Command<'a>
     Command::new(alloc, name).disable_help_flag(true)
 }
 
-// A positional word that has to be there, of this command alone.
-pub fn positional<'a>(alloc: Global, name: &'a str) -> Arg<'a>
-    ensures rule { rule_of result ≡ positional name.entry.now }
-    ensures own { result.global ≡ false }
+// The command with a positional word more that has to be there.
+pub fn with_word<'a>(
+    alloc: Global,
+    command: Command<'a>,
+    name: &'a str,
+) -> Result<Command<'a>, AllocError>
+    ensures { IfOk result (λ added. app_of added
+        ≡ with_word (app_of command.entry) name.entry.now) }
 {
-    Arg::new(alloc, name).required(true)
+    command.arg(Arg::new(alloc, name).required(true))
 }
 
-// `--name value`, of this command alone.
-pub fn long_option<'a>(alloc: Global, name: &'a str) -> Arg<'a>
-    ensures rule { rule_of result ≡ long_option name.entry.now }
-    ensures own { result.global ≡ false }
+// The command with `--name value` more.
+pub fn with_option<'a>(
+    alloc: Global,
+    command: Command<'a>,
+    name: &'a str,
+) -> Result<Command<'a>, AllocError>
+    ensures { IfOk result (λ added. app_of added
+        ≡ with_option (app_of command.entry) name.entry.now) }
 {
-    Arg::new(alloc, name).long(name)
+    command.arg(Arg::new(alloc, name).long(name))
 }
 
 // The values that a command finds in the words for its arguments, the command's own name first.
@@ -38,9 +46,12 @@ pub fn matches_by<'a>(
     words: &'a [String],
 ) -> Result<ArgMatches<'a>, WordsFault>
     requires { is_simple_and_free (app_of command) ≡ true }
-    ensures taken { IfOk result (λ matches. fault_of (app_of command.entry) (texts words.now) ≡ []) }
-    ensures rows { IfOk result (λ matches. rows_of (found_of matches) ≡ matches_of (app_of command.entry) (texts words.now)) }
-    ensures refused { IfErr result (λ fault. UnlessMemory fault (fault_of (app_of command.entry) (texts words.now) ≢ [])) }
+    ensures taken { IfOk result (λ matches. fault_of (app_of command.entry) (texts words.now)
+        ≡ []) }
+    ensures rows { IfOk result (λ matches. rows_of (found_of matches)
+        ≡ matches_of (app_of command.entry) (texts words.now)) }
+    ensures refused { IfErr result (λ fault. UnlessMemory fault (fault_of (app_of command.entry)
+        (texts words.now) ≢ [])) }
 {
     match command.try_get_matches_from(words) {
         Ok(matches) => Ok(matches),
@@ -52,4 +63,11 @@ pub fn matches_by<'a>(
             }
         }
     }
+}
+
+// The value that an argument got, if it got one.
+pub fn value_of<'a>(matches: &ArgMatches<'a>, name: &str) -> Option<&'a str>
+    ensures { text_of result ≡ first_of name.now (rows_of (found_of matches.now)) }
+{
+    matches.get_str(name)
 }

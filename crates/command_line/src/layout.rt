@@ -66,7 +66,8 @@ fn allowed_layout(size: u64, shift: u64) -> Option<Layout>
 
 // The layout of two options of which one is given, or both.
 fn given_layout(size: Option<&str>, shift: Option<&str>) -> Option<Layout>
-    ensures { result ≡ Rattle.command_line.specs.Layouts.given_layout (text_of size.entry) (text_of shift.entry) }
+    ensures { result ≡ Rattle.command_line.specs.Layouts.given_layout (text_of size.entry)
+        (text_of shift.entry) }
 {
     let size = given_or(size, USUAL_SIZE)?;
     let shift = given_or(shift, USUAL_SHIFT)?;

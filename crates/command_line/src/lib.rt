@@ -16,5 +16,8 @@ mod run;
 mod tests;
 mod words;
 
+pub use check::CheckOptions;
 pub use demand::{Demand, WordsFault};
+pub use replay::ReplayOptions;
+pub use run::RunOptions;
 pub use words::read_words;

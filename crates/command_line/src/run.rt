@@ -1,68 +1,89 @@
 // The command `run`.
-ghost use Rattle.std.specs.Prelude.{◌≡◌, ◌≢◌, IfOk, IfErr, Some, None, [], option_map};
-ghost use Rattle.clap.specs.Words.{app_of, fault_of, found_of, matches_of, rows_of};
-ghost use Rattle.command_line.specs.Apps.{run_app};
-ghost use Rattle.command_line.specs.Words.{asked_of_run, run_of};
-ghost use Rattle.command_line.specs.Demands.{meaning, texts, UnlessMemory};
+ghost use Rattle.std.specs.Prelude.{◌≡◌, [], ◌∷◌, IfOk, IfErr, Some, None, option_map};
+ghost use Rattle.clap.specs.Words.{app_of, found_of, rows_of};
+ghost use Rattle.command_line.specs.Run.{asked_of_run, run_app, run_inputs, run_meaning, run_of, run_outputs};
+ghost use Rattle.command_line.specs.Demands.{texts, text_of, UnlessMemory};
+ghost use Rattle.command_line.specs.Names.{are_apart, is_named};
 
-use crate::demand::{Demand, WordsFault};
-use crate::forms::{long_option, matches_by, plain_command, positional};
+use crate::demand::WordsFault;
+use crate::forms::{matches_by, plain_command, value_of, with_option, with_word};
+use crate::names::is_given;
 use clap::{ArgMatches, Command};
 use std::alloc::{AllocError, Global};
+
+/// `run PROGRAM [--settings F] [--schedule F] [--trace F] [--output F]`. A name is a text as it stands in the words.
+#[derive(Clone, Copy, PartialEq, Eq, Debug)]
+pub struct RunOptions<'a> {
+    /// The name of the program file.
+    pub program: &'a str,
+    /// The name of the settings file, where one is given.
+    pub settings: Option<&'a str>,
+    /// The name of the schedule, where one is given.
+    pub schedule: Option<&'a str>,
+    /// The name under which the trace is written, where one is given.
+    pub trace: Option<&'a str>,
+    /// The name under which what the guest writes is written, where one is given.
+    pub output: Option<&'a str>,
+}
+
+// Whether a name is one of the files that are read.
+fn is_input(options: &RunOptions<'_>, name: &str) -> bool
+    ensures { result ≡ is_named name.now (run_inputs (run_meaning options.now)) }
+{
+    is_given(name, options.settings) || name == options.program || is_given(name, options.schedule)
+}
+
+// Whether no output has the name of another output or of an input.
+pub fn has_names_apart(options: &RunOptions<'_>) -> bool
+    ensures { result ≡ are_apart (run_outputs (run_meaning options.now))
+        (run_inputs (run_meaning options.now)) }
+{
+    match (options.trace, options.output) {
+        (None, None) => true,
+        (Some(name), None) | (None, Some(name)) => !is_input(options, name),
+        (Some(trace), Some(output)) => {
+            trace != output && !is_input(options, trace) && !is_input(options, output)
+        }
+    }
+}
 
 // The command, as `clap` knows it.
 fn run_command<'a>(alloc: Global) -> Result<Command<'a>, AllocError>
     ensures { IfOk result (λ command. app_of command ≡ run_app) }
 {
-    let program = positional(alloc, "program");
-    let settings = long_option(alloc, "settings");
-    let schedule = long_option(alloc, "schedule");
-    let trace = long_option(alloc, "trace");
-    let output = long_option(alloc, "output");
-    plain_command(alloc, "run")
-        .arg(program)?
-        .arg(settings)?
-        .arg(schedule)?
-        .arg(trace)?
-        .arg(output)
-}
-
-// What `clap` makes of the words, the command's own name first.
-fn run_matches<'a>(alloc: Global, words: &'a [String]) -> Result<ArgMatches<'a>, WordsFault>
-    ensures taken { IfOk result (λ matches. fault_of run_app (texts words.now) ≡ []) }
-    ensures rows { IfOk result (λ matches. rows_of (found_of matches) ≡ matches_of run_app (texts words.now)) }
-    ensures refused { IfErr result (λ fault. UnlessMemory fault (fault_of run_app (texts words.now) ≢ [])) }
-{
-    match run_command(alloc) {
-        Ok(command) => matches_by(command, words),
-        Err(AllocError) => Err(WordsFault::NoMemory),
-    }
+    let plain = plain_command(alloc, "run");
+    let with_program = with_word(alloc, plain, "program")?;
+    let with_settings = with_option(alloc, with_program, "settings")?;
+    let with_schedule = with_option(alloc, with_settings, "schedule")?;
+    let with_trace = with_option(alloc, with_schedule, "trace")?;
+    with_option(alloc, with_trace, "output")
 }
 
 // What the values of a `run` ask for.
-fn demand_in<'a>(matches: &ArgMatches<'a>) -> Option<Demand<'a>>
-    ensures { option_map meaning result ≡ run_of (rows_of (found_of matches.now)) }
+fn options_in<'a>(matches: &ArgMatches<'a>) -> Option<RunOptions<'a>>
+    ensures { option_map run_meaning result ≡ run_of (rows_of (found_of matches.now)) }
 {
-    let program = matches.get_str("program")?;
-    Some(Demand::Run {
+    let program = value_of(matches, "program")?;
+    Some(RunOptions {
         program,
-        settings: matches.get_str("settings"),
-        schedule: matches.get_str("schedule"),
-        trace: matches.get_str("trace"),
-        output: matches.get_str("output"),
+        settings: value_of(matches, "settings"),
+        schedule: value_of(matches, "schedule"),
+        trace: value_of(matches, "trace"),
+        output: value_of(matches, "output"),
     })
 }
 
 // What the words of a `run` ask for, the command's own name first.
-pub fn read_run<'a>(alloc: Global, words: &'a [String]) -> Result<Demand<'a>, WordsFault>
-    ensures accepted { IfOk result (λ demand. asked_of_run (texts words.now) ≡ Some (meaning demand)) }
-    ensures refused { IfErr result (λ fault. UnlessMemory fault (asked_of_run (texts words.now) ≡ None)) }
+pub fn read_run<'a>(alloc: Global, words: &'a [String]) -> Result<RunOptions<'a>, WordsFault>
+    ensures accepted { IfOk result (λ options. asked_of_run (texts words.now)
+        ≡ Some (run_meaning options)) }
+    ensures refused { IfErr result (λ fault. UnlessMemory fault
+        (asked_of_run (texts words.now) ≡ None)) }
 {
-    match run_matches(alloc, words) {
-        Ok(matches) => match demand_in(&matches) {
-            Some(demand) => Ok(demand),
-            None => Err(WordsFault::Usage),
-        },
-        Err(fault) => Err(fault),
+    let command = run_command(alloc)?;
+    let matches = matches_by(command, words)?;
+    match options_in(&matches) {
+        Some(options) => Ok(options),
+        None => Err(WordsFault::Usage),
     }
 }

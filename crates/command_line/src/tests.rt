@@ -1,5 +1,5 @@
 // Command lines as users write them, each against what it asks for.
-use crate::{Demand, WordsFault, read_words};
+use crate::{CheckOptions, Demand, ReplayOptions, RunOptions, WordsFault, read_words};
 use predator_base::Layout;
 use std::alloc::{AllocError, Global};
 use std::test::Fail;
@@ -32,11 +32,11 @@ fn replay<'a>(
     settings: Option<&'a str>,
     layout: Option<Layout>,
 ) -> Result<Demand<'a>, WordsFault> {
-    Ok(Demand::Replay {
+    Ok(Demand::Replay(ReplayOptions {
         trace,
         settings,
         layout,
-    })
+    }))
 }
 
 fn run<'a>(
@@ -45,13 +45,13 @@ fn run<'a>(
     trace: Option<&'a str>,
     output: Option<&'a str>,
 ) -> Result<Demand<'a>, WordsFault> {
-    Ok(Demand::Run {
+    Ok(Demand::Run(RunOptions {
         program: "p",
         settings,
         schedule,
         trace,
         output,
-    })
+    }))
 }
 
 #[test]
@@ -111,10 +111,10 @@ fn refuses_other_numbers(rt: HostRuntime) -> Result<(), Fail> {
 #[test]
 fn reads_a_program(rt: HostRuntime) -> Result<(), Fail> {
     let alloc = rt.alloc();
-    let check = Ok(Demand::Check {
+    let check = Ok(Demand::Check(CheckOptions {
         program: "p",
         settings: Some("s"),
-    });
+    }));
     assert!(rt; is_answered(alloc, "check --settings s p", &check)?);
     assert!(rt; is_answered(alloc, "run p", &run(None, None, None, None))?);
     let all = run(Some("s"), Some("l"), Some("t"), Some("o"));

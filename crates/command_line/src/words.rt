@@ -1,13 +1,13 @@
 // The call that reads the words.
-ghost use Rattle.std.specs.Prelude.{◌≡◌, ◌≢◌, ◌↔◌, IfOk, IfErr, Some, None, Err, ◌∷◌, List, ℕ};
-ghost use Rattle.command_line.specs.Words.{asked_of, demand_of};
-ghost use Rattle.command_line.specs.Demands.{meaning, texts, UnlessMemory};
+ghost use Rattle.std.specs.Prelude.{◌≡◌, ◌≢◌, ◌↔◌, IfOk, IfErr, Some, None, Err, [], ◌∷◌, false};
+ghost use Rattle.command_line.specs.Demands.{texts, UnlessMemory};
+ghost use Rattle.command_line.specs.Names.{are_apart};
+ghost use Rattle.command_line.specs.Words.{asked_of, demand_of, inputs, is_command, meaning, outputs};
 
 use crate::check::read_check;
 use crate::demand::{Demand, WordsFault};
-use crate::names::has_names_apart;
 use crate::replay::read_replay;
-use crate::run::read_run;
+use crate::run::{has_names_apart, read_run};
 use std::alloc::Global;
 
 // What the words ask of the command that the first of them names.
@@ -16,14 +16,36 @@ fn read_command<'a>(
     command: &str,
     words: &'a [String],
 ) -> Result<Demand<'a>, WordsFault>
-    ensures accepted { IfOk result (λ demand. asked_of command.now (texts words.now) ≡ Some (meaning demand)) }
-    ensures refused { IfErr result (λ fault. UnlessMemory fault (asked_of command.now (texts words.now) ≡ None)) }
+    ensures accepted { IfOk result (λ demand. asked_of command.now (texts words.now)
+        ≡ Some (meaning demand)) }
+    ensures refused { IfErr result (λ fault. UnlessMemory fault
+        (asked_of command.now (texts words.now) ≡ None)) }
+    ensures unknown { is_command (command.now ∷ []) ≡ false → result ≡ Err WordsFault.Usage }
 {
     match command {
-        "replay" => read_replay(alloc, words),
-        "check" => read_check(alloc, words),
-        "run" => read_run(alloc, words),
+        "replay" => match read_replay(alloc, words) {
+            Ok(options) => Ok(Demand::Replay(options)),
+            Err(fault) => Err(fault),
+        },
+        "check" => match read_check(alloc, words) {
+            Ok(options) => Ok(Demand::Check(options)),
+            Err(fault) => Err(fault),
+        },
+        "run" => match read_run(alloc, words) {
+            Ok(options) => Ok(Demand::Run(options)),
+            Err(fault) => Err(fault),
+        },
         _ => Err(WordsFault::Usage),
+    }
+}
+
+// Whether no output of a demand has the name of another output or of an input.
+fn are_names_apart(demand: &Demand<'_>) -> bool
+    ensures { result ≡ are_apart (outputs (meaning demand.now)) (inputs (meaning demand.now)) }
+{
+    match demand {
+        Demand::Replay(_) | Demand::Check(_) => true,
+        Demand::Run(options) => has_names_apart(options),
     }
 }
 
@@ -31,17 +53,21 @@ fn read_command<'a>(
 ///
 /// Usage comes exactly where they name no command, the command refuses the words after it, a number is
 /// not decimal digits without leading zeros, below 2^64, the layout isn't allowed, or the name of an
-/// output equals the name of another output or of an input. Want of memory may come before any of them.
+/// output equals the name of another output or of an input. Want of memory may come before any of them
+/// but the first.
 pub fn read_words<'a>(alloc: Global, words: &'a [String]) -> Result<Demand<'a>, WordsFault>
     ensures accepted { IfOk result (λ demand. demand_of (texts words.now) ≡ Some (meaning demand)) }
-    ensures refused { result ≢ Err WordsFault.NoMemory → (result ≡ Err WordsFault.Usage) ↔ (demand_of (texts words.now) ≡ None) }
+    ensures refused { result ≢ Err WordsFault.NoMemory → (result ≡ Err WordsFault.Usage)
+        ↔ (demand_of (texts words.now) ≡ None) }
+    // Words that name no command want no memory.
+    ensures unknown { is_command (texts words.now) ≡ false → result ≡ Err WordsFault.Usage }
 {
     let Some(command) = words.first() else {
         return Err(WordsFault::Usage);
     };
     match read_command(alloc, command.as_str(), words) {
         Ok(demand) => {
-            if has_names_apart(&demand) {
+            if are_names_apart(&demand) {
                 Ok(demand)
             } else {
                 Err(WordsFault::Usage)

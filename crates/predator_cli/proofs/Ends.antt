@@ -1,20 +1,20 @@
 -- What a command has done stands after a text is printed.
-use Rattle.std.proofs.Common.{◌≡◌, ◌≢◌, ℕ, ◌≤◌, List, [], Option, Some, None, sym, ◌∙◌, ap, refl, inl, inr, ◌⊎◌}
-use Rattle.shelf.specs.Shelf.{Files, Outside, Told, Goes, Rose, OnlyPrints, OnlyReads, AppendsPrefix}
-use Rattle.std.specs.Io.KnownBytes.{Appends}
+use Rattle.std.proofs.Common.{◌≡◌, ◌≢◌, ℕ, ◌≤◌, false, List, [], Option, Some, None, sym, ◌∙◌, ap, refl, inl, inr, ◌⊎◌}
+use Rattle.shelf.specs.Shelf.{Files, Outside, Told, Goes, Rose, OnlyPrints, OnlyReads, Adds, AddsFront}
 use Rattle.command_line.specs.Words.{Demand, outputs as outputs_of}
-use Rattle.predator_cli.specs.Steps.{IsStopped, first_refusal}
-use Rattle.predator_cli.specs.Commands.{Work, done_with, steps_of, work_of}
-use Rattle.run_recorder.specs.Written.{AllMayStand, AreWhole, Output, bytes_for}
-use Rattle.predator_cli.specs.Written.{StandAt}
-use Rattle.predator_cli.specs.Again.{RepeatsReport, StaysWithinBudget, WhereDone}
+use Rattle.predator_cli.specs.Readings.{IsStopped, first_refusal}
+use Rattle.predator_cli.specs.Commands.{readings_of, work_of}
+use Rattle.predator_cli.specs.Works.{Work, done_with}
+use Rattle.outputs.specs.Files.{AllMayStand, AreWhole, Output, bytes_for}
+use Rattle.predator_cli.specs.Written.{AreSame, Writes}
+use Rattle.predator_cli.specs.Again.{RepeatsReport, WhereDone}
 use Rattle.predator_cli.specs.Answer.{answer_of, outputs, refusal_of}
-use Rattle.predator_cli.specs.Statuses.{Kind, kind_of, done, refusal, read_fault, write_fault, no_memory}
-use Rattle.predator_cli.specs.Meets.{EndsAs, IsAnswered, IsCaused, IsComplete, IsFaulty, IsPrintable, IsWorked, Meets, NoFaults, Printed, Prints}
+use Rattle.predator_cli.specs.Statuses.{Kind, kind_of, done, refusal, read_fault, write_fault, no_memory, hides_no_memory}
+use Rattle.predator_cli.specs.Meets.{EndsAs, IsAnswered, IsCaused, IsComplete, IsFaulty, IsPrintable, IsWorked, Meets, NoFaults, Printed, Prints, ReadsInPeace}
 use Rattle.predator_cli.specs.Faults.{fault_text}
 use Rattle.predator_cli.specs.declared.status.Status.{Status}
 use Rattle.predator_cli.specs.declared.status.Status.TheVariants as status
-use Rattle.predator_cli.proofs.Standing.{goes_map, goes_same, only_same_names, same_may, same_stands, whole_stands}
+use Rattle.predator_cli.proofs.Standing.{goes_map, goes_same, may_stay, only_same_names, same_may, whole_stands}
 use Rattle.predator_cli.proofs.Told.{told, told_map, told_both, rose_later, whole_prefix}
 
 -- ---- the line of a fault
@@ -34,7 +34,7 @@ ends_after asked files a b d no_memory s only ends = tt
 ends_after asked files a b d read_fault s only ends = rw only.read_faults ends
 ends_after asked files a b d write_fault s only ends = ends
 
-printed_prefix : (a d : Outside) (text : List ℕ) → Printed a d text → AppendsPrefix a.printed d.printed text
+printed_prefix : (a d : Outside) (text : List ℕ) → Printed a d text → AddsFront a.printed d.printed text
 printed_prefix a d text (inl whole) = whole_prefix a.printed d.printed text whole
 printed_prefix a d text (inr (rose, part)) = part
 
@@ -42,23 +42,39 @@ printable_after : (asked : Option Demand) (files : Files) (a b d : Outside) (tex
 printable_after asked files a b d text only p = rw (only.read_faults, only.write_faults) p
 
 -- a fault's line was printed, whole or in part
-prints_fault : (asked : Option Demand) (files : Files) (a d : Outside) (k : Kind) (s : Status) → (k ≡ done → ⊥) → IsPrintable asked files a d (fault_text s) → Printed a d (fault_text s) → Prints asked files a d k s
-prints_fault asked files a d done s n p printed = absurd (n refl)
-prints_fault asked files a d refusal s n p printed = printed
-prints_fault asked files a d read_fault s n p printed = printed
-prints_fault asked files a d write_fault s n p printed = inl printed
-prints_fault asked files a d no_memory s n p printed = (fault_text s, p, printed_prefix a d (fault_text s) printed)
+prints_fault : (asked : Option Demand) (a d : Outside) (k : Kind) (s : Status) → (k ≡ done → ⊥) → Told a.held (λ files. IsPrintable asked files a d (fault_text s)) → Printed a d (fault_text s) → Prints asked a d k s
+prints_fault asked a d done s n p printed = absurd (n refl)
+prints_fault asked a d refusal s n p printed = printed
+prints_fault asked a d read_fault s n p printed = printed
+prints_fault asked a d write_fault s n p printed = told a.held (λ files. inl printed)
+prints_fault asked a d no_memory s n p printed = told_map a.held (λ files is. (fault_text s, is, printed_prefix a d (fault_text s) printed)) p
+
+-- printing writes no file, and reads none
+writes_after : (asked : Option Demand) (a b d : Outside) (k : Kind) → OnlyPrints b d → Writes asked a b k → Writes asked a d k
+writes_after asked a b d done only writes = rw only.written writes
+writes_after asked a b d refusal only writes = rw only.written writes
+writes_after asked a b d read_fault only writes = rw only.written writes
+writes_after asked a b d write_fault only writes = rw only.written writes
+writes_after asked a b d no_memory only writes = rw only.written writes
+
+peace_after : (a b d : Outside) (k : Kind) → OnlyPrints b d → ReadsInPeace a b k → ReadsInPeace a d k
+peace_after a b d done only peace = only.read_faults ∙ peace
+peace_after a b d refusal only peace = only.read_faults ∙ peace
+peace_after a b d read_fault only peace = tt
+peace_after a b d write_fault only peace = only.read_faults ∙ peace
+peace_after a b d no_memory only peace = tt
 
 -- what stands at a fault may stand where memory runs out after it
-may_stand_later : (k : Kind) (outputs : List Output) (before now : Files) → (k ≡ done → ⊥) → StandAt k outputs before now → AllMayStand outputs before now
-may_stand_later done outputs before now n stands = absurd (n refl)
-may_stand_later refusal outputs before now n stands = λ name. same_may (bytes_for outputs name) (before name) (now name) (stands name)
-may_stand_later read_fault outputs before now n stands = λ name. same_may (bytes_for outputs name) (before name) (now name) (stands name)
-may_stand_later write_fault outputs before now n stands = stands
-may_stand_later no_memory outputs before now n stands = stands
+same_later : (asked : Option Demand) (a b : Outside) → Goes a.written b.written AreSame → Writes asked a b no_memory
+same_later asked a b goes =
+    told a.held (λ files. goes_map a.written b.written (λ before now is name. same_may (bytes_for (answer_of asked files).outputs name) (before name) (now name) (is name)) goes)
 
-later_stands : (asked : Option Demand) (a b : Outside) (k : Kind) → (k ≡ done → ⊥) → Told a.held (λ files. Goes a.written b.written (StandAt k (answer_of asked files).outputs)) → Told a.held (λ files. Goes a.written b.written (AllMayStand (answer_of asked files).outputs))
-later_stands asked a b k n stands = told_map a.held (λ files goes. goes_map a.written b.written (λ before now is. may_stand_later k (answer_of asked files).outputs before now n is) goes) stands
+writes_later : (asked : Option Demand) (a b : Outside) (k : Kind) → (k ≡ done → ⊥) → Writes asked a b k → Writes asked a b no_memory
+writes_later asked a b done n writes = absurd (n refl)
+writes_later asked a b refusal n writes = same_later asked a b writes
+writes_later asked a b read_fault n writes = same_later asked a b writes
+writes_later asked a b write_fault n writes = writes
+writes_later asked a b no_memory n writes = writes
 
 not_done : (P : Demand → Files → Type 0) (asked : Option Demand) (files : Files) (k : Kind) → (k ≡ done → ⊥) → WhereDone P asked files k
 not_done P None files k n = tt
@@ -76,29 +92,31 @@ refuse_meets asked a b d s faulty only later printed =
       usage = faulty.usage;
       refuses = faulty.refuses;
       caused = caused_after asked a b d (kind_of s) only later faulty.caused;
-      prints = told_map a.held (λ files p. prints_fault asked files a d (kind_of s) s faulty.fault (printable_after asked files a b d (fault_text s) only p) same) faulty.printable;
-      writes = rw only.written faulty.writes;
+      memory = faulty.memory;
+      peace = peace_after a b d (kind_of s) only faulty.peace;
+      prints = prints_fault asked a d (kind_of s) s faulty.fault (told_map a.held (λ files p. printable_after asked files a b d (fault_text s) only p) faulty.printable) same;
+      writes = writes_after asked a b d (kind_of s) only faulty.writes;
       only = rw only.written faulty.only;
       held = only.held ∙ faulty.held;
       again = told a.held (λ files. not_done RepeatsReport asked files (kind_of s) faulty.fault);
-      within = told a.held (λ files. not_done StaysWithinBudget asked files (kind_of s) faulty.fault);
     }
 
 -- memory ran out while a fault's line was printed
-pub refuse_out_of_memory : (asked : Option Demand) (a b d : Outside) (s : Status) → IsFaulty asked a b s → OnlyPrints b d → AppendsPrefix b.printed d.printed (fault_text s) → Meets asked a d status.NoMemory
+pub refuse_out_of_memory : (asked : Option Demand) (a b d : Outside) (s : Status) → IsFaulty asked a b s → OnlyPrints b d → AddsFront b.printed d.printed (fault_text s) → Meets asked a d status.NoMemory
 refuse_out_of_memory asked a b d s faulty only printed =
-    let part : AppendsPrefix a.printed d.printed (fault_text s) = rw (← faulty.printed) printed in
+    let part : AddsFront a.printed d.printed (fault_text s) = rw (← faulty.printed) printed in
     record {
       ends = told a.held (λ files. tt);
       usage = λ u. cc;
       refuses = λ r. inr refl;
       caused = tt;
       prints = told_map a.held (λ files p. (fault_text s, printable_after asked files a b d (fault_text s) only p, part)) faulty.printable;
-      writes = rw only.written (later_stands asked a b (kind_of s) faulty.fault faulty.writes);
+      memory = refl;
+      peace = tt;
+      writes = writes_after asked a b d no_memory only (writes_later asked a b (kind_of s) faulty.fault faulty.writes);
       only = rw only.written faulty.only;
       held = only.held ∙ faulty.held;
       again = told a.held (λ files. not_done RepeatsReport asked files no_memory (λ e. cc));
-      within = told a.held (λ files. not_done StaysWithinBudget asked files no_memory (λ e. cc));
     }
 
 -- memory ran out before it was
@@ -110,7 +128,9 @@ faulty_for_memory asked a b s faulty = record {
   refuses = λ r. inr refl;
   caused = tt;
   printable = told a.held (λ files. inr (inl refl));
-  writes = later_stands asked a b (kind_of s) faulty.fault faulty.writes;
+  memory = refl;
+  peace = tt;
+  writes = writes_later asked a b (kind_of s) faulty.fault faulty.writes;
   only = faulty.only;
   held = faulty.held;
   printed = faulty.printed;
@@ -120,20 +140,20 @@ faulty_for_memory asked a b s faulty = record {
 -- ---- the command's own text
 
 -- the answer of a command whose files are accepted
-pub accepted_answer : (demand : Demand) (files : Files) → first_refusal (steps_of demand) files ≡ None → answer_of (Some demand) files ≡ work_of demand files
+pub accepted_answer : (demand : Demand) (files : Files) → first_refusal (readings_of demand) files ≡ None → answer_of (Some demand) files ≡ work_of demand files
 accepted_answer demand files none = rw none refl
 
-finished_ends : (demand : Demand) (files : Files) (a d : Outside) (s : Status) → kind_of s ≡ done → first_refusal (steps_of demand) files ≡ None → (work_of demand files).status ≡ s → EndsAs (Some demand) files a d (kind_of s) s
+finished_ends : (demand : Demand) (files : Files) (a d : Outside) (s : Status) → kind_of s ≡ done → first_refusal (readings_of demand) files ≡ None → (work_of demand files).status ≡ s → EndsAs (Some demand) files a d (kind_of s) s
 finished_ends demand files a d s kind none is = rw kind (ap (λ (w : Work). w.status) (accepted_answer demand files none) ∙ is)
 
-own_text : (demand : Demand) (files : Files) (text : List ℕ) → first_refusal (steps_of demand) files ≡ None → (work_of demand files).text ≡ text → (answer_of (Some demand) files).text ≡ text
+own_text : (demand : Demand) (files : Files) (text : List ℕ) → first_refusal (readings_of demand) files ≡ None → (work_of demand files).text ≡ text → (answer_of (Some demand) files).text ≡ text
 own_text demand files text none is = ap (λ (w : Work). w.text) (accepted_answer demand files none) ∙ is
 
 own_texts : (demand : Demand) (a b : Outside) (s : Status) (text : List ℕ) → IsWorked demand a b s text → Told a.held (λ files. (answer_of (Some demand) files).text ≡ text)
 own_texts demand a b s text worked = told_both a.held (λ files none is. own_text demand files text none is) worked.accepts worked.same_text
 
 -- the outputs of a command whose files are accepted
-pub own_outputs : (demand : Demand) (files : Files) (P : List Output → Type 0) → first_refusal (steps_of demand) files ≡ None → P (work_of demand files).outputs → P (answer_of (Some demand) files).outputs
+pub own_outputs : (demand : Demand) (files : Files) (P : List Output → Type 0) → first_refusal (readings_of demand) files ≡ None → P (work_of demand files).outputs → P (answer_of (Some demand) files).outputs
 own_outputs demand files P none p = rw (ap (λ (w : Work). w.outputs) (accepted_answer demand files none)) p
 
 whole_after : (demand : Demand) (a b : Outside) (s : Status) (text : List ℕ) → IsWorked demand a b s text → Told a.held (λ files. Goes a.written b.written (AreWhole (answer_of (Some demand) files).outputs))
@@ -142,11 +162,28 @@ whole_after demand a b s text worked = told_both a.held (λ files none whole. ow
 part_after : (demand : Demand) (a b : Outside) (s : Status) (text : List ℕ) → IsWorked demand a b s text → Told a.held (λ files. Goes a.written b.written (AllMayStand (answer_of (Some demand) files).outputs))
 part_after demand a b s text worked = told_map a.held (λ files goes. goes_map a.written b.written (λ before now is. whole_stands (answer_of (Some demand) files).outputs before now is) goes) (whole_after demand a b s text worked)
 
-kind_stands : (k : Kind) (asked : Option Demand) (a b : Outside) → k ≡ done → Told a.held (λ files. Goes a.written b.written (AreWhole (answer_of asked files).outputs)) → Told a.held (λ files. Goes a.written b.written (StandAt k (answer_of asked files).outputs))
-kind_stands k asked a b is whole = rw is whole
+whole_writes : (k : Kind) (asked : Option Demand) (a b : Outside) → k ≡ done → Told a.held (λ files. Goes a.written b.written (AreWhole (answer_of asked files).outputs)) → Writes asked a b k
+whole_writes k asked a b is whole = rw is whole
 
-whole_printed : (demand : Demand) (files : Files) (a d : Outside) (s : Status) (text : List ℕ) → kind_of s ≡ done → (answer_of (Some demand) files).text ≡ text → Appends a.printed d.printed text → Prints (Some demand) files a d (kind_of s) s
-whole_printed demand files a d s text kind is printed = rw (kind, is) printed
+whole_printed : (demand : Demand) (a d : Outside) (s : Status) (text : List ℕ) → kind_of s ≡ done → Told a.held (λ files. (answer_of (Some demand) files).text ≡ text) → Adds a.printed d.printed text → Prints (Some demand) a d (kind_of s) s
+whole_printed demand a d s text kind texts printed = rw kind (told_map a.held (λ files is. rw is printed) texts)
+
+peace_kept : (a d : Outside) (k : Kind) → k ≡ done → d.read_faults ≡ a.read_faults → ReadsInPeace a d k
+peace_kept a d k is same = rw is same
+
+no_memory_hidden : (s : Status) → kind_of s ≡ done → hides_no_memory s ≡ false
+no_memory_hidden status.Done kind = refl
+no_memory_hidden status.Usage kind = refl
+no_memory_hidden (status.Elf fault) kind = refl
+no_memory_hidden (status.Schedule fault) kind = let k : refusal ≡ done = kind in cc
+no_memory_hidden (status.Settings fault) kind = let k : refusal ≡ done = kind in cc
+no_memory_hidden (status.Trace fault) kind = let k : refusal ≡ done = kind in cc
+no_memory_hidden status.ReadFault kind = refl
+no_memory_hidden status.WriteFault kind = refl
+no_memory_hidden status.NoMemory kind = refl
+no_memory_hidden status.Budget kind = refl
+no_memory_hidden status.Deadlock kind = refl
+no_memory_hidden status.Trapped kind = refl
 
 no_usage : (s : Status) → kind_of s ≡ done → s ≡ status.Usage → ⊥
 no_usage s kind u = let k : kind_of status.Usage ≡ done = ap kind_of (sym u) ∙ kind in cc
@@ -157,55 +194,58 @@ no_cause asked a d k is = rw is tt
 at_done : (P : Demand → Files → Type 0) (k : Kind) (demand : Demand) (files : Files) → k ≡ done → P demand files → WhereDone P (Some demand) files k
 at_done P k demand files is holds = rw is holds
 
-pub finish_meets : (demand : Demand) (a b d : Outside) (s : Status) (text : List ℕ) → kind_of s ≡ done → IsWorked demand a b s text → OnlyPrints b d → Appends b.printed d.printed text → Meets (Some demand) a d s
+pub finish_meets : (demand : Demand) (a b d : Outside) (s : Status) (text : List ℕ) → kind_of s ≡ done → IsWorked demand a b s text → OnlyPrints b d → Adds b.printed d.printed text → Meets (Some demand) a d s
 finish_meets demand a b d s text kind worked only printed =
-    let whole : Appends a.printed d.printed text = rw (← worked.printed) printed in
+    let whole : Adds a.printed d.printed text = rw (← worked.printed) printed in
     record {
       ends = told_both a.held (λ files none is. finished_ends demand files a d s kind none is) worked.accepts worked.ends;
       usage = λ u. absurd (no_usage s kind u);
       refuses = λ r. cc;
       caused = no_cause (Some demand) a d (kind_of s) kind;
-      prints = told_map a.held (λ files is. whole_printed demand files a d s text kind is whole) (own_texts demand a b s text worked);
-      writes = rw only.written (kind_stands (kind_of s) (Some demand) a b kind (whole_after demand a b s text worked));
+      memory = no_memory_hidden s kind;
+      peace = peace_kept a d (kind_of s) kind (only.read_faults ∙ worked.reads);
+      prints = whole_printed demand a d s text kind (own_texts demand a b s text worked) whole;
+      writes = writes_after (Some demand) a b d (kind_of s) only (whole_writes (kind_of s) (Some demand) a b kind (whole_after demand a b s text worked));
       only = rw only.written worked.only;
       held = only.held ∙ worked.held;
       again = told_map a.held (λ files is. at_done RepeatsReport (kind_of s) demand files kind is) worked.again;
-      within = told_map a.held (λ files is. at_done StaysWithinBudget (kind_of s) demand files kind is) worked.within;
     }
 
 -- printing it failed
-pub finish_failed : (demand : Demand) (a b d : Outside) (s : Status) (text : List ℕ) → IsWorked demand a b s text → OnlyPrints b d → Rose b.print_faults d.print_faults → AppendsPrefix b.printed d.printed text → Meets (Some demand) a d status.WriteFault
+pub finish_failed : (demand : Demand) (a b d : Outside) (s : Status) (text : List ℕ) → IsWorked demand a b s text → OnlyPrints b d → Rose b.print_faults d.print_faults → AddsFront b.printed d.printed text → Meets (Some demand) a d status.WriteFault
 finish_failed demand a b d s text worked only rose printed =
     let rose_a : Rose a.print_faults d.print_faults = rw (← worked.print_faults) rose in
-    let part : AppendsPrefix a.printed d.printed text = rw (← worked.printed) printed in
+    let part : AddsFront a.printed d.printed text = rw (← worked.printed) printed in
     record {
       ends = worked.accepts;
       usage = λ u. cc;
       refuses = λ r. cc;
+      memory = refl;
       caused = inr rose_a;
+      peace = only.read_faults ∙ worked.reads;
       prints = told_map a.held (λ files is. inr (rose_a, rw is part)) (own_texts demand a b s text worked);
       writes = rw only.written (part_after demand a b s text worked);
       only = rw only.written worked.only;
       held = only.held ∙ worked.held;
       again = told a.held (λ files. tt);
-      within = told a.held (λ files. tt);
     }
 
 -- memory ran out while it was printed
-pub finish_out_of_memory : (demand : Demand) (a b d : Outside) (s : Status) (text : List ℕ) → IsWorked demand a b s text → OnlyPrints b d → AppendsPrefix b.printed d.printed text → Meets (Some demand) a d status.NoMemory
+pub finish_out_of_memory : (demand : Demand) (a b d : Outside) (s : Status) (text : List ℕ) → IsWorked demand a b s text → OnlyPrints b d → AddsFront b.printed d.printed text → Meets (Some demand) a d status.NoMemory
 finish_out_of_memory demand a b d s text worked only printed =
-    let part : AppendsPrefix a.printed d.printed text = rw (← worked.printed) printed in
+    let part : AddsFront a.printed d.printed text = rw (← worked.printed) printed in
     record {
       ends = told a.held (λ files. tt);
       usage = λ u. cc;
       refuses = λ r. inr refl;
+      memory = refl;
       caused = tt;
+      peace = tt;
       prints = told_map a.held (λ files is. (text, inl (sym is), part)) (own_texts demand a b s text worked);
       writes = rw only.written (part_after demand a b s text worked);
       only = rw only.written worked.only;
       held = only.held ∙ worked.held;
       again = told a.held (λ files. tt);
-      within = told a.held (λ files. tt);
     }
 
 -- a command that writes nothing
@@ -220,7 +260,7 @@ answered_worked demand a b text answered =
       whole = rw written (told_map a.held (λ files is. goes_same _ a.written (λ before. no_outputs files before is)) answered.work);
       only = only_same_names (outputs_of demand) a b written;
       again = told a.held answered.again;
-      within = told a.held answered.within;
+      reads = ap (λ (o : Outside). o.read_faults) same;
       held = ap (λ (o : Outside). o.held) same;
       printed = ap (λ (o : Outside). o.printed) same;
       print_faults = ap (λ (o : Outside). o.print_faults) same;
@@ -238,9 +278,11 @@ words_refused a = record {
   ends = told a.held (λ files. refl);
   usage = λ u. refl;
   refuses = λ r. inl refl;
+  memory = refl;
   caused = tt;
+  peace = refl;
   printable = told a.held (λ files. inl refl);
-  writes = told a.held (λ files. goes_same _ a.written (λ before name. refl));
+  writes = goes_same AreSame a.written (λ before name. refl);
   only = only_same_names [] a a refl;
   held = refl;
   printed = refl;
@@ -248,18 +290,24 @@ words_refused a = record {
 }
 
 -- memory ran out
-unchanged_at : (asked : Option Demand) (a b : Outside) (k : Kind) → (k ≡ done → ⊥) → b.written ≡ a.written → Told a.held (λ files. Goes a.written b.written (StandAt k (answer_of asked files).outputs))
-unchanged_at asked a b k n same = rw same (told a.held (λ files. goes_same _ a.written (λ before. same_stands k (answer_of asked files).outputs before (λ d. absurd (n d)))))
+same_written : (asked : Option Demand) (a b : Outside) (k : Kind) → (k ≡ done → ⊥) → b.written ≡ a.written → Writes asked a b k
+same_written asked a b done n same = absurd (n refl)
+same_written asked a b refusal n same = rw same (goes_same AreSame a.written (λ before name. refl))
+same_written asked a b read_fault n same = rw same (goes_same AreSame a.written (λ before name. refl))
+same_written asked a b write_fault n same = rw same (told a.held (λ files. goes_same _ a.written (λ before name. may_stay (bytes_for (answer_of asked files).outputs name) (before name))))
+same_written asked a b no_memory n same = rw same (told a.held (λ files. goes_same _ a.written (λ before name. may_stay (bytes_for (answer_of asked files).outputs name) (before name))))
 
-memory_faulty : (asked : Option Demand) (a b : Outside) → OnlyReads a b → IsFaulty asked a b status.NoMemory
+pub memory_faulty : (asked : Option Demand) (a b : Outside) → OnlyReads a b → IsFaulty asked a b status.NoMemory
 memory_faulty asked a b only = record {
   fault = λ e. cc;
   ends = told a.held (λ files. tt);
   usage = λ u. cc;
   refuses = λ r. inr refl;
+  memory = refl;
   caused = tt;
+  peace = tt;
   printable = told a.held (λ files. inr (inl refl));
-  writes = unchanged_at asked a b no_memory (λ e. cc) only.written;
+  writes = same_written asked a b no_memory (λ e. cc) only.written;
   only = only_same_names (outputs asked) a b only.written;
   held = only.held;
   printed = only.printed;
@@ -269,54 +317,65 @@ memory_faulty asked a b only = record {
 pub words_unread : (asked : Option Demand) (a : Outside) → IsFaulty asked a a status.NoMemory
 words_unread asked a = memory_faulty asked a a (record { held = refl; written = refl; printed = refl; write_faults = refl; print_faults = refl })
 
-refused_answer : (demand : Demand) (files : Files) (s : Status) → first_refusal (steps_of demand) files ≡ Some s → answer_of (Some demand) files ≡ refusal_of s
+refused_answer : (demand : Demand) (files : Files) (s : Status) → first_refusal (readings_of demand) files ≡ Some s → answer_of (Some demand) files ≡ refusal_of s
 refused_answer demand files s is = rw is refl
 
 -- a file is refused
-file_faulty : (demand : Demand) (a b : Outside) (s : Status) → kind_of s ≡ refusal → s ≢ status.Usage → Told a.held (λ files. first_refusal (steps_of demand) files ≡ Some s) → OnlyReads a b → IsFaulty (Some demand) a b s
-file_faulty demand a b s kind words refused only = record {
-  fault = λ e. let k : refusal ≡ done = sym kind ∙ e in cc;
+file_faulty : (demand : Demand) (a b : Outside) (s : Status) → kind_of s ≡ refusal → s ≢ status.Usage → hides_no_memory s ≡ false → Told a.held (λ files. first_refusal (readings_of demand) files ≡ Some s)
+    → b.read_faults ≡ a.read_faults → OnlyReads a b → IsFaulty (Some demand) a b s
+file_faulty demand a b s kind words memory refused peace only = record {
+  fault = not_done_so;
   ends = told_map a.held (λ files is. ends_so files is) refused;
   usage = λ u. absurd (words u);
   refuses = λ r. cc;
+  memory = memory;
   caused = caused_so;
+  peace = peace_so;
   printable = told_map a.held (λ files is. inl (sym (ap (λ (w : Work). w.text) (refused_answer demand files s is)))) refused;
-  writes = unchanged_at (Some demand) a b (kind_of s) (λ e. let k : refusal ≡ done = sym kind ∙ e in cc) only.written;
+  writes = same_written (Some demand) a b (kind_of s) not_done_so only.written;
   only = only_same_names (outputs (Some demand)) a b only.written;
   held = only.held;
   printed = only.printed;
   print_faults = only.print_faults;
 }
   where
-    ends_so : (files : Files) → first_refusal (steps_of demand) files ≡ Some s → EndsAs (Some demand) files a b (kind_of s) s
+    not_done_so : kind_of s ≡ done → ⊥
+    not_done_so e = let k : refusal ≡ done = sym kind ∙ e in cc
+
+    ends_so : (files : Files) → first_refusal (readings_of demand) files ≡ Some s → EndsAs (Some demand) files a b (kind_of s) s
     ends_so files is = rw kind (ap (λ (w : Work). w.status) (refused_answer demand files s is))
 
     caused_so : IsCaused (Some demand) a b (kind_of s)
     caused_so = rw kind tt
 
+    peace_so : ReadsInPeace a b (kind_of s)
+    peace_so = rw kind peace
+
 -- reading a file failed
-reading_faulty : (demand : Demand) (a b : Outside) → IsStopped (steps_of demand) a b status.ReadFault → IsFaulty (Some demand) a b status.ReadFault
+reading_faulty : (demand : Demand) (a b : Outside) → IsStopped (readings_of demand) a b status.ReadFault → IsFaulty (Some demand) a b status.ReadFault
 reading_faulty demand a b stopped = record {
   fault = λ e. cc;
   ends = stopped.why.1;
   usage = λ u. cc;
   refuses = λ r. cc;
+  memory = refl;
   caused = stopped.why.0;
+  peace = tt;
   printable = told_map a.held (λ files fails. inr (inr (inl (refl, fails)))) stopped.why.1;
-  writes = unchanged_at (Some demand) a b read_fault (λ e. cc) stopped.only.written;
+  writes = same_written (Some demand) a b read_fault (λ e. cc) stopped.only.written;
   only = only_same_names (outputs (Some demand)) a b stopped.only.written;
   held = stopped.only.held;
   printed = stopped.only.printed;
   print_faults = stopped.only.print_faults;
 }
 
-pub stopped_faulty : (demand : Demand) (a b : Outside) (s : Status) → IsStopped (steps_of demand) a b s → IsFaulty (Some demand) a b s
+pub stopped_faulty : (demand : Demand) (a b : Outside) (s : Status) → IsStopped (readings_of demand) a b s → IsFaulty (Some demand) a b s
 stopped_faulty demand a b status.Done stopped = absurd stopped.why
 stopped_faulty demand a b status.Usage stopped = absurd (stopped.words refl)
-stopped_faulty demand a b (status.Elf fault) stopped = file_faulty demand a b (status.Elf fault) refl stopped.words stopped.why stopped.only
-stopped_faulty demand a b (status.Schedule fault) stopped = file_faulty demand a b (status.Schedule fault) refl stopped.words stopped.why stopped.only
-stopped_faulty demand a b (status.Settings fault) stopped = file_faulty demand a b (status.Settings fault) refl stopped.words stopped.why stopped.only
-stopped_faulty demand a b (status.Trace fault) stopped = file_faulty demand a b (status.Trace fault) refl stopped.words stopped.why stopped.only
+stopped_faulty demand a b (status.Elf fault) stopped = file_faulty demand a b (status.Elf fault) refl stopped.words stopped.memory stopped.why.0 stopped.why.1 stopped.only
+stopped_faulty demand a b (status.Schedule fault) stopped = file_faulty demand a b (status.Schedule fault) refl stopped.words stopped.memory stopped.why.0 stopped.why.1 stopped.only
+stopped_faulty demand a b (status.Settings fault) stopped = file_faulty demand a b (status.Settings fault) refl stopped.words stopped.memory stopped.why.0 stopped.why.1 stopped.only
+stopped_faulty demand a b (status.Trace fault) stopped = file_faulty demand a b (status.Trace fault) refl stopped.words stopped.memory stopped.why.0 stopped.why.1 stopped.only
 stopped_faulty demand a b status.ReadFault stopped = reading_faulty demand a b stopped
 stopped_faulty demand a b status.WriteFault stopped = absurd stopped.why
 stopped_faulty demand a b status.NoMemory stopped = memory_faulty (Some demand) a b stopped.only

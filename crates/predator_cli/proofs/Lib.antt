@@ -1,12 +1,10 @@
-mod TextLemmas
 pub mod Told
-pub mod StepsLaws
+pub mod ReadingLaws
 pub mod Standing
 pub mod Ends
 mod DiskLaws
-mod ContentLaws
+mod FileLaws
 mod SteadyLaws
 mod WatchLaws
-mod CheckLaws
 mod RunLaws
 mod RunEnds

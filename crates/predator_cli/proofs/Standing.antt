@@ -3,9 +3,8 @@ use Rattle.std.proofs.Common.{◌≡◌, ℕ, List, [], Option, Some, None, leng
 use Rattle.std.proofs.Math.Seq.{take-length}
 use Rattle.std.specs.Option.{option_or}
 use Rattle.shelf.specs.Shelf.{Files, Outside, Goes}
-use Rattle.predator_cli.specs.Statuses.{Kind, done, refusal, read_fault, write_fault, no_memory}
-use Rattle.run_recorder.specs.Written.{AllMayStand, AreWhole, MayStand, Output, bytes_for}
-use Rattle.predator_cli.specs.Written.{OnlyAt, StandAt}
+use Rattle.outputs.specs.Files.{AllMayStand, AreWhole, MayStand, Output, bytes_for}
+use Rattle.predator_cli.specs.Written.{OnlyAt}
 
 -- a meaning that did not change
 pub goes_same : {A : Type 0} (P : A → A → Type 0) (o : Option A) → ((x : A) → P x x) → Goes o o P
@@ -18,17 +17,9 @@ goes_map None (Some y) f p = p
 goes_map (Some x) None f p = p
 goes_map (Some x) (Some y) f p = f x y p
 
-may_stay : (bytes : Option (List ℕ)) (before : Option (List ℕ)) → MayStand bytes before before
+pub may_stay : (bytes : Option (List ℕ)) (before : Option (List ℕ)) → MayStand bytes before before
 may_stay None before = refl
 may_stay (Some bytes) before = inl refl
-
--- no file changed
-pub same_stands : (k : Kind) (outputs : List Output) (files : Files) → (k ≡ done → outputs ≡ []) → StandAt k outputs files files
-same_stands done outputs files none = rw (none refl) (λ name. refl)
-same_stands refusal outputs files none = λ name. refl
-same_stands read_fault outputs files none = λ name. refl
-same_stands write_fault outputs files none = λ name. may_stay (bytes_for outputs name) (files name)
-same_stands no_memory outputs files none = λ name. may_stay (bytes_for outputs name) (files name)
 
 pub only_same_names : (names : List (List ℕ)) (a b : Outside) → b.written ≡ a.written → OnlyAt names a b
 only_same_names names a b same = rw same (goes_same _ a.written (λ files name not_there. refl))

@@ -4,7 +4,7 @@ use Rattle.shelf.specs.Shelf.{Outside}
 use Rattle.command_line.specs.Words.{Demand}
 use Rattle.predator_cli.specs.Answer.{inputs, outputs}
 use Rattle.predator_cli.specs.Meets.{IsCaused, NoFaults}
-use Rattle.predator_cli.specs.Steps.{RoseAt}
+use Rattle.predator_cli.specs.Readings.{RoseAt}
 use Rattle.predator_cli.specs.Statuses.{kind_of, write_fault}
 use Rattle.predator_cli.specs.declared.status.Status.{Status}
 use Rattle.predator_cli.specs.declared.status.Status.TheVariants as status

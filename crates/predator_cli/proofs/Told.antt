@@ -1,8 +1,7 @@
 -- What holds of a told meaning, and of faults that rose.
 use Rattle.std.proofs.Common.{ℕ, ◌≤◌, List, Option, Some, None, arith, length}
 use Rattle.std.proofs.Math.Seq.{take-length}
-use Rattle.std.specs.Io.KnownBytes.{Appends}
-use Rattle.shelf.specs.Shelf.{Told, Rose, AppendsPrefix}
+use Rattle.shelf.specs.Shelf.{Told, Rose, Adds, AddsFront}
 
 -- what holds of each value holds where it is told
 pub told : {A : Type 0} {P : A → Type 0} (o : Option A) → ((x : A) → P x) → Told o P
@@ -21,5 +20,5 @@ pub rose_later : (before now after : ℕ) → Rose before now → now ≤ after 
 rose_later before now after rose later = omega arith
 
 -- the whole is a front
-pub whole_prefix : (old new : Option (List ℕ)) (text : List ℕ) → Appends old new text → AppendsPrefix old new text
-whole_prefix old new text appends = (length text, rw (take-length text) appends)
+pub whole_prefix : (old new : Option (List ℕ)) (text : List ℕ) → Adds old new text → AddsFront old new text
+whole_prefix old new text added = (length text, rw (take-length text) added)

@@ -4,15 +4,16 @@ use Rattle.std.specs.Prelude.{List, [], ℕ, Option, Some, None}
 use Rattle.std.specs.Option.{option_map_or}
 use Rattle.shelf.specs.Shelf.{Files}
 use Rattle.command_line.specs.Words.{Demand, outputs as outputs_of}
-use Rattle.predator_cli.specs.Steps.{Step, first_refusal, names_of}
-use Rattle.predator_cli.specs.Commands.{Work, steps_of, work_of}
+use Rattle.predator_cli.specs.Readings.{Reading, first_refusal, names_of}
+use Rattle.predator_cli.specs.Commands.{readings_of, work_of}
+use Rattle.predator_cli.specs.Works.{Work}
 use Rattle.predator_cli.specs.Faults.{fault_text}
 use Rattle.predator_cli.specs.declared.status.Status.{Status}
 use Rattle.predator_cli.specs.declared.status.Status.TheVariants as status
 
 -- the files that are read for words, none for words that are refused
-abbrev pub files_of : Option Demand → List Step
-files_of asked = option_map_or steps_of asked []
+abbrev pub files_of : Option Demand → List Reading
+files_of asked = option_map_or readings_of asked []
 
 -- their names, and the names of those that are written
 abbrev pub inputs : Option Demand → List (List ℕ)
@@ -27,4 +28,4 @@ refusal_of s = record { status = s; text = fault_text s; outputs = [] }
 -- the first refusal, or the command's work
 abbrev pub answer_of : Option Demand → Files → Work
 answer_of None files = refusal_of status.Usage
-answer_of (Some demand) files = option_map_or refusal_of (first_refusal (steps_of demand) files) (work_of demand files)
+answer_of (Some demand) files = option_map_or refusal_of (first_refusal (readings_of demand) files) (work_of demand files)

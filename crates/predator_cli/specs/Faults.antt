@@ -10,7 +10,8 @@ use Rattle.settings.specs.declared.fault.SettingsFault.TheVariants as settings
 use Rattle.settings.specs.Keys.{key_name}
 use Rattle.trace_file.specs.declared.fault.TraceFault.{TraceFault}
 use Rattle.trace_file.specs.declared.fault.TraceFault.TheVariants as trace
-use Rattle.predator_cli.specs.Texts.{line, name_text}
+use Rattle.text_forms.specs.Names.{name_text}
+use Rattle.predator_cli.specs.Texts.{line}
 use Rattle.predator_cli.specs.declared.status.Status.{Status}
 use Rattle.predator_cli.specs.declared.status.Status.TheVariants as status
 

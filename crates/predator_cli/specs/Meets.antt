@@ -1,15 +1,15 @@
 -- What a call of the program does to the outside.
-use Rattle.std.specs.Prelude.{◌≡◌, ◌⊎◌, ℕ, List, Option, None}
-use Rattle.std.specs.Io.KnownBytes.{Appends}
-use Rattle.shelf.specs.Shelf.{Files, Outside, Told, Goes, Rose, AppendsPrefix}
+use Rattle.std.specs.Prelude.{◌≡◌, ◌⊎◌, ℕ, false, List, Option, None}
+use Rattle.shelf.specs.Shelf.{Files, Outside, Told, Goes, Rose, Adds, AddsFront}
 use Rattle.command_line.specs.Words.{Demand, outputs as outputs_of}
-use Rattle.predator_cli.specs.Steps.{FailsInOrder, RoseAt, first_refusal, IsAccepted}
-use Rattle.predator_cli.specs.Commands.{done_with, steps_of, work_of}
-use Rattle.run_recorder.specs.Written.{AreWhole}
-use Rattle.predator_cli.specs.Written.{OnlyAt, StandAt}
+use Rattle.predator_cli.specs.Readings.{FailsInOrder, RoseAt, first_refusal, IsAccepted}
+use Rattle.predator_cli.specs.Commands.{readings_of, work_of}
+use Rattle.predator_cli.specs.Works.{done_with}
+use Rattle.outputs.specs.Files.{AreWhole}
+use Rattle.predator_cli.specs.Written.{OnlyAt, Writes}
 use Rattle.predator_cli.specs.Answer.{answer_of, files_of, inputs, outputs}
-use Rattle.predator_cli.specs.Again.{RepeatsReport, StaysWithinBudget, WhereDone}
-use Rattle.predator_cli.specs.Statuses.{Kind, kind_of, done, refusal, read_fault, write_fault, no_memory}
+use Rattle.predator_cli.specs.Again.{RepeatsReport, WhereDone}
+use Rattle.predator_cli.specs.Statuses.{Kind, kind_of, done, refusal, read_fault, write_fault, no_memory, hides_no_memory}
 use Rattle.predator_cli.specs.Faults.{fault_text}
 use Rattle.predator_cli.specs.declared.status.Status.{Status}
 use Rattle.predator_cli.specs.declared.status.Status.TheVariants as status
@@ -33,7 +33,7 @@ IsCaused asked old new no_memory = Unit {0}
 
 -- the whole text was printed, or printing failed and a front of it was
 abbrev pub Printed : Outside → Outside → List ℕ → Type 0
-Printed old new text = Appends old.printed new.printed text ⊎ (Rose old.print_faults new.print_faults × AppendsPrefix old.printed new.printed text)
+Printed old new text = Adds old.printed new.printed text ⊎ (Rose old.print_faults new.print_faults × AddsFront old.printed new.printed text)
 
 -- the texts of which a front may stand where memory ran out: the answer's, or that of a fault of the outside that came
 abbrev pub IsPrintable : Option Demand → Files → Outside → Outside → List ℕ → Type 0
@@ -42,13 +42,24 @@ IsPrintable asked files old new text =
     ⊎ ((text ≡ fault_text status.ReadFault) × FailsInOrder (files_of asked) files old.read_faults new.read_faults)
     ⊎ ((text ≡ fault_text status.WriteFault) × RoseAt (outputs asked) old.write_faults new.write_faults)
 
--- what was printed; at a fault of writing it is the fault's line, or what is left of the command's own text
-abbrev pub Prints : Option Demand → Files → Outside → Outside → Kind → Status → Type 0
-Prints asked files old new done s = Appends old.printed new.printed (answer_of asked files).text
-Prints asked files old new refusal s = Printed old new (fault_text s)
-Prints asked files old new read_fault s = Printed old new (fault_text s)
-Prints asked files old new write_fault s = Printed old new (fault_text s) ⊎ (Rose old.print_faults new.print_faults × AppendsPrefix old.printed new.printed (answer_of asked files).text)
-Prints asked files old new no_memory s = (text : List ℕ) × IsPrintable asked files old new text × AppendsPrefix old.printed new.printed text
+-- What was printed: the whole text where the work is done, the fault's line at a refusal and at a fault of reading, at a
+-- fault of writing that line or what is left of the command's own text, and a front of one of them where memory ran out.
+abbrev pub Prints : Option Demand → Outside → Outside → Kind → Status → Type 0
+Prints asked old new done s = Told old.held (λ files. Adds old.printed new.printed (answer_of asked files).text)
+Prints asked old new refusal s = Printed old new (fault_text s)
+Prints asked old new read_fault s = Printed old new (fault_text s)
+Prints asked old new write_fault s = Told old.held (λ files.
+    Printed old new (fault_text s) ⊎ (Rose old.print_faults new.print_faults × AddsFront old.printed new.printed (answer_of asked files).text))
+Prints asked old new no_memory s = Told old.held (λ files.
+    (text : List ℕ) × IsPrintable asked files old new text × AddsFront old.printed new.printed text)
+
+-- no number of faults of reading rose, but at a fault of reading, after whose line memory may run out
+abbrev pub ReadsInPeace : Outside → Outside → Kind → Type 0
+ReadsInPeace old new done = new.read_faults ≡ old.read_faults
+ReadsInPeace old new refusal = new.read_faults ≡ old.read_faults
+ReadsInPeace old new read_fault = Unit {0}
+ReadsInPeace old new write_fault = new.read_faults ≡ old.read_faults
+ReadsInPeace old new no_memory = Unit {0}
 
 -- no number of faults rose, of an input's reading, of an output's writing or of printing
 pub record NoFaults (asked : Option Demand) (old new : Outside) : Type 0 where
@@ -65,13 +76,14 @@ pub record Meets (asked : Option Demand) (old new : Outside) (s : Status) : Type
   pub ends : Told old.held (λ files. EndsAs asked files old new (kind_of s) s)
   pub usage : s ≡ status.Usage → asked ≡ None
   pub refuses : asked ≡ None → (s ≡ status.Usage) ⊎ (s ≡ status.NoMemory)
+  pub memory : hides_no_memory s ≡ false
   pub caused : IsCaused asked old new (kind_of s)
-  pub prints : Told old.held (λ files. Prints asked files old new (kind_of s) s)
-  pub writes : Told old.held (λ files. Goes old.written new.written (StandAt (kind_of s) (answer_of asked files).outputs))
+  pub peace : ReadsInPeace old new (kind_of s)
+  pub prints : Prints asked old new (kind_of s) s
+  pub writes : Writes asked old new (kind_of s)
   pub only : OnlyAt (outputs asked) old new
   pub held : new.held ≡ old.held
   pub again : Told old.held (λ files. WhereDone RepeatsReport asked files (kind_of s))
-  pub within : Told old.held (λ files. WhereDone StaysWithinBudget asked files (kind_of s))
 
 -- what was done from old to now, before the line of a fault is printed
 pub record IsFaulty (asked : Option Demand) (old now : Outside) (s : Status) : Type 0 where
@@ -79,9 +91,11 @@ pub record IsFaulty (asked : Option Demand) (old now : Outside) (s : Status) : T
   pub ends : Told old.held (λ files. EndsAs asked files old now (kind_of s) s)
   pub usage : s ≡ status.Usage → asked ≡ None
   pub refuses : asked ≡ None → (s ≡ status.Usage) ⊎ (s ≡ status.NoMemory)
+  pub memory : hides_no_memory s ≡ false
   pub caused : IsCaused asked old now (kind_of s)
+  pub peace : ReadsInPeace old now (kind_of s)
   pub printable : Told old.held (λ files. IsPrintable asked files old now (fault_text s))
-  pub writes : Told old.held (λ files. Goes old.written now.written (StandAt (kind_of s) (answer_of asked files).outputs))
+  pub writes : Writes asked old now (kind_of s)
   pub only : OnlyAt (outputs asked) old now
   pub held : now.held ≡ old.held
   pub printed : now.printed ≡ old.printed
@@ -89,20 +103,19 @@ pub record IsFaulty (asked : Option Demand) (old now : Outside) (s : Status) : T
 
 -- what was done from old to now, before the command's own text is printed, and what it is to end with
 pub record IsWorked (demand : Demand) (old now : Outside) (s : Status) (text : List ℕ) : Type 0 where
-  pub accepts : Told old.held (λ files. first_refusal (steps_of demand) files ≡ None)
+  pub accepts : Told old.held (λ files. first_refusal (readings_of demand) files ≡ None)
   pub ends : Told old.held (λ files. (work_of demand files).status ≡ s)
   pub same_text : Told old.held (λ files. (work_of demand files).text ≡ text)
   pub whole : Told old.held (λ files. Goes old.written now.written (AreWhole (work_of demand files).outputs))
   pub only : OnlyAt (outputs_of demand) old now
   pub again : Told old.held (RepeatsReport demand)
-  pub within : Told old.held (StaysWithinBudget demand)
   pub held : now.held ≡ old.held
+  pub reads : now.read_faults ≡ old.read_faults
   pub printed : now.printed ≡ old.printed
   pub print_faults : now.print_faults ≡ old.print_faults
 
 -- the same of a command that writes nothing
 pub record IsAnswered (demand : Demand) (old now : Outside) (text : List ℕ) : Type 0 where
-  pub accepted : IsAccepted (steps_of demand) old now
+  pub accepted : IsAccepted (readings_of demand) old now
   pub work : Told old.held (λ files. work_of demand files ≡ done_with text)
   pub again : (files : Files) → RepeatsReport demand files
-  pub within : (files : Files) → StaysWithinBudget demand files

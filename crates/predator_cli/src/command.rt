@@ -1,13 +1,13 @@
 // The top call.
-ghost use Rattle.std.specs.Prelude.{◌≡◌, ◌⊎◌, None};
+ghost use Rattle.std.specs.Prelude.{◌≡◌, ◌⊎◌, false, None};
 ghost use Rattle.command_line.specs.Demands.{texts};
 ghost use Rattle.command_line.specs.Words.{demand_of};
-ghost use Rattle.predator_cli.specs.Meets.{EndsAs, IsCaused, IsComplete, Meets, Prints};
-ghost use Rattle.predator_cli.specs.Statuses.{kind_of};
+ghost use Rattle.predator_cli.specs.Meets.{EndsAs, IsCaused, IsComplete, Meets, Prints, ReadsInPeace};
+ghost use Rattle.predator_cli.specs.Statuses.{hides_no_memory, kind_of};
 ghost use Rattle.predator_cli.specs.Again.{RepeatsReport, StaysWithinBudget, WhereDone};
-ghost use Rattle.predator_cli.specs.Answer.{answer_of, outputs};
-ghost use Rattle.predator_cli.specs.Written.{OnlyAt, StandAt};
-ghost use Rattle.shelf.specs.Shelf.{Goes, Told};
+ghost use Rattle.predator_cli.specs.Answer.{outputs};
+ghost use Rattle.predator_cli.specs.Written.{OnlyAt, Writes};
+ghost use Rattle.shelf.specs.Shelf.{Told};
 
 use crate::Status;
 use crate::check::check;
@@ -15,40 +15,20 @@ use crate::endings::{refuse, refuse_words};
 use crate::replay::replay;
 use crate::run::run;
 use command_line::{Demand, WordsFault, read_words};
-use run_recorder::RunFiles;
+use guest_run::runs_are_short;
 use shelf::Shelf;
 use std::alloc::Global;
 
 // Does what the words ask for.
 fn obey<S: Shelf>(alloc: Global, words: &[String], shelf: &mut S) -> Status
-    ensures { Meets (demand_of (texts words.now)) (S.outside shelf.old) (S.outside shelf.new) result }
+    ensures { Meets (demand_of (texts words.now))
+        (S.outside shelf.old) (S.outside shelf.new) result }
 {
     match read_words(alloc, words) {
-        Ok(
-            Demand::Replay {
-                trace,
-                settings,
-                layout,
-            },
-        ) => replay(alloc, trace, settings, layout, shelf),
-        Ok(Demand::Check { program, settings }) => check(alloc, program, settings, shelf),
-        Ok(
-            Demand::Run {
-                program,
-                settings,
-                schedule,
-                trace,
-                output,
-            },
-        ) => run(
-            alloc,
-            shelf,
-            program,
-            settings,
-            schedule,
-            RunFiles { trace, output },
-        ),
-        Err(WordsFault::Usage) => refuse_words(alloc, shelf),
+        Ok(Demand::Replay(options)) => replay(alloc, &options, shelf),
+        Ok(Demand::Check(options)) => check(alloc, &options, shelf),
+        Ok(Demand::Run(options)) => run(alloc, &options, shelf),
+        Err(WordsFault::Usage) => refuse_words(shelf),
         Err(WordsFault::NoMemory) => refuse(alloc, shelf, Status::NoMemory),
     }
 }
@@ -69,28 +49,44 @@ fn obey<S: Shelf>(alloc: Global, words: &[String], shelf: &mut S) -> Status
 pub fn predator<S: Shelf>(alloc: Global, words: &[String], shelf: &mut S) -> Status
     // Where the held files are told, it ends as the words and the files ask, or by a fault of the outside before
     // which nothing is refused.
-    ensures ends { Told (S.outside shelf.old).held (λ files. EndsAs (demand_of (texts words.now)) files (S.outside shelf.old) (S.outside shelf.new) (kind_of result) result) }
+    ensures ends { Told (S.outside shelf.old).held
+        (λ files. EndsAs (demand_of (texts words.now)) files
+        (S.outside shelf.old) (S.outside shelf.new) (kind_of result) result) }
     // Usage comes exactly where the words are refused, unless memory runs out.
     ensures usage { result ≡ Status.Usage → demand_of (texts words.now) ≡ None }
-    ensures refuses { demand_of (texts words.now) ≡ None → (result ≡ Status.Usage) ⊎ (result ≡ Status.NoMemory) }
+    ensures refuses { demand_of (texts words.now) ≡ None →
+        (result ≡ Status.Usage) ⊎ (result ≡ Status.NoMemory) }
     // A fault of the outside has its cause.
-    ensures caused { IsCaused (demand_of (texts words.now)) (S.outside shelf.old) (S.outside shelf.new) (kind_of result) }
+    ensures caused { IsCaused (demand_of (texts words.now))
+        (S.outside shelf.old) (S.outside shelf.new) (kind_of result) }
+    // Want of memory is a status of its own, whoever wanted it: no file's fault is said to be want of memory.
+    ensures memory { hides_no_memory result ≡ false }
+    // No number of faults of reading has risen, but at a fault of reading.
+    ensures peace { ReadsInPeace (S.outside shelf.old) (S.outside shelf.new) (kind_of result) }
     // What is printed: the whole text of the answer, or what is left of it at a fault.
-    ensures prints { Told (S.outside shelf.old).held (λ files. Prints (demand_of (texts words.now)) files (S.outside shelf.old) (S.outside shelf.new) (kind_of result) result) }
+    ensures prints { Prints (demand_of (texts words.now))
+        (S.outside shelf.old) (S.outside shelf.new) (kind_of result) result }
     // No file that is read changes.
     ensures held { (S.outside shelf.new).held ≡ (S.outside shelf.old).held }
     // What stands in the files that are written: every output is whole where the work is done, each is as it was or a
     // front of its bytes at a fault of writing and at want of memory, and all are as they were at each other end.
-    ensures writes { Told (S.outside shelf.old).held (λ files. Goes (S.outside shelf.old).written (S.outside shelf.new).written (StandAt (kind_of result) (answer_of (demand_of (texts words.now)) files).outputs)) }
+    ensures writes { Writes (demand_of (texts words.now))
+        (S.outside shelf.old) (S.outside shelf.new) (kind_of result) }
     // Where a run is done, the replay of the trace that it wrote, under the same settings and with no layout named, is
     // done and prints the same text.
-    ensures again { Told (S.outside shelf.old).held (λ files. WhereDone RepeatsReport (demand_of (texts words.now)) files (kind_of result)) }
-    // The run that is reported made at most as many steps as its budget has.
-    ensures within { Told (S.outside shelf.old).held (λ files. WhereDone StaysWithinBudget (demand_of (texts words.now)) files (kind_of result)) }
+    ensures again { Told (S.outside shelf.old).held
+        (λ files. WhereDone RepeatsReport (demand_of (texts words.now)) files (kind_of result)) }
+    // The run that is asked for makes at most as many steps as its budget has.
+    ensures within { Told (S.outside shelf.old).held
+        (StaysWithinBudget (demand_of (texts words.now))) }
     // No other name's file changes.
-    ensures only { OnlyAt (outputs (demand_of (texts words.now))) (S.outside shelf.old) (S.outside shelf.new) }
+    ensures only { OnlyAt (outputs (demand_of (texts words.now)))
+        (S.outside shelf.old) (S.outside shelf.new) }
     // Where no number of faults rose it ends as it is asked, unless memory runs out.
-    ensures complete { Told (S.outside shelf.old).held (λ files. IsComplete (demand_of (texts words.now)) files (S.outside shelf.old) (S.outside shelf.new) result) }
+    ensures complete { Told (S.outside shelf.old).held
+        (λ files. IsComplete (demand_of (texts words.now)) files
+        (S.outside shelf.old) (S.outside shelf.new) result) }
 {
+    runs_are_short();
     obey(alloc, words, shelf)
 }

@@ -1,6 +1,7 @@
 // Real files and standard output: the trusted edge, of whose content nothing is told.
-ghost use Rattle.std.specs.Prelude.{◌≡◌, ◌≤◌};
+ghost use Rattle.std.specs.Prelude.{◌≡◌, ◌≤◌, ◌↔◌};
 ghost use Rattle.std.specs.Io.{ReadsAtMost};
+ghost use Rattle.std.specs.IoError.{error_kind};
 ghost use Rattle.predator_cli.specs.Disk.{after_fault};
 
 use shelf::{Shelf, ShelfError};
@@ -29,8 +30,10 @@ impl<'a, R: Files + Print> Model for DiskShelf<'a, R> {
     ghost view = { λ s. record { reads = s.reads; writes = s.writes; prints = s.prints } };
 }
 
-// What an error of the system is to a shelf: it counts, unless it is want of memory.
+// What an error of the system is to a shelf: it counts, unless it is want of memory, which is what the system calls so.
 fn fault_of(count: &mut u64, error: &io::Error) -> ShelfError
+    ensures memory { (result ≡ ShelfError.NoMemory)
+        ↔ (error_kind error.now ≡ ErrorKind.OutOfMemory) }
     ensures counted { count.new ≡ after_fault count.old result }
     ensures later { count.old ≤ count.new }
 {

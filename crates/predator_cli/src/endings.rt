@@ -5,18 +5,19 @@ ghost use Rattle.shelf.specs.Shelf.{Outside};
 ghost use Rattle.predator_cli.specs.Faults.{fault_text};
 ghost use Rattle.predator_cli.specs.Meets.{IsAnswered, IsFaulty, IsWorked, Meets};
 ghost use Rattle.predator_cli.specs.Statuses.{kind_of, done};
-ghost use Rattle.predator_cli.specs.Steps.{IsStopped};
-ghost use Rattle.predator_cli.specs.Commands.{steps_of};
+ghost use Rattle.predator_cli.specs.Readings.{IsStopped};
+ghost use Rattle.predator_cli.specs.Commands.{readings_of};
 
 use crate::Status;
-use crate::faults::{NO_MEMORY_LINE, fault_line};
+use crate::faults::{NO_MEMORY_LINE, USAGE, fault_line};
 use shelf::{Shelf, ShelfError};
 use std::alloc::Global;
 
 // Prints the line of a fault, and answers how the program ends.
 fn print_fault<S: Shelf>(shelf: &mut S, status: Status, text: &str) -> Status
     requires { text.now ≡ fault_text status }
-    ensures { (asked : Option Demand) (old : Outside) → IsFaulty asked old (S.outside shelf.old) status
+    ensures { (asked : Option Demand) (old : Outside)
+        → IsFaulty asked old (S.outside shelf.old) status
         → Meets asked old (S.outside shelf.new) result }
 {
     match shelf.print(text.as_bytes()) {
@@ -28,7 +29,8 @@ fn print_fault<S: Shelf>(shelf: &mut S, status: Status, text: &str) -> Status
 
 /// Ends with a refusal or with a fault of the outside.
 pub fn refuse<S: Shelf>(alloc: Global, shelf: &mut S, status: Status) -> Status
-    ensures { (asked : Option Demand) (old : Outside) → IsFaulty asked old (S.outside shelf.old) status
+    ensures { (asked : Option Demand) (old : Outside)
+        → IsFaulty asked old (S.outside shelf.old) status
         → Meets asked old (S.outside shelf.new) result }
 {
     match fault_line(alloc, &status) {
@@ -37,28 +39,30 @@ pub fn refuse<S: Shelf>(alloc: Global, shelf: &mut S, status: Status) -> Status
     }
 }
 
-/// Refuses the words.
-pub fn refuse_words<S: Shelf>(alloc: Global, shelf: &mut S) -> Status
+/// Refuses the words. That takes no memory but the shelf's.
+pub fn refuse_words<S: Shelf>(shelf: &mut S) -> Status
     ensures { Meets None (S.outside shelf.old) (S.outside shelf.new) result }
 {
-    refuse(alloc, shelf, Status::Usage)
+    print_fault(shelf, Status::Usage, USAGE)
 }
 
 /// Ends where the reading of a command's files stopped.
 pub fn stop<S: Shelf>(alloc: Global, shelf: &mut S, status: Status) -> Status
-    ensures { (demand : Demand) (old : Outside) → IsStopped (steps_of demand) old (S.outside shelf.old) status
+    ensures { (demand : Demand) (old : Outside)
+        → IsStopped (readings_of demand) old (S.outside shelf.old) status
         → Meets (Some demand) old (S.outside shelf.new) result }
 {
     refuse(alloc, shelf, status)
 }
 
 /// Prints a command's own text, and ends as its work does.
-pub fn finish<S: Shelf>(shelf: &mut S, status: Status, text: &str) -> Status
+pub fn finish<S: Shelf>(shelf: &mut S, status: Status, text: &[u8]) -> Status
     requires { kind_of status ≡ done }
-    ensures { (demand : Demand) (old : Outside) → IsWorked demand old (S.outside shelf.old) status text.now
+    ensures { (demand : Demand) (old : Outside)
+        → IsWorked demand old (S.outside shelf.old) status text.now
         → Meets (Some demand) old (S.outside shelf.new) result }
 {
-    match shelf.print(text.as_bytes()) {
+    match shelf.print(text) {
         Ok(()) => status,
         Err(ShelfError::Failed) => Status::WriteFault,
         Err(ShelfError::NoMemory) => Status::NoMemory,
@@ -66,8 +70,9 @@ pub fn finish<S: Shelf>(shelf: &mut S, status: Status, text: &str) -> Status
 }
 
 /// Prints the text of a command that writes nothing, and ends.
-pub fn answer<S: Shelf>(shelf: &mut S, text: &str) -> Status
-    ensures { (demand : Demand) (old : Outside) → IsAnswered demand old (S.outside shelf.old) text.now
+pub fn answer<S: Shelf>(shelf: &mut S, text: &[u8]) -> Status
+    ensures { (demand : Demand) (old : Outside)
+        → IsAnswered demand old (S.outside shelf.old) text.now
         → Meets (Some demand) old (S.outside shelf.new) result }
 {
     finish(shelf, Status::Done, text)

@@ -1,8 +1,5 @@
 // The lines of refusals and of faults of the outside.
-ghost use Rattle.std.specs.Prelude.{◌≡◌, ◌++◌, ◌<◌, IfOk, OnOk, string_bytes};
-ghost use Rattle.std.specs.List.{flat_map};
-ghost use Rattle.settings.specs.Keys.{key_name};
-ghost use Rattle.predator_cli.specs.Texts.{byte_text, digit_code, is_shown, name_text};
+ghost use Rattle.std.specs.Prelude.{◌≡◌, IfOk, string_bytes};
 ghost use Rattle.predator_cli.specs.Faults.{elf_text, fault_text, schedule_text, settings_text, trace_text, usage_text};
 
 use crate::Status;
@@ -10,13 +7,14 @@ use elf_loader::ElfFault;
 use hart_scheduler::ScheduleFault;
 use settings::SettingsFault;
 use std::alloc::{AllocError, Global};
+use text_forms::printed_name;
 use trace_file::TraceFault;
 
 /// The line of want of memory, which takes none.
 pub const NO_MEMORY_LINE: &str = "predator: no memory\n";
 
 /// A line for each command.
-const USAGE: &str =
+pub const USAGE: &str =
     "usage: predator run PROGRAM [--settings F] [--schedule F] [--trace F] [--output F]\nusage: predator replay TRACE [--settings F] [--size N] [--shift N]\nusage: predator check PROGRAM [--settings F]\n";
 
 fn elf_name(fault: ElfFault) -> &'static str
@@ -57,51 +55,6 @@ fn schedule_name(alloc: Global, fault: ScheduleFault) -> Result<String, AllocErr
         ScheduleFault::TooLong => String::from_str(alloc, "TooLong"),
         ScheduleFault::NoMemory => String::from_str(alloc, "NoMemory"),
     }
-}
-
-// Whether a byte stands in a printed name as it is.
-fn is_shown_byte(byte: u8) -> bool
-    ensures { result ≡ is_shown byte }
-{
-    byte > b' ' && byte < 0x7f && byte != b'\\'
-}
-
-// A digit of base 16.
-fn digit(value: u8) -> u8
-    requires { value < 16 }
-    ensures { result ≡ digit_code value }
-{
-    if value < 10 {
-        value + b'0'
-    } else {
-        value + (b'a' - 10)
-    }
-}
-
-// Adds a byte of a name.
-fn push_byte(text: &mut String, byte: u8) -> Result<(), AllocError>
-    ensures { OnOk result (string_bytes text.new ≡ string_bytes text.old ++ byte_text byte) }
-{
-    if is_shown_byte(byte) {
-        return text.push(char::from(byte));
-    }
-    text.push_str("\\x")?;
-    text.push(char::from(digit(byte / 16)))?;
-    text.push(char::from(digit(byte % 16)))
-}
-
-// A name as it is printed.
-fn printed_name(alloc: Global, name: &[u8]) -> Result<String, AllocError>
-    ensures { IfOk result (λ text. string_bytes text ≡ name_text name.now) }
-{
-    if name.is_empty() {
-        return String::from_str(alloc, "?");
-    }
-    let mut text = String::new(alloc);
-    for byte in name {
-        push_byte(&mut text, *byte)?;
-    }
-    Ok(text)
 }
 
 // What a fault of the settings is called.

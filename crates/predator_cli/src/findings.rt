@@ -1,47 +1,49 @@
-// What a trace's accesses show: a detector over them.
-ghost use Rattle.std.specs.Prelude.{◌≡◌, ◌<◌, ◌^◌, IfOk, None, length};
+// The report of what was seen.
+ghost use Rattle.std.specs.Prelude.{◌≡◌, IfOk, IsTrue};
 ghost use Rattle.detector.specs.Standing.{StandsFor};
-ghost use Rattle.trace_file.specs.Reading.{touches_in};
-ghost use Rattle.predator_cli.specs.Commands.{levels_of};
-ghost use Rattle.settings.specs.Allowed.{IsAllowed};
+ghost use Rattle.report.specs.OfLists.{report_of};
+ghost use Rattle.predator_cli.specs.Seen.{seen_report};
+ghost use Rattle.sharing_rules.specs.AccessLists.{AccessList};
+ghost use Rattle.sharing_rules.specs.Listed.{may_predict};
 
 use detector::Detector;
+use heap_objects::ObjectTable;
 use line_counters::PagedIndex;
-use predator_base::{Layout, NoMemory, Thresholds};
-use settings::Settings;
+use predator_base::{Ending, NoMemory};
+use report::{Findings, write_report};
 use std::alloc::Global;
-use trace_file::TraceRecord;
 
-/// The thresholds that settings give. Nothing is predicted.
-pub fn thresholds_of(settings: &Settings) -> Thresholds
-    requires { IsAllowed settings.now }
-    ensures { result ≡ levels_of settings.now }
+// The report of what a detector has seen, of how that ended, and of these objects.
+fn report_over(
+    alloc: Global,
+    detector: &Detector<PagedIndex>,
+    ending: &Ending,
+    objects: &ObjectTable,
+) -> Result<Vec<u8>, NoMemory>
+    requires { IsTrue (may_predict detector.now.grid detector.now.levels) }
+    ensures { (t : AccessList) → StandsFor t detector.now → IfOk result (λ text. text.items
+        ≡ report_of ending.now detector.now.grid detector.now.levels objects.now t) }
 {
-    match Thresholds::new(settings.tracking, None, settings.report) {
-        Some(thresholds) => thresholds,
-        None => unreachable!(),
-    }
+    let findings = Findings {
+        ending: *ending,
+        layout: detector.layout(),
+        thresholds: detector.thresholds(),
+        tracks: detector.tracks(),
+        objects,
+    };
+    write_report(alloc, &findings)
 }
 
-/// A detector that has seen the accesses among these records, under a layout and thresholds.
-pub fn watch(
+/// The report of what a detector has seen, and of how that ended. No objects are known yet.
+pub fn report_seen(
     alloc: Global,
-    records: &[TraceRecord],
-    layout: Layout,
-    thresholds: Thresholds,
-) -> Result<Detector<PagedIndex>, NoMemory>
-    requires few { length records.now < 2 ^ 40 }
-    requires unpredicted { thresholds.prediction ≡ None }
-    ensures stands { IfOk result (λ detector. StandsFor (touches_in records.now) detector) }
-    ensures layout { IfOk result (λ detector. detector.grid ≡ layout) }
-    ensures thresholds { IfOk result (λ detector. detector.levels ≡ thresholds) }
+    detector: &Detector<PagedIndex>,
+    ending: &Ending,
+) -> Result<Vec<u8>, NoMemory>
+    requires { IsTrue (may_predict detector.now.grid detector.now.levels) }
+    ensures { (t : AccessList) → StandsFor t detector.now → IfOk result (λ text. text.items
+        ≡ seen_report ending.now detector.now.grid detector.now.levels t) }
 {
-    let mut detector = Detector::new(alloc, PagedIndex::new(alloc), layout, thresholds);
-    for record in records {
-        match record {
-            TraceRecord::Touch(access) => detector.on_access(*access)?,
-            TraceRecord::End(_) => {}
-        }
-    }
-    Ok(detector)
+    let objects = ObjectTable::new(alloc);
+    report_over(alloc, detector, ending, &objects)
 }

@@ -1,38 +1,45 @@
 // The command `run`.
-ghost use Rattle.std.specs.Prelude.{◌≡◌, ℕ, ◌≤◌, ◌%◌, ◌^◌, IfErr, IfOk, List, [], ◌∷◌, None, Ok, OnErr, OnOk, Option, Some, length, string_bytes};
+ghost use Rattle.std.specs.Prelude.{◌≡◌, ℕ, ◌≤◌, ◌%◌, ◌^◌, ◌++◌, IfErr, IfOk, List, [], Ok, OnOk, Option, Some, length, IsTrue, None};
 ghost use Rattle.command_line.specs.Demands.{text_of};
-ghost use Rattle.command_line.specs.Words.{run as run_of};
-ghost use Rattle.elf_loader.specs.PlacedImages.{image_of};
+ghost use Rattle.command_line.specs.Run.{run_meaning, run_outputs};
+ghost use Rattle.command_line.specs.Words.{run as asks};
 ghost use Rattle.guest_run.specs.Runs.{IsShort, rest_of};
-ghost use Rattle.hart_scheduler.specs.Texts.{schedule_of};
-ghost use Rattle.run_recorder.specs.Recorded.{AreApart, HasCauseAmong, name_of, outputs_for, plain_grid, trace_for};
-ghost use Rattle.run_recorder.specs.Written.{AllMayStand, AreWhole};
+ghost use Rattle.outputs.specs.Files.{AreCut, AreWritten};
+ghost use Rattle.outputs.specs.OnTheirWay.{AreApart};
+ghost use Rattle.detector.specs.Standing.{StandsFor};
+ghost use Rattle.run_recorder.specs.Recorded.{names_of, outputs_for, plain_grid, trace_for};
+ghost use Rattle.sharing_rules.specs.AccessLists.{AccessList};
+ghost use Rattle.predator_cli.specs.Seen.{seen_report};
+ghost use Rattle.sharing_rules.specs.Listed.{may_predict};
+ghost use Rattle.predator_cli.specs.ProgramFiles.{IsStartable};
 ghost use Rattle.settings.specs.Allowed.{IsAllowed};
 ghost use Rattle.trace_file.specs.Spelling.{IsGoodTrace};
-ghost use Rattle.shelf.specs.Shelf.{Goes, OnlyWrites, Told, content};
-ghost use Rattle.predator_cli.specs.Commands.{levels_of, plan_in, program_refusal, program_step, report_of, run_in, run_steps, schedule_in, schedule_refusal, schedule_steps, settings_in, space_of, status_for, whole_run};
+ghost use Rattle.shelf.specs.Shelf.{Outside, Told};
 ghost use Rattle.predator_cli.specs.Meets.{Meets};
+ghost use Rattle.predator_cli.specs.Readings.{IsAccepted, IsJudged, IsReadFrom, IsStopped};
+ghost use Rattle.predator_cli.specs.Replay.{report_of};
+ghost use Rattle.predator_cli.specs.Run.{IsReady, file_for, run_for_demand, run_readings, schedule_in, schedule_readings, status_for, whole_run};
+ghost use Rattle.predator_cli.specs.SettingsFiles.{levels_of, settings_in};
 ghost use Rattle.predator_cli.specs.Statuses.{kind_of, done};
-ghost use Rattle.predator_cli.specs.Steps.{IsAccepted, IsJudged, IsStopped, first_refusal};
 
 use crate::Status;
 use crate::endings::{finish, refuse, stop};
-use crate::findings::thresholds_of;
-use crate::program::judge_program;
-use crate::reading::{PROGRAM_LIMIT, read_file, read_settings};
+use crate::files::{Judge, read_judged};
+use crate::findings::report_seen;
+use crate::program_file::{PROGRAM_LIMIT, judge_program};
 use crate::replay::plain_layout;
-use crate::report::report;
+use crate::settings_file::{read_settings, thresholds_of};
+use command_line::RunOptions;
+use detector::Detector;
 use elf_loader::{ElfFault, Image};
 use guest_run::{Guest, RunSettings};
 use hart_scheduler::{Schedule, ScheduleFault};
+use line_counters::PagedIndex;
 use predator_base::{NoMemory, Outcome};
-use run_recorder::{RunFiles, record_run};
+use run_recorder::{Content, Recorded, RunFile, record_run};
 use settings::Settings;
 use shelf::{Shelf, ShelfError};
 use std::alloc::Global;
-
-/// The most bytes of a schedule.
-const SCHEDULE_LIMIT: u64 = 1 << 20;
 
 // How the program ends after a run with this outcome.
 fn status_of(outcome: Outcome) -> Status
@@ -47,89 +54,80 @@ fn status_of(outcome: Outcome) -> Status
     }
 }
 
-// The image of the program that a content is, or why the command stops.
-fn judge_image(alloc: Global, bytes: &[u8], settings: &Settings) -> Result<Image, Status>
-    requires allowed { IsAllowed settings.now }
-    requires short { length bytes.now ≤ 2 ^ 24 }
-    ensures image { IfOk result (λ image. image ≡ image_of (space_of settings.now) bytes.now) }
-    ensures starts { IfOk result (λ image. image.entry % 4 ≡ 0) }
-    ensures accepted { OnOk result (program_refusal settings.now bytes.now ≡ None) }
-    ensures judged { IfErr result (IsJudged (program_refusal settings.now bytes.now)) }
-{
-    match judge_program(alloc, bytes, settings) {
-        Ok(program) => Ok(program.image),
-        Err(status) => Err(status),
-    }
+/// A program file that gives its image, under settings.
+#[derive(Clone, Copy)]
+struct ImageOf {
+    settings: Settings,
 }
 
-// The image of the program of a name, or why the command stops: the settings are those of a file that was read before.
-fn read_image<S: Shelf>(
-    alloc: Global,
-    shelf: &mut S,
-    name: &str,
-    settings: &Settings,
-) -> Result<Image, Status>
-    requires allowed { IsAllowed settings.now }
-    ensures image { IfOk result (λ image. Told (S.outside shelf.old).held (λ files. image ≡ image_of (space_of settings.now) (content files name.now))) }
-    ensures starts { IfOk result (λ image. image.entry % 4 ≡ 0) }
-    ensures harts { IfOk result (λ image. image.harts ≡ settings.now.harts) }
-    ensures same { OnOk result (S.outside shelf.new ≡ S.outside shelf.old) }
-    ensures accepted { OnOk result ((named : Option (List ℕ)) → Told (S.outside shelf.old).held (λ files. settings_in named files ≡ Ok settings.now)
-        → Told (S.outside shelf.old).held (λ files. first_refusal (program_step named name.now ∷ []) files ≡ None)) }
-    ensures stopped { IfErr result (λ status. (named : Option (List ℕ)) → Told (S.outside shelf.old).held (λ files. settings_in named files ≡ Ok settings.now)
-        → IsStopped (program_step named name.now ∷ []) (S.outside shelf.old) (S.outside shelf.new) status) }
-{
-    let too_long = Status::Elf(ElfFault::TooLong);
-    match read_file(alloc, shelf, name, PROGRAM_LIMIT, too_long) {
-        Ok(bytes) => match judge_image(alloc, &bytes, settings) {
-            Ok(image) => Ok(image),
+impl Judge for ImageOf {
+    ghost use Rattle.std.specs.Prelude.{◌<◌};
+    ghost use Rattle.elf_loader.specs.PlacedImages.{image_of};
+    ghost use Rattle.predator_cli.specs.ProgramFiles.{program_refusal, space_of};
+
+    type Given = Image;
+
+    ghost ready = { λ j. IsAllowed j.settings };
+
+    ghost most = { λ _. 2 ^ 24 };
+
+    ghost refusal = { λ j bytes. program_refusal j.settings bytes };
+
+    ghost gives = { λ j bytes image. (image ≡ image_of (space_of j.settings) bytes) × IsStartable image × (image.harts ≡ j.settings.harts) };
+
+    fn limit(&self) -> u64 {
+        PROGRAM_LIMIT
+    }
+
+    fn too_long(&self) -> Status {
+        Status::Elf(ElfFault::TooLong)
+    }
+
+    fn judge(&self, alloc: Global, bytes: &[u8]) -> Result<Image, Status> {
+        match judge_program(alloc, bytes, &self.settings) {
+            Ok(program) => Ok(program.image),
             Err(status) => Err(status),
-        },
-        Err(status) => Err(status),
+        }
     }
 }
 
-// The schedule that a content gives, or why the command stops.
-fn judge_schedule(alloc: Global, bytes: &[u8], settings: &Settings) -> Result<Schedule, Status>
-    requires { IsAllowed settings.now }
-    ensures plan { IfOk result (λ plan. schedule_of settings.now.harts settings.now.quantum bytes.now ≡ Ok plan) }
-    ensures harts { IfOk result (λ plan. plan.harts ≡ settings.now.harts) }
-    ensures quantum { IfOk result (λ plan. plan.quantum ≡ settings.now.quantum) }
-    ensures judged { IfErr result (IsJudged (schedule_refusal (schedule_of settings.now.harts settings.now.quantum bytes.now))) }
-{
-    match Schedule::read(alloc, bytes, settings.harts, settings.quantum) {
-        Ok(schedule) => Ok(schedule),
-        Err(ScheduleFault::NoMemory) => Err(Status::NoMemory),
-        Err(fault) => Err(Status::Schedule(fault)),
+/// A schedule, of at most 1 MiB, under settings.
+#[derive(Clone, Copy)]
+struct ScheduleUnder {
+    settings: Settings,
+}
+
+impl Judge for ScheduleUnder {
+    ghost use Rattle.std.specs.Prelude.{◌<◌};
+    ghost use Rattle.hart_scheduler.specs.Texts.{schedule_of};
+    ghost use Rattle.predator_cli.specs.Run.{schedule_refusal};
+
+    type Given = Schedule;
+
+    ghost ready = { λ j. IsAllowed j.settings };
+
+    ghost most = { λ _. 2 ^ 20 };
+
+    ghost refusal = { λ j bytes. schedule_refusal (schedule_of j.settings.harts j.settings.quantum bytes) };
+
+    ghost gives = { λ j bytes plan. (schedule_of j.settings.harts j.settings.quantum bytes ≡ Ok plan) × (plan.harts ≡ j.settings.harts) × (plan.quantum ≡ j.settings.quantum) };
+
+    fn limit(&self) -> u64 {
+        1 << 20
+    }
+
+    fn too_long(&self) -> Status {
+        Status::Schedule(ScheduleFault::TooLong)
+    }
+
+    fn judge(&self, alloc: Global, bytes: &[u8]) -> Result<Schedule, Status> {
+        let settings = self.settings;
+        Ok(Schedule::read(alloc, bytes, settings.harts, settings.quantum)?)
     }
 }
 
-// The schedule of a name, or why the command stops.
-fn read_named_schedule<S: Shelf>(
-    alloc: Global,
-    shelf: &mut S,
-    name: &str,
-    settings: &Settings,
-) -> Result<Schedule, Status>
-    requires { IsAllowed settings.now }
-    ensures plan { IfOk result (λ plan. Told (S.outside shelf.old).held (λ files. schedule_in settings.now (Some name.now) files ≡ Ok plan)) }
-    ensures harts { IfOk result (λ plan. plan.harts ≡ settings.now.harts) }
-    ensures quantum { IfOk result (λ plan. plan.quantum ≡ settings.now.quantum) }
-    ensures same { OnOk result (S.outside shelf.new ≡ S.outside shelf.old) }
-    ensures stopped { IfErr result (λ status. (named : Option (List ℕ)) → Told (S.outside shelf.old).held (λ files. settings_in named files ≡ Ok settings.now)
-        → IsStopped (schedule_steps named (Some name.now)) (S.outside shelf.old) (S.outside shelf.new) status) }
-{
-    let too_long = Status::Schedule(ScheduleFault::TooLong);
-    match read_file(alloc, shelf, name, SCHEDULE_LIMIT, too_long) {
-        Ok(bytes) => match judge_schedule(alloc, &bytes, settings) {
-            Ok(schedule) => Ok(schedule),
-            Err(status) => Err(status),
-        },
-        Err(status) => Err(status),
-    }
-}
-
-// The schedule of a name, or one of an empty list where none is named; or why the command stops.
+// The schedule of a name, or one of an empty list where none is named; or why the command stops. The settings are those
+// of a file that was read before.
 fn read_schedule<S: Shelf>(
     alloc: Global,
     shelf: &mut S,
@@ -137,16 +135,29 @@ fn read_schedule<S: Shelf>(
     settings: &Settings,
 ) -> Result<Schedule, Status>
     requires { IsAllowed settings.now }
-    ensures plan { IfOk result (λ plan. Told (S.outside shelf.old).held (λ files. schedule_in settings.now (text_of name.entry) files ≡ Ok plan)) }
+    ensures plan { IfOk result (λ plan. Told (S.outside shelf.old).held
+        (λ files. schedule_in settings.now (text_of name.entry) files ≡ Ok plan)) }
     ensures harts { IfOk result (λ plan. plan.harts ≡ settings.now.harts) }
     ensures quantum { IfOk result (λ plan. plan.quantum ≡ settings.now.quantum) }
-    ensures same { OnOk result (S.outside shelf.new ≡ S.outside shelf.old) }
-    ensures stopped { IfErr result (λ status. (named : Option (List ℕ)) → Told (S.outside shelf.old).held (λ files. settings_in named files ≡ Ok settings.now)
-        → IsStopped (schedule_steps named (text_of name.entry)) (S.outside shelf.old) (S.outside shelf.new) status) }
+    ensures accepted { OnOk result ((named : Option (List ℕ)) → Told (S.outside shelf.old).held
+        (λ files. settings_in named files ≡ Ok settings.now)
+        → IsAccepted (schedule_readings named (text_of name.entry)) (S.outside shelf.old) (S.outside shelf.new)) }
+    ensures stopped { IfErr result (λ status. (named : Option (List ℕ))
+        → Told (S.outside shelf.old).held (λ files. settings_in named files ≡ Ok settings.now)
+        → IsStopped (schedule_readings named (text_of name.entry)) (S.outside shelf.old) (S.outside shelf.new) status) }
 {
+    let judge = ScheduleUnder {
+        settings: *settings,
+    };
     match name {
-        Some(name) => read_named_schedule(alloc, shelf, name, settings),
-        None => judge_schedule(alloc, &[], settings),
+        Some(name) => match read_judged(alloc, shelf, name, &judge) {
+            Ok(schedule) => Ok(schedule),
+            Err(status) => Err(status),
+        },
+        None => match judge.judge(alloc, &[]) {
+            Ok(schedule) => Ok(schedule),
+            Err(status) => Err(status),
+        },
     }
 }
 
@@ -163,9 +174,9 @@ fn make_guest(
     image: Image,
     schedule: Schedule,
     settings: Settings,
-) -> Result<Loaded, Status>
+) -> Result<Loaded, NoMemory>
     requires allowed { IsAllowed settings }
-    requires starts { image.entry % 4 ≡ 0 }
+    requires starts { IsStartable image }
     requires image { image.harts ≡ settings.harts }
     requires schedule { schedule.harts ≡ settings.harts }
     requires quantum { schedule.quantum ≡ settings.quantum }
@@ -174,59 +185,103 @@ fn make_guest(
     ensures harts { IfOk result (λ loaded. loaded.guest.setup.harts ≡ settings.harts) }
     ensures budget { IfOk result (λ loaded. loaded.guest.setup.budget ≡ settings.budget) }
     ensures settings { IfOk result (λ loaded. loaded.settings ≡ settings) }
-    ensures memory { IfErr result (λ status. status ≡ Status.NoMemory) }
 {
     let chosen = RunSettings {
         harts: settings.harts,
         quantum: settings.quantum,
         budget: settings.budget,
     };
-    match Guest::new(alloc, image, schedule, chosen) {
-        Ok(guest) => Ok(Loaded { guest, settings }),
-        Err(NoMemory) => Err(Status::NoMemory),
-    }
+    let guest = Guest::new(alloc, image, schedule, chosen)?;
+    Ok(Loaded { guest, settings })
 }
 
 // The guest of a program under the settings and the schedule of their names, or why the command stops.
 fn load_guest<S: Shelf>(
     alloc: Global,
     shelf: &mut S,
-    program: &str,
-    settings: Option<&str>,
-    schedule: Option<&str>,
+    options: &RunOptions<'_>,
 ) -> Result<Loaded, Status>
     ensures allowed { IfOk result (λ loaded. IsAllowed loaded.settings) }
-    ensures settings { IfOk result (λ loaded. Told (S.outside shelf.old).held (λ files. settings_in (text_of settings.entry) files ≡ Ok loaded.settings)) }
+    ensures settings { IfOk result (λ loaded. Told (S.outside shelf.old).held
+        (λ files. settings_in (text_of options.now.settings) files ≡ Ok loaded.settings)) }
     ensures run { IfOk result (λ loaded. Told (S.outside shelf.old).held (λ files.
-        rest_of loaded.guest ≡ run_in loaded.settings (content files program.now) (plan_in loaded.settings (text_of schedule.entry) files))) }
+        rest_of loaded.guest ≡ run_for_demand (run_meaning options.now) loaded.settings files)) }
     ensures short { IfOk result (λ loaded. IsShort loaded.guest.setup (rest_of loaded.guest)) }
     ensures harts { IfOk result (λ loaded. loaded.guest.setup.harts ≡ loaded.settings.harts) }
     ensures budget { IfOk result (λ loaded. loaded.guest.setup.budget ≡ loaded.settings.budget) }
-    ensures accepted { OnOk result (IsAccepted (run_steps program.now (text_of settings.entry) (text_of schedule.entry)) (S.outside shelf.old) (S.outside shelf.new)) }
-    ensures stopped { IfErr result (IsStopped (run_steps program.now (text_of settings.entry) (text_of schedule.entry)) (S.outside shelf.old) (S.outside shelf.new)) }
+    ensures accepted { OnOk result (IsAccepted (run_readings (run_meaning options.now))
+        (S.outside shelf.old) (S.outside shelf.new)) }
+    ensures stopped { IfErr result (IsStopped (run_readings (run_meaning options.now))
+        (S.outside shelf.old) (S.outside shelf.new)) }
 {
-    let settings = match read_settings(alloc, shelf, settings) {
+    let settings = match read_settings(alloc, shelf, options.settings) {
         Ok(settings) => settings,
         Err(status) => return Err(status),
     };
-    let image = match read_image(alloc, shelf, program, &settings) {
+    let image = match read_judged(alloc, shelf, options.program, &ImageOf { settings }) {
         Ok(image) => image,
         Err(status) => return Err(status),
     };
-    match read_schedule(alloc, shelf, schedule, &settings) {
-        Ok(schedule) => match make_guest(alloc, image, schedule, settings) {
-            Ok(loaded) => Ok(loaded),
-            Err(status) => Err(status),
-        },
-        Err(status) => Err(status),
+    let schedule = match read_schedule(alloc, shelf, options.schedule, &settings) {
+        Ok(schedule) => schedule,
+        Err(status) => return Err(status),
+    };
+    match make_guest(alloc, image, schedule, settings) {
+        Ok(loaded) => Ok(loaded),
+        Err(NoMemory) => Err(Status::NoMemory),
     }
+}
+
+// Adds a file, if its name is given.
+fn push_file<'a>(
+    files: &mut Vec<RunFile<'a>>,
+    name: Option<&'a str>,
+    content: Content,
+) -> Result<(), NoMemory>
+    ensures { OnOk result (files.new.items ≡ files.old.items ++ file_for name.entry content) }
+{
+    match name {
+        Some(name) => {
+            files.push(RunFile { name, content })?;
+            Ok(())
+        }
+        None => Ok(()),
+    }
+}
+
+// The files that are named, in the order in which they are begun.
+fn files_of<'a>(alloc: Global, options: &RunOptions<'a>) -> Result<Vec<RunFile<'a>>, NoMemory>
+    ensures { IfOk result (λ files. files.items
+        ≡ file_for options.now.trace Content.Trace ++ file_for options.now.output Content.Output) }
+{
+    let mut files = Vec::new(alloc);
+    push_file(&mut files, options.trace, Content::Trace)?;
+    push_file(&mut files, options.output, Content::Output)?;
+    Ok(files)
 }
 
 // What a run shows: how the program is to end, and its report.
 #[derive(Drop)]
 struct Shown {
     status: Status,
-    text: String,
+    text: Vec<u8>,
+}
+
+// What a run that was recorded shows.
+fn show(alloc: Global, recorded: &Recorded) -> Result<Shown, NoMemory>
+    requires { IsTrue (may_predict recorded.now.detector.grid recorded.now.detector.levels) }
+    ensures status { IfOk result (λ shown. shown.status
+        ≡ status_for recorded.now.ending.outcome) }
+    ensures done { IfOk result (λ shown. kind_of shown.status ≡ done) }
+    ensures text { IfOk result (λ shown. (t : AccessList) → StandsFor t recorded.now.detector
+        → shown.text.items ≡ seen_report recorded.now.ending recorded.now.detector.grid
+        recorded.now.detector.levels t) }
+{
+    let text = report_seen(alloc, &recorded.detector, &recorded.ending)?;
+    Ok(Shown {
+        status: status_of(recorded.ending.outcome),
+        text,
+    })
 }
 
 // The run of a guest, recorded, and its report.
@@ -234,57 +289,75 @@ fn run_guest<S: Shelf>(
     alloc: Global,
     shelf: &mut S,
     loaded: Loaded,
-    files: RunFiles<'_>,
+    files: &[RunFile<'_>],
 ) -> Result<Shown, ShelfError>
-    requires apart { AreApart (name_of files.trace) (name_of files.output) }
+    requires apart { AreApart (names_of files.now) }
     requires allowed { IsAllowed loaded.settings }
     requires short { IsShort loaded.guest.setup (rest_of loaded.guest) }
     requires harts { loaded.guest.setup.harts ≡ loaded.settings.harts }
-    ensures status { IfOk result (λ shown. shown.status ≡ status_for (rest_of loaded.guest).ending.outcome) }
+    requires budget { loaded.guest.setup.budget ≡ loaded.settings.budget }
+    ensures status { IfOk result (λ shown. shown.status
+        ≡ status_for (rest_of loaded.guest).ending.outcome) }
     ensures done { IfOk result (λ shown. kind_of shown.status ≡ done) }
-    ensures text { IfOk result (λ shown. string_bytes shown.text ≡ report_of (levels_of loaded.settings) plain_grid (trace_for loaded.settings.harts (rest_of loaded.guest))) }
-    ensures good { OnOk result (IsGoodTrace (trace_for loaded.settings.harts (rest_of loaded.guest))) }
-    ensures whole { OnOk result (Goes (S.outside shelf.old).written (S.outside shelf.new).written
-        (AreWhole (outputs_for loaded.settings.harts (rest_of loaded.guest) (name_of files.entry.trace) (name_of files.entry.output)))) }
-    ensures cut { OnErr result (Goes (S.outside shelf.old).written (S.outside shelf.new).written
-        (AllMayStand (outputs_for loaded.settings.harts (rest_of loaded.guest) (name_of files.entry.trace) (name_of files.entry.output)))) }
-    ensures cause { HasCauseAmong (name_of files.entry.trace) (name_of files.entry.output) (S.outside shelf.old).write_faults (S.outside shelf.new).write_faults result }
-    ensures only { OnlyWrites (S.outside shelf.old) (S.outside shelf.new) }
+    ensures text { IfOk result (λ shown. shown.text.items
+        ≡ report_of (levels_of None loaded.settings) plain_grid
+        (trace_for loaded.settings.harts (rest_of loaded.guest))) }
+    ensures good { OnOk result (IsGoodTrace
+        (trace_for loaded.settings.harts (rest_of loaded.guest))) }
+    ensures written { OnOk result (AreWritten
+        (outputs_for loaded.settings.harts (rest_of loaded.guest) files.now)
+        (S.outside shelf.old) (S.outside shelf.new)) }
+    ensures cut { IfErr result (AreCut
+        (outputs_for loaded.settings.harts (rest_of loaded.guest) files.now)
+        (S.outside shelf.old) (S.outside shelf.new)) }
 {
     let Loaded { guest, settings } = loaded;
-    match record_run(alloc, shelf, guest, files, thresholds_of(&settings)) {
-        Ok(recorded) => {
-            match report(alloc, &recorded.ending, plain_layout(), &recorded.lines) {
-                Ok(text) => Ok(Shown {
-                    status: status_of(recorded.ending.outcome),
-                    text,
-                }),
-                Err(_) => Err(ShelfError::NoMemory),
-            }
-        }
+    let thresholds = thresholds_of(&settings, None);
+    let detector = Detector::new(alloc, PagedIndex::new(alloc), plain_layout(), thresholds);
+    match record_run(alloc, shelf, guest, detector, files) {
+        Ok(recorded) => match show(alloc, &recorded) {
+            Ok(shown) => Ok(shown),
+            Err(NoMemory) => Err(ShelfError::NoMemory),
+        },
         Err(error) => Err(error),
+    }
+}
+
+// Runs a guest, and prints the report.
+fn run_loaded<S: Shelf>(
+    alloc: Global,
+    options: &RunOptions<'_>,
+    loaded: Loaded,
+    shelf: &mut S,
+) -> Status
+    requires apart { AreApart (run_outputs (run_meaning options.now)) }
+    requires allowed { IsAllowed loaded.settings }
+    requires short { IsShort loaded.guest.setup (rest_of loaded.guest) }
+    requires harts { loaded.guest.setup.harts ≡ loaded.settings.harts }
+    requires budget { loaded.guest.setup.budget ≡ loaded.settings.budget }
+    ensures { (old : Outside)
+        → IsReady (run_meaning options.now) loaded.settings (rest_of loaded.guest) old (S.outside shelf.old)
+        → Meets (Some (asks (run_meaning options.now))) old (S.outside shelf.new) result }
+{
+    let files = match files_of(alloc, options) {
+        Ok(files) => files,
+        Err(NoMemory) => return refuse(alloc, shelf, Status::NoMemory),
+    };
+    match run_guest(alloc, shelf, loaded, &files) {
+        Ok(shown) => finish(shelf, shown.status, &shown.text),
+        Err(error) => refuse(alloc, shelf, Status::from(error)),
     }
 }
 
 /// Runs the program of a name under settings and a schedule, writes its trace and its output where they are named, and
 /// prints the report.
-pub fn run<S: Shelf>(
-    alloc: Global,
-    shelf: &mut S,
-    program: &str,
-    settings: Option<&str>,
-    schedule: Option<&str>,
-    files: RunFiles<'_>,
-) -> Status
-    requires { AreApart (name_of files.trace) (name_of files.output) }
-    ensures { Meets (Some (run_of program.now (text_of settings.entry) (text_of schedule.entry) (name_of files.entry.trace) (name_of files.entry.output))) (S.outside shelf.old) (S.outside shelf.new) result }
+pub fn run<S: Shelf>(alloc: Global, options: &RunOptions<'_>, shelf: &mut S) -> Status
+    requires { AreApart (run_outputs (run_meaning options.now)) }
+    ensures { Meets (Some (asks (run_meaning options.now)))
+        (S.outside shelf.old) (S.outside shelf.new) result }
 {
-    match load_guest(alloc, shelf, program, settings, schedule) {
+    match load_guest(alloc, shelf, options) {
         Err(status) => stop(alloc, shelf, status),
-        Ok(loaded) => match run_guest(alloc, shelf, loaded, files) {
-            Ok(shown) => finish(shelf, shown.status, shown.text.as_str()),
-            Err(ShelfError::Failed) => refuse(alloc, shelf, Status::WriteFault),
-            Err(ShelfError::NoMemory) => refuse(alloc, shelf, Status::NoMemory),
-        },
+        Ok(loaded) => run_loaded(alloc, options, loaded, shelf),
     }
 }

@@ -2,9 +2,12 @@
 ghost use Rattle.std.specs.Prelude.{◌≡◌};
 ghost use Rattle.predator_cli.specs.Numbers.{number_of};
 
-use elf_loader::ElfFault;
+use command_line::WordsFault;
+use elf_loader::{ElfFault, PlaceFault};
 use hart_scheduler::ScheduleFault;
+use predator_base::NoMemory;
 use settings::SettingsFault;
+use shelf::ShelfError;
 use trace_file::TraceFault;
 
 /// How the program ends.
@@ -16,11 +19,11 @@ pub enum Status {
     Usage,
     /// The program file has this fault.
     Elf(ElfFault),
-    /// The schedule has this fault.
+    /// The schedule has this fault, which is never want of memory.
     Schedule(ScheduleFault),
-    /// The settings file has this fault.
+    /// The settings file has this fault, which is never want of memory.
     Settings(SettingsFault),
-    /// The trace has this fault.
+    /// The trace has this fault, which is never want of memory.
     Trace(TraceFault),
     /// A file could not be read.
     ReadFault,
@@ -54,6 +57,105 @@ impl Status {
             Status::Budget => 10,
             Status::Deadlock => 11,
             Status::Trapped => 12,
+        }
+    }
+}
+
+impl From<NoMemory> for Status {
+    ghost use Rattle.predator_cli.specs.declared.status.Status.TheVariants as status;
+
+    ghost from_gives = { λ _ s. s ≡ status.NoMemory };
+
+    fn from(_: NoMemory) -> Self {
+        Status::NoMemory
+    }
+}
+
+impl From<WordsFault> for Status {
+    ghost use Rattle.predator_cli.specs.Statuses.{status_of_words};
+
+    ghost from_gives = { λ fault s. s ≡ status_of_words fault };
+
+    fn from(fault: WordsFault) -> Self {
+        match fault {
+            WordsFault::Usage => Status::Usage,
+            WordsFault::NoMemory => Status::NoMemory,
+        }
+    }
+}
+
+impl From<ElfFault> for Status {
+    ghost use Rattle.predator_cli.specs.declared.status.Status.TheVariants as status;
+
+    ghost from_gives = { λ fault s. s ≡ status.Elf fault };
+
+    fn from(fault: ElfFault) -> Self {
+        Status::Elf(fault)
+    }
+}
+
+impl From<PlaceFault> for Status {
+    ghost use Rattle.predator_cli.specs.Statuses.{status_of_placing};
+
+    ghost from_gives = { λ fault s. s ≡ status_of_placing fault };
+
+    fn from(fault: PlaceFault) -> Self {
+        match fault {
+            PlaceFault::Refused(fault) => Status::Elf(fault),
+            PlaceFault::NoMemory => Status::NoMemory,
+        }
+    }
+}
+
+impl From<ScheduleFault> for Status {
+    ghost use Rattle.predator_cli.specs.Statuses.{status_of_schedule};
+
+    ghost from_gives = { λ fault s. s ≡ status_of_schedule fault };
+
+    fn from(fault: ScheduleFault) -> Self {
+        match fault {
+            ScheduleFault::NoMemory => Status::NoMemory,
+            fault => Status::Schedule(fault),
+        }
+    }
+}
+
+impl From<SettingsFault> for Status {
+    ghost use Rattle.predator_cli.specs.Statuses.{status_of_settings};
+
+    ghost from_gives = { λ fault s. s ≡ status_of_settings fault };
+
+    fn from(fault: SettingsFault) -> Self {
+        match fault {
+            SettingsFault::NoMemory => Status::NoMemory,
+            fault => Status::Settings(fault),
+        }
+    }
+}
+
+impl From<TraceFault> for Status {
+    ghost use Rattle.predator_cli.specs.Statuses.{status_of_trace};
+
+    ghost from_gives = { λ fault s. s ≡ status_of_trace fault };
+
+    fn from(fault: TraceFault) -> Self {
+        match fault {
+            TraceFault::NoMemory => Status::NoMemory,
+            fault => Status::Trace(fault),
+        }
+    }
+}
+
+/// An error of a shelf that is written to.
+impl From<ShelfError> for Status {
+    ghost use Rattle.predator_cli.specs.Statuses.{status_of_writing};
+
+    ghost from_gives = { λ error s. s ≡ status_of_writing error };
+
+    fn from(error: ShelfError) -> Self {
+        match error {
+            ShelfError::Failed => Status::WriteFault,
+            ShelfError::NoMemory => Status::NoMemory,
         }
     }
 }

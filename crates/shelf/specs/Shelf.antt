@@ -1,5 +1,5 @@
 -- What a shelf of named files and a printed text means, and what a call does to it.
-use Rattle.std.specs.Prelude.{◌≡◌, ◌≢◌, ◌⊎◌, ℕ, ◌+◌, ◌-◌, ◌^◌, ◌<◌, ◌≤◌, min, List, [], length, take, drop, unwrap_or, MatchResult, IsErrOf, Option, Result, Some, None}
+use Rattle.std.specs.Prelude.{◌≡◌, ◌≢◌, ◌⊎◌, ℕ, ◌+◌, ◌-◌, ◌^◌, ◌<◌, ◌≤◌, min, List, [], ◌++◌, length, take, drop, unwrap_or, MatchResult, IsErrOf, Option, Result, Some, None}
 use Rattle.std.specs.Io.KnownBytes.{Appends}
 use Rattle.shelf.specs.declared.shelf.ShelfError.{ShelfError}
 use Rattle.shelf.specs.declared.shelf.ShelfError.TheVariants.{Failed}
@@ -99,3 +99,14 @@ AppendsUnless old new result bytes = MatchResult result (λ _. Appends old new b
 -- a begin: empty at Ok, and at an error as before or empty
 abbrev pub Begins : {T E : Type 0} → Result T E → Option (List ℕ) → Option (List ℕ) → Type 0
 Begins result old new = MatchResult result (λ _. new ≡ Some []) (λ _. (new ≡ old) ⊎ (new ≡ Some []))
+
+-- a told text grows by these bytes, and one that is untold stays untold
+abbrev pub Adds : Option (List ℕ) → Option (List ℕ) → List ℕ → Type 0
+Adds old new bytes = Goes old new (λ before now. now ≡ before ++ bytes)
+
+abbrev pub AddsFront : Option (List ℕ) → Option (List ℕ) → List ℕ → Type 0
+AddsFront old new bytes = (k : ℕ) × Adds old new (take k bytes)
+
+-- all of them at Ok, and a front at an error
+abbrev pub AddsUnless : {T E : Type 0} → Option (List ℕ) → Option (List ℕ) → Result T E → List ℕ → Type 0
+AddsUnless old new result bytes = MatchResult result (λ _. Adds old new bytes) (λ _. AddsFront old new bytes)

@@ -3,7 +3,7 @@ ghost use Rattle.std.specs.Prelude.{◌≡◌, ◌-◌, ◌↔◌, ◌⊎◌, mi
 ghost use Rattle.std.specs.Option.{option_copied, ForSome};
 ghost use Rattle.std.specs.Io.KnownBytes.{Appends};
 ghost use Rattle.std.specs.Io.{ReadsAtMost};
-ghost use Rattle.shelf.specs.Shelf.{content, Told, Goes, ChangesAt, HasCause, HasCauseAt, OnlyReads, OnlyWrites, OnlyPrints, Reads, AppendsUnless, Begins};
+ghost use Rattle.shelf.specs.Shelf.{content, Told, Goes, ChangesAt, HasCause, HasCauseAt, OnlyReads, OnlyWrites, OnlyPrints, Reads, AddsUnless, AppendsUnless, Begins};
 ghost use Rattle.shelf.specs.Failing.{failing_at, kept_of};
 
 use crate::files::{append_to, begin_file, bytes_of, read_file};
@@ -189,7 +189,7 @@ impl Shelf for MemoryShelf {
     /// Where it is to fail, it adds as many bytes as are listed first, or finds no memory for them. Without
     /// memory nothing was added.
     fn print(&mut self, piece: &[u8]) -> Result<(), ShelfError>
-        ensures prints { AppendsUnless
+        ensures prints { AddsUnless
             (memory_outside self.old).printed (memory_outside self.new).printed result piece.now }
         ensures cause { HasCause
             (memory_outside self.old).print_faults (memory_outside self.new).print_faults result }

@@ -2,7 +2,7 @@
 ghost use Rattle.std.specs.Prelude.{◌≡◌, ◌-◌, min, length, IfOk, IsOk, IsSome};
 ghost use Rattle.std.specs.Option.{ForSome};
 ghost use Rattle.std.specs.Io.{ReadsAtMost};
-ghost use Rattle.shelf.specs.Shelf.{content, Told, Goes, ChangesAt, HasCause, HasCauseAt, OnlyReads, OnlyWrites, OnlyPrints, Reads, AppendsUnless, Begins};
+ghost use Rattle.shelf.specs.Shelf.{content, Told, Goes, ChangesAt, HasCause, HasCauseAt, OnlyReads, OnlyWrites, OnlyPrints, Reads, AddsUnless, AppendsUnless, Begins};
 
 use crate::files::read_file;
 use crate::{HeldFile, Shelf, ShelfError};
@@ -75,7 +75,7 @@ impl Shelf for NeverFails {
 
     /// Does nothing.
     fn print(&mut self, _piece: &[u8]) -> Result<(), ShelfError>
-        ensures prints { AppendsUnless
+        ensures prints { AddsUnless
             (never_fails_outside self.old).printed (never_fails_outside self.new).printed result _piece.now }
         ensures cause { HasCause
             (never_fails_outside self.old).print_faults (never_fails_outside self.new).print_faults result }

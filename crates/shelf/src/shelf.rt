@@ -2,7 +2,7 @@
 ghost use Rattle.std.specs.Prelude.{◌≡◌, IfOk, IsSome};
 ghost use Rattle.std.specs.Option.{ForSome};
 ghost use Rattle.std.specs.Io.{ReadsAtMost};
-ghost use Rattle.shelf.specs.Shelf.{Outside, content, Told, Goes, ChangesAt, HasCause, HasCauseAt, OnlyReads, OnlyWrites, OnlyPrints, Reads, AppendsUnless, Begins};
+ghost use Rattle.shelf.specs.Shelf.{Outside, content, Told, Goes, ChangesAt, HasCause, HasCauseAt, OnlyReads, OnlyWrites, OnlyPrints, Reads, AddsUnless, AppendsUnless, Begins};
 
 use std::alloc::{AllocError, AllocFailed};
 
@@ -83,7 +83,7 @@ pub trait Shelf {
     ///
     /// `Failed` comes only where the faults of printing rose.
     fn print(&mut self, piece: &[u8]) -> Result<(), ShelfError>
-        ensures prints { AppendsUnless (outside self.old).printed (outside self.new).printed result piece.now }
+        ensures prints { AddsUnless (outside self.old).printed (outside self.new).printed result piece.now }
         ensures cause { HasCause (outside self.old).print_faults (outside self.new).print_faults result }
         ensures only { OnlyPrints (outside self.old) (outside self.new) };
 }

@@ -1,0 +1,54 @@
+-- The command `run PROGRAM [--settings F] [--schedule F] [--trace F] [--output F]`.
+use Rattle.std.specs.Prelude.{List, [], ◌∷◌, Option, option_map, codes}
+use Rattle.clap.specs.Words.{App, Row, Text, first_of}
+use Rattle.command_line.specs.Apps.{plain_app, with_option, with_word}
+use Rattle.command_line.specs.Asked.{asked}
+use Rattle.command_line.specs.Demands.{text_of}
+use Rattle.command_line.specs.Names.{given}
+use Rattle.command_line.specs.declared.run.RunOptions.{RunOptions}
+
+-- run a program: its settings, its schedule, and where its trace and its output are written, each if it is named
+pub record RunDemand : Type 0 where
+  pub program : Text
+  pub settings : Option Text
+  pub schedule : Option Text
+  pub trace : Option Text
+  pub output : Option Text
+
+abbrev pub run_app : App
+run_app =
+    with_option (with_option (with_option (with_option (with_word (plain_app (codes "run"))
+    (codes "program")) (codes "settings")) (codes "schedule")) (codes "trace")) (codes "output")
+
+abbrev pub run_with : List Row → Text → RunDemand
+run_with rows program = record {
+  program = program;
+  settings = first_of (codes "settings") rows;
+  schedule = first_of (codes "schedule") rows;
+  trace = first_of (codes "trace") rows;
+  output = first_of (codes "output") rows;
+}
+
+-- what its values ask for
+abbrev pub run_of : List Row → Option RunDemand
+run_of rows = option_map (run_with rows) (first_of (codes "program") rows)
+
+abbrev pub asked_of_run : List Text → Option RunDemand
+asked_of_run words = asked run_app run_of words
+
+-- the files that are read, in the order in which they are, and those that are written, in the order in which they are begun
+abbrev pub run_inputs : RunDemand → List Text
+run_inputs demand = given demand.settings (demand.program ∷ given demand.schedule [])
+
+abbrev pub run_outputs : RunDemand → List Text
+run_outputs demand = given demand.trace (given demand.output [])
+
+-- what the code's options ask for
+abbrev pub run_meaning : RunOptions → RunDemand
+run_meaning options = record {
+  program = options.program.now;
+  settings = text_of options.settings;
+  schedule = text_of options.schedule;
+  trace = text_of options.trace;
+  output = text_of options.output;
+}

@@ -1,0 +1,132 @@
+-- The command `run`: what it reads, and the report and the files that it gives of a run.
+use Rattle.std.specs.Prelude.{◌≡◌, ◌≤◌, ℕ, List, [], ◌∷◌, ◌++◌, Option, Some, None, Result, Ok, Err}
+use Rattle.std.specs.Option.{option_map_or}
+use Rattle.command_line.specs.Run.{RunDemand}
+use Rattle.elf_loader.specs.declared.image.Image.{Image}
+use Rattle.elf_loader.specs.PlacedImages.{image_of}
+use Rattle.guest_run.specs.declared.setup.Setup.{Setup}
+use Rattle.guest_run.specs.Configs.{first_config}
+use Rattle.guest_run.specs.Places.{heap_over}
+use Rattle.guest_run.specs.Runs.{Run, output_of, run_of}
+use Rattle.hart_scheduler.specs.Choices.{Plan}
+use Rattle.hart_scheduler.specs.Texts.{plan_of, schedule_of}
+use Rattle.hart_scheduler.specs.declared.fault.ScheduleFault.{ScheduleFault}
+use Rattle.predator_base.specs.declared.ending.Outcome.{Outcome}
+use Rattle.predator_base.specs.declared.ending.Outcome.TheVariants.{Exit, Budget, Deadlock, Trap, Part}
+use Rattle.outputs.specs.Files.{Output}
+use Rattle.run_recorder.specs.Recorded.{plain_grid, trace_for}
+use Rattle.run_recorder.specs.declared.file.Content.{Content}
+use Rattle.run_recorder.specs.declared.file.RunFile.{RunFile}
+use Rattle.std.specs.Borrow.{Bor}
+use Rattle.trace_file.specs.Spelling.{spell}
+use Rattle.settings.specs.declared.values.Settings.{Settings}
+use Rattle.shelf.specs.Shelf.{Files, Outside, Told, content}
+use Rattle.predator_cli.specs.Readings.{IsAccepted, Reading, reading}
+use Rattle.predator_cli.specs.SettingsFiles.{chosen_settings, levels_of, settings_in, settings_readings}
+use Rattle.predator_cli.specs.ProgramFiles.{program_reading, space_of}
+use Rattle.predator_cli.specs.Replay.{report_of}
+use Rattle.predator_cli.specs.Works.{Work}
+use Rattle.predator_cli.specs.declared.status.Status.{Status}
+use Rattle.predator_cli.specs.declared.status.Status.TheVariants as status
+
+-- ---- the schedule
+
+-- what the file of the schedule gives; an empty list where none is named
+abbrev pub schedule_in : Settings → Option (List ℕ) → Files → Result Plan ScheduleFault
+schedule_in settings name files =
+    schedule_of settings.harts settings.quantum (option_map_or (content files) name [])
+
+abbrev pub schedule_refusal : Result Plan ScheduleFault → Option Status
+schedule_refusal (Ok plan) = None
+schedule_refusal (Err fault) = Some (status.Schedule fault)
+
+abbrev pub schedule_reading : Option (List ℕ) → List ℕ → Reading
+schedule_reading settings name =
+    reading name (λ files. schedule_refusal (schedule_in (chosen_settings settings files) (Some name) files))
+
+abbrev pub schedule_readings : Option (List ℕ) → Option (List ℕ) → List Reading
+schedule_readings settings name = option_map_or (λ n. schedule_reading settings n ∷ []) name []
+
+-- the plan that holds where the schedule is not refused
+abbrev pub plan_unless_refused : Settings → Result Plan ScheduleFault → Plan
+plan_unless_refused settings (Ok plan) = plan
+plan_unless_refused settings (Err fault) = plan_of settings.harts settings.quantum []
+
+abbrev pub plan_in : Settings → Option (List ℕ) → Files → Plan
+plan_in settings name files = plan_unless_refused settings (schedule_in settings name files)
+
+-- what is read: the settings, the program, and the schedule
+abbrev pub run_readings : RunDemand → List Reading
+run_readings demand =
+    settings_readings demand.settings
+    ++ program_reading demand.settings demand.program ∷ schedule_readings demand.settings demand.schedule
+
+-- ---- the run
+
+-- what the run of a program never changes
+abbrev pub setup_of : Settings → Image → Setup
+setup_of settings image = record { harts = settings.harts; budget = settings.budget; top = image.top; stack = image.stack }
+
+-- the run of an image under settings and a plan
+abbrev pub whole_run : Settings → Image → Plan → Run
+whole_run settings image plan =
+    let setup = setup_of settings image in
+    run_of setup (first_config setup image.memory (heap_over image.heap_start image.heap_end) image.entry plan)
+
+-- the run of a program file
+abbrev pub run_in : Settings → List ℕ → Plan → Run
+run_in settings file plan = whole_run settings (image_of (space_of settings) file) plan
+
+-- the status that an outcome has
+abbrev pub status_for : Outcome → Status
+status_for (Exit code) = status.Done
+status_for Budget = status.Budget
+status_for Deadlock = status.Deadlock
+status_for (Trap hart pc cause) = status.Trapped
+status_for Part = status.Done
+
+-- the file of a name, if one is given
+abbrev pub output_for : Option (List ℕ) → List ℕ → List Output
+output_for None bytes = []
+output_for (Some name) bytes = record { name = name; bytes = bytes } ∷ []
+
+-- the files that a run leaves: its trace, and what it puts out, each where it is named
+abbrev pub outputs_of_run : RunDemand → ℕ → Run → List Output
+outputs_of_run demand harts r = output_for demand.trace (spell (trace_for harts r)) ++ output_for demand.output (output_of r)
+
+-- what a run gives: a report, and its trace and its output where they are named
+abbrev pub work_of_run : RunDemand → Settings → Run → Work
+work_of_run demand settings r = record {
+  status = status_for r.ending.outcome;
+  text = report_of (levels_of None settings) plain_grid (trace_for settings.harts r);
+  outputs = outputs_of_run demand settings.harts r;
+}
+
+-- the run of the demand under settings
+abbrev pub run_for_demand : RunDemand → Settings → Files → Run
+run_for_demand demand settings files =
+    run_in settings (content files demand.program) (plan_in settings demand.schedule files)
+
+abbrev pub run_work : RunDemand → Files → Work
+run_work demand files =
+    let settings = chosen_settings demand.settings files in
+    work_of_run demand settings (run_for_demand demand settings files)
+
+-- a file to be written, if its name is given
+abbrev pub file_for : Option (Bor (List ℕ)) → Content → List RunFile
+file_for None content = []
+file_for (Some name) content = record { name = name; content = content } ∷ []
+
+-- ---- its law
+
+-- the run makes at most as many steps as its budget has
+abbrev pub StaysWithinBudget : RunDemand → Files → Type 0
+StaysWithinBudget demand files =
+    let settings = chosen_settings demand.settings files in
+    (run_for_demand demand settings files).ending.steps ≤ settings.budget
+
+-- what was read for a run of this demand: the run of these settings is what the files ask for, and nothing was changed
+pub record IsReady (demand : RunDemand) (settings : Settings) (r : Run) (old now : Outside) : Type 0 where
+  pub read : Told old.held (λ files. settings_in demand.settings files ≡ Ok settings)
+  pub runs : Told old.held (λ files. r ≡ run_for_demand demand settings files)
+  pub accepted : IsAccepted (run_readings demand) old now

@@ -1,0 +1,16 @@
+//! The program on a trace that is not there: its exit status is not 0.
+#![tactic(auto)]
+
+use predator_base::NoMemory;
+use predator_cli::{DiskShelf, exit_code, give_up, predator, words_of};
+use std::env;
+use std::process::ExitCode;
+
+fn main(rt: HostRuntime) -> ExitCode {
+    let mut shelf = DiskShelf::new(&rt);
+    let status = match words_of(rt.alloc(), env::args(&rt)) {
+        Ok(words) => predator(rt.alloc(), &words, &mut shelf),
+        Err(NoMemory) => give_up(&mut shelf),
+    };
+    exit_code(&status)
+}
