@@ -8,18 +8,21 @@ use Rattle.guest_memory.specs.Changes.{Fills}
 abbrev pub spliced : List ℕ → ℕ → List ℕ → List ℕ
 spliced bytes i content = take i bytes ++ content ++ drop (i + length content) bytes
 
-length-spliced : (bytes : List ℕ) (i : ℕ) (content : List ℕ) → i + length content ≤ length bytes → length (spliced bytes i content) ≡ length bytes
+length-spliced : (bytes : List ℕ) (i : ℕ) (content : List ℕ) → i + length content ≤ length bytes
+    → length (spliced bytes i content) ≡ length bytes
 length-spliced bytes i content within =
     simp (length-append, length-drop) (rw (length-take-le i bytes (omega arith)) (omega arith))
 
-before : (bytes : List ℕ) (i : ℕ) (content : List ℕ) (k : ℕ) → i + length content ≤ length bytes → k < i → get_or (spliced bytes i content) k 0 ≡ get_or bytes k 0
+before : (bytes : List ℕ) (i : ℕ) (content : List ℕ) (k : ℕ) → i + length content ≤ length bytes → k < i
+    → get_or (spliced bytes i content) k 0 ≡ get_or bytes k 0
 before bytes i content k within below =
     let lengths : length (take i bytes) ≡ i = length-take-le i bytes (omega arith) in
     rw append_assoc (
     get_or_append_left (take i bytes) (content ++ drop (i + length content) bytes) 0 k (omega arith) ∙ get_or-take i bytes k 0 below
     )
 
-inside_content : (bytes : List ℕ) (i : ℕ) (content : List ℕ) (k : ℕ) → i + length content ≤ length bytes → i ≤ k → k < i + length content → get_or (spliced bytes i content) k 0 ≡ get_or content (k - i) 0
+inside_content : (bytes : List ℕ) (i : ℕ) (content : List ℕ) (k : ℕ) → i + length content ≤ length bytes → i ≤ k → k < i + length content
+    → get_or (spliced bytes i content) k 0 ≡ get_or content (k - i) 0
 inside_content bytes i content k within above below =
     let lengths : length (take i bytes) ≡ i = length-take-le i bytes (omega arith) in
     rw append_assoc (
@@ -27,16 +30,20 @@ inside_content bytes i content k within above below =
     ∙ get_or_append_left content (drop (i + length content) bytes) 0 (k - i) (omega arith)
     )
 
-after : (bytes : List ℕ) (i : ℕ) (content : List ℕ) (k : ℕ) → i + length content ≤ length bytes → i + length content ≤ k → get_or (spliced bytes i content) k 0 ≡ get_or bytes k 0
+after : (bytes : List ℕ) (i : ℕ) (content : List ℕ) (k : ℕ) → i + length content ≤ length bytes → i + length content ≤ k
+    → get_or (spliced bytes i content) k 0 ≡ get_or bytes k 0
 after bytes i content k within above =
     let lengths : length (take i bytes) ≡ i = length-take-le i bytes (omega arith) in
-    let front : length (take i bytes ++ content) ≡ i + length content = length-append (take i bytes) content ∙ ap (λ n. n + length content) lengths in
+    let front : length (take i bytes ++ content) ≡ i + length content = length-append (take i bytes) content
+    ∙ ap (λ n. n + length content) lengths in
     let place : i + length content + (k - (i + length content)) ≡ k = omega arith in
     get_or-append_right (take i bytes ++ content) (drop (i + length content) bytes) (i + length content) k 0 front above
     ∙ get_or-drop (i + length content) bytes (k - (i + length content)) 0
     ∙ ap (λ n. get_or bytes n 0) place
 
-at_address : (m : Space) (at : ℕ) (content : List ℕ) → IsRange m at (length content) → (a : ℕ) → cond (nat_lt a m.base) 0 (get_or (spliced m.bytes (at - m.base) content) (a - m.base) 0) ≡ cond (is_among at (length content) a) (get_or content (a - at) 0) (byte_at m a)
+at_address : (m : Space) (at : ℕ) (content : List ℕ) → IsRange m at (length content) → (a : ℕ)
+    → cond (nat_lt a m.base) 0 (get_or (spliced m.bytes (at - m.base) content) (a - m.base) 0) ≡ cond (is_among at (length content) a)
+    (get_or content (a - at) 0) (byte_at m a)
 at_address m at content range a =
     let within : at - m.base + length content ≤ length m.bytes = omega (arith, range.0, range.1) in
     elim (cases_Bool (nat_lt a m.base)) [
@@ -63,7 +70,8 @@ at_address m at content range a =
           ]
     ]
 
-pub fills : (m : Space) (at : ℕ) (content : List ℕ) → IsRange m at (length content) → Fills m (record m { bytes = spliced m.bytes (at - m.base) content }) at content
+pub fills : (m : Space) (at : ℕ) (content : List ℕ) → IsRange m at (length content)
+    → Fills m (record m { bytes = spliced m.bytes (at - m.base) content }) at content
 fills m at content range = record {
   base = refl;
   size = length-spliced m.bytes (at - m.base) content (omega (arith, range.0, range.1));

@@ -20,7 +20,8 @@ two_fit a b n p h i j k l = omega arith
 four_fit : (a b n p : ℕ) → b ≤ a → b % 4096 ≡ 0 → n ≡ 4096 * p → (a - b) / 4096 < p → a % 4 ≡ 0 → a - b + 4 ≤ n
 four_fit a b n p h i j k l = omega arith
 
-pub inside : (m : Space) (a size : ℕ) → IsSpace m → IsSize size → a % size ≡ 0 → (page_at m a).mapped ≡ true → (m.base ≤ a) × (a - m.base + size ≤ length m.bytes)
+pub inside : (m : Space) (a size : ℕ) → IsSpace m → IsSize size → a % size ≡ 0 → (page_at m a).mapped ≡ true → (m.base ≤ a)
+    × (a - m.base + size ≤ length m.bytes)
 inside m a size k s e h =
     let c = chosen (nat_lt a m.base) (get_or m.pages ((a - m.base) / 4096) no_page) h in
     let above : m.base ≤ a = ltb-false _ _ c.0 in

@@ -14,10 +14,12 @@ quotients x y h = omega arith
 
 pub within : (m : Space) (i n : ℕ) → IsSpace m → 0 < n → PagesMapped m.pages (i / 4096) ((i + (n - 1)) / 4096 + 1) → i + n ≤ length m.bytes
 within m i n k some mapped =
-    let last : (i + (n - 1)) / 4096 < length m.pages = listed m.pages _ (mapped ((i + (n - 1)) / 4096) (quotients i (i + (n - 1)) (omega arith)) (omega arith)) in
+    let last : (i + (n - 1)) / 4096 < length m.pages = listed m.pages _
+    (mapped ((i + (n - 1)) / 4096) (quotients i (i + (n - 1)) (omega arith)) (omega arith)) in
     omega (arith, k.whole)
 
-pub all_mapped : (m : Space) (a n : ℕ) → m.base ≤ a → PagesMapped m.pages ((a - m.base) / 4096) ((a - m.base + (n - 1)) / 4096 + 1) → AllMapped m a n
+pub all_mapped : (m : Space) (a n : ℕ) → m.base ≤ a → PagesMapped m.pages ((a - m.base) / 4096) ((a - m.base + (n - 1)) / 4096 + 1)
+    → AllMapped m a n
 all_mapped m a n above mapped b from before =
     let here : m.base ≤ b = omega arith in
     let low : (a - m.base) / 4096 ≤ (b - m.base) / 4096 = quotients _ _ (omega arith) in
@@ -27,7 +29,8 @@ all_mapped m a n above mapped b from before =
 in_page : (i k : ℕ) → i / 4096 ≤ k → i ≤ 4096 * k + 4095
 in_page i k h = omega arith
 
-pub some_unmapped : (m : Space) (a n k : ℕ) → m.base ≤ a → 0 < n → (a - m.base) / 4096 ≤ k → k < (a - m.base + (n - 1)) / 4096 + 1 → (get_or m.pages k no_page).mapped ≡ false → SomeUnmapped m a n
+pub some_unmapped : (m : Space) (a n k : ℕ) → m.base ≤ a → 0 < n → (a - m.base) / 4096 ≤ k → k < (a - m.base + (n - 1)) / 4096 + 1
+    → (get_or m.pages k no_page).mapped ≡ false → SomeUnmapped m a n
 some_unmapped m a n k above some low high unmapped =
     elim (cases_Bool (nat_le (4096 * k) (a - m.base))) [
       | inl within_page ↦
@@ -39,7 +42,8 @@ some_unmapped m a n k above some low high unmapped =
           (m.base + 4096 * k, omega arith, omega arith, rw (le-ltb (m.base + 4096 * k) m.base (omega arith), same) unmapped)
     ]
 
-pub bytes_at_place : (m : Space) (a n : ℕ) → m.base ≤ a → a - m.base + n ≤ length m.bytes → bytes_at m a n ≡ take n (drop (a - m.base) m.bytes)
+pub bytes_at_place : (m : Space) (a n : ℕ) → m.base ≤ a → a - m.base + n ≤ length m.bytes
+    → bytes_at m a n ≡ take n (drop (a - m.base) m.bytes)
 bytes_at_place m a zero above fits = refl
 bytes_at_place m a (suc n) above fits =
     let next : suc (a - m.base) ≡ a + 1 - m.base = omega arith in

@@ -29,14 +29,16 @@ put_again bytes at zero value h = omega arith
 put_again bytes at (suc n) value h =
     let rest = put_again (set bytes at (value % 256)) (at + 1) n (value / 256) (omega (arith, length-set bytes at (value % 256))) in
     let first : get_or (with_number (set bytes at (value % 256)) (at + 1) n (value / 256)) at 0 ≡ value % 256 =
-    put_other (set bytes at (value % 256)) (at + 1) n (value / 256) at (inl (omega arith)) ∙ get_or-set_same bytes at (value % 256) 0 (omega arith) in
+    put_other (set bytes at (value % 256)) (at + 1) n (value / 256) at (inl (omega arith))
+    ∙ get_or-set_same bytes at (value % 256) 0 (omega arith) in
     rw (first, rest, pow-suc) (omega (arith, mod-mul value {m = 256 ^ n} {c = 256} (pow_positive n) (lit< tt)))
   where
     pow_positive : (n : ℕ) → zero < 256 ^ n
     pow_positive n = omega (arith, one-le-pow n 256 (lit< tt))
 
 -- a byte that the store doesn't touch stays
-pub keeps_others : (m : Space) (a size value : ℕ) → m.base ≤ a → (b : ℕ) → (b < a) ⊎ (a + size ≤ b) → byte_at (stored m a size value) b ≡ byte_at m b
+pub keeps_others : (m : Space) (a size value : ℕ) → m.base ≤ a → (b : ℕ) → (b < a) ⊎ (a + size ≤ b)
+    → byte_at (stored m a size value) b ≡ byte_at m b
 keeps_others m a size value h b k =
     elim (cases_Bool (nat_lt b m.base)) [
       | inl below ↦ rw below refl
@@ -52,12 +54,14 @@ passed false true z a b c h = absurd (cc)
 passed false false z a b c h = (refl, refl)
 
 -- a load gives what was stored last
-pub gives_stored : (m : Space) (a size value : ℕ) → IsSpace m → IsSize size → store_fault m a size ≡ None → loaded (stored m a size value) a size ≡ Ok (value % 256 ^ size)
+pub gives_stored : (m : Space) (a size value : ℕ) → IsSpace m → IsSize size → store_fault m a size ≡ None
+    → loaded (stored m a size value) a size ≡ Ok (value % 256 ^ size)
 gives_stored m a size value k s e =
     let p = passed (not (nat_eq (a % size) 0)) (not (page_at m a).mapped) (not (page_at m a).writable) Misaligned Outside ReadOnly e in
     let aligned : a % size ≡ 0 = eqb-true _ _ (not-false _ p.0) in
     let here = inside m a size k s aligned (not-false _ p.1) in
-    rw (p.0, p.1) (ap (λ n. Ok n) (number_at_place (stored m a size value) a size here.0 ∙ put_again m.bytes (a - m.base) size value here.1))
+    rw (p.0, p.1) (ap (λ n. Ok n) (number_at_place (stored m a size value) a size here.0
+    ∙ put_again m.bytes (a - m.base) size value here.1))
 
 -- nothing is stored below the base
 pub above_base : (m : Space) (a size : ℕ) → IsSpace m → IsSize size → store_fault m a size ≡ None → m.base ≤ a

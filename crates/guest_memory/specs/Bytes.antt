@@ -13,4 +13,5 @@ number_in bytes at (suc n) = slice_index bytes at + 256 * number_in bytes (at + 
 -- bytes with the low n bytes of a number from a place on
 abbrev pub with_number : List ℕ → ℕ → ℕ → ℕ → List ℕ
 with_number bytes at zero value = bytes
-with_number bytes at (suc n) value = with_number (slice_set bytes at (value % 256)) (at + 1) n (value / 256)
+with_number bytes at (suc n) value = with_number (slice_set bytes at (value % 256)) (at + 1) n
+    (value / 256)

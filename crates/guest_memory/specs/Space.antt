@@ -24,7 +24,8 @@ size_of m = length m.bytes
 
 -- the rights of an address's page
 abbrev pub page_at : Space → ℕ → Page
-page_at m a = if nat_lt a m.base then no_page else slice_index_or m.pages ((a - m.base) / 4096) no_page
+page_at m a = if nat_lt a m.base then no_page else slice_index_or m.pages ((a - m.base) / 4096)
+    no_page
 
 -- the byte at an address
 abbrev pub byte_at : Space → ℕ → ℕ

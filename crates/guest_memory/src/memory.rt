@@ -14,7 +14,8 @@ use std::marker::Model;
 
 /// Memory of whole pages of 4096 bytes, from a base on.
 ///
-/// Contracts see its base, its bytes and its pages' rights, mostly as the byte and the rights at an address.
+/// Contracts see its base, its bytes and its pages' rights, mostly as the byte and the rights at
+/// an address.
 #[derive(Drop)]
 pub struct Memory {
     base: u32,
@@ -29,12 +30,17 @@ impl Model for Memory {
 
     ghost view = { λ m. record { base = m.base; bytes = m.bytes.items; pages = m.pages.items } };
 
-    ghost invariant = { λ m. IsSpace (record { base = m.base; bytes = m.bytes.items; pages = m.pages.items }) };
+    ghost invariant = { λ m. IsSpace (record {
+      base = m.base;
+      bytes = m.bytes.items;
+      pages = m.pages.items;
+    }) };
 }
 
 // Making it, and its place.
 impl Memory {
-    /// Memory of `size` bytes from `base` on, both multiples of 4096: all zero, and no page mapped.
+    /// Memory of `size` bytes from `base` on, both multiples of 4096: all zero, and no page
+    /// mapped.
     #[tactic(auto, using(crate::proofs::Freshness::fresh))]
     pub fn new(alloc: Global, base: u32, size: u32) -> Result<Memory, NoMemory>
         requires base { base % 4096 ≡ 0 }
@@ -69,7 +75,8 @@ impl Memory {
 
 // Mapping and filling, which ask for no rights.
 impl Memory {
-    /// Maps each page that the `len` bytes from `at` on touch. A page keeps the rights that it has,
+    /// Maps each page that the `len` bytes from `at` on touch. A page keeps the rights that it
+    /// has,
     /// and gains those that are given. Its bytes stay, and all other pages.
     pub fn map(&mut self, at: u32, len: u32, writable: bool, executable: bool)
         requires { IsRange self.old at len }
@@ -98,7 +105,9 @@ impl Memory {
 fn grant(pages: &mut [Page], first: usize, end: usize, writable: bool, executable: bool)
     requires order { first ≤ end }
     requires within { end ≤ length pages.old }
-    ensures { (k : ℕ) → slice_index_or pages.new k no_page ≡ (if nat_le first k && nat_lt k end then granted writable executable (slice_index_or pages.old k no_page) else slice_index_or pages.old k no_page) }
+    ensures { (k : ℕ) → slice_index_or pages.new k
+        no_page ≡ (if nat_le first k && nat_lt k end then granted writable executable
+        (slice_index_or pages.old k no_page) else slice_index_or pages.old k no_page) }
 {
     for i in first..end {
         let page = pages[i];
@@ -122,8 +131,10 @@ fn page_in(pages: &[Page], number: usize) -> Page
 
 // Whether the pages from first on and before end are mapped.
 fn are_mapped(pages: &[Page], first: usize, end: usize) -> bool
-    ensures mapped { OnTrue result ((k : ℕ) → first ≤ k → k < end → IsTrue (slice_index_or pages.now k no_page).mapped) }
-    ensures unmapped { OnFalse result ((k : ℕ) × (first ≤ k) × (k < end) × ((slice_index_or pages.now k no_page).mapped ≡ false)) }
+    ensures mapped { OnTrue result ((k : ℕ) → first ≤ k → k < end
+        → IsTrue (slice_index_or pages.now k no_page).mapped) }
+    ensures unmapped { OnFalse result ((k : ℕ) × (first ≤ k) × (k < end)
+        × ((slice_index_or pages.now k no_page).mapped ≡ false)) }
 {
     for number in first..end {
         if !page_in(pages, number).mapped {
@@ -146,7 +157,8 @@ impl Memory {
 
     /// Whether the address's page is mapped and executable.
     pub fn executable(&self, addr: u32) -> bool
-        ensures { IsTrue result ↔ (IsTrue (page_at self.now addr).mapped × IsTrue (page_at self.now addr).executable) }
+        ensures { IsTrue result ↔ (IsTrue (page_at self.now addr).mapped
+            × IsTrue (page_at self.now addr).executable) }
     {
         let page = self.page_of(addr);
         page.mapped && page.executable
@@ -234,7 +246,8 @@ impl Memory {
         Some(at)
     }
 
-    /// The `len` bytes from `addr` on: None exactly where one of them is in no mapped page. No bytes
+    /// The `len` bytes from `addr` on: None exactly where one of them is in no mapped page. No
+    /// bytes
     /// may stand anywhere.
     #[tactic(auto, using(crate::proofs::Slices::bytes_at_place))]
     pub fn slice(&self, addr: u32, len: u32) -> Option<&[u8]>
@@ -291,7 +304,8 @@ impl Memory {
 
         // The bytes of the store are the value's, and no other byte changes.
         ensures stored { OnOk result (self.new ≡ stored self.old addr size value) }
-        ensures others { (b : ℕ) → (b < addr) ⊎ (addr + size ≤ b) → byte_at self.new b ≡ byte_at self.old b }
+        ensures others { (b : ℕ) → (b < addr) ⊎ (addr + size ≤ b)
+            → byte_at self.new b ≡ byte_at self.old b }
         ensures again { OnOk result (loaded self.new addr size ≡ Ok (value % 256 ^ size)) }
     {
         if let Some(fault) = self.store_fault(addr, size) {

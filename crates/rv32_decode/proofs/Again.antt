@@ -64,22 +64,26 @@ jalr_again w d s z within f =
     let same : imm_i w ≡ z = imm_again 2048 (bits_i w) z within f.bits in
     let row = jalr_row w f.opcode f.funct3 in cc (f.rd, f.rs1)
 
-branch_again : (w : ℕ) (t : Test) (s r : ℕ) (z : ℤ) → IsWithin 4096 z → HasOffset w 0x63 (test_code t) s r (low_bits 8192 z) bits_b → decoded w ≡ Some (Branch t s r z)
+branch_again : (w : ℕ) (t : Test) (s r : ℕ) (z : ℤ) → IsWithin 4096 z → HasOffset w 0x63 (test_code t) s r (low_bits 8192 z) bits_b
+    → decoded w ≡ Some (Branch t s r z)
 branch_again w t s r z within f =
     let same : imm_b w ≡ z = imm_again 4096 (bits_b w) z within f.bits in
     let row = branch_row w t f.opcode f.funct3 in cc (f.rs1, f.rs2)
 
-load_again : (w : ℕ) (k : LoadKind) (d s : ℕ) (z : ℤ) → IsWithin 2048 z → HasImmediate w 0x03 d (load_code k) s (low_bits 4096 z) → decoded w ≡ Some (Load k d s z)
+load_again : (w : ℕ) (k : LoadKind) (d s : ℕ) (z : ℤ) → IsWithin 2048 z → HasImmediate w 0x03 d (load_code k) s (low_bits 4096 z)
+    → decoded w ≡ Some (Load k d s z)
 load_again w k d s z within f =
     let same : imm_i w ≡ z = imm_again 2048 (bits_i w) z within f.bits in
     let row = load_row w k f.opcode f.funct3 in cc (f.rd, f.rs1)
 
-store_again : (w : ℕ) (k : StoreKind) (s r : ℕ) (z : ℤ) → IsWithin 2048 z → HasOffset w 0x23 (store_code k) s r (low_bits 4096 z) bits_s → decoded w ≡ Some (Store k s r z)
+store_again : (w : ℕ) (k : StoreKind) (s r : ℕ) (z : ℤ) → IsWithin 2048 z → HasOffset w 0x23 (store_code k) s r (low_bits 4096 z) bits_s
+    → decoded w ≡ Some (Store k s r z)
 store_again w k s r z within f =
     let same : imm_s w ≡ z = imm_again 2048 (bits_s w) z within f.bits in
     let row = store_row w k f.opcode f.funct3 in cc (f.rs1, f.rs2)
 
-plain_again : (w : ℕ) (o : ImmOp) (d s : ℕ) (z : ℤ) → IsPlain o → IsWithin 2048 z → HasImmediate w 0x13 d (imm_code o) s (low_bits 4096 z) → decoded w ≡ Some (Imm o d s z)
+plain_again : (w : ℕ) (o : ImmOp) (d s : ℕ) (z : ℤ) → IsPlain o → IsWithin 2048 z → HasImmediate w 0x13 d (imm_code o) s (low_bits 4096 z)
+    → decoded w ≡ Some (Imm o d s z)
 plain_again w o d s z p within f =
     let same : imm_i w ≡ z = imm_again 2048 (bits_i w) z within f.bits in
     let row = imm_row w o p f.opcode f.funct3 in cc (f.rd, f.rs1)
@@ -124,22 +128,32 @@ amo_again w a d s t o h f =
 pub again : (i : Instr) → IsValid i → IsHeld i → decoded (word_of i) ≡ Some i
 again (Lui d n) v h = lui_again _ d n (u_fields 0x37 d n (lit< tt) h.0 h.1 v)
 again (Auipc d n) v h = auipc_again _ d n (u_fields 0x17 d n (lit< tt) h.0 h.1 v)
-again (Jal d z) v h = jal_again _ d z v.within (j_fields 0x6f d (low_bits 2097152 z) (lit< tt) h (low_bits-below 1048576 z v.within) (low_bits-even 1048576 z v))
+again (Jal d z) v h = jal_again _ d z v.within (j_fields 0x6f d (low_bits 2097152 z) (lit< tt) h (low_bits-below 1048576 z v.within)
+    (low_bits-even 1048576 z v))
 again (Jalr d s z) v h = jalr_again _ d s z v (i_fields 0x67 d 0 s (low_bits 4096 z) (lit< tt) h.0 (lit< tt) h.1 (low_bits-below 2048 z v))
-again (Branch t s r z) v h = branch_again _ t s r z v.within (b_fields 0x63 (test_code t) s r (low_bits 8192 z) (lit< tt) (test_small t) h.0 h.1 (low_bits-below 4096 z v.within) (low_bits-even 4096 z v))
-again (Load k d s z) v h = load_again _ k d s z v (i_fields 0x03 d (load_code k) s (low_bits 4096 z) (lit< tt) h.0 (load_small k) h.1 (low_bits-below 2048 z v))
-again (Store k s r z) v h = store_again _ k s r z v (s_fields 0x23 (store_code k) s r (low_bits 4096 z) (lit< tt) (store_small k) h.0 h.1 (low_bits-below 2048 z v))
-again (Imm Slli d s (pos n)) v h = let small : n < 32 = omega (arith, ints, v.high) in slli_again _ d s n small (i_fields 0x13 d 1 s n (lit< tt) h.0 (lit< tt) h.1 (omega arith))
-again (Imm Srli d s (pos n)) v h = let small : n < 32 = omega (arith, ints, v.high) in srli_again _ d s n small (i_fields 0x13 d 5 s n (lit< tt) h.0 (lit< tt) h.1 (omega arith))
-again (Imm Srai d s (pos n)) v h = let small : n < 32 = omega (arith, ints, v.high) in srai_again _ d s n small (i_fields 0x13 d 5 s (2 ^ 10 + n) (lit< tt) h.0 (lit< tt) h.1 (omega arith))
+again (Branch t s r z) v h = branch_again _ t s r z v.within (b_fields 0x63 (test_code t) s r (low_bits 8192 z) (lit< tt) (test_small t) h.0
+    h.1 (low_bits-below 4096 z v.within) (low_bits-even 4096 z v))
+again (Load k d s z) v h = load_again _ k d s z v (i_fields 0x03 d (load_code k) s (low_bits 4096 z) (lit< tt) h.0 (load_small k) h.1
+    (low_bits-below 2048 z v))
+again (Store k s r z) v h = store_again _ k s r z v (s_fields 0x23 (store_code k) s r (low_bits 4096 z) (lit< tt) (store_small k) h.0 h.1
+    (low_bits-below 2048 z v))
+again (Imm Slli d s (pos n)) v h = let small : n < 32 = omega (arith, ints, v.high) in
+    slli_again _ d s n small (i_fields 0x13 d 1 s n (lit< tt) h.0 (lit< tt) h.1 (omega arith))
+again (Imm Srli d s (pos n)) v h = let small : n < 32 = omega (arith, ints, v.high) in
+    srli_again _ d s n small (i_fields 0x13 d 5 s n (lit< tt) h.0 (lit< tt) h.1 (omega arith))
+again (Imm Srai d s (pos n)) v h = let small : n < 32 = omega (arith, ints, v.high) in
+    srai_again _ d s n small (i_fields 0x13 d 5 s (2 ^ 10 + n) (lit< tt) h.0 (lit< tt) h.1 (omega arith))
 again (Imm Slli d s (negsuc n)) v h = absurd (omega (arith, ints, v.low))
 again (Imm Srli d s (negsuc n)) v h = absurd (omega (arith, ints, v.low))
 again (Imm Srai d s (negsuc n)) v h = absurd (omega (arith, ints, v.low))
-again (Imm o d s z) v h = plain_again _ o d s z tt v (i_fields 0x13 d (imm_code o) s (low_bits 4096 z) (lit< tt) h.0 (imm_small o) h.1 (low_bits-below 2048 z v))
-again (Op o d s t) v h = op_again _ o d s t (r_fields 0x33 d (alu_code o) s t (alu_high o) (lit< tt) h.0 (alu_small o).0 h.1 h.2 (alu_small o).1)
+again (Imm o d s z) v h = plain_again _ o d s z tt v (i_fields 0x13 d (imm_code o) s (low_bits 4096 z) (lit< tt) h.0 (imm_small o) h.1
+    (low_bits-below 2048 z v))
+again (Op o d s t) v h = op_again _ o d s t (r_fields 0x33 d (alu_code o) s t (alu_high o) (lit< tt) h.0 (alu_small o).0 h.1 h.2
+    (alu_small o).1)
 again (Fence d s n) v h = fence_again _ d s n (i_fields 0x0f d 0 s n (lit< tt) h.0 (lit< tt) h.1 v)
 again Ecall v h = ecall_row _ refl
 again Ebreak v h = ebreak_row _ refl
 again (Lr d s o) v h = lr_again _ d s o v (r_fields 0x2f d 2 s 0 (2 * 2 ^ 2 + o) (lit< tt) h.0 (lit< tt) h.1 (lit< tt) (omega arith))
 again (Sc d s t o) v h = sc_again _ d s t o v (r_fields 0x2f d 2 s t (3 * 2 ^ 2 + o) (lit< tt) h.0 (lit< tt) h.1 h.2 (omega arith))
-again (Amo a d s t o) v h = let small = amo_small a in amo_again _ a d s t o v (r_fields 0x2f d 2 s t (amo_code a * 2 ^ 2 + o) (lit< tt) h.0 (lit< tt) h.1 h.2 (omega arith))
+again (Amo a d s t o) v h = let small = amo_small a in amo_again _ a d s t o v
+    (r_fields 0x2f d 2 s t (amo_code a * 2 ^ 2 + o) (lit< tt) h.0 (lit< tt) h.1 h.2 (omega arith))

@@ -53,7 +53,8 @@ s_fields op f s t n h1 h2 h3 h4 h5 = record {
   bits = omega arith;
 }
 
-pub b_fields : (op f s t n : ℕ) → op < 128 → f < 8 → s < 32 → t < 32 → n < 8192 → n % 2 ≡ 0 → HasOffset (b_word op f s t n) op f s t n bits_b
+pub b_fields : (op f s t n : ℕ) → op < 128 → f < 8 → s < 32 → t < 32 → n < 8192 → n % 2 ≡ 0
+    → HasOffset (b_word op f s t n) op f s t n bits_b
 b_fields op f s t n h1 h2 h3 h4 h5 even = record {
   opcode = omega arith;
   funct3 = omega arith;

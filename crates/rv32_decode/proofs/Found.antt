@@ -81,7 +81,8 @@ pub srai_row : (w : ℕ) → opcode w ≡ 0x13 → funct3 w ≡ 5 → funct7 w �
 unfolding table
 srai_row w b c d = at w 26 refl (lit< tt) (omega (arith, and_funct7 w))
 
-pub op_row : (w : ℕ) (o : AluOp) → opcode w ≡ 0x33 → funct3 w ≡ alu_code o → funct7 w ≡ alu_high o → decoded w ≡ Some (Op o (rd w) (rs1 w) (rs2 w))
+pub op_row : (w : ℕ) (o : AluOp) → opcode w ≡ 0x33 → funct3 w ≡ alu_code o → funct7 w ≡ alu_high o
+    → decoded w ≡ Some (Op o (rd w) (rs1 w) (rs2 w))
 unfolding table
 op_row w alu.Add b c d = at w 27 refl (lit< tt) (omega (arith, and_funct7 w))
 op_row w alu.Sub b c d = at w 28 refl (lit< tt) (omega (arith, and_funct7 w))
@@ -122,7 +123,8 @@ pub sc_row : (w : ℕ) → opcode w ≡ 0x2f → funct3 w ≡ 2 → funct5 w ≡
 unfolding table
 sc_row w b c d = at w 49 refl (lit< tt) (omega (arith, and_funct5 w))
 
-pub amo_row : (w : ℕ) (o : AmoOp) → opcode w ≡ 0x2f → funct3 w ≡ 2 → funct5 w ≡ amo_code o → decoded w ≡ Some (Amo o (rd w) (rs1 w) (rs2 w) (order w))
+pub amo_row : (w : ℕ) (o : AmoOp) → opcode w ≡ 0x2f → funct3 w ≡ 2 → funct5 w ≡ amo_code o
+    → decoded w ≡ Some (Amo o (rd w) (rs1 w) (rs2 w) (order w))
 unfolding table
 amo_row w amo.Add b c d = at w 50 refl (lit< tt) (omega (arith, and_funct5 w))
 amo_row w amo.Swap b c d = at w 51 refl (lit< tt) (omega (arith, and_funct5 w))
@@ -135,25 +137,32 @@ amo_row w amo.Minu b c d = at w 57 refl (lit< tt) (omega (arith, and_funct5 w))
 amo_row w amo.Maxu b c d = at w 58 refl (lit< tt) (omega (arith, and_funct5 w))
 
 -- The same, as a function's goal has it.
-pub op_is : (w : ℕ) (o : AluOp) (d s t : ℕ) → opcode w ≡ 0x33 → alu_code o ≡ funct3 w → alu_high o ≡ funct7 w → d ≡ rd w → s ≡ rs1 w → t ≡ rs2 w → Some (Op o d s t) ≡ decoded w
+pub op_is : (w : ℕ) (o : AluOp) (d s t : ℕ) → opcode w ≡ 0x33 → alu_code o ≡ funct3 w → alu_high o ≡ funct7 w → d ≡ rd w → s ≡ rs1 w
+    → t ≡ rs2 w → Some (Op o d s t) ≡ decoded w
 op_is w o d s t a b c e f g = let row = op_row w o a (omega arith) (omega arith) in cc
 
-pub branch_is : (w : ℕ) (t : Test) (s r : ℕ) (z : ℤ) → opcode w ≡ 0x63 → test_code t ≡ funct3 w → s ≡ rs1 w → r ≡ rs2 w → z ≡ imm_b w → Some (Branch t s r z) ≡ decoded w
+pub branch_is : (w : ℕ) (t : Test) (s r : ℕ) (z : ℤ) → opcode w ≡ 0x63 → test_code t ≡ funct3 w → s ≡ rs1 w → r ≡ rs2 w → z ≡ imm_b w
+    → Some (Branch t s r z) ≡ decoded w
 branch_is w t s r z a b c d e = let row = branch_row w t a (omega arith) in cc
 
-pub load_is : (w : ℕ) (k : LoadKind) (d s : ℕ) (z : ℤ) → opcode w ≡ 0x03 → load_code k ≡ funct3 w → d ≡ rd w → s ≡ rs1 w → z ≡ imm_i w → Some (Load k d s z) ≡ decoded w
+pub load_is : (w : ℕ) (k : LoadKind) (d s : ℕ) (z : ℤ) → opcode w ≡ 0x03 → load_code k ≡ funct3 w → d ≡ rd w → s ≡ rs1 w → z ≡ imm_i w
+    → Some (Load k d s z) ≡ decoded w
 load_is w k d s z a b c e f = let row = load_row w k a (omega arith) in cc
 
-pub store_is : (w : ℕ) (k : StoreKind) (s r : ℕ) (z : ℤ) → opcode w ≡ 0x23 → store_code k ≡ funct3 w → s ≡ rs1 w → r ≡ rs2 w → z ≡ imm_s w → Some (Store k s r z) ≡ decoded w
+pub store_is : (w : ℕ) (k : StoreKind) (s r : ℕ) (z : ℤ) → opcode w ≡ 0x23 → store_code k ≡ funct3 w → s ≡ rs1 w → r ≡ rs2 w → z ≡ imm_s w
+    → Some (Store k s r z) ≡ decoded w
 store_is w k s r z a b c d e = let row = store_row w k a (omega arith) in cc
 
-pub lr_is : (w d s r o : ℕ) → opcode w ≡ 0x2f → funct3 w ≡ 2 → r ≡ rs2 w → r ≡ 0 → funct5 w ≡ 2 → d ≡ rd w → s ≡ rs1 w → o ≡ order w → Some (Lr d s o) ≡ decoded w
+pub lr_is : (w d s r o : ℕ) → opcode w ≡ 0x2f → funct3 w ≡ 2 → r ≡ rs2 w → r ≡ 0 → funct5 w ≡ 2 → d ≡ rd w → s ≡ rs1 w → o ≡ order w
+    → Some (Lr d s o) ≡ decoded w
 lr_is w d s r o a b r' c e f g i = let row = lr_row w a b (omega arith) (omega arith) in cc
 
-pub sc_is : (w d s t o : ℕ) → opcode w ≡ 0x2f → funct3 w ≡ 2 → funct5 w ≡ 3 → d ≡ rd w → s ≡ rs1 w → t ≡ rs2 w → o ≡ order w → Some (Sc d s t o) ≡ decoded w
+pub sc_is : (w d s t o : ℕ) → opcode w ≡ 0x2f → funct3 w ≡ 2 → funct5 w ≡ 3 → d ≡ rd w → s ≡ rs1 w → t ≡ rs2 w → o ≡ order w
+    → Some (Sc d s t o) ≡ decoded w
 sc_is w d s t o a b c e f g i = let row = sc_row w a b (omega arith) in cc
 
-pub amo_is : (w : ℕ) (k : AmoOp) (d s t o : ℕ) → opcode w ≡ 0x2f → funct3 w ≡ 2 → amo_code k ≡ funct5 w → d ≡ rd w → s ≡ rs1 w → t ≡ rs2 w → o ≡ order w → Some (Amo k d s t o) ≡ decoded w
+pub amo_is : (w : ℕ) (k : AmoOp) (d s t o : ℕ) → opcode w ≡ 0x2f → funct3 w ≡ 2 → amo_code k ≡ funct5 w → d ≡ rd w → s ≡ rs1 w → t ≡ rs2 w
+    → o ≡ order w → Some (Amo k d s t o) ≡ decoded w
 amo_is w k d s t o a b c e f g i = let row = amo_row w k a b (omega arith) in cc
 
 pub addi_row : (w : ℕ) → opcode w ≡ 0x13 → funct3 w ≡ 0 → decoded w ≡ Some (Imm Addi (rd w) (rs1 w) (imm_i w))

@@ -21,7 +21,14 @@ pub and_funct5 : (w : ℕ) → bit_and w 0xf800707f ≡ opcode w + funct3 w * 2 
 and_funct5 w = omega (arith, and_cut 27 w 0xf800707f, and_mask (w / 134217728) 5, and_funct3 (w % 134217728))
 
 pub and_no_rs2 : (w : ℕ) → bit_and w 0xf9f0707f ≡ opcode w + funct3 w * 2 ^ 12 + rs2 w * 2 ^ 20 + funct5 w * 2 ^ 27
-and_no_rs2 w = omega (arith, and_cut 27 w 0xf9f0707f, and_mask (w / 134217728) 5, and_cut 20 (w % 134217728) 0x1f0707f, and_mask (w % 134217728 / 1048576) 5, and_funct3 (w % 134217728 % 1048576))
+and_no_rs2 w = omega (
+  arith,
+  and_cut 27 w 0xf9f0707f,
+  and_mask (w / 134217728) 5,
+  and_cut 20 (w % 134217728) 0x1f0707f,
+  and_mask (w % 134217728 / 1048576) 5,
+  and_funct3 (w % 134217728 % 1048576),
+)
 
 pub and_all : (w : ℕ) → w < 2 ^ 32 → bit_and w 0xffffffff ≡ w
 and_all w h = omega (arith, and_mask w 32)

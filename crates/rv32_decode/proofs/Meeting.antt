@@ -15,10 +15,12 @@ pub meets-clash : (w : ℕ) (r s : Row) → clash r s ≡ true → meets w s ≡
 meets-clash w r s c e = ne_eqb (bit_and w r.mask) r.value (λ h.
     let m : bit_and w s.mask ≡ s.value = eqb-true _ _ e in
     let same : bit_and r.value s.mask ≡ bit_and s.value r.mask =
-    ap (λ x. bit_and x s.mask) (sym h) ∙ and_assoc s.mask w r.mask ∙ ap (λ x. bit_and w x) (and_comm r.mask s.mask) ∙ sym (and_assoc r.mask w s.mask) ∙ ap (λ x. bit_and x r.mask) m in
+    ap (λ x. bit_and x s.mask) (sym h) ∙ and_assoc s.mask w r.mask ∙ ap (λ x. bit_and w x) (and_comm r.mask s.mask)
+    ∙ sym (and_assoc r.mask w s.mask) ∙ ap (λ x. bit_and x r.mask) m in
     grind (arith, eq-eqb _ _ same, c))
 
-found_at : (w k : ℕ) (rows : List Row) (r : Row) → list_all (λ s. clash s (get_or rows k r)) (take k rows) ≡ true → k < length rows → meets w (get_or rows k r) ≡ true → find (meets w) rows ≡ Some (get_or rows k r)
+found_at : (w k : ℕ) (rows : List Row) (r : Row) → list_all (λ s. clash s (get_or rows k r)) (take k rows) ≡ true → k < length rows
+    → meets w (get_or rows k r) ≡ true → find (meets w) rows ≡ Some (get_or rows k r)
 found_at w k [] r a b c = absurd (omega arith)
 found_at w zero (x ∷ rows) r a b c = rw c refl
 found_at w (suc k) (x ∷ rows) r a b c =
@@ -29,6 +31,7 @@ abbrev pub nth : ℕ → Row
 nth k = get_or table k (row 0 0 (λ w. Ebreak))
 
 -- the instruction of a word that meets the row at k, which clashes with each row before it
-pub at : (w k : ℕ) → list_all (λ s. clash s (nth k)) (take k table) ≡ true → k < length table → bit_and w (nth k).mask ≡ (nth k).value → decoded w ≡ Some ((nth k).make w)
+pub at : (w k : ℕ) → list_all (λ s. clash s (nth k)) (take k table) ≡ true → k < length table → bit_and w (nth k).mask ≡ (nth k).value
+    → decoded w ≡ Some ((nth k).make w)
 unfolding decoded
 at w k a b c = ap (option_map (λ r. r.make w)) (found_at w k table (row 0 0 (λ w. Ebreak)) a b (eq-eqb _ _ c))

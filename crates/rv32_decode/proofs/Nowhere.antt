@@ -68,34 +68,47 @@ pub no_store : (w : ℕ) → w < 2 ^ 32 → opcode w ≡ 0x23 → ((k : StoreKin
 no_store w h a f = none_unless w h (storeless w a f)
 
 opless : (w : ℕ) → opcode w ≡ 0x33 → ((o : AluOp) → alu_code o ≡ funct3 w → alu_high o ≡ funct7 w → ⊥) → (i : Instr) → Spelled w i → ⊥
-opless w a f (Op o d s t) q = f o (omega (arith, q.word, q.held.0, q.held.1, q.held.2, alu_small o)) (omega (arith, q.word, q.held.0, q.held.1, q.held.2, alu_small o))
+opless w a f (Op o d s t) q = f o (omega (arith, q.word, q.held.0, q.held.1, q.held.2, alu_small o))
+    (omega (arith, q.word, q.held.0, q.held.1, q.held.2, alu_small o))
 opless w a f i q = omega (arith, opcode-spelled w i q)
 
 pub no_op : (w : ℕ) → w < 2 ^ 32 → opcode w ≡ 0x33 → ((o : AluOp) → alu_code o ≡ funct3 w → alu_high o ≡ funct7 w → ⊥) → decoded w ≡ None
 no_op w h a f = none_unless w h (opless w a f)
 
 -- an immediate's word: its code, and what a shift has above
-immless : (w : ℕ) → opcode w ≡ 0x13 → (funct3 w ≡ 0 → ⊥) → (funct3 w ≡ 2 → ⊥) → (funct3 w ≡ 3 → ⊥) → (funct3 w ≡ 4 → ⊥) → (funct3 w ≡ 6 → ⊥) → (funct3 w ≡ 7 → ⊥) → (funct3 w ≡ 1 → funct7 w ≡ 0 → ⊥) → (funct3 w ≡ 5 → funct7 w ≡ 0 → ⊥) → (funct3 w ≡ 5 → funct7 w ≡ 32 → ⊥) → (i : Instr) → Spelled w i → ⊥
-immless w a f0 f2 f3 f4 f6 f7 g1 g5 g6 (Imm Slli d s (pos n)) q = let small : n < 32 = omega (arith, ints, q.valid.high) in g1 (omega (arith, q.word, q.held.0, q.held.1)) (omega (arith, q.word, q.held.0, q.held.1))
-immless w a f0 f2 f3 f4 f6 f7 g1 g5 g6 (Imm Srli d s (pos n)) q = let small : n < 32 = omega (arith, ints, q.valid.high) in g5 (omega (arith, q.word, q.held.0, q.held.1)) (omega (arith, q.word, q.held.0, q.held.1))
-immless w a f0 f2 f3 f4 f6 f7 g1 g5 g6 (Imm Srai d s (pos n)) q = let small : n < 32 = omega (arith, ints, q.valid.high) in g6 (omega (arith, q.word, q.held.0, q.held.1)) (omega (arith, q.word, q.held.0, q.held.1))
+immless : (w : ℕ) → opcode w ≡ 0x13 → (funct3 w ≡ 0 → ⊥) → (funct3 w ≡ 2 → ⊥) → (funct3 w ≡ 3 → ⊥) → (funct3 w ≡ 4 → ⊥) → (funct3 w ≡ 6 → ⊥)
+    → (funct3 w ≡ 7 → ⊥) → (funct3 w ≡ 1 → funct7 w ≡ 0 → ⊥) → (funct3 w ≡ 5 → funct7 w ≡ 0 → ⊥) → (funct3 w ≡ 5 → funct7 w ≡ 32 → ⊥)
+    → (i : Instr) → Spelled w i → ⊥
+immless w a f0 f2 f3 f4 f6 f7 g1 g5 g6 (Imm Slli d s (pos n)) q = let small : n < 32 = omega (arith, ints, q.valid.high) in
+    g1 (omega (arith, q.word, q.held.0, q.held.1)) (omega (arith, q.word, q.held.0, q.held.1))
+immless w a f0 f2 f3 f4 f6 f7 g1 g5 g6 (Imm Srli d s (pos n)) q = let small : n < 32 = omega (arith, ints, q.valid.high) in
+    g5 (omega (arith, q.word, q.held.0, q.held.1)) (omega (arith, q.word, q.held.0, q.held.1))
+immless w a f0 f2 f3 f4 f6 f7 g1 g5 g6 (Imm Srai d s (pos n)) q = let small : n < 32 = omega (arith, ints, q.valid.high) in
+    g6 (omega (arith, q.word, q.held.0, q.held.1)) (omega (arith, q.word, q.held.0, q.held.1))
 immless w a f0 f2 f3 f4 f6 f7 g1 g5 g6 (Imm Slli d s (negsuc n)) q = omega (arith, ints, q.valid.low)
 immless w a f0 f2 f3 f4 f6 f7 g1 g5 g6 (Imm Srli d s (negsuc n)) q = omega (arith, ints, q.valid.low)
 immless w a f0 f2 f3 f4 f6 f7 g1 g5 g6 (Imm Srai d s (negsuc n)) q = omega (arith, ints, q.valid.low)
 immless w a f0 f2 f3 f4 f6 f7 g1 g5 g6 (Imm o d s z) q = omega (arith, q.word, q.held.0, q.held.1, low_bits-below 2048 z q.valid)
 immless w a f0 f2 f3 f4 f6 f7 g1 g5 g6 i q = omega (arith, opcode-spelled w i q)
 
-pub no_imm : (w : ℕ) → w < 2 ^ 32 → opcode w ≡ 0x13 → (funct3 w ≡ 0 → ⊥) → (funct3 w ≡ 2 → ⊥) → (funct3 w ≡ 3 → ⊥) → (funct3 w ≡ 4 → ⊥) → (funct3 w ≡ 6 → ⊥) → (funct3 w ≡ 7 → ⊥) → (funct3 w ≡ 1 → funct7 w ≡ 0 → ⊥) → (funct3 w ≡ 5 → funct7 w ≡ 0 → ⊥) → (funct3 w ≡ 5 → funct7 w ≡ 32 → ⊥) → decoded w ≡ None
+pub no_imm : (w : ℕ) → w < 2 ^ 32 → opcode w ≡ 0x13 → (funct3 w ≡ 0 → ⊥) → (funct3 w ≡ 2 → ⊥) → (funct3 w ≡ 3 → ⊥) → (funct3 w ≡ 4 → ⊥)
+    → (funct3 w ≡ 6 → ⊥) → (funct3 w ≡ 7 → ⊥) → (funct3 w ≡ 1 → funct7 w ≡ 0 → ⊥) → (funct3 w ≡ 5 → funct7 w ≡ 0 → ⊥)
+    → (funct3 w ≡ 5 → funct7 w ≡ 32 → ⊥) → decoded w ≡ None
 no_imm w h a f0 f2 f3 f4 f6 f7 g1 g5 g6 = none_unless w h (immless w a f0 f2 f3 f4 f6 f7 g1 g5 g6)
 
 -- no atomic instruction
-atomicless : (w : ℕ) → opcode w ≡ 0x2f → (funct3 w ≡ 2 → funct5 w ≡ 2 → rs2 w ≡ 0 → ⊥) → (funct3 w ≡ 2 → funct5 w ≡ 3 → ⊥) → ((o : AmoOp) → funct3 w ≡ 2 → amo_code o ≡ funct5 w → ⊥) → (i : Instr) → Spelled w i → ⊥
-atomicless w a f g h (Lr d s o) q = f (omega (arith, q.word, q.valid, q.held.0, q.held.1)) (omega (arith, q.word, q.valid, q.held.0, q.held.1)) (omega (arith, q.word, q.valid, q.held.0, q.held.1))
-atomicless w a f g h (Sc d s t o) q = g (omega (arith, q.word, q.valid, q.held.0, q.held.1, q.held.2)) (omega (arith, q.word, q.valid, q.held.0, q.held.1, q.held.2))
-atomicless w a f g h (Amo c d s t o) q = h c (omega (arith, q.word, q.valid, q.held.0, q.held.1, q.held.2)) (omega (arith, q.word, q.valid, q.held.0, q.held.1, q.held.2, amo_small c))
+atomicless : (w : ℕ) → opcode w ≡ 0x2f → (funct3 w ≡ 2 → funct5 w ≡ 2 → rs2 w ≡ 0 → ⊥) → (funct3 w ≡ 2 → funct5 w ≡ 3 → ⊥)
+    → ((o : AmoOp) → funct3 w ≡ 2 → amo_code o ≡ funct5 w → ⊥) → (i : Instr) → Spelled w i → ⊥
+atomicless w a f g h (Lr d s o) q = f (omega (arith, q.word, q.valid, q.held.0, q.held.1))
+    (omega (arith, q.word, q.valid, q.held.0, q.held.1)) (omega (arith, q.word, q.valid, q.held.0, q.held.1))
+atomicless w a f g h (Sc d s t o) q = g (omega (arith, q.word, q.valid, q.held.0, q.held.1, q.held.2))
+    (omega (arith, q.word, q.valid, q.held.0, q.held.1, q.held.2))
+atomicless w a f g h (Amo c d s t o) q = h c (omega (arith, q.word, q.valid, q.held.0, q.held.1, q.held.2))
+    (omega (arith, q.word, q.valid, q.held.0, q.held.1, q.held.2, amo_small c))
 atomicless w a f g h i q = omega (arith, opcode-spelled w i q)
 
-pub no_atomic : (w : ℕ) → w < 2 ^ 32 → opcode w ≡ 0x2f → (funct3 w ≡ 2 → funct5 w ≡ 2 → rs2 w ≡ 0 → ⊥) → (funct3 w ≡ 2 → funct5 w ≡ 3 → ⊥) → ((o : AmoOp) → funct3 w ≡ 2 → amo_code o ≡ funct5 w → ⊥) → decoded w ≡ None
+pub no_atomic : (w : ℕ) → w < 2 ^ 32 → opcode w ≡ 0x2f → (funct3 w ≡ 2 → funct5 w ≡ 2 → rs2 w ≡ 0 → ⊥) → (funct3 w ≡ 2 → funct5 w ≡ 3 → ⊥)
+    → ((o : AmoOp) → funct3 w ≡ 2 → amo_code o ≡ funct5 w → ⊥) → decoded w ≡ None
 no_atomic w h a f g k = none_unless w h (atomicless w a f g k)
 
 pub no_jalr : (w : ℕ) → w < 2 ^ 32 → opcode w ≡ 0x67 → (funct3 w ≡ 0 → ⊥) → decoded w ≡ None
@@ -121,9 +134,13 @@ no_system w h a f g = none_unless w h (systemless w a f g)
     systemless w a f g i q = omega (arith, opcode-spelled w i q)
 
 -- an opcode that no row has
-pub no_other : (w : ℕ) → w < 2 ^ 32 → (opcode w ≡ 0x37 → ⊥) → (opcode w ≡ 0x17 → ⊥) → (opcode w ≡ 0x6f → ⊥) → (opcode w ≡ 0x67 → ⊥) → (opcode w ≡ 0x63 → ⊥) → (opcode w ≡ 0x03 → ⊥) → (opcode w ≡ 0x23 → ⊥) → (opcode w ≡ 0x13 → ⊥) → (opcode w ≡ 0x33 → ⊥) → (opcode w ≡ 0x0f → ⊥) → (opcode w ≡ 0x73 → ⊥) → (opcode w ≡ 0x2f → ⊥) → decoded w ≡ None
+pub no_other : (w : ℕ) → w < 2 ^ 32 → (opcode w ≡ 0x37 → ⊥) → (opcode w ≡ 0x17 → ⊥) → (opcode w ≡ 0x6f → ⊥) → (opcode w ≡ 0x67 → ⊥)
+    → (opcode w ≡ 0x63 → ⊥) → (opcode w ≡ 0x03 → ⊥) → (opcode w ≡ 0x23 → ⊥) → (opcode w ≡ 0x13 → ⊥) → (opcode w ≡ 0x33 → ⊥)
+    → (opcode w ≡ 0x0f → ⊥) → (opcode w ≡ 0x73 → ⊥) → (opcode w ≡ 0x2f → ⊥) → decoded w ≡ None
 no_other w h a b c d e f g j k l m n = none_unless w h (otherless w a b c d e f g j k l m n)
   where
-    otherless : (w : ℕ) → (opcode w ≡ 0x37 → ⊥) → (opcode w ≡ 0x17 → ⊥) → (opcode w ≡ 0x6f → ⊥) → (opcode w ≡ 0x67 → ⊥) → (opcode w ≡ 0x63 → ⊥) → (opcode w ≡ 0x03 → ⊥) → (opcode w ≡ 0x23 → ⊥) → (opcode w ≡ 0x13 → ⊥) → (opcode w ≡ 0x33 → ⊥) → (opcode w ≡ 0x0f → ⊥) → (opcode w ≡ 0x73 → ⊥) → (opcode w ≡ 0x2f → ⊥) → (i : Instr) → Spelled w i → ⊥
+    otherless : (w : ℕ) → (opcode w ≡ 0x37 → ⊥) → (opcode w ≡ 0x17 → ⊥) → (opcode w ≡ 0x6f → ⊥) → (opcode w ≡ 0x67 → ⊥)
+        → (opcode w ≡ 0x63 → ⊥) → (opcode w ≡ 0x03 → ⊥) → (opcode w ≡ 0x23 → ⊥) → (opcode w ≡ 0x13 → ⊥) → (opcode w ≡ 0x33 → ⊥)
+        → (opcode w ≡ 0x0f → ⊥) → (opcode w ≡ 0x73 → ⊥) → (opcode w ≡ 0x2f → ⊥) → (i : Instr) → Spelled w i → ⊥
     otherless w a b c d e f g j k l m n (Lui x y) q = omega (arith, opcode-spelled w (Lui x y) q)
     otherless w a b c d e f g j k l m n i q = omega (arith, opcode-spelled w i q)

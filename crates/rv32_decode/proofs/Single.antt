@@ -47,7 +47,8 @@ pub decoded-rows_of : (w : ℕ) → decoded w ≡ option_map (λ r. r.make w) (s
 unfolding decoded rows_of
 decoded-rows_of w = ap (option_map (λ r. r.make w)) (find-filter (meets w) table)
 
-made_by_first : (w : ℕ) (rows : List Row) → length rows ≤ 1 → AllByRecursion (λ r. option_map (λ s. s.make w) (slice_get rows 0) ≡ Some (r.make w)) rows
+made_by_first : (w : ℕ) (rows : List Row) → length rows ≤ 1 → AllByRecursion
+    (λ r. option_map (λ s. s.make w) (slice_get rows 0) ≡ Some (r.make w)) rows
 made_by_first w [] h = tt
 made_by_first w (r ∷ []) h = (refl, tt)
 made_by_first w (r ∷ s ∷ rows) h = absurd (omega arith)

@@ -52,11 +52,16 @@ jalr_back w h e =
     let low : low_bits 4096 (imm_i w) ≡ bits_i w = low_bits-signed 2048 (bits_i w) fits in
     record { valid = within-signed 2048 (bits_i w) fits; held = (omega arith, omega arith); word = rw low (omega (arith, and_funct3 w)) }
 
-branch_back : (w : ℕ) (t : Test) → w < 2 ^ 32 → bit_and w 0x707f ≡ 0x63 + test_code t * 4096 → Spelled w (Branch t (rs1 w) (rs2 w) (imm_b w))
+branch_back : (w : ℕ) (t : Test) → w < 2 ^ 32 → bit_and w 0x707f ≡ 0x63 + test_code t * 4096
+    → Spelled w (Branch t (rs1 w) (rs2 w) (imm_b w))
 branch_back w t h e =
     let fits : bits_b w < 8192 = omega arith in
     let low : low_bits 8192 (imm_b w) ≡ bits_b w = low_bits-signed 4096 (bits_b w) fits in
-    record { valid = even-signed 4096 (bits_b w) fits (omega arith); held = (omega arith, omega arith); word = rw low (omega (arith, and_funct3 w)) }
+    record {
+      valid = even-signed 4096 (bits_b w) fits (omega arith);
+      held = (omega arith, omega arith);
+      word = rw low (omega (arith, and_funct3 w));
+    }
 
 load_back : (w : ℕ) (k : LoadKind) → w < 2 ^ 32 → bit_and w 0x707f ≡ 0x03 + load_code k * 4096 → Spelled w (Load k (rd w) (rs1 w) (imm_i w))
 load_back w k h e =
@@ -64,13 +69,15 @@ load_back w k h e =
     let low : low_bits 4096 (imm_i w) ≡ bits_i w = low_bits-signed 2048 (bits_i w) fits in
     record { valid = within-signed 2048 (bits_i w) fits; held = (omega arith, omega arith); word = rw low (omega (arith, and_funct3 w)) }
 
-store_back : (w : ℕ) (k : StoreKind) → w < 2 ^ 32 → bit_and w 0x707f ≡ 0x23 + store_code k * 4096 → Spelled w (Store k (rs1 w) (rs2 w) (imm_s w))
+store_back : (w : ℕ) (k : StoreKind) → w < 2 ^ 32 → bit_and w 0x707f ≡ 0x23 + store_code k * 4096
+    → Spelled w (Store k (rs1 w) (rs2 w) (imm_s w))
 store_back w k h e =
     let fits : bits_s w < 4096 = omega arith in
     let low : low_bits 4096 (imm_s w) ≡ bits_s w = low_bits-signed 2048 (bits_s w) fits in
     record { valid = within-signed 2048 (bits_s w) fits; held = (omega arith, omega arith); word = rw low (omega (arith, and_funct3 w)) }
 
-op_back : (w : ℕ) (o : AluOp) → w < 2 ^ 32 → bit_and w 0xfe00707f ≡ 0x33 + alu_code o * 4096 + alu_high o * 33554432 → Spelled w (Op o (rd w) (rs1 w) (rs2 w))
+op_back : (w : ℕ) (o : AluOp) → w < 2 ^ 32 → bit_and w 0xfe00707f ≡ 0x33 + alu_code o * 4096 + alu_high o * 33554432
+    → Spelled w (Op o (rd w) (rs1 w) (rs2 w))
 op_back w o h e = record { valid = tt; held = (omega arith, omega arith, omega arith); word = omega (arith, and_funct7 w) }
 
 fence_back : (w : ℕ) → w < 2 ^ 32 → bit_and w 0x707f ≡ 0x0f → Spelled w (Fence (rd w) (rs1 w) (bits 31 20 w))
@@ -82,7 +89,8 @@ lr_back w h e = record { valid = omega arith; held = (omega arith, omega arith);
 sc_back : (w : ℕ) → w < 2 ^ 32 → bit_and w 0xf800707f ≡ 0x1800202f → Spelled w (Sc (rd w) (rs1 w) (rs2 w) (order w))
 sc_back w h e = record { valid = omega arith; held = (omega arith, omega arith, omega arith); word = omega (arith, and_funct5 w) }
 
-amo_back : (w : ℕ) (o : AmoOp) → w < 2 ^ 32 → bit_and w 0xf800707f ≡ 0x202f + amo_code o * 134217728 → Spelled w (Amo o (rd w) (rs1 w) (rs2 w) (order w))
+amo_back : (w : ℕ) (o : AmoOp) → w < 2 ^ 32 → bit_and w 0xf800707f ≡ 0x202f + amo_code o * 134217728
+    → Spelled w (Amo o (rd w) (rs1 w) (rs2 w) (order w))
 amo_back w o h e = record { valid = omega arith; held = (omega arith, omega arith, omega arith); word = omega (arith, and_funct5 w) }
 
 -- an operation whose immediate has twelve bits, as all have but the shifts
@@ -92,22 +100,39 @@ IsPlain Srli = ⊥
 IsPlain Srai = ⊥
 IsPlain o = Unit {0}
 
-imm_back : (w : ℕ) (o : ImmOp) → w < 2 ^ 32 → IsPlain o → bit_and w 0x707f ≡ 0x13 + imm_code o * 4096 → Spelled w (Imm o (rd w) (rs1 w) (imm_i w))
+imm_back : (w : ℕ) (o : ImmOp) → w < 2 ^ 32 → IsPlain o → bit_and w 0x707f ≡ 0x13 + imm_code o * 4096
+    → Spelled w (Imm o (rd w) (rs1 w) (imm_i w))
 imm_back w Slli h p e = absurd p
 imm_back w Srli h p e = absurd p
 imm_back w Srai h p e = absurd p
 imm_back w o h p e =
     let low : low_bits 4096 (imm_i w) ≡ bits_i w = low_bits-signed 2048 (bits_i w) (omega arith) in
-    record { valid = within-signed 2048 (bits_i w) (omega arith); held = (omega arith, omega arith); word = rw low (omega (arith, and_funct3 w)) }
+    record {
+      valid = within-signed 2048 (bits_i w) (omega arith);
+      held = (omega arith, omega arith);
+      word = rw low (omega (arith, and_funct3 w));
+    }
 
 slli_back : (w : ℕ) → w < 2 ^ 32 → bit_and w 0xfe00707f ≡ 0x1013 → Spelled w (Imm Slli (rd w) (rs1 w) (pos (rs2 w)))
-slli_back w h e = record { valid = record { low = omega (arith, ints); high = omega (arith, ints) }; held = (omega arith, omega arith); word = omega (arith, and_funct7 w) }
+slli_back w h e = record {
+  valid = record { low = omega (arith, ints); high = omega (arith, ints) };
+  held = (omega arith, omega arith);
+  word = omega (arith, and_funct7 w);
+}
 
 srli_back : (w : ℕ) → w < 2 ^ 32 → bit_and w 0xfe00707f ≡ 0x5013 → Spelled w (Imm Srli (rd w) (rs1 w) (pos (rs2 w)))
-srli_back w h e = record { valid = record { low = omega (arith, ints); high = omega (arith, ints) }; held = (omega arith, omega arith); word = omega (arith, and_funct7 w) }
+srli_back w h e = record {
+  valid = record { low = omega (arith, ints); high = omega (arith, ints) };
+  held = (omega arith, omega arith);
+  word = omega (arith, and_funct7 w);
+}
 
 srai_back : (w : ℕ) → w < 2 ^ 32 → bit_and w 0xfe00707f ≡ 0x40005013 → Spelled w (Imm Srai (rd w) (rs1 w) (pos (rs2 w)))
-srai_back w h e = record { valid = record { low = omega (arith, ints); high = omega (arith, ints) }; held = (omega arith, omega arith); word = omega (arith, and_funct7 w) }
+srai_back w h e = record {
+  valid = record { low = omega (arith, ints); high = omega (arith, ints) };
+  held = (omega arith, omega arith);
+  word = omega (arith, and_funct7 w);
+}
 
 ecall_back : (w : ℕ) → w < 2 ^ 32 → bit_and w 0xffffffff ≡ 0x73 → Spelled w Ecall
 ecall_back w h e = record { valid = tt; held = tt; word = omega (arith, and_all w h) }
@@ -183,7 +208,8 @@ rows_spell =
     then (λ w. amo_back w amo.Maxu)
     then tt
 
-spelled_by : (rows : List Row) → AllByRecursion Spells rows → (w : ℕ) → w < 2 ^ 32 → (i : Instr) → option_map (λ r. r.make w) (find (meets w) rows) ≡ Some i → Spelled w i
+spelled_by : (rows : List Row) → AllByRecursion Spells rows → (w : ℕ) → w < 2 ^ 32 → (i : Instr)
+    → option_map (λ r. r.make w) (find (meets w) rows) ≡ Some i → Spelled w i
 spelled_by [] all w h i e = absurd (cc)
 spelled_by (r ∷ rows) all w h i e =
     elim (cases_Bool (meets w r)) [

@@ -1,4 +1,5 @@
--- The fields of a word of 32 bits, as the RISC-V unprivileged specification numbers their bits, and the immediates that they make up.
+-- The fields of a word of 32 bits, as the RISC-V unprivileged specification numbers their bits,
+-- and the immediates that they make up.
 use Rattle.std.specs.Prelude.{ℕ, ℤ, pos, negsuc, ◌+◌, ◌-◌, ◌*◌, ◌/◌, ◌%◌, ◌^◌, nat_lt, if◌then◌else◌, ◌-ℤ◌}
 
 -- the bits from `high` down to `low`, as a number
@@ -50,7 +51,8 @@ abbrev pub bits_b : ℕ → ℕ
 bits_b w = bits 31 31 w * 2 ^ 12 + bits 7 7 w * 2 ^ 11 + bits 30 25 w * 2 ^ 5 + bits 11 8 w * 2 ^ 1
 
 abbrev pub bits_j : ℕ → ℕ
-bits_j w = bits 31 31 w * 2 ^ 20 + bits 19 12 w * 2 ^ 12 + bits 20 20 w * 2 ^ 11 + bits 30 21 w * 2 ^ 1
+bits_j w = bits 31 31 w * 2 ^ 20 + bits 19 12 w * 2 ^ 12 + bits 20 20 w * 2 ^ 11 + bits 30 21 w * 2
+    ^ 1
 
 abbrev pub imm_i : ℕ → ℤ
 imm_i w = signed 2048 (bits_i w)

@@ -21,7 +21,8 @@ s_word op f s t n = r_word op (bits 4 0 n) f s t (bits 11 5 n)
 
 -- B: the same, with thirteen bits of which the lowest is 0
 abbrev pub b_word : ℕ → ℕ → ℕ → ℕ → ℕ → ℕ
-b_word op f s t n = r_word op (bits 4 1 n * 2 ^ 1 + bits 11 11 n) f s t (bits 12 12 n * 2 ^ 6 + bits 10 5 n)
+b_word op f s t n = r_word op (bits 4 1 n * 2 ^ 1 + bits 11 11 n) f s t
+    (bits 12 12 n * 2 ^ 6 + bits 10 5 n)
 
 -- U: opcode, rd, and a word of which the low twelve bits are 0
 abbrev pub u_word : ℕ → ℕ → ℕ → ℕ
@@ -29,13 +30,15 @@ u_word op d n = op + d * 2 ^ 7 + n
 
 -- J: opcode, rd, and twenty-one bits of which the lowest is 0
 abbrev pub j_word : ℕ → ℕ → ℕ → ℕ
-j_word op d n = op + d * 2 ^ 7 + bits 19 12 n * 2 ^ 12 + bits 11 11 n * 2 ^ 20 + bits 10 1 n * 2 ^ 21 + bits 20 20 n * 2 ^ 31
+j_word op d n = op + d * 2 ^ 7 + bits 19 12 n * 2 ^ 12 + bits 11 11 n * 2 ^ 20 + bits 10 1 n * 2 ^
+    21 + bits 20 20 n * 2 ^ 31
 
 -- an atomic instruction: funct5, rd, rs1, rs2 and its order
 abbrev pub atomic_word : ℕ → ℕ → ℕ → ℕ → ℕ → ℕ
 atomic_word g d s t order = r_word 0x2f d 2 s t (g * 2 ^ 2 + order)
 
--- the twelve bits of an immediate: a right shift that keeps the sign has bit 10 set beside its five
+-- the twelve bits of an immediate: a right shift that keeps the sign has bit 10 set beside its
+-- five
 abbrev pub imm_bits : ImmOp → ℤ → ℕ
 imm_bits Srai z = 2 ^ 10 + low_bits 4096 z
 imm_bits op z = low_bits 4096 z

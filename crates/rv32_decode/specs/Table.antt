@@ -1,4 +1,5 @@
--- The instruction table of RV32I, M and A (the RISC-V unprivileged specification): one row an instruction.
+-- The instruction table of RV32I, M and A (the RISC-V unprivileged specification): one row an
+-- instruction.
 use Rattle.std.specs.Prelude.{ℕ, pos, Bool, Option, List, [], ◌∷◌, nat_eq, bit_and, find, filter}
 use Rattle.std.specs.Option.{option_map}
 use Rattle.rv32_decode.specs.Fields.{bits, rd, rs1, rs2, order, imm_i, imm_s, imm_b, imm_u, imm_j}
@@ -24,7 +25,8 @@ row m v f = record { mask = m; value = v; make = f }
 abbrev pub meets : ℕ → Row → Bool
 meets w r = nat_eq (bit_and w r.mask) r.value
 
--- The masks are of the opcode (7f), and with it of funct3 (707f), funct7 (fe00707f), funct5 (f800707f), funct5 and rs2
+-- The masks are of the opcode (7f), and with it of funct3 (707f), funct7 (fe00707f), funct5
+-- (f800707f), funct5 and rs2
 -- (f9f0707f), and of the whole word.
 unfoldable pub table : List Row
 table =
@@ -93,6 +95,7 @@ table =
 unfoldable pub rows_of : ℕ → List Row
 rows_of w = filter (meets w) table
 
--- the instruction that a word is: what the row that it meets makes of it, and None where it meets none
+-- the instruction that a word is: what the row that it meets makes of it, and None where it meets
+-- none
 unfoldable pub decoded : ℕ → Option Instr
 decoded w = option_map (λ r. r.make w) (find (meets w) table)

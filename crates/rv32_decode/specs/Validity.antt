@@ -43,7 +43,8 @@ IsValid (Lr d s order) = order < 4
 IsValid (Sc d s t order) = order < 4
 IsValid (Amo op d s t order) = order < 4
 
--- what each `Instr` of a program keeps: its registers are below 32, and an upper immediate is a word
+-- what each `Instr` of a program keeps: its registers are below 32, and an upper immediate is a
+-- word
 abbrev pub IsHeld : Instr → Type 0
 IsHeld (Lui d n) = (d < 32) × (n < 2 ^ 32)
 IsHeld (Auipc d n) = (d < 32) × (n < 2 ^ 32)

@@ -13,7 +13,8 @@ use crate::fields::{
 };
 use crate::instruction::{ImmOp, Instr};
 
-/// The instruction that a word is, or `None` where it is none of RV32I, M and A. The low byte of the
+/// The instruction that a word is, or `None` where it is none of RV32I, M and A. The low byte of
+/// the
 /// word is the first in memory.
 pub fn decode(word: u32) -> Option<Instr>
     // What the table's row makes of the word, and None exactly where the word meets no row.

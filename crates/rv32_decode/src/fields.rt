@@ -60,7 +60,8 @@ pub(crate) fn rs2_of(word: u32) -> Reg
     Reg::of_low_bits(word >> 20)
 }
 
-/// The number that `n` stands for in two's complement, where numbers from `half` on are below zero.
+/// The number that `n` stands for in two's complement, where numbers from `half` on are below
+/// zero.
 #[inline]
 fn signed_of(half: u32, n: u32) -> i32
     requires half { half ≤ 1048576 }

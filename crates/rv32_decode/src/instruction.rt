@@ -133,7 +133,8 @@ pub enum AmoOp {
 }
 
 /// An instruction with its fields. `rd` is the register that it writes, `rs1` and `rs2` are those
-/// that it reads. Offsets are in bytes. `order` is below 4: 2 for acquire, 1 for release, 3 for both.
+/// that it reads. Offsets are in bytes. `order` is below 4: 2 for acquire, 1 for release, 3 for
+/// both.
 /// `is_valid` tells whether the numbers are in these ranges.
 #[derive(Clone, Copy, PartialEq, Eq, Debug)]
 pub enum Instr {
@@ -179,7 +180,8 @@ pub enum Instr {
         rs2: Reg,
         offset: i32,
     },
-    /// `rd` becomes the operation on `rs1` and `value`, from -2048 to 2047, or 0 to 31 for a shift.
+    /// `rd` becomes the operation on `rs1` and `value`, from -2048 to 2047, or 0 to 31 for a
+    /// shift.
     Imm {
         op: ImmOp,
         rd: Reg,
@@ -209,7 +211,8 @@ pub enum Instr {
         rs1: Reg,
         order: u8,
     },
-    /// `rs2` is written at `rs1` if that word is still reserved; `rd` becomes 0 if so, and 1 if not.
+    /// `rs2` is written at `rs1` if that word is still reserved; `rd` becomes 0 if so, and 1 if
+    /// not.
     Sc {
         rd: Reg,
         rs1: Reg,

@@ -1,6 +1,7 @@
 //! The instructions of RV32IMA: read from words, and spelled as words again.
 //!
-//! `decode` and `encode` follow one table, a row an instruction, that stands in `specs/Table.antt`.
+//! `decode` and `encode` follow one table, a row an instruction, that stands in
+//! `specs/Table.antt`.
 //! Its source is the RISC-V unprivileged specification.
 #![tactic(auto)]
 

@@ -1,7 +1,8 @@
 //! Words that an assembler made, with the instructions that it was given.
 //!
 //! The words are those of clang 14: `clang --target=riscv32 -march=rv32ima -c`, and with
-//! `--target=riscv64 -march=rv64imafd` for the instructions of other extensions. There are three or
+//! `--target=riscv64 -march=rv64imafd` for the instructions of other extensions. There are three
+//! or
 //! more for each row of the table, with the least and the greatest immediates.
 
 use crate::instruction::{AluOp, AmoOp, ImmOp, Instr, LoadKind, StoreKind, Test};

@@ -44,5 +44,8 @@ first_sound n some most = record {
 }
 
 -- the fields of `Threads` at the beginning
-pub first_fields : (harts m n : ℕ) (marks : List Bool) (phases : List HartPhase) → marks ≡ replicate m false → phases ≡ replicate n Free → m ≡ harts → n ≡ harts → 1 ≤ harts → harts ≤ 256 → (set marks 0 true ≡ map is_runnable (set phases 0 Runnable)) × IsSound (set phases 0 Runnable)
-first_fields harts m n marks phases unmarked free m_is n_is some most = rw (unmarked, free, m_is, n_is) (first_marks harts, first_sound harts some most)
+pub first_fields : (harts m n : ℕ) (marks : List Bool) (phases : List HartPhase) → marks ≡ replicate m false → phases ≡ replicate n Free
+    → m ≡ harts → n ≡ harts → 1 ≤ harts → harts ≤ 256 → (set marks 0 true ≡ map is_runnable (set phases 0 Runnable))
+    × IsSound (set phases 0 Runnable)
+first_fields harts m n marks phases unmarked free m_is n_is some most =
+    rw (unmarked, free, m_is, n_is) (first_marks harts, first_sound harts some most)

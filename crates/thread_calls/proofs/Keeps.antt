@@ -16,16 +16,19 @@ pub record CanTake (phases : List HartPhase) (hart : ℕ) (phase : HartPhase) : 
   pub first : hart ≡ 0 → is_free phase ≡ false
   pub goes_on : (k : ℕ) → is_joining hart (phase_of phases k) ≡ true → is_over phase ≡ false
   pub unjoined : is_joining 0 phase ≡ false
-  pub joined : (target : ℕ) → is_joining target phase ≡ true → (target ≢ hart) × (is_over (phase_of phases target) ≡ false) × ((k : ℕ) → is_joining target (phase_of phases k) ≡ false)
+  pub joined : (target : ℕ) → is_joining target phase ≡ true → (target ≢ hart) × (is_over (phase_of phases target) ≡ false)
+      × ((k : ℕ) → is_joining target (phase_of phases k) ≡ false)
 
-first_stays : (phases : List HartPhase) (hart : ℕ) (phase : HartPhase) → IsSound phases → hart < length phases → CanTake phases hart phase → is_free (phase_of (set phases hart phase) 0) ≡ false
+first_stays : (phases : List HartPhase) (hart : ℕ) (phase : HartPhase) → IsSound phases → hart < length phases → CanTake phases hart phase
+    → is_free (phase_of (set phases hart phase) 0) ≡ false
 first_stays phases hart phase sound within can =
     elim (cases_eq 0 hart) [
       | inl same ↦ rw (same_at phases hart phase within 0 same) (can.first (sym same))
       | inr other ↦ rw (other_at phases hart phase within 0 other) sound.first
     ]
 
-unjoined_stays : (phases : List HartPhase) (hart : ℕ) (phase : HartPhase) → IsSound phases → hart < length phases → CanTake phases hart phase → (k : ℕ) → is_joining 0 (phase_of (set phases hart phase) k) ≡ false
+unjoined_stays : (phases : List HartPhase) (hart : ℕ) (phase : HartPhase) → IsSound phases → hart < length phases
+    → CanTake phases hart phase → (k : ℕ) → is_joining 0 (phase_of (set phases hart phase) k) ≡ false
 unjoined_stays phases hart phase sound within can k =
     elim (cases_eq k hart) [
       | inl same ↦ rw (same_at phases hart phase within k same) can.unjoined
@@ -33,7 +36,9 @@ unjoined_stays phases hart phase sound within can k =
     ]
 
 -- a hart that is joined after the change: by an old joiner, or by the hart whose phase is new
-over_stays : (phases : List HartPhase) (hart : ℕ) (phase : HartPhase) → IsSound phases → hart < length phases → CanTake phases hart phase → (k target : ℕ) → is_joining target (phase_of (set phases hart phase) k) ≡ true → is_over (phase_of (set phases hart phase) target) ≡ false
+over_stays : (phases : List HartPhase) (hart : ℕ) (phase : HartPhase) → IsSound phases → hart < length phases → CanTake phases hart phase
+    → (k target : ℕ) → is_joining target (phase_of (set phases hart phase) k) ≡ true
+    → is_over (phase_of (set phases hart phase) target) ≡ false
 over_stays phases hart phase sound within can k target joins =
     elim (cases_eq k hart) [
       | inl same ↦
@@ -50,7 +55,9 @@ over_stays phases hart phase sound within can k target joins =
           ]
     ]
 
-once_stays : (phases : List HartPhase) (hart : ℕ) (phase : HartPhase) → IsSound phases → hart < length phases → CanTake phases hart phase → (j k target : ℕ) → is_joining target (phase_of (set phases hart phase) j) ≡ true → is_joining target (phase_of (set phases hart phase) k) ≡ true → j ≡ k
+once_stays : (phases : List HartPhase) (hart : ℕ) (phase : HartPhase) → IsSound phases → hart < length phases → CanTake phases hart phase
+    → (j k target : ℕ) → is_joining target (phase_of (set phases hart phase) j) ≡ true
+    → is_joining target (phase_of (set phases hart phase) k) ≡ true → j ≡ k
 once_stays phases hart phase sound within can j k target first second =
     elim (cases_eq j hart) [
       | inl j_new ↦
@@ -62,12 +69,14 @@ once_stays phases hart phase sound within can j k target first second =
       | inr j_old ↦
           let old : is_joining target (phase_of phases j) ≡ true = rw (other_at phases hart phase within j j_old) at first in
           elim (cases_eq k hart) [
-            | inl k_new ↦ let new : is_joining target phase ≡ true = rw (same_at phases hart phase within k k_new) at second in absurd (both_ways _ ((can.joined target new).2 j) old)
+            | inl k_new ↦ let new : is_joining target phase ≡ true = rw (same_at phases hart phase within k k_new) at second in
+                absurd (both_ways _ ((can.joined target new).2 j) old)
             | inr k_old ↦ sound.once j k target old (rw (other_at phases hart phase within k k_old) at second)
           ]
     ]
 
-pub keeps : (phases : List HartPhase) (hart : ℕ) (phase : HartPhase) → IsSound phases → hart < length phases → CanTake phases hart phase → IsSound (set phases hart phase)
+pub keeps : (phases : List HartPhase) (hart : ℕ) (phase : HartPhase) → IsSound phases → hart < length phases → CanTake phases hart phase
+    → IsSound (set phases hart phase)
 keeps phases hart phase sound within can = record {
   some = rw (length-set phases hart phase) sound.some;
   most = rw (length-set phases hart phase) sound.most;
@@ -80,23 +89,48 @@ keeps phases hart phase sound within can = record {
 -- a hart can run or wait at any time
 pub keeps_runnable : (phases : List HartPhase) (hart : ℕ) → IsSound phases → hart < length phases → IsSound (set phases hart Runnable)
 keeps_runnable phases hart sound within =
-    keeps phases hart Runnable sound within (record { first = λ _. refl; goes_on = λ _ _. refl; unjoined = refl; joined = λ target never. absurd (both_ways false refl never) })
+    keeps phases hart Runnable sound within (record {
+      first = λ _. refl;
+      goes_on = λ _ _. refl;
+      unjoined = refl;
+      joined = λ target never. absurd (both_ways false refl never);
+    })
 
-pub keeps_waiting : (phases : List HartPhase) (hart addr : ℕ) → IsSound phases → hart < length phases → IsSound (set phases hart (Waiting addr))
+pub keeps_waiting : (phases : List HartPhase) (hart addr : ℕ) → IsSound phases → hart < length phases
+    → IsSound (set phases hart (Waiting addr))
 keeps_waiting phases hart addr sound within =
-    keeps phases hart (Waiting addr) sound within (record { first = λ _. refl; goes_on = λ _ _. refl; unjoined = refl; joined = λ target never. absurd (both_ways false refl never) })
+    keeps phases hart (Waiting addr) sound within (record {
+      first = λ _. refl;
+      goes_on = λ _ _. refl;
+      unjoined = refl;
+      joined = λ target never. absurd (both_ways false refl never);
+    })
 
 -- a hart that no other joins can end, and, if it isn't hart 0, become free
-pub keeps_ended : (phases : List HartPhase) (hart code : ℕ) → IsSound phases → hart < length phases → ((k : ℕ) → is_joining hart (phase_of phases k) ≡ false) → IsSound (set phases hart (Ended code))
+pub keeps_ended : (phases : List HartPhase) (hart code : ℕ) → IsSound phases → hart < length phases
+    → ((k : ℕ) → is_joining hart (phase_of phases k) ≡ false) → IsSound (set phases hart (Ended code))
 keeps_ended phases hart code sound within alone =
-    keeps phases hart (Ended code) sound within (record { first = λ _. refl; goes_on = λ k joins. absurd (both_ways _ (alone k) joins); unjoined = refl; joined = λ target never. absurd (both_ways false refl never) })
+    keeps phases hart (Ended code) sound within (record {
+      first = λ _. refl;
+      goes_on = λ k joins. absurd (both_ways _ (alone k) joins);
+      unjoined = refl;
+      joined = λ target never. absurd (both_ways false refl never);
+    })
 
-pub keeps_free : (phases : List HartPhase) (hart : ℕ) → IsSound phases → hart < length phases → hart ≢ 0 → ((k : ℕ) → is_joining hart (phase_of phases k) ≡ false) → IsSound (set phases hart Free)
+pub keeps_free : (phases : List HartPhase) (hart : ℕ) → IsSound phases → hart < length phases → hart ≢ 0
+    → ((k : ℕ) → is_joining hart (phase_of phases k) ≡ false) → IsSound (set phases hart Free)
 keeps_free phases hart sound within later alone =
-    keeps phases hart Free sound within (record { first = λ zero. absurd (later zero); goes_on = λ k joins. absurd (both_ways _ (alone k) joins); unjoined = refl; joined = λ target never. absurd (both_ways false refl never) })
+    keeps phases hart Free sound within (record {
+      first = λ zero. absurd (later zero);
+      goes_on = λ k joins. absurd (both_ways _ (alone k) joins);
+      unjoined = refl;
+      joined = λ target never. absurd (both_ways false refl never);
+    })
 
 -- a hart can join another one that goes on, isn't hart 0 and is joined by none
-pub keeps_joining : (phases : List HartPhase) (hart target : ℕ) → IsSound phases → hart < length phases → target ≢ 0 → target ≢ hart → is_over (phase_of phases target) ≡ false → ((k : ℕ) → is_joining target (phase_of phases k) ≡ false) → IsSound (set phases hart (Joining target))
+pub keeps_joining : (phases : List HartPhase) (hart target : ℕ) → IsSound phases → hart < length phases → target ≢ 0 → target ≢ hart
+    → is_over (phase_of phases target) ≡ false → ((k : ℕ) → is_joining target (phase_of phases k) ≡ false)
+    → IsSound (set phases hart (Joining target))
 keeps_joining phases hart target sound within later other goes alone =
     keeps phases hart (Joining target) sound within (record {
       first = λ _. refl;
@@ -104,11 +138,13 @@ keeps_joining phases hart target sound within later other goes alone =
       unjoined = ne_eqb target 0 later;
       joined = λ t same.
           let here : target ≡ t = eqb-true target t same in
-          subst (λ (u : ℕ). (u ≢ hart) × (is_over (phase_of phases u) ≡ false) × ((k : ℕ) → is_joining u (phase_of phases k) ≡ false)) here (other, goes, alone);
+          subst (λ (u : ℕ). (u ≢ hart) × (is_over (phase_of phases u) ≡ false) × ((k : ℕ) → is_joining u (phase_of phases k) ≡ false)) here
+          (other, goes, alone);
     })
 
 -- after the joiner of a hart was made runnable, no hart joins it
-pub alone_after : (phases : List HartPhase) (joiner hart : ℕ) → IsSound phases → joiner < length phases → is_joining hart (phase_of phases joiner) ≡ true → (k : ℕ) → is_joining hart (phase_of (set phases joiner Runnable) k) ≡ false
+pub alone_after : (phases : List HartPhase) (joiner hart : ℕ) → IsSound phases → joiner < length phases
+    → is_joining hart (phase_of phases joiner) ≡ true → (k : ℕ) → is_joining hart (phase_of (set phases joiner Runnable) k) ≡ false
 alone_after phases joiner hart sound within joins k =
     elim (cases_eq k joiner) [
       | inl same ↦ rw (same_at phases joiner Runnable within k same) refl
@@ -148,12 +184,16 @@ goes_on_since (Waiting addr) taken lasts = refl
 goes_on_since (Ended code) taken lasts = cc
 
 -- the fields of `Threads` after one hart's phase was set in both lists
-pub set_in_both : (marks : List Bool) (phases now : List HartPhase) (place hart : ℕ) (runs : Bool) (phase : HartPhase) → (marks ≡ map is_runnable phases) × IsSound phases → phases ≡ now → place ≡ hart → runs ≡ is_runnable phase → (IsSound now → IsSound (set now hart phase)) → (set marks place runs ≡ map is_runnable (set phases place phase)) × IsSound (set phases place phase)
+pub set_in_both : (marks : List Bool) (phases now : List HartPhase) (place hart : ℕ) (runs : Bool) (phase : HartPhase)
+    → (marks ≡ map is_runnable phases) × IsSound phases → phases ≡ now → place ≡ hart → runs ≡ is_runnable phase
+    → (IsSound now → IsSound (set now hart phase)) → (set marks place runs ≡ map is_runnable (set phases place phase))
+    × IsSound (set phases place phase)
 set_in_both marks phases now place hart runs phase both view at is kept =
     rw (both.0, is, at, view) (sym (map-set is_runnable now hart phase), kept (subst IsSound view both.1))
 
 -- where a hart joins this one, it is made runnable first, and then this one can become free
-pub keeps_freed : (phases new : List HartPhase) (place joiner hart : ℕ) → IsSound phases → hart < length phases → Some place ≡ joiner_of phases hart → joiner ≡ place → new ≡ set phases joiner Runnable → IsSound new → IsSound (set new hart Free)
+pub keeps_freed : (phases new : List HartPhase) (place joiner hart : ℕ) → IsSound phases → hart < length phases
+    → Some place ≡ joiner_of phases hart → joiner ≡ place → new ≡ set phases joiner Runnable → IsSound new → IsSound (set new hart Free)
 keeps_freed phases new place joiner hart sound within found is after sound_new =
     let first = position-Some (is_joining hart) phases place Free (sym found) in
     let there : joiner < length phases = omega (arith, first.0) in

@@ -9,7 +9,8 @@ use Rattle.thread_calls.specs.declared.phase.HartPhase.TheVariants.{Free}
 use Rattle.thread_calls.specs.Phases.{phase_of}
 
 -- the phase of a hart after one hart's phase was set
-phase_of-set : (phases : List HartPhase) (hart : ℕ) (phase : HartPhase) → hart < length phases → (k : ℕ) → phase_of (set phases hart phase) k ≡ cond (nat_eq k hart) phase (phase_of phases k)
+phase_of-set : (phases : List HartPhase) (hart : ℕ) (phase : HartPhase) → hart < length phases → (k : ℕ)
+    → phase_of (set phases hart phase) k ≡ cond (nat_eq k hart) phase (phase_of phases k)
 phase_of-set phases hart phase within k =
     elim (cases_eq k hart) [
       | inl same ↦ rw (same, eq-eqb hart hart refl) (get_or-set_same phases hart phase Free within)
@@ -17,20 +18,24 @@ phase_of-set phases hart phase within k =
     ]
 
 -- the hart whose phase was set has it, and each other hart keeps its own
-pub same_at : (phases : List HartPhase) (hart : ℕ) (phase : HartPhase) → hart < length phases → (k : ℕ) → k ≡ hart → phase_of (set phases hart phase) k ≡ phase
+pub same_at : (phases : List HartPhase) (hart : ℕ) (phase : HartPhase) → hart < length phases → (k : ℕ) → k ≡ hart
+    → phase_of (set phases hart phase) k ≡ phase
 same_at phases hart phase within k same = phase_of-set phases hart phase within k ∙ rw (eq-eqb k hart same) refl
 
-pub other_at : (phases : List HartPhase) (hart : ℕ) (phase : HartPhase) → hart < length phases → (k : ℕ) → k ≢ hart → phase_of (set phases hart phase) k ≡ phase_of phases k
+pub other_at : (phases : List HartPhase) (hart : ℕ) (phase : HartPhase) → hart < length phases → (k : ℕ) → k ≢ hart
+    → phase_of (set phases hart phase) k ≡ phase_of phases k
 other_at phases hart phase within k other = phase_of-set phases hart phase within k ∙ rw (ne_eqb k hart other) refl
 
 -- where none passes, no hart does
-pub none_passes : (p : HartPhase → Bool) → p Free ≡ false → (phases : List HartPhase) → list_any p phases ≡ false → (k : ℕ) → p (phase_of phases k) ≡ false
+pub none_passes : (p : HartPhase → Bool) → p Free ≡ false → (phases : List HartPhase) → list_any p phases ≡ false → (k : ℕ)
+    → p (phase_of phases k) ≡ false
 none_passes p free [] none k = free
 none_passes p free (x ∷ phases) none zero = (or_parts (p x) (list_any p phases) none).0
 none_passes p free (x ∷ phases) none (suc k) = none_passes p free phases (or_parts (p x) (list_any p phases) none).1 k
 
 -- where no first one is found, no hart passes
-pub none_within : (p : HartPhase → Bool) (phases : List HartPhase) → position p phases ≡ None → (k : ℕ) → k < length phases → p (phase_of phases k) ≡ false
+pub none_within : (p : HartPhase → Bool) (phases : List HartPhase) → position p phases ≡ None → (k : ℕ) → k < length phases
+    → p (phase_of phases k) ≡ false
 none_within p phases none k within =
     elim (cases_Bool (nat_lt (position_or_len p phases) (length phases))) [
       | inl below ↦ let found : Some (position_or_len p phases) ≡ None = rw below at none in cc
@@ -39,7 +44,8 @@ none_within p phases none k within =
           fails_before_first p phases k Free (omega arith)
     ]
 
-pub none_found : (p : HartPhase → Bool) → p Free ≡ false → (phases : List HartPhase) → position p phases ≡ None → (k : ℕ) → p (phase_of phases k) ≡ false
+pub none_found : (p : HartPhase → Bool) → p Free ≡ false → (phases : List HartPhase) → position p phases ≡ None → (k : ℕ)
+    → p (phase_of phases k) ≡ false
 none_found p free phases none k =
     elim (cases_lt k (length phases)) [
       | inl within ↦ none_within p phases none k within

@@ -26,16 +26,19 @@ joining_since target (Waiting addr) joins_it = absurd (both_ways _ refl joins_it
 joining_since target (Ended code) joins_it = absurd (both_ways _ refl joins_it)
 
 -- a change of one hart's phase changes no other's
-pub changes_one : (old new : List HartPhase) (hart : ℕ) (phase : HartPhase) → hart < length old → new ≡ set old hart phase → ChangesOnly hart old new
+pub changes_one : (old new : List HartPhase) (hart : ℕ) (phase : HartPhase) → hart < length old → new ≡ set old hart phase
+    → ChangesOnly hart old new
 changes_one old new hart phase within after = record {
   harts = ap (λ (xs : List HartPhase). length xs) after ∙ length-set old hart phase;
   others = λ k other. rw after (other_at old hart phase within k other);
 }
 
-pub has_new : (old new : List HartPhase) (hart : ℕ) (phase : HartPhase) → hart < length old → new ≡ set old hart phase → phase_of new hart ≡ phase
+pub has_new : (old new : List HartPhase) (hart : ℕ) (phase : HartPhase) → hart < length old → new ≡ set old hart phase
+    → phase_of new hart ≡ phase
 has_new old new hart phase within after = rw after (same_at old hart phase within hart refl)
 
-pub starts : (old new : List HartPhase) (place hart : ℕ) → Some place ≡ lowest_free old → hart ≡ place → new ≡ set old hart Runnable → Starts old new hart
+pub starts : (old new : List HartPhase) (place hart : ℕ) → Some place ≡ lowest_free old → hart ≡ place → new ≡ set old hart Runnable
+    → Starts old new hart
 starts old new place hart found is after =
     let first = position-Some is_free old place Free (sym found) in
     let there : hart < length old = omega (arith, first.0) in
@@ -53,14 +56,17 @@ none_free phases none k within = none_within is_free phases (sym none) k within
 pub starts_none : (old : List HartPhase) → None ≡ lowest_free old → StartsNone old old
 starts_none old none = record { full = none_free old none; same = refl }
 
-pub exits_alone : (old new : List HartPhase) (caller code : ℕ) → caller < length old → None ≡ joiner_of old caller → new ≡ set old caller (Ended code) → ExitsAlone old new caller code
+pub exits_alone : (old new : List HartPhase) (caller code : ℕ) → caller < length old → None ≡ joiner_of old caller
+    → new ≡ set old caller (Ended code) → ExitsAlone old new caller code
 exits_alone old new caller code within none after = record {
   unjoined = none_found (is_joining caller) refl old (sym none);
   ended = has_new old new caller (Ended code) within after;
   others = changes_one old new caller (Ended code) within after;
 }
 
-pub exits_joined : (old mid new : List HartPhase) (place joiner caller : ℕ) → caller < length old → phase_of old caller ≡ Runnable → Some place ≡ joiner_of old caller → joiner ≡ place → mid ≡ set old joiner Runnable → new ≡ set mid caller Free → ExitsJoined old new caller joiner
+pub exits_joined : (old mid new : List HartPhase) (place joiner caller : ℕ) → caller < length old → phase_of old caller ≡ Runnable
+    → Some place ≡ joiner_of old caller → joiner ≡ place → mid ≡ set old joiner Runnable → new ≡ set mid caller Free
+    → ExitsJoined old new caller joiner
 exits_joined old mid new place joiner caller within runs found is first second =
     let found_first = position-Some (is_joining caller) old place Free (sym found) in
     let there : joiner < length old = omega (arith, found_first.0) in
@@ -68,7 +74,8 @@ exits_joined old mid new place joiner caller within runs found is first second =
     let one = changes_one old mid joiner Runnable there first in
     let caller_there : caller < length mid = omega (arith, one.harts) in
     let two = changes_one mid new caller Free caller_there second in
-    let apart : joiner ≢ caller = λ same. both_ways _ (let idle : is_joining caller (phase_of old caller) ≡ false = rw runs refl in idle) (rw same at joins_it) in
+    let apart : joiner ≢ caller = λ same. both_ways _ (let idle : is_joining caller (phase_of old caller) ≡ false = rw runs refl in idle)
+    (rw same at joins_it) in
     record {
       joined = joining_since caller _ joins_it;
       runs = two.others joiner apart ∙ has_new old mid joiner Runnable there first;
@@ -85,7 +92,8 @@ runnable_since (Waiting addr) runs = absurd (both_ways _ refl runs)
 runnable_since (Ended code) runs = absurd (both_ways _ refl runs)
 
 -- a hart is marked exactly where it is runnable
-pub marks_tell : (marks : List Bool) (phases : List HartPhase) → marks ≡ map is_runnable phases → (k : ℕ) → (get_or marks k false ≡ true) ↔ (phase_of phases k ≡ Runnable)
+pub marks_tell : (marks : List Bool) (phases : List HartPhase) → marks ≡ map is_runnable phases → (k : ℕ)
+    → (get_or marks k false ≡ true) ↔ (phase_of phases k ≡ Runnable)
 marks_tell marks phases marked k =
     let at : get_or marks k false ≡ is_runnable (phase_of phases k) = rw marked (get_or-map is_runnable phases k Free) in
     (λ marks_it. runnable_since _ (sym at ∙ marks_it), λ same. at ∙ ap is_runnable same)

@@ -20,16 +20,20 @@ pub record WakesBelow (old new : List HartPhase) (addr most place count : ℕ) :
 pub wakes_none : (old : List HartPhase) (addr most : ℕ) → WakesBelow old old addr most 0 0
 wakes_none old addr most = record { same_length = refl; counted = omega arith; done = λ k below. absurd (omega arith); left = λ k _. refl }
 
-pub woken_at : (old : List HartPhase) (addr most k : ℕ) → is_waiting_at addr (phase_of old k) ≡ true → waiters_below old addr k < most → woken_phase old addr most k ≡ Runnable
+pub woken_at : (old : List HartPhase) (addr most k : ℕ) → is_waiting_at addr (phase_of old k) ≡ true → waiters_below old addr k < most
+    → woken_phase old addr most k ≡ Runnable
 woken_at old addr most k waits few = rw (waits, lt-ltb _ _ few) refl
 
 pub stays_at : (old : List HartPhase) (addr most k : ℕ) → is_woken old addr most k ≡ false → woken_phase old addr most k ≡ phase_of old k
 stays_at old addr most k stays = rw stays refl
 
-pub wakes_one : (old new : List HartPhase) (addr most place count : ℕ) → WakesBelow old new addr most place count → place < length old → count < most → is_waiting_at addr (phase_of new place) ≡ true → WakesBelow old (set new place Runnable) addr most (place + 1) (count + 1)
+pub wakes_one : (old new : List HartPhase) (addr most place count : ℕ) → WakesBelow old new addr most place count → place < length old
+    → count < most → is_waiting_at addr (phase_of new place) ≡ true
+    → WakesBelow old (set new place Runnable) addr most (place + 1) (count + 1)
 wakes_one old new addr most place count so_far within few waits =
     let waits_old : is_waiting_at addr (phase_of old place) ≡ true = rw (so_far.left place (omega arith)) at waits in
-    let more : waiters_below old addr (place + 1) ≡ waiters_below old addr place + 1 = count_by_more_yes (is_waiting_at addr) old place Free within waits_old in
+    let more : waiters_below old addr (place + 1) ≡ waiters_below old addr place + 1 =
+    count_by_more_yes (is_waiting_at addr) old place Free within waits_old in
     let counted = so_far.counted in
     let room : waiters_below old addr place < most = omega arith in
     record {
@@ -42,10 +46,12 @@ wakes_one old new addr most place count so_far within few waits =
                 rw here (get_or-set_same new place Runnable Free there ∙ sym (woken_at old addr most place waits_old room))
             | inr other ↦ get_or-set_other new place k Runnable Free other ∙ so_far.done k (omega arith)
           ];
-      left = λ k above. let other : k ≢ place = omega arith in get_or-set_other new place k Runnable Free other ∙ so_far.left k (omega arith);
+      left = λ k above. let other : k ≢ place = omega arith in get_or-set_other new place k Runnable Free other
+          ∙ so_far.left k (omega arith);
     }
 
-pub passes_waiter : (old new : List HartPhase) (addr most place count : ℕ) → WakesBelow old new addr most place count → place < length old → most ≤ count → WakesBelow old new addr most (place + 1) count
+pub passes_waiter : (old new : List HartPhase) (addr most place count : ℕ) → WakesBelow old new addr most place count → place < length old
+    → most ≤ count → WakesBelow old new addr most (place + 1) count
 passes_waiter old new addr most place count so_far within many =
     let counted = so_far.counted in
     let full : most ≤ waiters_below old addr place = omega arith in
@@ -60,17 +66,20 @@ passes_waiter old new addr most place count so_far within many =
       left = λ k above. so_far.left k (omega arith);
     }
   where
-    grows : (phases : List HartPhase) (addr place : ℕ) → place < length phases → waiters_below phases addr place ≤ waiters_below phases addr (place + 1)
+    grows : (phases : List HartPhase) (addr place : ℕ) → place < length phases
+        → waiters_below phases addr place ≤ waiters_below phases addr (place + 1)
     grows phases addr place within =
         elim (cases_Bool (is_waiting_at addr (phase_of phases place))) [
           | inl waits ↦ omega (arith, count_by_more_yes (is_waiting_at addr) phases place Free within waits)
           | inr no_waiter ↦ omega (arith, count_by_more_no (is_waiting_at addr) phases place Free within no_waiter)
         ]
 
-pub passes_other : (old new : List HartPhase) (addr most place count : ℕ) → WakesBelow old new addr most place count → place < length old → is_waiting_at addr (phase_of new place) ≡ false → WakesBelow old new addr most (place + 1) count
+pub passes_other : (old new : List HartPhase) (addr most place count : ℕ) → WakesBelow old new addr most place count → place < length old
+    → is_waiting_at addr (phase_of new place) ≡ false → WakesBelow old new addr most (place + 1) count
 passes_other old new addr most place count so_far within passes =
     let passes_old : is_waiting_at addr (phase_of old place) ≡ false = rw (so_far.left place (omega arith)) at passes in
-    let same : waiters_below old addr (place + 1) ≡ waiters_below old addr place = count_by_more_no (is_waiting_at addr) old place Free within passes_old in
+    let same : waiters_below old addr (place + 1) ≡ waiters_below old addr place =
+    count_by_more_no (is_waiting_at addr) old place Free within passes_old in
     let counted = so_far.counted in
     record {
       same_length = so_far.same_length;
@@ -84,18 +93,23 @@ passes_other old new addr most place count so_far within passes =
     }
 
 -- each hart of the woken list has the phase that it has there
-pub phase_of-woken : (phases : List HartPhase) (addr most k : ℕ) → k < length phases → phase_of (woken phases addr most) k ≡ woken_phase phases addr most k
-phase_of-woken phases addr most k within = get_or-map-range_with_len (woken_phase phases addr most) 0 (length phases) k k Free within (omega arith)
+pub phase_of-woken : (phases : List HartPhase) (addr most k : ℕ) → k < length phases
+    → phase_of (woken phases addr most) k ≡ woken_phase phases addr most k
+phase_of-woken phases addr most k within = get_or-map-range_with_len (woken_phase phases addr most) 0 (length phases) k k Free within
+    (omega arith)
 
 pub length-woken : (phases : List HartPhase) (addr most : ℕ) → length (woken phases addr most) ≡ length phases
 length-woken phases addr most = length-map-range_with_len (woken_phase phases addr most) 0 (length phases)
 
 -- once all places were passed, the phases are those of the call, and so is the number
-pub wakes_all : (old new : List HartPhase) (addr most place count : ℕ) → WakesBelow old new addr most place count → length old ≤ place → new ≡ woken old addr most
+pub wakes_all : (old new : List HartPhase) (addr most place count : ℕ) → WakesBelow old new addr most place count → length old ≤ place
+    → new ≡ woken old addr most
 wakes_all old new addr most place count so_far end =
     ext_get_or Free new (woken old addr most) (so_far.same_length ∙ sym (length-woken old addr most)) (λ k below.
     let within : k < length old = omega (arith, so_far.same_length) in
     so_far.done k (omega arith) ∙ sym (phase_of-woken old addr most k within))
 
-pub counts_all : (old new : List HartPhase) (addr most place count : ℕ) → WakesBelow old new addr most place count → length old ≤ place → count ≡ woken_count old addr most
-counts_all old new addr most place count so_far end = so_far.counted ∙ ap (λ (low : List HartPhase). min most (count_by (is_waiting_at addr) low)) (take_all place old end)
+pub counts_all : (old new : List HartPhase) (addr most place count : ℕ) → WakesBelow old new addr most place count → length old ≤ place
+    → count ≡ woken_count old addr most
+counts_all old new addr most place count so_far end = so_far.counted
+    ∙ ap (λ (low : List HartPhase). min most (count_by (is_waiting_at addr) low)) (take_all place old end)

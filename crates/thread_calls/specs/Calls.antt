@@ -18,10 +18,12 @@ started phases (Some hart) = slice_set phases hart Runnable
 abbrev pub spawned : List HartPhase → List HartPhase
 spawned phases = started phases (lowest_free phases)
 
--- join: a hart can join another one that is neither hart 0 nor free, and that no hart joins already
+-- join: a hart can join another one that is neither hart 0 nor free, and that no hart joins
+-- already
 abbrev pub can_join : List HartPhase → ℕ → ℕ → Bool
 can_join phases caller target =
-    nat_lt target (length phases) && not (nat_eq target 0) && not (nat_eq target caller) && not (is_free (phase_of phases target))
+    nat_lt target (length phases) && not (nat_eq target 0) && not (nat_eq target caller) && not
+    (is_free (phase_of phases target))
     && not (list_any (is_joining target) phases)
 
 -- what a join of a hart in this phase answers
@@ -33,7 +35,8 @@ answer_of_join (Waiting addr) = Waits
 answer_of_join (Ended code) = Done code
 
 abbrev pub join_end : List HartPhase → ℕ → ℕ → JoinEnd
-join_end phases caller target = if can_join phases caller target then answer_of_join (phase_of phases target) else Bad
+join_end phases caller target = if can_join phases caller target then answer_of_join
+    (phase_of phases target) else Bad
 
 -- a hart that is done becomes free, and one that joins a hart that goes on waits for it
 abbrev pub after_join : List HartPhase → ℕ → ℕ → JoinEnd → List HartPhase
@@ -55,7 +58,8 @@ is_woken phases addr most hart =
 
 -- a hart that is woken becomes runnable, and each other one stays as it is
 abbrev pub woken_phase : List HartPhase → ℕ → ℕ → ℕ → HartPhase
-woken_phase phases addr most hart = if is_woken phases addr most hart then Runnable else phase_of phases hart
+woken_phase phases addr most hart = if is_woken phases addr most hart then Runnable else phase_of
+    phases hart
 
 abbrev pub woken : List HartPhase → ℕ → ℕ → List HartPhase
 woken phases addr most = map (woken_phase phases addr most) (range_with_len 0 (length phases))
@@ -63,13 +67,15 @@ woken phases addr most = map (woken_phase phases addr most) (range_with_len 0 (l
 abbrev pub woken_count : List HartPhase → ℕ → ℕ → ℕ
 woken_count phases addr most = min most (count_by (is_waiting_at addr) phases)
 
--- exit: where a hart joins the caller, it becomes runnable, and the caller free; else the caller has ended
+-- exit: where a hart joins the caller, it becomes runnable, and the caller free; else the caller
+-- has ended
 abbrev pub joiner_of : List HartPhase → ℕ → Option ℕ
 joiner_of phases hart = position (is_joining hart) phases
 
 abbrev pub after_exit : List HartPhase → ℕ → ℕ → Option ℕ → List HartPhase
 after_exit phases caller code None = slice_set phases caller (Ended code)
-after_exit phases caller code (Some joiner) = slice_set (slice_set phases joiner Runnable) caller Free
+after_exit phases caller code (Some joiner) =
+    slice_set (slice_set phases joiner Runnable) caller Free
 
 abbrev pub exited : List HartPhase → ℕ → ℕ → List HartPhase
 exited phases caller code = after_exit phases caller code (joiner_of phases caller)

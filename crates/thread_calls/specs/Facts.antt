@@ -26,10 +26,12 @@ pub record StartsNone (old new : List HartPhase) : Type 0 where
   pub full : (k : ℕ) → k < length old → is_free (phase_of old k) ≡ false
   pub same : new ≡ old
 
--- why a hart can't be joined: there is none of that number, it is hart 0, the caller, free, or joined already
+-- why a hart can't be joined: there is none of that number, it is hart 0, the caller, free, or
+-- joined already
 abbrev pub IsBadTarget : List HartPhase → ℕ → ℕ → Type 0
 IsBadTarget phases caller target =
-    (length phases ≤ target) ⊎ ((target ≡ 0) ⊎ ((target ≡ caller) ⊎ ((phase_of phases target ≡ Free) ⊎ (list_any (is_joining target) phases ≡ true))))
+    (length phases ≤ target) ⊎ ((target ≡ 0) ⊎ ((target ≡ caller)
+    ⊎ ((phase_of phases target ≡ Free) ⊎ (list_any (is_joining target) phases ≡ true))))
 
 -- a hart that can be joined
 pub record CanJoin (phases : List HartPhase) (caller target : ℕ) : Type 0 where
@@ -58,12 +60,15 @@ Joins old new caller target Bad = IsBadTarget old caller target × (new ≡ old)
 Joins old new caller target (Done code) = JoinsEnded old new caller target code
 Joins old new caller target Waits = JoinsLater old new caller target
 
--- wake: of the harts that wait at the address, those with fewer than `most` below them can run, and all others stay
+-- wake: of the harts that wait at the address, those with fewer than `most` below them can run,
+-- and all others stay
 pub record WakesLowest (old new : List HartPhase) (addr most : ℕ) : Type 0 where
   pub harts : length new ≡ length old
-  pub woken : (k : ℕ) → is_waiting_at addr (phase_of old k) ≡ true → waiters_below old addr k < most → phase_of new k ≡ Runnable
+  pub woken : (k : ℕ) → is_waiting_at addr (phase_of old k) ≡ true
+      → waiters_below old addr k < most → phase_of new k ≡ Runnable
   pub later : (k : ℕ) → most ≤ waiters_below old addr k → phase_of new k ≡ phase_of old k
-  pub others : (k : ℕ) → is_waiting_at addr (phase_of old k) ≡ false → phase_of new k ≡ phase_of old k
+  pub others : (k : ℕ) → is_waiting_at addr (phase_of old k) ≡ false
+      → phase_of new k ≡ phase_of old k
 
 -- exit answers None: no hart joins the caller, whose code is kept
 pub record ExitsAlone (old new : List HartPhase) (caller code : ℕ) : Type 0 where

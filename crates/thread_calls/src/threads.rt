@@ -29,11 +29,13 @@ impl Model for Threads {
 
     ghost view = { λ t. t.phases.items };
 
-    ghost invariant = { λ t. (t.runnable.items ≡ map is_runnable t.phases.items) × IsSound t.phases.items };
+    ghost invariant = { λ t. (t.runnable.items ≡ map is_runnable t.phases.items)
+        × IsSound t.phases.items };
 }
 
 impl Threads {
-    /// Harts 0 to `harts` - 1: hart 0 is runnable, and the others are free. It takes memory for them.
+    /// Harts 0 to `harts` - 1: hart 0 is runnable, and the others are free. It takes memory for
+    /// them.
     pub fn new(alloc: Global, harts: u16) -> Result<Threads, NoMemory>
         requires some { 1 ≤ harts }
         requires most { harts ≤ 256 }
@@ -58,7 +60,8 @@ impl Threads {
     /// Whether each hart can run, from hart 0 on.
     pub fn runnable(&self) -> &[bool]
         ensures value { result.now ≡ map is_runnable self.now }
-        ensures each { (k : ℕ) → IsTrue (slice_index_or result.now k false) ↔ (phase_of self.now k ≡ HartPhase.Runnable) }
+        ensures each { (k : ℕ) → IsTrue (slice_index_or result.now k false) ↔
+            (phase_of self.now k ≡ HartPhase.Runnable) }
         ensures sound { IsSound self.now }
     {
         self.runnable.as_slice()
@@ -68,7 +71,8 @@ impl Threads {
     pub fn spawn(&mut self) -> Option<Hart>
         ensures answer { result ≡ lowest_free self.old }
         ensures after { self.new ≡ spawned self.old }
-        ensures tells { MatchOption result (StartsNone self.old self.new) (Starts self.old self.new) }
+        ensures tells { MatchOption result (StartsNone self.old self.new)
+            (Starts self.old self.new) }
     {
         match self.lowest_free() {
             Some(place) => {
@@ -80,8 +84,10 @@ impl Threads {
         }
     }
 
-    /// Joins the hart of number `target`: `Bad` exactly where it is no hart, or is hart 0, the caller,
-    /// free, or joined by another hart; nothing changes then. `Done` exactly where it has ended: it
+    /// Joins the hart of number `target`: `Bad` exactly where it is no hart, or is hart 0, the
+    /// caller,
+    /// free, or joined by another hart; nothing changes then. `Done` exactly where it has ended:
+    /// it
     /// becomes free. Else `Waits`, and the caller is joining it.
     pub fn join(&mut self, caller: Hart, target: u32) -> JoinEnd
         requires within { caller < length self.old }
@@ -107,7 +113,8 @@ impl Threads {
         self.set(caller, HartPhase::Waiting(addr));
     }
 
-    /// The lowest harts that wait at the address, at most `most`, become runnable. It answers how many.
+    /// The lowest harts that wait at the address, at most `most`, become runnable. It answers how
+    /// many.
     pub fn wake(&mut self, addr: u32, most: u32) -> u32
         ensures answer { result ≡ woken_count self.old addr most }
         ensures after { self.new ≡ woken self.old addr most }
@@ -123,14 +130,16 @@ impl Threads {
         count
     }
 
-    /// The caller ends with a code. Where a hart is joining it, that hart becomes runnable and is the
+    /// The caller ends with a code. Where a hart is joining it, that hart becomes runnable and is
+    /// the
     /// answer, and the caller becomes free; else the caller has ended, and its code is kept.
     pub fn exit(&mut self, caller: Hart, code: u32) -> Option<Hart>
         requires within { caller < length self.old }
         requires runs { phase_of self.old caller ≡ HartPhase.Runnable }
         ensures answer { result ≡ joiner_of self.old caller }
         ensures after { self.new ≡ exited self.old caller code }
-        ensures tells { MatchOption result (ExitsAlone self.old self.new caller code) (ExitsJoined self.old self.new caller) }
+        ensures tells { MatchOption result (ExitsAlone self.old self.new caller code)
+            (ExitsJoined self.old self.new caller) }
     {
         match self.joiner_of(caller) {
             Some(place) => {

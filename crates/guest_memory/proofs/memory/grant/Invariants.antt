@@ -4,4 +4,5 @@ use Rattle.guest_memory.specs.Changes.{granted}
 use Rattle.guest_memory.proofs.memory.grant.Given as goal
 
 abbrev pub invariant-loop-i : goal.invariant-loop-i
-invariant-loop-i l = (k : ℕ) → slice_index_or l.pages k no_page ≡ (if nat_le l.first k && nat_lt k l.i then granted l.writable l.executable (slice_index_or l.initial.pages k no_page) else slice_index_or l.initial.pages k no_page)
+invariant-loop-i l = (k : ℕ) → slice_index_or l.pages k no_page ≡ (if nat_le l.first k && nat_lt k l.i then granted l.writable l.executable
+    (slice_index_or l.initial.pages k no_page) else slice_index_or l.initial.pages k no_page)

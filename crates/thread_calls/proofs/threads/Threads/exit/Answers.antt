@@ -6,7 +6,8 @@ use Rattle.thread_calls.proofs.Tells.{exits_alone, exits_joined}
 use Rattle.thread_calls.proofs.threads.Threads.exit.Goals as goal
 
 pub set-requires-clause-keeps : goal.set-requires-clause-keeps
-set-requires-clause-keeps c = λ sound. keeps_runnable c.args.self.now c.hart_at-joiner.result sound (omega (arith, c.hart_at-joiner.ensures, c.in-Some.ensures.small c.in-Some.place refl))
+set-requires-clause-keeps c = λ sound. keeps_runnable c.args.self.now c.hart_at-joiner.result sound
+    (omega (arith, c.hart_at-joiner.ensures, c.in-Some.ensures.small c.in-Some.place refl))
 
 pub set-requires-in-Some-clause-keeps : goal.set-requires-in-Some-clause-keeps
 set-requires-in-Some-clause-keeps c =
@@ -24,4 +25,5 @@ returns-in-Some-clause-tells c =
     c.requires.within c.requires.runs c.in-Some.ensures.answer c.hart_at-joiner.ensures c.set.ensures c.set-in-Some.ensures
 
 pub returns-in-None-clause-tells : goal.returns-in-None-clause-tells
-returns-in-None-clause-tells c = exits_alone c.args.self.now c.set-in-None.new.self c.args.caller c.args.code c.requires.within c.in-None.ensures.answer c.set-in-None.ensures
+returns-in-None-clause-tells c = exits_alone c.args.self.now c.set-in-None.new.self c.args.caller c.args.code c.requires.within
+    c.in-None.ensures.answer c.set-in-None.ensures

@@ -16,21 +16,25 @@ loop-place-preserved c =
     elim c.if-count-most.branch [
       | then-count-most+then-is_waiting w ↦
           rw (w.self-is, w.count-is, w.set.ensures, w.hart_at.ensures)
-          (wakes_one c.args.self.now c.loop-place.self c.args.addr c.args.most c.loop-place.place c.loop-place.count c.loop-place.invariant (omega (arith, whole)) w.if-count-most.true
+          (wakes_one c.args.self.now c.loop-place.self c.args.addr c.args.most c.loop-place.place c.loop-place.count c.loop-place.invariant
+          (omega (arith, whole)) w.if-count-most.true
           (sym w.is_waiting.ensures.value ∙ w.if-is_waiting.true))
       | else-count-most w ↦
           elim w.else-count-most.branch [
             | else-count-most-via-then-count-most+else-is_waiting w' ↦
                 rw (w.self-is, w.count-is)
-                (passes_other c.args.self.now c.loop-place.self c.args.addr c.args.most c.loop-place.place c.loop-place.count c.loop-place.invariant (omega (arith, whole))
+                (passes_other c.args.self.now c.loop-place.self c.args.addr c.args.most c.loop-place.place c.loop-place.count
+                c.loop-place.invariant (omega (arith, whole))
                 (sym w'.is_waiting.ensures.value ∙ w'.if-is_waiting.false))
             | else-count-most-via-else-count-most w' ↦
                 rw (w.self-is, w.count-is)
-                (passes_waiter c.args.self.now c.loop-place.self c.args.addr c.args.most c.loop-place.place c.loop-place.count c.loop-place.invariant (omega (arith, whole)) w'.if-count-most.false)
+                (passes_waiter c.args.self.now c.loop-place.self c.args.addr c.args.most c.loop-place.place c.loop-place.count
+                c.loop-place.invariant (omega (arith, whole)) w'.if-count-most.false)
           ]
     ]
 
 pub returns-clause-after : goal.returns-clause-after
 returns-clause-after c =
     let whole : length c.self.inside.phases.items ≡ length c.args.self.now = ap (λ (xs : List HartPhase). length xs) c.self.view_is in
-    wakes_all c.args.self.now c.loop-place.self c.args.addr c.args.most c.loop-place.place c.loop-place.count c.loop-place.invariant (omega (arith, whole))
+    wakes_all c.args.self.now c.loop-place.self c.args.addr c.args.most c.loop-place.place c.loop-place.count c.loop-place.invariant
+    (omega (arith, whole))
