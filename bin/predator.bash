@@ -1,0 +1,26 @@
+# Completion of the words of predator, for bash.
+_predator() {
+    local word=${COMP_WORDS[COMP_CWORD]} before=${COMP_WORDS[COMP_CWORD - 1]} options
+    if ((COMP_CWORD == 1)); then
+        mapfile -t COMPREPLY < <(compgen -W "run replay check --help --version" -- "$word")
+        return
+    fi
+    case ${COMP_WORDS[1]} in
+        run) options="--settings --schedule --trace --output" ;;
+        replay) options="--settings --size --shift" ;;
+        check) options="--settings" ;;
+        *) return ;;
+    esac
+    case $before in
+        --size) mapfile -t COMPREPLY < <(compgen -W "4 8 16 32 64 128 256 512 1024" -- "$word") ;;
+        --shift) ;;
+        *)
+            if [[ $word == -* ]]; then
+                mapfile -t COMPREPLY < <(compgen -W "$options" -- "$word")
+            else
+                mapfile -t COMPREPLY < <(compgen -f -- "$word")
+            fi
+            ;;
+    esac
+}
+complete -o filenames -F _predator predator
