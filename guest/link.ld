@@ -16,16 +16,10 @@ SECTIONS
 
     . = ALIGN(4096);
     __global_pointer$ = . + 0x800;
+    /* What has its cache lines to itself, whatever their size up to 256 bytes. */
+    .alone : { *(.alone) . = ALIGN(256); } :data
     .data : { *(.data .data.* .sdata .sdata.*) } :data
-    .bss (NOLOAD) :
-    {
-        *(.sbss .sbss.* .bss .bss.* COMMON)
-
-        /* Zeros that have their cache lines to themselves, and the lines before and behind. */
-        . = ALIGN(64) + 64;
-        *(.alone)
-        . = ALIGN(64) + 64;
-    } :data
+    .bss (NOLOAD) : { *(.sbss .sbss.* .bss .bss.* COMMON) } :data
 
     /DISCARD/ : { *(.comment) *(.note .note.*) *(.eh_frame .eh_frame_hdr) }
 }

@@ -1,0 +1,63 @@
+#!/usr/bin/env python3
+"""Runs the commands of the documents and compares what they print with what stands there: check_docs.py [--renew] [FILE ..].
+
+A command is an indented line that begins with `$ `, and what it is to print are the lines of the same block behind it. All commands
+of a document run in one folder, which has what stands at the top of the repository. A command that lacks a tool of this machine
+(named in brackets behind `#`, as `# [valgrind]`) is left out. --renew puts what was printed into the documents, to be read through
+before it is committed. It ends with 1 if anything differs."""
+
+import os
+import re
+import shutil
+import subprocess
+import sys
+import tempfile
+
+TOP = os.path.abspath(os.path.join(os.path.dirname(os.path.abspath(__file__)), ".."))
+FILES = ["README.md", "docs/GUIDE.md", "guest/README.md", "examples/README.md", "docs/FORMATS.md"]
+BLOCK = "    "
+
+
+def run(command, work):
+    ran = subprocess.run(["bash", "-c", command], cwd=work, stdout=subprocess.PIPE, stderr=subprocess.STDOUT, text=True)
+    return ran.stdout.rstrip("\n").split("\n") if ran.stdout else []
+
+
+def check(name, renew):
+    with open(os.path.join(TOP, name)) as file:
+        lines = file.read().split("\n")
+    out, at, wrong, tried = [], 0, 0, 0
+    with tempfile.TemporaryDirectory() as work:
+        for it in ("bin", "guest", "examples", "tools", "docs", "crates"):
+            if os.path.exists(os.path.join(TOP, it)):
+                os.symlink(os.path.join(TOP, it), os.path.join(work, it))
+        while at < len(lines):
+            line, at = lines[at], at + 1
+            out.append(line)
+            if not line.startswith(f"{BLOCK}$ "):
+                continue
+            command, wanted = line[len(BLOCK) + 2 :], []
+            while at < len(lines) and lines[at].startswith(BLOCK) and not lines[at].startswith(f"{BLOCK}$ "):
+                wanted.append(lines[at][len(BLOCK) :])
+                at += 1
+            lacks = [it for it in re.findall(r"# \[(\w[\w-]*)\]", command) if not shutil.which(it)]
+            made = wanted if lacks else run(command, work)
+            tried += not lacks
+            if made != wanted:
+                wrong += 1
+                print(f"{name}: $ {command}", *made, sep="\n  ")
+            out += [(BLOCK + it).rstrip() for it in (made if renew else wanted)]
+    if renew:
+        with open(os.path.join(TOP, name), "w") as file:
+            file.write("\n".join(out))
+    print(f"{name}: {tried} commands, {wrong} wrong")
+    return wrong
+
+
+def main(words):
+    names = [it for it in words if it != "--renew"] or [it for it in FILES if os.path.exists(os.path.join(TOP, it))]
+    wrong = sum(check(it, "--renew" in words) for it in names)
+    return 1 if wrong else 0
+
+
+sys.exit(main(sys.argv[1:]))
