@@ -1,6 +1,7 @@
-//! How fast the detector is: `access_bench ROUNDS LINES HARTS T P` gives it 65,536 accesses, made in memory, so many times
-//! over, on so many lines of 64 bytes, by so many harts, under a tracking and a prediction threshold, and prints how many
-//! it has seen and how many tracks it has. Without words it goes once over 64 lines with 8 harts, with 16 and 64.
+//! How fast the detector is: `access_bench ROUNDS LINES HARTS T P` gives it 65,536 accesses, made
+//! in memory, so many times over, on so many lines of 64 bytes, by so many harts, under a tracking
+//! and a prediction threshold, and prints how many it has seen and how many tracks it has. Without
+//! words it goes once over 64 lines with 8 harts, with 16 and 64.
 #![tactic(auto)]
 
 ghost use Rattle.std.specs.Prelude.{◌≡◌, ◌<◌, ◌≤◌, ◌^◌, IfSome, IsTrue};
@@ -21,7 +22,8 @@ fn next(number: u64) -> u64 {
         .wrapping_add(1_442_695_040_888_963_407)
 }
 
-// The access that a number says: three of four are writes, and each hart has a word of its own of each line.
+// The access that a number says: three of four are writes, and each hart has a word of its own of
+// each line.
 fn access_of(number: u64, lines: u32, harts: u16) -> Option<Access>
     requires lines { 1 ≤ lines }
     requires harts { 1 ≤ harts }

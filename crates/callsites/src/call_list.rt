@@ -1,7 +1,8 @@
 // The calls of one hart.
 ghost use Rattle.std.specs.Prelude.{◌≡◌, ◌||◌, nat_eq, [], slice_get, unwrap_or, IfOk};
 ghost use Rattle.circular_buffer.specs.Buffer.{buffer};
-ghost use Rattle.callsites.specs.Calls.{call_at, calls_after, calls_after_jalr, is_link, last_four, popped, pushed};
+ghost use Rattle.callsites.specs.Calls.{call_at, calls_after, calls_after_jalr, is_link, last_four};
+ghost use Rattle.callsites.specs.Calls.{popped, pushed};
 
 use circular_buffer::HeapCircularBuffer;
 use predator_base::NoMemory;
@@ -12,7 +13,8 @@ use std::marker::Model;
 // How many calls are kept.
 const MOST_CALLS: usize = 256;
 
-/// The calls of a hart, by the addresses of their instructions. Contracts see the list, the newest first.
+/// The calls of a hart, by the addresses of their instructions. Contracts see the list, the newest
+/// first.
 #[derive(Drop)]
 pub struct CallList {
     calls: HeapCircularBuffer<u32>,

@@ -5,4 +5,5 @@ use Rattle.clap.specs.Walk.{is_empty}
 
 -- what its values ask for, unless `clap` has a fault of the words; the first is the command itself
 unfoldable pub asked : {D : Type 0} → App → (List Row → Option D) → List Text → Option D
-asked app demand words = if is_empty (fault_of app words) then demand (matches_of app words) else None
+asked app demand words = if is_empty (fault_of app words) then demand (matches_of app words)
+    else None

@@ -34,4 +34,5 @@ check_outputs demand = []
 
 -- what the code's options ask for
 abbrev pub check_meaning : CheckOptions → CheckDemand
-check_meaning options = record { program = options.program.now; settings = text_of options.settings }
+check_meaning options =
+    record { program = options.program.now; settings = text_of options.settings }

@@ -1,15 +1,18 @@
 -- The layout that the options `--size` and `--shift` name.
-use Rattle.std.specs.Prelude.{ℕ, if◌then◌else◌, List, Option, Some, None, option_map, option_and_then}
+use Rattle.std.specs.Prelude.{ℕ, if◌then◌else◌, List, Option, Some, None, option_map}
+use Rattle.std.specs.Prelude.{option_and_then}
 use Rattle.predator_base.specs.Lines.{Grid, is_layout}
 use Rattle.command_line.specs.Numbers.{number_or}
 
 -- the layout of a size and a shift, where it is allowed
 abbrev pub layout_at : ℕ → ℕ → Option Grid
-layout_at size shift = if is_layout size shift then Some (record { size = size; offset = shift }) else None
+layout_at size shift = if is_layout size shift then Some (record { size = size; offset = shift })
+    else None
 
 -- the layout where one option is given: a missing size is 64, a missing shift 0
 abbrev pub given_layout : Option (List ℕ) → Option (List ℕ) → Option Grid
-given_layout size shift = option_and_then (λ n. option_and_then (layout_at n) (number_or 0 shift)) (number_or 64 size)
+given_layout size shift = option_and_then (λ n. option_and_then (layout_at n) (number_or 0 shift))
+    (number_or 64 size)
 
 -- the layout that the options name, if they name one, unless they name none that is allowed
 abbrev pub named_layout : Option (List ℕ) → Option (List ℕ) → Option (Option Grid)

@@ -7,4 +7,5 @@ pub mod Demands
 pub mod Replay
 pub mod Check
 pub mod Run
+pub mod Gen
 pub mod Words

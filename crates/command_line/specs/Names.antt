@@ -15,4 +15,5 @@ is_named name others = list_any (bytes_eq name) others
 -- no output has the name of another output or of an input
 abbrev pub are_apart : List (List ℕ) → List (List ℕ) → Bool
 are_apart [] inputs = true
-are_apart (output ∷ outputs) inputs = not (is_named output (outputs ++ inputs)) && are_apart outputs inputs
+are_apart (output ∷ outputs) inputs = not (is_named output (outputs ++ inputs)) && are_apart outputs
+    inputs

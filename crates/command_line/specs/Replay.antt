@@ -9,7 +9,8 @@ use Rattle.command_line.specs.Layouts.{named_layout}
 use Rattle.command_line.specs.Names.{given}
 use Rattle.command_line.specs.declared.replay.ReplayOptions.{ReplayOptions}
 
--- count the accesses of a trace, with the settings of a file, if one is named, and under a layout, if one is named
+-- count the accesses of a trace, with the settings of a file, if one is named, and under a layout,
+-- if one is named
 pub record ReplayDemand : Type 0 where
   pub trace : Text
   pub settings : Option Text
@@ -21,13 +22,15 @@ replay_app =
     (codes "trace")) (codes "settings")) (codes "size")) (codes "shift")
 
 abbrev pub replay_under : List Row → Text → Option Grid → ReplayDemand
-replay_under rows trace layout = record { trace = trace; settings = first_of (codes "settings") rows; layout = layout }
+replay_under rows trace layout =
+    record { trace = trace; settings = first_of (codes "settings") rows; layout = layout }
 
 -- what its values ask for, unless its layout is none that is allowed
 abbrev pub replay_of : List Row → Option ReplayDemand
 replay_of rows =
     option_and_then (λ trace. option_map (replay_under rows trace)
-    (named_layout (first_of (codes "size") rows) (first_of (codes "shift") rows))) (first_of (codes "trace") rows)
+    (named_layout (first_of (codes "size") rows) (first_of (codes "shift") rows)))
+    (first_of (codes "trace") rows)
 
 abbrev pub asked_of_replay : List Text → Option ReplayDemand
 asked_of_replay words = asked replay_app replay_of words
@@ -42,4 +45,9 @@ replay_outputs demand = []
 -- what the code's options ask for
 abbrev pub replay_meaning : ReplayOptions → ReplayDemand
 replay_meaning options =
-    record { trace = options.trace.now; settings = text_of options.settings; layout = options.layout }
+    record {
+      trace = options.trace.now;
+      settings = text_of options.settings;
+      layout =
+          options.layout;
+    }

@@ -7,7 +7,8 @@ use Rattle.command_line.specs.Demands.{text_of}
 use Rattle.command_line.specs.Names.{given}
 use Rattle.command_line.specs.declared.run.RunOptions.{RunOptions}
 
--- run a program: its settings, its schedule, and where its trace and its output are written, each if it is named
+-- run a program: its settings, its schedule, and where its trace and its output are written, each
+-- if it is named
 pub record RunDemand : Type 0 where
   pub program : Text
   pub settings : Option Text
@@ -36,7 +37,8 @@ run_of rows = option_map (run_with rows) (first_of (codes "program") rows)
 abbrev pub asked_of_run : List Text → Option RunDemand
 asked_of_run words = asked run_app run_of words
 
--- the files that are read, in the order in which they are, and those that are written, in the order in which they are begun
+-- the files that are read, in the order in which they are, and those that are written, in the order
+-- in which they are begun
 abbrev pub run_inputs : RunDemand → List Text
 run_inputs demand = given demand.settings (demand.program ∷ given demand.schedule [])
 

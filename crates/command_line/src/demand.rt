@@ -2,6 +2,7 @@
 ghost use Rattle.std.specs.Prelude.{◌≡◌};
 
 use crate::check::CheckOptions;
+use crate::generate::GenOptions;
 use crate::replay::ReplayOptions;
 use crate::run::RunOptions;
 use std::alloc::AllocError;
@@ -13,8 +14,11 @@ pub enum Demand<'a> {
     Replay(ReplayOptions<'a>),
     /// Load and place a program, and tell of it.
     Check(CheckOptions<'a>),
-    /// Run a program, and report. No file that it writes has the name of another that it reads or writes.
+    /// Run a program, and report. No file that it writes has the name of another that it reads or
+    /// writes.
     Run(RunOptions<'a>),
+    /// Make a trace, and tell of it.
+    Gen(GenOptions<'a>),
 }
 
 /// Why words give no demand.

@@ -1,6 +1,7 @@
 // Commands and arguments as all of them are, and what `clap` makes of the words of one.
 ghost use Rattle.std.specs.Prelude.{◌≡◌, ◌≢◌, IfOk, IfErr, [], true};
-ghost use Rattle.clap.specs.Words.{app_of, fault_of, first_of, found_of, is_simple_and_free, matches_of, rows_of};
+ghost use Rattle.clap.specs.Words.{app_of, fault_of, first_of, found_of, is_simple_and_free};
+ghost use Rattle.clap.specs.Words.{matches_of, rows_of};
 ghost use Rattle.command_line.specs.Apps.{plain_app, with_option, with_word};
 ghost use Rattle.command_line.specs.Demands.{text_of, texts, UnlessMemory};
 

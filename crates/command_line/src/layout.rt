@@ -35,7 +35,7 @@ fn is_plain_number(digits: &[u8]) -> bool
 }
 
 // The number that a text is: decimal digits without leading zeros, below 2^64.
-fn number(text: &str) -> Option<u64>
+pub fn number(text: &str) -> Option<u64>
     ensures { result ≡ number_of text.now }
 {
     if is_plain_number(text.as_bytes()) {

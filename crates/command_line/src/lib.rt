@@ -1,13 +1,15 @@
 //! The words of the command line: the first names the command, and `clap` reads the words after it.
 //!
-//! Each command is one simple command of `clap`, and the contracts cite what `clap` itself says of those:
-//! which words such a command refuses, and which value each of its arguments gets. An option is
-//! `--name value` or `--name=value`, at most once, in any order; after `--` every word is positional.
+//! Each command is one simple command of `clap`, and the contracts cite what `clap` itself says of
+//! those: which words such a command refuses, and which value each of its arguments gets. An option
+//! is `--name value` or `--name=value`, at most once, in any order; after `--` every word is
+//! positional.
 #![tactic(auto)]
 
 mod check;
 mod demand;
 mod forms;
+mod generate;
 mod layout;
 mod names;
 mod replay;
@@ -18,6 +20,7 @@ mod words;
 
 pub use check::CheckOptions;
 pub use demand::{Demand, WordsFault};
+pub use generate::GenOptions;
 pub use replay::ReplayOptions;
 pub use run::RunOptions;
 pub use words::read_words;

@@ -11,7 +11,8 @@ use clap::{ArgMatches, Command};
 use predator_base::Layout;
 use std::alloc::{AllocError, Global};
 
-/// `replay TRACE [--settings F] [--size N] [--shift N]`. A name is a text as it stands in the words.
+/// `replay TRACE [--settings F] [--size N] [--shift N]`. A name is a text as it stands in the
+/// words.
 #[derive(Clone, Copy, PartialEq, Eq, Debug)]
 pub struct ReplayOptions<'a> {
     /// The name of the trace.

@@ -1,7 +1,8 @@
 // The command `run`.
 ghost use Rattle.std.specs.Prelude.{◌≡◌, [], ◌∷◌, IfOk, IfErr, Some, None, option_map};
 ghost use Rattle.clap.specs.Words.{app_of, found_of, rows_of};
-ghost use Rattle.command_line.specs.Run.{asked_of_run, run_app, run_inputs, run_meaning, run_of, run_outputs};
+ghost use Rattle.command_line.specs.Run.{asked_of_run, run_app, run_inputs, run_meaning, run_of};
+ghost use Rattle.command_line.specs.Run.{run_outputs};
 ghost use Rattle.command_line.specs.Demands.{texts, text_of, UnlessMemory};
 ghost use Rattle.command_line.specs.Names.{are_apart, is_named};
 
@@ -11,7 +12,8 @@ use crate::names::is_given;
 use clap::{ArgMatches, Command};
 use std::alloc::{AllocError, Global};
 
-/// `run PROGRAM [--settings F] [--schedule F] [--trace F] [--output F]`. A name is a text as it stands in the words.
+/// `run PROGRAM [--settings F] [--schedule F] [--trace F] [--output F]`. A name is a text as it
+/// stands in the words.
 #[derive(Clone, Copy, PartialEq, Eq, Debug)]
 pub struct RunOptions<'a> {
     /// The name of the program file.

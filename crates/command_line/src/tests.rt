@@ -1,5 +1,5 @@
 // Command lines as users write them, each against what it asks for.
-use crate::{CheckOptions, Demand, ReplayOptions, RunOptions, WordsFault, read_words};
+use crate::{CheckOptions, Demand, GenOptions, ReplayOptions, RunOptions, WordsFault, read_words};
 use predator_base::Layout;
 use std::alloc::{AllocError, Global};
 use std::test::Fail;
@@ -136,6 +136,28 @@ fn refuses_other_programs(rt: HostRuntime) -> Result<(), Fail> {
     assert!(rt; is_usage(alloc, "run")?);
     assert!(rt; is_usage(alloc, "run p q")?);
     assert!(rt; is_usage(alloc, "run p --trace t --trace u")?);
+    Ok(())
+}
+
+#[test]
+fn reads_how_many_accesses_are_made(rt: HostRuntime) -> Result<(), Fail> {
+    let alloc = rt.alloc();
+    let most = Ok(Demand::Gen(GenOptions {
+        count: 1_000_000_000,
+        file: "-",
+    }));
+    assert!(rt; is_answered(alloc, "gen 1000000000 -", &most)?);
+    for line in [
+        "gen 1000000001 f",
+        "gen 03 f",
+        "gen -3 f",
+        "gen 3",
+        "gen 3 f g",
+        "gen 3 --f",
+        "gen f 3",
+    ] {
+        assert!(rt; is_usage(alloc, line)?, "{line}");
+    }
     Ok(())
 }
 

@@ -2,10 +2,12 @@
 ghost use Rattle.std.specs.Prelude.{◌≡◌, ◌≢◌, ◌↔◌, IfOk, IfErr, Some, None, Err, [], ◌∷◌, false};
 ghost use Rattle.command_line.specs.Demands.{texts, UnlessMemory};
 ghost use Rattle.command_line.specs.Names.{are_apart};
-ghost use Rattle.command_line.specs.Words.{asked_of, demand_of, inputs, is_command, meaning, outputs};
+ghost use Rattle.command_line.specs.Words.{IsBounded, asked_of, demand_of, inputs, is_command};
+ghost use Rattle.command_line.specs.Words.{meaning, outputs};
 
 use crate::check::read_check;
 use crate::demand::{Demand, WordsFault};
+use crate::generate::read_gen;
 use crate::replay::read_replay;
 use crate::run::{has_names_apart, read_run};
 use std::alloc::Global;
@@ -20,6 +22,7 @@ fn read_command<'a>(
         ≡ Some (meaning demand)) }
     ensures refused { IfErr result (λ fault. UnlessMemory fault
         (asked_of command.now (texts words.now) ≡ None)) }
+    ensures bounded { IfOk result IsBounded }
     ensures unknown { is_command (command.now ∷ []) ≡ false → result ≡ Err WordsFault.Usage }
 {
     match command {
@@ -35,6 +38,10 @@ fn read_command<'a>(
             Ok(options) => Ok(Demand::Run(options)),
             Err(fault) => Err(fault),
         },
+        "gen" => match read_gen(alloc, words) {
+            Ok(options) => Ok(Demand::Gen(options)),
+            Err(fault) => Err(fault),
+        },
         _ => Err(WordsFault::Usage),
     }
 }
@@ -44,21 +51,23 @@ fn are_names_apart(demand: &Demand<'_>) -> bool
     ensures { result ≡ are_apart (outputs (meaning demand.now)) (inputs (meaning demand.now)) }
 {
     match demand {
-        Demand::Replay(_) | Demand::Check(_) => true,
+        Demand::Replay(_) | Demand::Check(_) | Demand::Gen(_) => true,
         Demand::Run(options) => has_names_apart(options),
     }
 }
 
 /// What the words after the program's name ask for.
 ///
-/// Usage comes exactly where they name no command, the command refuses the words after it, a number is
-/// not decimal digits without leading zeros, below 2^64, the layout isn't allowed, or the name of an
-/// output equals the name of another output or of an input. Want of memory may come before any of them
-/// but the first.
+/// Usage comes exactly where they name no command, the command refuses the words after it, a number
+/// is not decimal digits without leading zeros, below 2^64, the layout isn't allowed, a trace of
+/// more than 10^9 accesses is asked for, or the name of an output equals the name of another output
+/// or of an input. Want of memory may come before any of them but the first.
 pub fn read_words<'a>(alloc: Global, words: &'a [String]) -> Result<Demand<'a>, WordsFault>
     ensures accepted { IfOk result (λ demand. demand_of (texts words.now) ≡ Some (meaning demand)) }
     ensures refused { result ≢ Err WordsFault.NoMemory → (result ≡ Err WordsFault.Usage)
         ↔ (demand_of (texts words.now) ≡ None) }
+    // What is asked for is within its bounds.
+    ensures bounded { IfOk result IsBounded }
     // Words that name no command want no memory.
     ensures unknown { is_command (texts words.now) ≡ false → result ≡ Err WordsFault.Usage }
 {

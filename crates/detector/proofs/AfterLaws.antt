@@ -1,5 +1,6 @@
 -- What the code does at an access is what the exact step says.
-use Rattle.std.proofs.Common.{◌≡◌, ℕ, ◌+◌, ◌%◌, ◌<◌, ◌≤◌, ◌^◌, Bool, true, false, eqb, leb, ltb, ◌&&◌, ◌||◌, List, [], ◌++◌, Option, Some, None, map, length, refl, sym, ap, ◌∙◌, subst, arith, inl, inr}
+use Rattle.std.proofs.Common.{◌≡◌, ℕ, ◌+◌, ◌%◌, ◌<◌, ◌≤◌, ◌^◌, Bool, true, false, eqb, leb, ltb, ◌&&◌, ◌||◌, List, [], ◌++◌, Option, Some}
+use Rattle.std.proofs.Common.{None, map, length, refl, sym, ap, ◌∙◌, subst, arith, inl, inr}
 use Rattle.std.proofs.lemmas.Bool.{cases_Bool, false≢true, and_parts, and_left, or_parts, eqb-true, leb-true}
 use Rattle.std.proofs.lemmas.Bool.Decides.{nat_tests}
 use Rattle.std.proofs.lemmas.Option.{none-some}
@@ -25,39 +26,49 @@ use Rattle.detector.specs.Noting.{IsNotable}
 use Rattle.detector.specs.Openings.{nothing_opens, opened_tracks, waiting_for}
 use Rattle.detector.specs.Pairs.{IsNativeGrid}
 use Rattle.detector.specs.Turns.{IsDueAt, IsTurnOf, counted, tracks_begun, tracks_turned, turn_opens}
-use Rattle.detector.specs.Watch.{Watch, begins_track, is_first_write, is_search, may_take_memory, opens_at, touched, tracks_after, tracks_noted, watch_of, watched, writes_after}
+use Rattle.detector.specs.Watch.{Watch, begins_track, is_first_write, is_search, may_take_memory, opens_at, touched, tracks_after}
+use Rattle.detector.specs.Watch.{tracks_noted, watch_of, watched, writes_after}
 use Rattle.detector.specs.Named.{number_of}
 use Rattle.detector.proofs.CountLaws.{count_at-counts_of, entry_at-empty}
 use Rattle.detector.proofs.SettleLaws.{counted-names, counted-writes}
 use Rattle.detector.proofs.TouchLaws.{indexed-touched}
 use Rattle.detector.proofs.ChangeLaws.{layout-small}
 
-begins-is : (m : Entries) (k : ℕ) (v : Levels) (a : Touch) (turn : Turn) → is_write a.kind ≡ true → IsTurnOf (entry_at m) k v turn → turn.begins ≡ begins_track v.tracking (counts_of m) k a
+begins-is : (m : Entries) (k : ℕ) (v : Levels) (a : Touch) (turn : Turn) → is_write a.kind ≡ true → IsTurnOf (entry_at m) k v turn
+    → turn.begins ≡ begins_track v.tracking (counts_of m) k a
 begins-is m k v a turn writes t =
-    t.begins ∙ ap (λ n. eqb (n + 1) v.tracking) (sym (count_at-counts_of m k)) ∙ sym (ap (λ b. b && eqb (count_at (counts_of m) k + 1) v.tracking) writes)
+    t.begins ∙ ap (λ n. eqb (n + 1) v.tracking) (sym (count_at-counts_of m k))
+    ∙ sym (ap (λ b. b && eqb (count_at (counts_of m) k + 1) v.tracking) writes)
 
-searched : (o : Option ℕ) (n c : ℕ) (w : Bool) → n ≡ c → w ≡ true → option_map_or (λ P. eqb ((n + 1) % P) 0) o false ≡ option_map_or (λ P. w && eqb ((c + 1) % P) 0) o false
+searched : (o : Option ℕ) (n c : ℕ) (w : Bool) → n ≡ c → w ≡ true → option_map_or (λ P. eqb ((n + 1) % P) 0) o false ≡ option_map_or
+    (λ P. w && eqb ((c + 1) % P) 0) o false
 searched None n c w e h = refl
 searched (Some P) n c w e h = ap (λ z. eqb ((z + 1) % P) 0) e ∙ sym (ap (λ b. b && eqb ((c + 1) % P) 0) h)
 
-pub searches-is : (m : Entries) (k : ℕ) (v : Levels) (a : Touch) (turn : Turn) → is_write a.kind ≡ true → IsTurnOf (entry_at m) k v turn → turn.searches ≡ is_search v.prediction (counts_of m) k a
-searches-is m k v a turn writes t = t.searches ∙ searched v.prediction (entry_at m k).writes (count_at (counts_of m) k) (is_write a.kind) (sym (count_at-counts_of m k)) writes
+pub searches-is : (m : Entries) (k : ℕ) (v : Levels) (a : Touch) (turn : Turn) → is_write a.kind ≡ true → IsTurnOf (entry_at m) k v turn
+    → turn.searches ≡ is_search v.prediction (counts_of m) k a
+searches-is m k v a turn writes t = t.searches ∙ searched v.prediction (entry_at m k).writes (count_at (counts_of m) k) (is_write a.kind)
+    (sym (count_at-counts_of m k)) writes
 
 -- the tracks after a write
-pub after-turn : (m : Entries) (xs : List Kept) (g : Grid) (v : Levels) (p k : ℕ) (a : Touch) (turn : Turn) → is_write a.kind ≡ true → IsTurnOf (entry_at m) k v turn
+pub after-turn : (m : Entries) (xs : List Kept) (g : Grid) (v : Levels) (p k : ℕ) (a : Touch) (turn : Turn) → is_write a.kind ≡ true
+    → IsTurnOf (entry_at m) k v turn
     → tracks_turned g k p a turn.begins turn.searches (map (touched p a) xs) ≡ tracks_after (watch_of m xs g v p) k a
 after-turn m xs g v p k a turn writes t =
     ap (λ b. tracks_turned g k p a b turn.searches (map (touched p a) xs)) (begins-is m k v a turn writes t)
-    ∙ ap (λ s. tracks_turned g k p a (begins_track v.tracking (counts_of m) k a) s (map (touched p a) xs)) (searches-is m k v a turn writes t)
+    ∙ ap (λ s. tracks_turned g k p a (begins_track v.tracking (counts_of m) k a) s (map (touched p a) xs))
+    (searches-is m k v a turn writes t)
 
-pub after-plain : (m : Entries) (xs : List Kept) (g : Grid) (v : Levels) (p k : ℕ) (a : Touch) → begins_track v.tracking (counts_of m) k a ≡ false → is_search v.prediction (counts_of m) k a ≡ false
+pub after-plain : (m : Entries) (xs : List Kept) (g : Grid) (v : Levels) (p k : ℕ) (a : Touch) → begins_track v.tracking (counts_of m) k a
+    ≡ false → is_search v.prediction (counts_of m) k a ≡ false
     → map (touched p a) xs ≡ tracks_after (watch_of m xs g v p) k a
 after-plain m xs g v p k a quiet unsearched =
     sym (append-nil (map (touched p a) xs)) ∙ sym (append-nil (map (touched p a) xs ++ []))
     ∙ sym (ap (λ b. tracks_turned g k p a b (is_search v.prediction (counts_of m) k a) (map (touched p a) xs)) quiet
     ∙ ap (λ s. tracks_turned g k p a false s (map (touched p a) xs)) unsearched)
 
-pub after-write : (m : Entries) (xs : List Kept) (g : Grid) (v : Levels) (p k : ℕ) (a : Touch) (turn : Turn) → is_write a.kind ≡ true → IsTurnOf (entry_at m) k v turn → turn.begins ≡ false → turn.searches ≡ false
+pub after-write : (m : Entries) (xs : List Kept) (g : Grid) (v : Levels) (p k : ℕ) (a : Touch) (turn : Turn) → is_write a.kind ≡ true
+    → IsTurnOf (entry_at m) k v turn → turn.begins ≡ false → turn.searches ≡ false
     → map (touched p a) xs ≡ tracks_after (watch_of m xs g v p) k a
 after-write m xs g v p k a turn writes t quiet unsearched =
     after-plain m xs g v p k a (sym (begins-is m k v a turn writes t) ∙ quiet) (sym (searches-is m k v a turn writes t) ∙ unsearched)
@@ -66,14 +77,18 @@ none_searched : (o : Option ℕ) (c : ℕ) (w : Bool) → w ≡ false → option
 none_searched None c w h = refl
 none_searched (Some P) c w h = ap (λ b. b && eqb ((c + 1) % P) 0) h
 
-pub read-searches : (m : Entries) (k : ℕ) (v : Levels) (a : Touch) → is_write a.kind ≡ false → is_search v.prediction (counts_of m) k a ≡ false
+pub read-searches : (m : Entries) (k : ℕ) (v : Levels) (a : Touch) → is_write a.kind ≡ false → is_search v.prediction (counts_of m) k a
+    ≡ false
 read-searches m k v a reads = none_searched v.prediction (count_at (counts_of m) k) (is_write a.kind) reads
 
-pub after-read : (m : Entries) (xs : List Kept) (g : Grid) (v : Levels) (p k : ℕ) (a : Touch) → is_write a.kind ≡ false → map (touched p a) xs ≡ tracks_after (watch_of m xs g v p) k a
+pub after-read : (m : Entries) (xs : List Kept) (g : Grid) (v : Levels) (p k : ℕ) (a : Touch) → is_write a.kind ≡ false
+    → map (touched p a) xs ≡ tracks_after (watch_of m xs g v p) k a
 after-read m xs g v p k a reads =
-    after-plain m xs g v p k a (and_left (is_write a.kind) (eqb (count_at (counts_of m) k + 1) v.tracking) reads) (read-searches m k v a reads)
+    after-plain m xs g v p k a (and_left (is_write a.kind) (eqb (count_at (counts_of m) k + 1) v.tracking) reads)
+    (read-searches m k v a reads)
 
-pub counts-write : (m n : Entries) (k : ℕ) (a : Touch) → is_write a.kind ≡ true → counts_of n ≡ with_write (counts_of m) k → counts_of n ≡ writes_after k a (counts_of m)
+pub counts-write : (m n : Entries) (k : ℕ) (a : Touch) → is_write a.kind ≡ true → counts_of n ≡ with_write (counts_of m) k
+    → counts_of n ≡ writes_after k a (counts_of m)
 counts-write m n k a writes e = e ∙ sym (ap (λ b. if b then with_write (counts_of m) k else counts_of m) writes)
 
 pub counts-read : (m : Entries) (k : ℕ) (a : Touch) → is_write a.kind ≡ false → counts_of m ≡ writes_after k a (counts_of m)
@@ -85,29 +100,35 @@ from_one low high n h = let parts = and_parts (leb low n) (leb n high) h in leb-
 
 pub levels-some : (v : Levels) → are_levels v.tracking v.prediction v.report ≡ true → 1 ≤ v.tracking
 levels-some v h =
-    let outer = and_parts (is_from_to 1 (2 ^ 32) v.tracking && option_map_or (is_from_to v.tracking (2 ^ 32)) v.prediction true) (is_from_to 1 (2 ^ 40) v.report) h in
+    let outer = and_parts (is_from_to 1 (2 ^ 32) v.tracking && option_map_or (is_from_to v.tracking (2 ^ 32)) v.prediction true)
+    (is_from_to 1 (2 ^ 40) v.report) h in
     let inner = and_parts (is_from_to 1 (2 ^ 32) v.tracking) (option_map_or (is_from_to v.tracking (2 ^ 32)) v.prediction true) outer.0 in
     from_one 1 (2 ^ 32) v.tracking inner.0
 
 pub levels-positive : (v : Levels) (P : ℕ) → are_levels v.tracking v.prediction v.report ≡ true → v.prediction ≡ Some P → 0 < P
 levels-positive v P h is =
-    let outer = and_parts (is_from_to 1 (2 ^ 32) v.tracking && option_map_or (is_from_to v.tracking (2 ^ 32)) v.prediction true) (is_from_to 1 (2 ^ 40) v.report) h in
+    let outer = and_parts (is_from_to 1 (2 ^ 32) v.tracking && option_map_or (is_from_to v.tracking (2 ^ 32)) v.prediction true)
+    (is_from_to 1 (2 ^ 40) v.report) h in
     let inner = and_parts (is_from_to 1 (2 ^ 32) v.tracking) (option_map_or (is_from_to v.tracking (2 ^ 32)) v.prediction true) outer.0 in
     let at : is_from_to v.tracking (2 ^ 32) P ≡ true = sym (ap (λ o. option_map_or (is_from_to v.tracking (2 ^ 32)) o true) is) ∙ inner.1 in
     let low = from_one v.tracking (2 ^ 32) P at in
     let some = levels-some v h in
     omega arith
 
-pub native-grid : (f : ℕ → LineEntry) (k : ℕ) (g : Grid) (v : Levels) (turn : Turn) → may_predict g v ≡ true → IsTurnOf f k v turn → turn.searches ≡ true → IsNativeGrid g
+pub native-grid : (f : ℕ → LineEntry) (k : ℕ) (g : Grid) (v : Levels) (turn : Turn) → may_predict g v ≡ true → IsTurnOf f k v turn
+    → turn.searches ≡ true → IsNativeGrid g
 native-grid f k g v turn may t searches = by_prediction v.prediction refl
   where
     by_prediction : (o : Option ℕ) → v.prediction ≡ o → IsNativeGrid g
-    by_prediction None is = absurd (false≢true (sym (t.searches ∙ ap (λ z. option_map_or (λ P. eqb (((f k).writes + 1) % P) 0) z false) is) ∙ searches))
+    by_prediction None is = absurd (false≢true (sym (t.searches ∙ ap (λ z. option_map_or (λ P. eqb (((f k).writes + 1) % P) 0) z false) is)
+        ∙ searches))
     by_prediction (Some P) is =
-        let parts = and_parts (is_native_size g.size) (eqb g.offset 0) (sym (ap (λ z. option_map_or (λ P. is_native_size g.size && eqb g.offset 0) z true) is) ∙ may) in
+        let parts = and_parts (is_native_size g.size) (eqb g.offset 0)
+        (sym (ap (λ z. option_map_or (λ P. is_native_size g.size && eqb g.offset 0) z true) is) ∙ may) in
         record { size = parts.0; offset = eqb-true g.offset 0 parts.1 }
 
-pub due-at : (f : ℕ → LineEntry) (g : Grid) (xs : List Kept) (k : ℕ) (v : Levels) (turn : Turn) (p : ℕ) → IsIndexed f g xs v.tracking p → 1 ≤ v.tracking → IsTurnOf f k v turn → IsDueAt f g xs k turn p v.tracking
+pub due-at : (f : ℕ → LineEntry) (g : Grid) (xs : List Kept) (k : ℕ) (v : Levels) (turn : Turn) (p : ℕ) → IsIndexed f g xs v.tracking p
+    → 1 ≤ v.tracking → IsTurnOf f k v turn → IsDueAt f g xs k turn p v.tracking
 due-at f g xs k v turn p indexed some t = record {
   indexed = indexed;
   positive = some;
@@ -115,18 +136,21 @@ due-at f g xs k v turn p indexed some t = record {
 }
 
 -- a plain write
-pub plain-indexed : (f h : ℕ → LineEntry) (g : Grid) (xs ys : List Kept) (T p k : ℕ) (a : Touch) → IsIndexed f g xs T p → ((q : ℕ) → h q ≡ (if eqb q k then counted (f k) else f q)) → ys ≡ map (touched p a) xs → IsIndexed h g ys T (p + 1)
+pub plain-indexed : (f h : ℕ → LineEntry) (g : Grid) (xs ys : List Kept) (T p k : ℕ) (a : Touch) → IsIndexed f g xs T p
+    → ((q : ℕ) → h q ≡ (if eqb q k then counted (f k) else f q)) → ys ≡ map (touched p a) xs → IsIndexed h g ys T (p + 1)
 plain-indexed f h g xs ys T p k a indexed each is =
     let writes = counted-writes f h k each in
     subst (λ zs. IsIndexed h g zs T (p + 1)) (sym is)
-    (indexed-touched f h g xs T p a indexed (λ q. named Observed q) (λ q. named Shifted q) (λ q. named Doubled q) (λ q. more q) (λ q. few q))
+    (indexed-touched f h g xs T p a indexed (λ q. named Observed q) (λ q. named Shifted q) (λ q. named Doubled q) (λ q. more q)
+    (λ q. few q))
   where
     named : (kind : LineKind) (q : ℕ) → names_in h kind q ≡ names_in f kind q
     named kind q = ap (λ (N : Names). N kind q) (counted-names f h k each)
 
     more : (q : ℕ) → (f q).writes ≤ (h q).writes
     more q = elim (cases_Bool (eqb q k)) [
-      | inl here ↦ let same = eqb-true q k here in let is_k : (f q).writes ≡ (f k).writes = ap (λ z. (f z).writes) same in rw (counted-writes f h k each q, here) (omega arith)
+      | inl here ↦ let same = eqb-true q k here in let is_k : (f q).writes ≡ (f k).writes = ap (λ z. (f z).writes) same
+          in rw (counted-writes f h k each q, here) (omega arith)
       | inr other ↦ rw (counted-writes f h k each q, other) (omega arith)
     ]
 
@@ -136,11 +160,14 @@ plain-indexed f h g xs ys T p k a indexed each is =
       | inr other ↦ let d = indexed.written q in rw (counted-writes f h k each q, other) (omega arith)
     ]
 
-pub read-indexed : (f : ℕ → LineEntry) (g : Grid) (xs ys : List Kept) (T p : ℕ) (a : Touch) → IsIndexed f g xs T p → ys ≡ map (touched p a) xs → IsIndexed f g ys T (p + 1)
+pub read-indexed : (f : ℕ → LineEntry) (g : Grid) (xs ys : List Kept) (T p : ℕ) (a : Touch) → IsIndexed f g xs T p
+    → ys ≡ map (touched p a) xs → IsIndexed f g ys T (p + 1)
 read-indexed f g xs ys T p a indexed is =
-    subst (λ zs. IsIndexed f g zs T (p + 1)) (sym is) (indexed-touched f f g xs T p a indexed (λ q. refl) (λ q. refl) (λ q. refl) (λ q. omega arith) (λ q. let d = indexed.written q in omega arith))
+    subst (λ zs. IsIndexed f g zs T (p + 1)) (sym is) (indexed-touched f f g xs T p a indexed (λ q. refl) (λ q. refl) (λ q. refl)
+    (λ q. omega arith) (λ q. let d = indexed.written q in omega arith))
 
-pub notable : (f h : ℕ → LineEntry) (g : Grid) (xs : List Kept) (T p k : ℕ) (a : Touch) → IsIndexed f g xs T p → names_in h ≡ names_in f → is_layout g.size g.offset ≡ true → k ≡ line_number g.size g.offset a.addr → IsNotable h g xs k p a
+pub notable : (f h : ℕ → LineEntry) (g : Grid) (xs : List Kept) (T p k : ℕ) (a : Touch) → IsIndexed f g xs T p → names_in h ≡ names_in f
+    → is_layout g.size g.offset ≡ true → k ≡ line_number g.size g.offset a.addr → IsNotable h g xs k p a
 notable f h g xs T p k a indexed same layout line = record {
   names = subst (λ (N : Names). IsNamed N g xs) (sym same) indexed.names;
   in_time = indexed.in_time;
@@ -174,10 +201,12 @@ pub record IsQuiet (m : Entries) (xs : List Kept) (g : Grid) (p k : ℕ) (a : To
   pub begins : turn.begins ≡ false
   pub opens : turn_opens g k turn.searches (tracks_begun g k p a turn.begins (map (touched p a) xs)) ≡ nothing_opens
 
-pub quiet : (m : Entries) (xs : List Kept) (g : Grid) (v : Levels) (p k : ℕ) (a : Touch) (turn : Turn) → is_write a.kind ≡ true → IsTurnOf (entry_at m) k v turn → may_take_memory (watch_of m xs g v p) k a ≡ false → IsQuiet m xs g p k a turn
+pub quiet : (m : Entries) (xs : List Kept) (g : Grid) (v : Levels) (p k : ℕ) (a : Touch) (turn : Turn) → is_write a.kind ≡ true
+    → IsTurnOf (entry_at m) k v turn → may_take_memory (watch_of m xs g v p) k a ≡ false → IsQuiet m xs g p k a turn
 quiet m xs g v p k a turn writes t none =
     let w : Watch = watch_of m xs g v p in
-    let outer = or_parts (is_first_write (counts_of m) k a || begins_track v.tracking (counts_of m) k a) (ltb 0 (length (opened_tracks (opens_at (watch_of m xs g v p) k a (tracks_noted (watch_of m xs g v p) k a))))) none in
+    let outer = or_parts (is_first_write (counts_of m) k a || begins_track v.tracking (counts_of m) k a)
+    (ltb 0 (length (opened_tracks (opens_at (watch_of m xs g v p) k a (tracks_noted (watch_of m xs g v p) k a))))) none in
     let inner = or_parts (is_first_write (counts_of m) k a) (begins_track v.tracking (counts_of m) k a) outer.0 in
     let b = begins-is m k v a turn writes t in
     let s = searches-is m k v a turn writes t in
@@ -192,7 +221,8 @@ quiet m xs g v p k a turn writes t none =
     }
 
 -- the value after an access
-pub watched-is : (m n : Entries) (xs ys : List Kept) (g : Grid) (v : Levels) (p k : ℕ) (a : Touch) → k ≡ number_of g a → ys ≡ tracks_after (watch_of m xs g v p) k a → counts_of n ≡ writes_after k a (counts_of m)
+pub watched-is : (m n : Entries) (xs ys : List Kept) (g : Grid) (v : Levels) (p k : ℕ) (a : Touch) → k ≡ number_of g a
+    → ys ≡ tracks_after (watch_of m xs g v p) k a → counts_of n ≡ writes_after k a (counts_of m)
     → watch_of n ys g v (p + 1) ≡ watched (watch_of m xs g v p) a
 watched-is m n xs ys g v p k a line tracks counts =
     let ks : ys ≡ tracks_after (watch_of m xs g v p) (number_of g a) a = tracks ∙ ap (λ q. tracks_after (watch_of m xs g v p) q a) line in

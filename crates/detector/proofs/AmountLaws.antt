@@ -1,5 +1,6 @@
 -- How many tracks stand for a list, and how much they keep.
-use Rattle.std.proofs.Common.{◌≡◌, ℕ, suc, ◌+◌, ◌*◌, ◌/◌, ◌%◌, ◌<◌, ◌≤◌, true, List, [], ◌∷◌, ◌++◌, Option, Some, None, map, length, length-append, refl, sym, ap, ◌∙◌, subst, arith, inl, inr, take}
+use Rattle.std.proofs.Common.{◌≡◌, ℕ, suc, ◌+◌, ◌*◌, ◌/◌, ◌%◌, ◌<◌, ◌≤◌, true, List, [], ◌∷◌, ◌++◌, Option, Some, None, map, length}
+use Rattle.std.proofs.Common.{length-append, refl, sym, ap, ◌∙◌, subst, arith, inl, inr, take}
 use Rattle.std.proofs.lemmas.Bool.{cases_lt, and_parts, eqb-true}
 use Rattle.std.proofs.lemmas.List.{length-map}
 use Rattle.std.proofs.lemmas.List.Sorted.{sum_by-IsPermutation, length_permutation}
@@ -26,7 +27,8 @@ use Rattle.sharing_rules.specs.Words.{tally}
 use Rattle.sharing_rules.specs.declared.line_kind.LineKind.{LineKind}
 use Rattle.sharing_rules.specs.declared.line_kind.LineKind.TheVariants as kind
 use Rattle.sharing_rules.specs.Laws.Amounts.{fewer_shifted, half_doubled}
-use Rattle.sharing_rules.specs.Laws.Kinds.{doubled_ones-member, member-observed_ones, observed_ones-member, opened_doubled-is, opened_observed-is, opened_shifted-is, shifted_ones-member}
+use Rattle.sharing_rules.specs.Laws.Kinds.{doubled_ones-member, member-observed_ones, observed_ones-member, opened_doubled-is}
+use Rattle.sharing_rules.specs.Laws.Kinds.{opened_observed-is, opened_shifted-is, shifted_ones-member}
 use Rattle.sharing_rules.specs.Laws.Lists.{length-below, slice_cases}
 use Rattle.sharing_rules.specs.Laws.Opened.{opened_shifted-is_some, shifted_opening-observed, some_is}
 use Rattle.sharing_rules.specs.Laws.Words.{length-words_since}
@@ -34,7 +36,8 @@ use Rattle.word_shadow.specs.LineLaws.{layout-sized}
 use Rattle.virtual_lines.specs.FewLaws.{at_most_four, holds}
 use Rattle.virtual_lines.specs.Kept.{Kept}
 use Rattle.virtual_lines.specs.KeptIn.{kept_in}
-use Rattle.detector.specs.Amounts.{HasFewAtEach, HasFewEntries, HasFewWords, HasFewerShifted, HasHalfDoubled, IsSmallUnpredicted, doubled_count, entry_count, is_of, kind_count, observed_count, shifted_count, word_count}
+use Rattle.detector.specs.Amounts.{HasFewAtEach, HasFewEntries, HasFewWords, HasFewerShifted, HasHalfDoubled, IsSmallUnpredicted}
+use Rattle.detector.specs.Amounts.{doubled_count, entry_count, is_of, kind_count, observed_count, shifted_count, word_count}
 use Rattle.detector.specs.Standing.{StandsFor}
 use Rattle.detector.specs.Watch.{Watch}
 

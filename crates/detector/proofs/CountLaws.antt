@@ -1,5 +1,6 @@
 -- What the counts of an index are once an entry was replaced.
-use Rattle.std.proofs.Common.{◌≡◌, ◌≢◌, ℕ, ◌+◌, ◌-◌, ◌<◌, Bool, true, false, eqb, List, [], ◌∷◌, Option, Some, None, map, refl, sym, ap, ◌∙◌, arith, inl, inr}
+use Rattle.std.proofs.Common.{◌≡◌, ◌≢◌, ℕ, ◌+◌, ◌-◌, ◌<◌, Bool, true, false, eqb, List, [], ◌∷◌, Option, Some, None, map, refl, sym, ap}
+use Rattle.std.proofs.Common.{◌∙◌, arith, inl, inr}
 use Rattle.std.proofs.lemmas.Bool.{cases_Bool, and_left, eqb-true}
 use Rattle.std.proofs.lemmas.Bool.Decides.{nat_tests}
 use Rattle.std.specs.Prelude.{if◌then◌else◌, cond, option_map, unwrap_or, is_none, IfSome}
@@ -11,7 +12,8 @@ use Rattle.line_counters.specs.Entries.{Entries, IsEntry, blank_entry, entry_at,
 use Rattle.line_counters.specs.EntryLaws.{get-with_entry, kept, kept_is}
 use Rattle.detector.specs.Counts.{Counts, count_at, counts_of, no_writes, with_write}
 
-find-counts : (es : List (ℕ × LineEntry)) (q : ℕ) → finite.find nat_cmp q (map (λ e. (e.0, e.1.writes)) es) ≡ option_map (λ (e : LineEntry). e.writes) (finite.find nat_cmp q es)
+find-counts : (es : List (ℕ × LineEntry)) (q : ℕ) → finite.find nat_cmp q (map (λ e. (e.0, e.1.writes)) es) ≡ option_map
+    (λ (e : LineEntry). e.writes) (finite.find nat_cmp q es)
 find-counts [] q = refl
 find-counts (e ∷ es) q = elim (cases_Bool (eq_by_cmp nat_cmp q e.0)) [ inl here ↦ rw here | inr other ↦ rw other (find-counts es q) ]
 
@@ -33,40 +35,49 @@ above_zero n m h = grind (arith, nat_tests)
 
 kept-written : (e : LineEntry) (n : ℕ) → e.writes ≡ n + 1 → kept e ≡ Some e
 kept-written e n h =
-    let there : is_blank e ≡ false = and_left _ (is_none e.doubled) (and_left _ (is_none e.shifted) (and_left (eqb e.writes 0) (is_none e.track) (above_zero e.writes n h))) in
+    let there : is_blank e ≡ false = and_left _ (is_none e.doubled)
+    (and_left _ (is_none e.shifted) (and_left (eqb e.writes 0) (is_none e.track) (above_zero e.writes n h))) in
     ap (λ b. if b then None else Some e) there
 
 -- an entry with one write more counts one write more
-pub counts-with_entry : (m : Entries) (k : ℕ) (e : LineEntry) → e.writes ≡ (entry_at m k).writes + 1 → counts_of (with_entry m k e) ≡ with_write (counts_of m) k
+pub counts-with_entry : (m : Entries) (k : ℕ) (e : LineEntry) → e.writes ≡ (entry_at m k).writes + 1
+    → counts_of (with_entry m k e) ≡ with_write (counts_of m) k
 counts-with_entry m k e h =
     finite.same_map nat_cmp_total finite.nat_cmp-IsAntisymmetric _ _
     (λ q.
     get-counts_of (with_entry m k e) q ∙ ap (option_map (λ (x : LineEntry). x.writes)) (get-with_entry m k e q) ∙ picked q (eqb q k)
-    ∙ sym (finite.get-insert nat_cmp_total (counts_of m) k (count_at (counts_of m) k + 1) q ∙ ap (λ t. cond t (Some (count_at (counts_of m) k + 1)) (finite.get (counts_of m) q)) (unsigned_tied q k)))
+    ∙ sym (finite.get-insert nat_cmp_total (counts_of m) k (count_at (counts_of m) k + 1) q
+    ∙ ap (λ t. cond t (Some (count_at (counts_of m) k + 1)) (finite.get (counts_of m) q)) (unsigned_tied q k)))
   where
-    picked : (q : ℕ) (t : Bool) → option_map (λ (x : LineEntry). x.writes) (if t then kept e else finite.get m q) ≡ (if t then Some (count_at (counts_of m) k + 1) else finite.get (counts_of m) q)
-    picked q true = ap (option_map (λ (x : LineEntry). x.writes)) (kept-written e (entry_at m k).writes h) ∙ ap Some (h ∙ ap (λ n. n + 1) (sym (count_at-counts_of m k)))
+    picked : (q : ℕ) (t : Bool) → option_map (λ (x : LineEntry). x.writes) (if t then kept e else finite.get m q) ≡
+        (if t then Some (count_at (counts_of m) k + 1) else finite.get (counts_of m) q)
+    picked q true = ap (option_map (λ (x : LineEntry). x.writes)) (kept-written e (entry_at m k).writes h)
+        ∙ ap Some (h ∙ ap (λ n. n + 1) (sym (count_at-counts_of m k)))
     picked q false = sym (get-counts_of m q)
 
 -- an entry with as many writes, of which there are some, counts the same
-pub counts-same : (m : Entries) (k : ℕ) (e : LineEntry) → e.writes ≡ (entry_at m k).writes → 0 < (entry_at m k).writes → counts_of (with_entry m k e) ≡ counts_of m
+pub counts-same : (m : Entries) (k : ℕ) (e : LineEntry) → e.writes ≡ (entry_at m k).writes → 0 < (entry_at m k).writes
+    → counts_of (with_entry m k e) ≡ counts_of m
 counts-same m k e h some =
     finite.same_map nat_cmp_total finite.nat_cmp-IsAntisymmetric _ _
     (λ q.
     get-counts_of (with_entry m k e) q ∙ ap (option_map (λ (x : LineEntry). x.writes)) (get-with_entry m k e q)
     ∙ elim (cases_Bool (eqb q k)) [
-      | inl here ↦ rw here (there (finite.get m k) refl ∙ ap (λ o. option_map (λ (x : LineEntry). x.writes) o) (ap (finite.get m) (sym (eqb-true q k here))))
+      | inl here ↦ rw here (there (finite.get m k) refl ∙ ap (λ o. option_map (λ (x : LineEntry). x.writes) o)
+          (ap (finite.get m) (sym (eqb-true q k here))))
       | inr other ↦ rw other
     ]
     ∙ sym (get-counts_of m q))
   where
-    there : (o : Option LineEntry) → finite.get m k ≡ o → option_map (λ (x : LineEntry). x.writes) (kept e) ≡ option_map (λ (x : LineEntry). x.writes) (finite.get m k)
+    there : (o : Option LineEntry) → finite.get m k ≡ o → option_map (λ (x : LineEntry). x.writes) (kept e) ≡ option_map
+        (λ (x : LineEntry). x.writes) (finite.get m k)
     there None is = let none : (entry_at m k).writes ≡ 0 = ap (λ o. (unwrap_or o blank_entry).writes) is in absurd (omega arith)
     there (Some x) is =
         let was : (entry_at m k).writes ≡ x.writes = ap (λ o. (unwrap_or o blank_entry).writes) is in
         let n : ℕ = e.writes - 1 in
         let up : e.writes ≡ e.writes - 1 + 1 = omega arith in
-        ap (option_map (λ (z : LineEntry). z.writes)) (kept-written e (e.writes - 1) up) ∙ ap Some (h ∙ was) ∙ sym (ap (option_map (λ (z : LineEntry). z.writes)) is)
+        ap (option_map (λ (z : LineEntry). z.writes)) (kept-written e (e.writes - 1) up) ∙ ap Some (h ∙ was)
+        ∙ sym (ap (option_map (λ (z : LineEntry). z.writes)) is)
 
 -- an entry that is left as it was leaves the map as it was
 pub with_entry-same : (m : Entries) (k : ℕ) → ((q : ℕ) → IfSome (finite.get m q) (IsEntry q)) → with_entry m k (entry_at m k) ≡ m
@@ -89,7 +100,8 @@ with_entry-same m k only =
 
 -- an index with no entry counts nothing
 pub counts-empty : counts_of finite.empty ≡ no_writes
-counts-empty = finite.same_map nat_cmp_total finite.nat_cmp-IsAntisymmetric _ _ (λ q. get-counts_of finite.empty q ∙ ap (option_map (λ (e : LineEntry). e.writes)) (finite.get-empty nat_cmp q) ∙ sym (finite.get-empty nat_cmp q))
+counts-empty = finite.same_map nat_cmp_total finite.nat_cmp-IsAntisymmetric _ _ (λ q. get-counts_of finite.empty q
+    ∙ ap (option_map (λ (e : LineEntry). e.writes)) (finite.get-empty nat_cmp q) ∙ sym (finite.get-empty nat_cmp q))
 
 pub count_at-empty : (k : ℕ) → count_at no_writes k ≡ 0
 count_at-empty k = ap (λ o. unwrap_or o 0) (finite.get-empty nat_cmp k)
@@ -98,11 +110,14 @@ pub entry_at-empty : (k : ℕ) → entry_at finite.empty k ≡ blank_entry
 entry_at-empty k = ap (λ o. unwrap_or o blank_entry) (finite.get-empty nat_cmp k)
 
 -- one write of line k more
-pub count_at-with_write : (writes : Counts) (k q : ℕ) → count_at (with_write writes k) q ≡ (if eqb q k then count_at writes k + 1 else count_at writes q)
+pub count_at-with_write : (writes : Counts) (k q : ℕ) → count_at (with_write writes k) q ≡ (if eqb q k then count_at writes k + 1
+    else count_at writes q)
 count_at-with_write writes k q =
-    ap (λ o. unwrap_or o 0) (finite.get-insert nat_cmp_total writes k (count_at writes k + 1) q ∙ ap (λ t. cond t (Some (count_at writes k + 1)) (finite.get writes q)) (unsigned_tied q k))
+    ap (λ o. unwrap_or o 0) (finite.get-insert nat_cmp_total writes k (count_at writes k + 1) q
+    ∙ ap (λ t. cond t (Some (count_at writes k + 1)) (finite.get writes q)) (unsigned_tied q k))
     ∙ through (eqb q k)
   where
-    through : (t : Bool) → unwrap_or (cond t (Some (count_at writes k + 1)) (finite.get writes q)) 0 ≡ (if t then count_at writes k + 1 else count_at writes q)
+    through : (t : Bool) → unwrap_or (cond t (Some (count_at writes k + 1)) (finite.get writes q)) 0 ≡ (if t then count_at writes k + 1
+        else count_at writes q)
     through true = refl
     through false = refl

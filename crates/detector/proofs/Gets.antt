@@ -1,5 +1,6 @@
 -- Elements of lists by their places, and the first that passes a test.
-use Rattle.std.proofs.Common.{◌≡◌, ◌≢◌, ℕ, zero, suc, ◌<◌, Bool, true, false, List, [], ◌∷◌, ◌++◌, Option, Some, None, map, length, refl, sym, ap, ◌∙◌, ◌⊎◌, arith, inl, inr}
+use Rattle.std.proofs.Common.{◌≡◌, ◌≢◌, ℕ, zero, suc, ◌<◌, Bool, true, false, List, [], ◌∷◌, ◌++◌, Option, Some, None, map, length, refl}
+use Rattle.std.proofs.Common.{sym, ap, ◌∙◌, ◌⊎◌, arith, inl, inr}
 use Rattle.std.proofs.lemmas.Bool.{cases_Bool, cases_eq, cases_lt}
 use Rattle.std.proofs.lemmas.Option.{same_Some, none-some, slice_get_within, slice_get-map}
 use Rattle.std.proofs.lemmas.List.{length-append}
@@ -33,7 +34,8 @@ slice_get-end [] a = refl
 slice_get-end (x ∷ t) a = slice_get-end t a
 
 -- what stands at a place of a list and one element more
-pub slice_get-more : {X : Type 0} (t : List X) (a x : X) (i : ℕ) → slice_get (t ++ a ∷ []) i ≡ Some x → (slice_get t i ≡ Some x) ⊎ ((i ≡ length t) × (x ≡ a))
+pub slice_get-more : {X : Type 0} (t : List X) (a x : X) (i : ℕ) → slice_get (t ++ a ∷ []) i ≡ Some x
+    → (slice_get t i ≡ Some x) ⊎ ((i ≡ length t) × (x ≡ a))
 slice_get-more t a x i e =
     elim (cases_lt i (length t)) [
       | inl l ↦ inl (sym (slice_get-left t (a ∷ []) i l) ∙ e)
@@ -61,7 +63,8 @@ change_at-here f i xs =
       | inr some ↦ rw (some.1) (slice_get-set_same xs i (f some.0) (slice_get_within xs i some.0 some.1))
     ]
 
-pub change_at-other : {X : Type 0} (f : X → X) (o : Option ℕ) (xs : List X) (j : ℕ) → o ≢ Some j → slice_get (change_at f o xs) j ≡ slice_get xs j
+pub change_at-other : {X : Type 0} (f : X → X) (o : Option ℕ) (xs : List X) (j : ℕ) → o ≢ Some j
+    → slice_get (change_at f o xs) j ≡ slice_get xs j
 change_at-other f None xs j apart = refl
 change_at-other f (Some i) xs j apart =
     elim (slice_cases (slice_get xs i)) [
@@ -95,11 +98,13 @@ change_four {X} f o₁ o₂ o₃ o₄ xs apart rest =
     elim (is_place o₁ j) [
       | inl e ↦
           change_at-other f o₄ ys₃ j (apart.one_four j e) ∙ change_at-other f o₃ ys₂ j (apart.one_three j e)
-          ∙ change_at-other f o₂ ys₁ j (apart.one_two j e) ∙ ap (λ o. slice_get (change_at f o xs) j) e ∙ change_at-here f j xs ∙ sym (slice_get-map f xs j)
+          ∙ change_at-other f o₂ ys₁ j (apart.one_two j e) ∙ ap (λ o. slice_get (change_at f o xs) j) e ∙ change_at-here f j xs
+          ∙ sym (slice_get-map f xs j)
       | inr n₁ ↦ elim (is_place o₂ j) [
         | inl e ↦
             change_at-other f o₄ ys₃ j (apart.two_four j e) ∙ change_at-other f o₃ ys₂ j (apart.two_three j e)
-            ∙ ap (λ o. slice_get (change_at f o (change_at f o₁ xs)) j) e ∙ change_at-here f j ys₁ ∙ ap (option_map f) (change_at-other f o₁ xs j n₁) ∙ sym (slice_get-map f xs j)
+            ∙ ap (λ o. slice_get (change_at f o (change_at f o₁ xs)) j) e ∙ change_at-here f j ys₁
+            ∙ ap (option_map f) (change_at-other f o₁ xs j n₁) ∙ sym (slice_get-map f xs j)
         | inr n₂ ↦ elim (is_place o₃ j) [
           | inl e ↦
               change_at-other f o₄ ys₃ j (apart.three_four j e)
@@ -108,7 +113,8 @@ change_four {X} f o₁ o₂ o₃ o₄ xs apart rest =
           | inr n₃ ↦ elim (is_place o₄ j) [
             | inl e ↦
                 ap (λ o. slice_get (change_at f o (change_at f o₃ (change_at f o₂ (change_at f o₁ xs)))) j) e ∙ change_at-here f j ys₃
-                ∙ ap (option_map f) (change_at-other f o₃ ys₂ j n₃ ∙ change_at-other f o₂ ys₁ j n₂ ∙ change_at-other f o₁ xs j n₁) ∙ sym (slice_get-map f xs j)
+                ∙ ap (option_map f) (change_at-other f o₃ ys₂ j n₃ ∙ change_at-other f o₂ ys₁ j n₂ ∙ change_at-other f o₁ xs j n₁)
+                ∙ sym (slice_get-map f xs j)
             | inr n₄ ↦
                 change_at-other f o₄ ys₃ j n₄ ∙ change_at-other f o₃ ys₂ j n₃ ∙ change_at-other f o₂ ys₁ j n₂ ∙ change_at-other f o₁ xs j n₁
                 ∙ same j (slice_get xs j) refl n₁ n₂ n₃ n₄ ∙ sym (slice_get-map f xs j)
@@ -117,7 +123,8 @@ change_four {X} f o₁ o₂ o₃ o₄ xs apart rest =
       ]
     ])
   where
-    same : (j : ℕ) (o : Option X) → slice_get xs j ≡ o → o₁ ≢ Some j → o₂ ≢ Some j → o₃ ≢ Some j → o₄ ≢ Some j → slice_get xs j ≡ option_map f (slice_get xs j)
+    same : (j : ℕ) (o : Option X) → slice_get xs j ≡ o → o₁ ≢ Some j → o₂ ≢ Some j → o₃ ≢ Some j → o₄ ≢ Some j
+        → slice_get xs j ≡ option_map f (slice_get xs j)
     same j None e n₁ n₂ n₃ n₄ = e ∙ ap (option_map f) (sym e)
     same j (Some x) e n₁ n₂ n₃ n₄ = e ∙ ap Some (sym (rest j x e n₁ n₂ n₃ n₄)) ∙ ap (option_map f) (sym e)
 

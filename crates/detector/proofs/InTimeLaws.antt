@@ -1,5 +1,6 @@
 -- A noted track is in time, of the same kind and range, and blank where it has no start.
-use Rattle.std.proofs.Common.{◌≡◌, ℕ, zero, suc, ◌+◌, ◌/◌, [], ◌∷◌, map, ◌≤◌, ◌&&◌, Option, Some, None, get_or, refl, sym, ap, ◌∙◌, subst, arith, inl, inr}
+use Rattle.std.proofs.Common.{◌≡◌, ℕ, zero, suc, ◌+◌, ◌/◌, [], ◌∷◌, map, ◌≤◌, ◌&&◌, Option, Some, None, get_or, refl, sym, ap, ◌∙◌, subst}
+use Rattle.std.proofs.Common.{arith, inl, inr}
 use Rattle.std.proofs.lemmas.Bool.{cases_Bool}
 use Rattle.std.proofs.lemmas.Option.{none-some, slice_get_within, get_or_from_slice_get}
 use Rattle.std.proofs.lemmas.List.{map-append}
@@ -25,9 +26,12 @@ words_more v a =
       | inl none ↦ rw none (omega arith)
       | inr some ↦
           let i : ℕ = place_of v.range a.addr in
-          let set : sum_by accesses (slice_set v.words (place_of v.range a.addr) (note_word some.0 a)) + accesses (get_or v.words (place_of v.range a.addr) some.0) ≡ sum_by accesses v.words + accesses (note_word some.0 a) =
-          sum_by-set accesses v.words (place_of v.range a.addr) (note_word some.0 a) some.0 (slice_get_within v.words (place_of v.range a.addr) some.0 some.1) in
-          let was : accesses (get_or v.words (place_of v.range a.addr) some.0) ≡ accesses some.0 = ap accesses (get_or_from_slice_get v.words (place_of v.range a.addr) some.0 some.0 some.1) in
+          let set : sum_by accesses (slice_set v.words (place_of v.range a.addr) (note_word some.0 a)) + accesses
+          (get_or v.words (place_of v.range a.addr) some.0) ≡ sum_by accesses v.words + accesses (note_word some.0 a) =
+          sum_by-set accesses v.words (place_of v.range a.addr) (note_word some.0 a) some.0
+          (slice_get_within v.words (place_of v.range a.addr) some.0 some.1) in
+          let was : accesses (get_or v.words (place_of v.range a.addr) some.0) ≡ accesses some.0 =
+          ap accesses (get_or_from_slice_get v.words (place_of v.range a.addr) some.0 some.0 some.1) in
           let more : accesses (note_word some.0 a) ≡ accesses some.0 + 1 = word_more some.0 a in
           rw some.1 (omega (arith, set, was, more))
     ]
@@ -36,12 +40,14 @@ none_below : (n : ℕ) → sum_by accesses (map (λ i. tally []) (below n)) ≡ 
 none_below zero = refl
 none_below (suc n) =
     let ih = none_below n in
-    ap (sum_by accesses) (map-append (λ i. tally []) (below n) (n ∷ [])) ∙ sum_by-append accesses (map (λ i. tally []) (below n)) (tally [] ∷ []) ∙ ap (λ m. m + 0) ih
+    ap (sum_by accesses) (map-append (λ i. tally []) (below n) (n ∷ [])) ∙ sum_by-append accesses (map (λ i. tally []) (below n))
+    (tally [] ∷ []) ∙ ap (λ m. m + 0) ih
 
 blank-none : (x : Kept) → sum_by accesses (blank x.range).words ≡ 0
 blank-none x = none_below (x.range.size / 4)
 
-in_time_from : (o : Option ℕ) (x : Kept) (p : ℕ) (a : Touch) → x.start ≡ o → IfSome o (IsSince x p) → (x.start ≡ None → IsBlank x) → IsInTime (note_from o x p a) (p + 1)
+in_time_from : (o : Option ℕ) (x : Kept) (p : ℕ) (a : Touch) → x.start ≡ o → IfSome o (IsSince x p) → (x.start ≡ None → IsBlank x)
+    → IsInTime (note_from o x p a) (p + 1)
 in_time_from None x p a is h quiet =
     elim (cases_Bool (is_write a.kind)) [
       | inl w ↦
@@ -53,11 +59,13 @@ in_time_from None x p a is h quiet =
     ]
 in_time_from (Some s) x p a is h quiet =
     let more = words_more (words_of x) a in
-    let count : (if is_write a.kind && has_another x.entries a.hart then x.count + 1 else x.count) ≤ x.count + 1 = elim (cases_Bool (is_write a.kind && has_another x.entries a.hart)) [ inl e ↦ rw e (omega arith) | inr e ↦ rw e (omega arith) ] in
+    let count : (if is_write a.kind && has_another x.entries a.hart then x.count + 1 else x.count) ≤ x.count + 1 =
+    elim (cases_Bool (is_write a.kind && has_another x.entries a.hart)) [ inl e ↦ rw e (omega arith) | inr e ↦ rw e (omega arith) ] in
     let later = h.later in
     let accessed = h.accessed in
     let counted = h.counted in
-    let since : IsSince (note_from (Some s) x p a) (p + 1) s = record { later = omega arith; accessed = omega arith; counted = omega arith } in
+    let since : IsSince (note_from (Some s) x p a) (p + 1) s = record { later = omega arith; accessed = omega arith; counted = omega arith }
+    in
     subst (λ o. IfSome o (IsSince (note_from (Some s) x p a) (p + 1))) (sym is) since
 
 pub noted-in_time : (x : Kept) (p : ℕ) (a : Touch) → IsInTime x p → (x.start ≡ None → IsBlank x) → IsInTime (note_kept x p a) (p + 1)
@@ -78,7 +86,8 @@ pub touched-in_time : (x : Kept) (p : ℕ) (a : Touch) → IsInTime x p → (x.s
 touched-in_time x p a h quiet =
     elim (cases_Bool (holds_address x.range a.addr)) [ inl e ↦ rw e (noted-in_time x p a h quiet) | inr e ↦ rw e (later-in_time x p h) ]
 
-blank_from : (o : Option ℕ) (x : Kept) (p : ℕ) (a : Touch) → x.start ≡ o → (x.start ≡ None → IsBlank x) → (note_from o x p a).start ≡ None → IsBlank (note_from o x p a)
+blank_from : (o : Option ℕ) (x : Kept) (p : ℕ) (a : Touch) → x.start ≡ o → (x.start ≡ None → IsBlank x) → (note_from o x p a).start ≡ None
+    → IsBlank (note_from o x p a)
 blank_from None x p a is quiet none =
     elim (cases_Bool (is_write a.kind)) [
       | inl w ↦ absurd (none-some p (sym none ∙ ap (λ b. (if b then started x p a else x).start) w))

@@ -1,5 +1,6 @@
 -- What the names of tracks say.
-use Rattle.std.proofs.Common.{◌≡◌, ℕ, true, eqb, ◌&&◌, List, [], ◌∷◌, ◌++◌, Option, Some, None, map, length, refl, sym, ap, ◌∙◌, ◌⊎◌, subst, arith, inl, inr}
+use Rattle.std.proofs.Common.{◌≡◌, ℕ, true, eqb, ◌&&◌, List, [], ◌∷◌, ◌++◌, Option, Some, None, map, length, refl, sym, ap, ◌∙◌, ◌⊎◌, subst}
+use Rattle.std.proofs.Common.{arith, inl, inr}
 use Rattle.std.proofs.lemmas.Bool.{cases_Bool, false≢true, eq-eqb, and_parts, and_from, eqb-true}
 use Rattle.std.proofs.lemmas.Option.{same_Some, none-some, slice_get_within, slice_get-map}
 use Rattle.std.specs.Prelude.{slice_get, option_and_then, option_map}
@@ -27,23 +28,28 @@ same_rank Doubled Observed e = absurd (omega arith)
 same_rank Doubled Shifted e = absurd (omega arith)
 same_rank Doubled Doubled e = refl
 
-pub is_named-true : (g : Grid) (kind : LineKind) (k : ℕ) (x : Kept) → is_named g kind k x ≡ true → (x.kind ≡ kind) × (line_of_base g x.range ≡ k)
+pub is_named-true : (g : Grid) (kind : LineKind) (k : ℕ) (x : Kept) → is_named g kind k x ≡ true → (x.kind ≡ kind)
+    × (line_of_base g x.range ≡ k)
 is_named-true g kind k x h =
     let parts = and_parts (eqb (rank x.kind) (rank kind)) (eqb (line_of_base g x.range) k) h in
     (same_rank x.kind kind (eqb-true (rank x.kind) (rank kind) parts.0), eqb-true (line_of_base g x.range) k parts.1)
 
-pub is_named-from : (g : Grid) (kind : LineKind) (k : ℕ) (x : Kept) → x.kind ≡ kind → line_of_base g x.range ≡ k → is_named g kind k x ≡ true
+pub is_named-from : (g : Grid) (kind : LineKind) (k : ℕ) (x : Kept) → x.kind ≡ kind → line_of_base g x.range ≡ k
+    → is_named g kind k x ≡ true
 is_named-from g kind k x same at =
-    and_from (eqb (rank x.kind) (rank kind)) (eqb (line_of_base g x.range) k) (eq-eqb (rank x.kind) (rank kind) (ap rank same)) (eq-eqb (line_of_base g x.range) k at)
+    and_from (eqb (rank x.kind) (rank kind)) (eqb (line_of_base g x.range) k) (eq-eqb (rank x.kind) (rank kind) (ap rank same))
+    (eq-eqb (line_of_base g x.range) k at)
 
 -- a track is looked up at the place that is named
-pub look_up : (N : Names) (g : Grid) (xs : List Kept) (kind : LineKind) (k : ℕ) → IsNamed N g xs → track_named g kind k xs ≡ option_and_then (slice_get xs) (N kind k)
+pub look_up : (N : Names) (g : Grid) (xs : List Kept) (kind : LineKind) (k : ℕ) → IsNamed N g xs → track_named g kind k xs ≡ option_and_then
+    (slice_get xs) (N kind k)
 look_up N g xs kind k named =
     elim (slice_cases (N kind k)) [
       | inl none ↦ rw none (find-none (is_named g kind k) xs (λ j y at. elim (cases_Bool (is_named g kind k y)) [
         | inl t ↦
             let is = is_named-true g kind k y t in
-            absurd (none-some j (sym none ∙ ap (λ q. N kind q) (sym is.1) ∙ ap (λ q. N q (line_of_base g y.range)) (sym is.0) ∙ named.placed j y at))
+            absurd (none-some j (sym none ∙ ap (λ q. N kind q) (sym is.1) ∙ ap (λ q. N q (line_of_base g y.range)) (sym is.0)
+            ∙ named.placed j y at))
         | inr f ↦ f
       ]))
       | inr some ↦
@@ -58,10 +64,12 @@ look_up N g xs kind k named =
 pub with_name-here : (N : Names) (kind : LineKind) (k : ℕ) (o : Option ℕ) → with_name N kind k o kind k ≡ option_or o (N kind k)
 with_name-here N kind k o = rw (eq-eqb (rank kind) (rank kind) refl, eq-eqb k k refl)
 
-pub with_name-other : (N : Names) (kind j : LineKind) (k q : ℕ) (o : Option ℕ) → ((j ≡ kind) × (q ≡ k) → ⊥) → with_name N kind k o j q ≡ N j q
+pub with_name-other : (N : Names) (kind j : LineKind) (k q : ℕ) (o : Option ℕ) → ((j ≡ kind) × (q ≡ k) → ⊥)
+    → with_name N kind k o j q ≡ N j q
 with_name-other N kind j k q o other =
     elim (cases_Bool (eqb (rank j) (rank kind) && eqb q k)) [
-      | inl t ↦ let parts = and_parts (eqb (rank j) (rank kind)) (eqb q k) t in absurd (other (same_rank j kind (eqb-true _ _ parts.0), eqb-true q k parts.1))
+      | inl t ↦ let parts = and_parts (eqb (rank j) (rank kind)) (eqb q k) t
+          in absurd (other (same_rank j kind (eqb-true _ _ parts.0), eqb-true q k parts.1))
       | inr f ↦ rw f
     ]
 
@@ -69,13 +77,15 @@ with_name-other N kind j k q o other =
 pub same_name : (kind j : LineKind) (k q : ℕ) → ((j ≡ kind) × (q ≡ k)) ⊎ ((j ≡ kind) × (q ≡ k) → ⊥)
 same_name kind j k q =
     elim (cases_Bool (eqb (rank j) (rank kind) && eqb q k)) [
-      | inl t ↦ let parts = and_parts (eqb (rank j) (rank kind)) (eqb q k) t in inl (same_rank j kind (eqb-true _ _ parts.0), eqb-true q k parts.1)
+      | inl t ↦ let parts = and_parts (eqb (rank j) (rank kind)) (eqb q k) t
+          in inl (same_rank j kind (eqb-true _ _ parts.0), eqb-true q k parts.1)
       | inr f ↦ inr (λ h. false≢true (sym f ∙ and_from (eqb (rank j) (rank kind)) (eqb q k) (eq-eqb _ _ (ap rank h.0)) (eq-eqb q k h.1)))
     ]
 
 -- one track more, which a new name names
 pub named-more : (N : Names) (g : Grid) (xs : List Kept) (x : Kept) → IsNamed N g xs → N x.kind (line_of_base g x.range) ≡ None
-    → IsShaped g (line_of_base g x.range) x.kind x.range → IsNamed (with_name N x.kind (line_of_base g x.range) (Some (length xs))) g (xs ++ x ∷ [])
+    → IsShaped g (line_of_base g x.range) x.kind x.range → IsNamed (with_name N x.kind (line_of_base g x.range) (Some (length xs))) g
+    (xs ++ x ∷ [])
 named-more N g xs x named none shaped =
     let k : ℕ = line_of_base g x.range in
     record {
@@ -83,7 +93,8 @@ named-more N g xs x named none shaped =
           elim (slice_get-more xs x y i at) [
             | inl before ↦
                 with_name-other N x.kind y.kind (line_of_base g x.range) (line_of_base g y.range) (Some (length xs))
-                (λ h. none-some i (sym none ∙ ap (λ q. N x.kind q) (sym h.1) ∙ ap (λ q. N q (line_of_base g y.range)) (sym h.0) ∙ named.placed i y before))
+                (λ h. none-some i (sym none ∙ ap (λ q. N x.kind q) (sym h.1) ∙ ap (λ q. N q (line_of_base g y.range)) (sym h.0)
+                ∙ named.placed i y before))
                 ∙ named.placed i y before
             | inr last ↦
                 ap (λ (z : Kept). with_name N x.kind (line_of_base g x.range) (Some (length xs)) z.kind (line_of_base g z.range)) last.1
@@ -93,7 +104,8 @@ named-more N g xs x named none shaped =
           elim (same_name x.kind j (line_of_base g x.range) q) [
             | inl is ↦
                 let got : Some (length xs) ≡ Some i =
-                sym (with_name-here N x.kind (line_of_base g x.range) (Some (length xs))) ∙ ap (with_name N x.kind (line_of_base g x.range) (Some (length xs)) x.kind) (sym is.1)
+                sym (with_name-here N x.kind (line_of_base g x.range) (Some (length xs)))
+                ∙ ap (with_name N x.kind (line_of_base g x.range) (Some (length xs)) x.kind) (sym is.1)
                 ∙ ap (λ z. with_name N x.kind (line_of_base g x.range) (Some (length xs)) z q) (sym is.0) ∙ at in
                 (x, ap (slice_get (xs ++ x ∷ [])) (sym (same_Some (length xs) i got)) ∙ slice_get-end xs x, sym is.0, sym is.1)
             | inr other ↦
@@ -108,7 +120,8 @@ named-more N g xs x named none shaped =
     }
 
 -- the same with the kind and the line said first
-pub named-more-as : (N : Names) (g : Grid) (xs : List Kept) (x : Kept) (kind : LineKind) (k : ℕ) → IsNamed N g xs → x.kind ≡ kind → line_of_base g x.range ≡ k → N kind k ≡ None
+pub named-more-as : (N : Names) (g : Grid) (xs : List Kept) (x : Kept) (kind : LineKind) (k : ℕ) → IsNamed N g xs → x.kind ≡ kind
+    → line_of_base g x.range ≡ k → N kind k ≡ None
     → IsShaped g k kind x.range → IsNamed (with_name N kind k (Some (length xs))) g (xs ++ x ∷ [])
 named-more-as N g xs x kind k named same at none shaped =
     subst (λ j. IsNamed (with_name N j k (Some (length xs))) g (xs ++ x ∷ [])) same
@@ -117,7 +130,8 @@ named-more-as N g xs x kind k named same at none shaped =
     (subst (λ q. IsShaped g q x.kind x.range) (sym at) (subst (λ j. IsShaped g k j x.range) (sym same) shaped))))
 
 -- an element of a map is that of one of the list
-pub mapped-came : {X Y : Type 0} (f : X → Y) (xs : List X) (i : ℕ) (y : Y) → slice_get (map f xs) i ≡ Some y → (x : X) × (slice_get xs i ≡ Some x) × (y ≡ f x)
+pub mapped-came : {X Y : Type 0} (f : X → Y) (xs : List X) (i : ℕ) (y : Y) → slice_get (map f xs) i ≡ Some y → (x : X)
+    × (slice_get xs i ≡ Some x) × (y ≡ f x)
 mapped-came f xs i y at =
     elim (slice_cases (slice_get xs i)) [
       | inl none ↦ absurd (none-some y (sym (slice_get-map f xs i ∙ ap (option_map f) none) ∙ at))
@@ -125,7 +139,8 @@ mapped-came f xs i y at =
     ]
 
 -- tracks that changed, but for their kinds and their ranges
-pub named-map : (N : Names) (g : Grid) (f : Kept → Kept) (xs : List Kept) → ((x : Kept) → (f x).kind ≡ x.kind) → ((x : Kept) → (f x).range ≡ x.range) → IsNamed N g xs → IsNamed N g (map f xs)
+pub named-map : (N : Names) (g : Grid) (f : Kept → Kept) (xs : List Kept) → ((x : Kept) → (f x).kind ≡ x.kind)
+    → ((x : Kept) → (f x).range ≡ x.range) → IsNamed N g xs → IsNamed N g (map f xs)
 named-map N g f xs kinds ranges named = record {
   placed = λ i y at.
       let w = came i y at in

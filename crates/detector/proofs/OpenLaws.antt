@@ -1,5 +1,6 @@
 -- What opens for two lines, by their best pair.
-use Rattle.std.proofs.Common.{◌≡◌, ℕ, ◌+◌, ◌-◌, ◌*◌, ◌/◌, ◌%◌, ◌<◌, ◌≤◌, true, false, eqb, ◌||◌, List, Option, Some, None, length, get_or, refl, sym, ap, ◌∙◌, subst, arith, inl, inr}
+use Rattle.std.proofs.Common.{◌≡◌, ℕ, ◌+◌, ◌-◌, ◌*◌, ◌/◌, ◌%◌, ◌<◌, ◌≤◌, true, false, eqb, ◌||◌, List, Option, Some, None, length, get_or}
+use Rattle.std.proofs.Common.{refl, sym, ap, ◌∙◌, subst, arith, inl, inr}
 use Rattle.std.proofs.lemmas.Bool.{or_left, eq-eqb, eqb-false}
 use Rattle.std.proofs.lemmas.Nat.{div-mul-add}
 use Rattle.std.proofs.lemmas.Option.{same_Some, none-some, slice_get-get_or}
@@ -23,28 +24,36 @@ use Rattle.detector.proofs.Gets.{slice_cases}
 use Rattle.detector.proofs.PairLaws.{best-is_pair, doubled-begins, native-abs, native-begins, native-is, native-neighbours, shifted-begins}
 
 -- what is read at a place that is named
-pub read_at : (xs ys : List Kept) (o : Option ℕ) (i : ℕ) (x : Kept) → o ≡ Some i → ys ≡ xs → i < length xs → x ≡ get_or ys i x → kept_at xs o ≡ Some x
+pub read_at : (xs ys : List Kept) (o : Option ℕ) (i : ℕ) (x : Kept) → o ≡ Some i → ys ≡ xs → i < length xs → x ≡ get_or ys i x
+    → kept_at xs o ≡ Some x
 read_at xs ys o i x is same within read =
     ap (kept_at xs) is ∙ slice_get-get_or xs i x within ∙ ap (λ zs. Some (get_or zs i x)) (sym same) ∙ ap Some (sym read)
 
-pub pair-neighbours : (n k : ℕ) (xs : List Kept) (lower upper : Option ℕ) (x y : Kept) → ArePair n k xs lower upper → kept_at xs lower ≡ Some x → kept_at xs upper ≡ Some y → AreNeighbours x.range y.range
+pub pair-neighbours : (n k : ℕ) (xs : List Kept) (lower upper : Option ℕ) (x y : Kept) → ArePair n k xs lower upper
+    → kept_at xs lower ≡ Some x → kept_at xs upper ≡ Some y → AreNeighbours x.range y.range
 pair-neighbours n k xs lower upper x y pair at up =
     subst (λ r. AreNeighbours r y.range) (sym (pair.below.range x at))
-    (subst (λ r. AreNeighbours (range_of (native_line n k)) r) (sym (pair.above.range y up)) (native-neighbours n k pair.native (pair.below.reached x at) (pair.above.reached y up)))
+    (subst (λ r. AreNeighbours (range_of (native_line n k)) r) (sym (pair.above.range y up))
+    (native-neighbours n k pair.native (pair.below.reached x at) (pair.above.reached y up)))
 
 -- the search of two tracks gives their best pair
-pub pair-found : (n k : ℕ) (xs : List Kept) (lower upper within : Option ℕ) (x y : Kept) (r : Option Pair) → ArePair n k xs lower upper → kept_at xs lower ≡ Some x → kept_at xs upper ≡ Some y
-    → 4 * length x.words ≡ x.range.size → 4 * length y.words ≡ y.range.size → r ≡ option_map (pair_at x.range y.range) (best_pair_of x.words y.words (reach x.range.size within))
-    → MatchOption r (best_of_two (kept_at xs lower) (kept_at xs upper) (reach n within) ≡ None) (IsPairOf n k xs lower upper (reach n within))
+pub pair-found : (n k : ℕ) (xs : List Kept) (lower upper within : Option ℕ) (x y : Kept) (r : Option Pair) → ArePair n k xs lower upper
+    → kept_at xs lower ≡ Some x → kept_at xs upper ≡ Some y
+    → 4 * length x.words ≡ x.range.size → 4 * length y.words ≡ y.range.size → r ≡ option_map (pair_at x.range y.range)
+    (best_pair_of x.words y.words (reach x.range.size within))
+    → MatchOption r (best_of_two (kept_at xs lower) (kept_at xs upper) (reach n within) ≡ None)
+    (IsPairOf n k xs lower upper (reach n within))
 pair-found n k xs lower upper within x y r pair at up sized sized_up is =
     let size : x.range.size ≡ n = ap (λ (q : Range). q.size) (pair.below.range x at) in
     let size_up : y.range.size ≡ n = ap (λ (q : Range). q.size) (pair.above.range y up) in
     let best : best_of_two (kept_at xs lower) (kept_at xs upper) (reach n within) ≡ best_pair_of x.words y.words (reach n within) =
     ap (λ o. best_of_two o (kept_at xs upper) (reach n within)) at ∙ ap (λ o. best_of_two (Some x) o (reach n within)) up in
-    let now : r ≡ option_map (pair_at x.range y.range) (best_pair_of x.words y.words (reach n within)) = is ∙ ap (λ z. option_map (pair_at x.range y.range) (best_pair_of x.words y.words (reach z within))) size in
+    let now : r ≡ option_map (pair_at x.range y.range) (best_pair_of x.words y.words (reach n within)) = is
+    ∙ ap (λ z. option_map (pair_at x.range y.range) (best_pair_of x.words y.words (reach z within))) size in
     elim (slice_cases (best_pair_of x.words y.words (reach n within))) [
       | inl none ↦
-          subst (λ o. MatchOption o (best_of_two (kept_at xs lower) (kept_at xs upper) (reach n within) ≡ None) (IsPairOf n k xs lower upper (reach n within)))
+          subst (λ o. MatchOption o (best_of_two (kept_at xs lower) (kept_at xs upper) (reach n within) ≡ None)
+          (IsPairOf n k xs lower upper (reach n within)))
           (sym (now ∙ ap (option_map (pair_at x.range y.range)) none)) (best ∙ none)
       | inr some ↦
           let p = some.0 in
@@ -56,7 +65,8 @@ pair-found n k xs lower upper within x y r pair at up sized sized_up is =
           let next : k + 1 - 1 ≡ k = omega arith in
           let quarter : length x.words ≡ n / 4 = omega arith in
           let base : nat_abs x.range.base ≡ n * (k - 1) = ap (λ (q : Range). nat_abs q.base) (pair.below.range x at) ∙ native-abs n k low in
-          let base_up : nat_abs y.range.base ≡ n * (k + 1 - 1) = ap (λ (q : Range). nat_abs q.base) (pair.above.range y up) ∙ native-abs n (k + 1) (omega arith) in
+          let base_up : nat_abs y.range.base ≡ n * (k + 1 - 1) = ap (λ (q : Range). nat_abs q.base) (pair.above.range y up)
+          ∙ native-abs n (k + 1) (omega arith) in
           let found : IsPairOf n k xs lower upper (reach n within) (pair_at x.range y.range some.0) = record {
             places = some.0;
             best = best ∙ some.1;
@@ -67,7 +77,8 @@ pair-found n k xs lower upper within x y r pair at up sized sized_up is =
             near = subst (λ z. 4 * (z + some.0.1) + 4 ≤ reach n within + 4 * some.0.0) quarter near;
             some = low;
           } in
-          subst (λ o. MatchOption o (best_of_two (kept_at xs lower) (kept_at xs upper) (reach n within) ≡ None) (IsPairOf n k xs lower upper (reach n within)))
+          subst (λ o. MatchOption o (best_of_two (kept_at xs lower) (kept_at xs upper) (reach n within) ≡ None)
+          (IsPairOf n k xs lower upper (reach n within)))
           (sym (now ∙ ap (option_map (pair_at x.range y.range)) some.1)) found
     ]
 
@@ -76,13 +87,15 @@ some_value None P v r h e = absurd (none-some r e)
 some_value (Some x) P v r h e = sym (same_Some x r e) ∙ h.1
 
 -- a shifted line that opens begins in the lower line of its pair
-pub shifted-shaped : (n k : ℕ) (xs : List Kept) (lower upper : Option ℕ) (pair : Pair) (o : Option Range) (r : Range) (P : Type 0) → is_native_size n ≡ true → IsPairOf n k xs lower upper n pair
+pub shifted-shaped : (n k : ℕ) (xs : List Kept) (lower upper : Option ℕ) (pair : Pair) (o : Option Range) (r : Range) (P : Type 0)
+    → is_native_size n ≡ true → IsPairOf n k xs lower upper n pair
     → SomeIff o P (range_of (line_from n (shifted_base n pair.x pair.y))) → o ≡ Some r → IsShaped (native_grid n) k Shifted r
 shifted-shaped n k xs lower upper pair o r P native found value e =
     let p = found.places in
     let is : r ≡ range_of (shifted_around n k found.places) =
     some_value o P (range_of (line_from n (shifted_base n pair.x pair.y))) r value e
-    ∙ ap (λ z. range_of (line_from n (shifted_base n z pair.y))) found.lower_at ∙ ap (λ z. range_of (line_from n (shifted_base n (word_address n k found.places.0) z))) found.upper_at in
+    ∙ ap (λ z. range_of (line_from n (shifted_base n z pair.y))) found.lower_at
+    ∙ ap (λ z. range_of (line_from n (shifted_base n (word_address n k found.places.0) z))) found.upper_at in
     subst (IsShaped (native_grid n) k Shifted) (sym is)
     (found.some, refl, shifted-begins n k found.places (native-is n native) found.some found.lower_in found.upper_in found.near)
 
@@ -97,40 +110,57 @@ pair-inside n k xs lower upper within pair found =
     or_left (is_inside (native_line n k) pair.x) (is_inside (native_line n (k + 1)) pair.x)
     (eq-eqb ((pair.x + n - 0) / n) k (ap (λ z. z / n) is ∙ div-mul-add k n (4 * found.places.0) less))
 
-pub doubled-shaped : (n k : ℕ) (r : Range) → is_native_size n ≡ true → 1 ≤ k → k % 2 ≡ 1 → r ≡ range_of (doubled_line n k) → IsShaped (native_grid n) k Doubled r
+pub doubled-shaped : (n k : ℕ) (r : Range) → is_native_size n ≡ true → 1 ≤ k → k % 2 ≡ 1 → r ≡ range_of (doubled_line n k)
+    → IsShaped (native_grid n) k Doubled r
 doubled-shaped n k r native low odd is =
     let some = (native-is n native).some in
     subst (IsShaped (native_grid n) k Doubled) (sym is) (odd, refl, doubled-begins n k (omega arith) low)
 
 -- what opens around a line, by the entries
-pub shifted-is : (n k : ℕ) (xs : List Kept) (e : Around) → AreAround (native_grid n) k xs e → shifted_between n k xs e.here e.above ≡ shifted_opens (native_grid n) k xs
+pub shifted-is : (n k : ℕ) (xs : List Kept) (e : Around) → AreAround (native_grid n) k xs e → shifted_between n k xs e.here e.above
+    ≡ shifted_opens (native_grid n) k xs
 shifted-is n k xs e h =
-    ap (λ b. if b then None else option_map (λ p. range_of (shifted_around n k p)) (best_of_two (kept_at xs e.here.track) (kept_at xs e.above.track) n)) (sym h.shifted_here)
-    ∙ ap (λ o. if is_some (track_named (native_grid n) Shifted k xs) then None else option_map (λ p. range_of (shifted_around n k p)) (best_of_two o (kept_at xs e.above.track) n)) (sym h.own_here)
-    ∙ ap (λ o. if is_some (track_named (native_grid n) Shifted k xs) then None else option_map (λ p. range_of (shifted_around n k p)) (best_of_two (track_named (native_grid n) Observed k xs) o n)) (sym h.own_above)
+    ap (λ b. if b then None else option_map (λ p. range_of (shifted_around n k p))
+    (best_of_two (kept_at xs e.here.track) (kept_at xs e.above.track) n)) (sym h.shifted_here)
+    ∙ ap (λ o. if is_some (track_named (native_grid n) Shifted k xs) then None else option_map (λ p. range_of (shifted_around n k p))
+    (best_of_two o (kept_at xs e.above.track) n)) (sym h.own_here)
+    ∙ ap (λ o. if is_some (track_named (native_grid n) Shifted k xs) then None else option_map (λ p. range_of (shifted_around n k p))
+    (best_of_two (track_named (native_grid n) Observed k xs) o n)) (sym h.own_above)
 
-pub shifted-is-below : (n k : ℕ) (xs : List Kept) (e : Around) → AreAround (native_grid n) k xs e → shifted_between n (k - 1) xs e.below e.here ≡ shifted_opens (native_grid n) (k - 1) xs
+pub shifted-is-below : (n k : ℕ) (xs : List Kept) (e : Around) → AreAround (native_grid n) k xs e
+    → shifted_between n (k - 1) xs e.below e.here ≡ shifted_opens (native_grid n) (k - 1) xs
 shifted-is-below n k xs e h =
     let some = h.some in
     let back : k - 1 + 1 ≡ k = omega arith in
-    ap (λ b. if b then None else option_map (λ p. range_of (shifted_around n (k - 1) p)) (best_of_two (kept_at xs e.below.track) (kept_at xs e.here.track) n)) (sym h.shifted_below)
-    ∙ ap (λ o. if is_some (track_named (native_grid n) Shifted (k - 1) xs) then None else option_map (λ p. range_of (shifted_around n (k - 1) p)) (best_of_two o (kept_at xs e.here.track) n)) (sym h.own_below)
-    ∙ ap (λ o. if is_some (track_named (native_grid n) Shifted (k - 1) xs) then None else option_map (λ p. range_of (shifted_around n (k - 1) p)) (best_of_two (track_named (native_grid n) Observed (k - 1) xs) o n))
+    ap (λ b. if b then None else option_map (λ p. range_of (shifted_around n (k - 1) p))
+    (best_of_two (kept_at xs e.below.track) (kept_at xs e.here.track) n)) (sym h.shifted_below)
+    ∙ ap (λ o. if is_some (track_named (native_grid n) Shifted (k - 1) xs) then None
+    else option_map (λ p. range_of (shifted_around n (k - 1) p)) (best_of_two o (kept_at xs e.here.track) n)) (sym h.own_below)
+    ∙ ap (λ o. if is_some (track_named (native_grid n) Shifted (k - 1) xs) then None
+    else option_map (λ p. range_of (shifted_around n (k - 1) p)) (best_of_two (track_named (native_grid n) Observed (k - 1) xs) o n))
     (sym h.own_here ∙ ap (λ q. track_named (native_grid n) Observed q xs) (sym back))
 
-pub doubled-is : (n k : ℕ) (xs : List Kept) (e : Around) → AreAround (native_grid n) k xs e → doubled_between n k xs e.here e.above ≡ doubled_opens (native_grid n) k xs
+pub doubled-is : (n k : ℕ) (xs : List Kept) (e : Around) → AreAround (native_grid n) k xs e → doubled_between n k xs e.here e.above
+    ≡ doubled_opens (native_grid n) k xs
 doubled-is n k xs e h =
-    ap (λ b. if b then None else option_map (λ p. range_of (doubled_line n k)) (best_of_two (kept_at xs e.here.track) (kept_at xs e.above.track) (2 * n))) (sym h.doubled_here)
-    ∙ ap (λ o. if is_some (track_named (native_grid n) Doubled k xs) then None else option_map (λ p. range_of (doubled_line n k)) (best_of_two o (kept_at xs e.above.track) (2 * n))) (sym h.own_here)
-    ∙ ap (λ o. if is_some (track_named (native_grid n) Doubled k xs) then None else option_map (λ p. range_of (doubled_line n k)) (best_of_two (track_named (native_grid n) Observed k xs) o (2 * n))) (sym h.own_above)
+    ap (λ b. if b then None else option_map (λ p. range_of (doubled_line n k))
+    (best_of_two (kept_at xs e.here.track) (kept_at xs e.above.track) (2 * n))) (sym h.doubled_here)
+    ∙ ap (λ o. if is_some (track_named (native_grid n) Doubled k xs) then None else option_map (λ p. range_of (doubled_line n k))
+    (best_of_two o (kept_at xs e.above.track) (2 * n))) (sym h.own_here)
+    ∙ ap (λ o. if is_some (track_named (native_grid n) Doubled k xs) then None else option_map (λ p. range_of (doubled_line n k))
+    (best_of_two (track_named (native_grid n) Observed k xs) o (2 * n))) (sym h.own_above)
 
-pub doubled-is-below : (n k : ℕ) (xs : List Kept) (e : Around) → AreAround (native_grid n) k xs e → doubled_between n (k - 1) xs e.below e.here ≡ doubled_opens (native_grid n) (k - 1) xs
+pub doubled-is-below : (n k : ℕ) (xs : List Kept) (e : Around) → AreAround (native_grid n) k xs e
+    → doubled_between n (k - 1) xs e.below e.here ≡ doubled_opens (native_grid n) (k - 1) xs
 doubled-is-below n k xs e h =
     let some = h.some in
     let back : k - 1 + 1 ≡ k = omega arith in
-    ap (λ b. if b then None else option_map (λ p. range_of (doubled_line n (k - 1))) (best_of_two (kept_at xs e.below.track) (kept_at xs e.here.track) (2 * n))) (sym h.doubled_below)
-    ∙ ap (λ o. if is_some (track_named (native_grid n) Doubled (k - 1) xs) then None else option_map (λ p. range_of (doubled_line n (k - 1))) (best_of_two o (kept_at xs e.here.track) (2 * n))) (sym h.own_below)
-    ∙ ap (λ o. if is_some (track_named (native_grid n) Doubled (k - 1) xs) then None else option_map (λ p. range_of (doubled_line n (k - 1))) (best_of_two (track_named (native_grid n) Observed (k - 1) xs) o (2 * n)))
+    ap (λ b. if b then None else option_map (λ p. range_of (doubled_line n (k - 1)))
+    (best_of_two (kept_at xs e.below.track) (kept_at xs e.here.track) (2 * n))) (sym h.doubled_below)
+    ∙ ap (λ o. if is_some (track_named (native_grid n) Doubled (k - 1) xs) then None
+    else option_map (λ p. range_of (doubled_line n (k - 1))) (best_of_two o (kept_at xs e.here.track) (2 * n))) (sym h.own_below)
+    ∙ ap (λ o. if is_some (track_named (native_grid n) Doubled (k - 1) xs) then None
+    else option_map (λ p. range_of (doubled_line n (k - 1))) (best_of_two (track_named (native_grid n) Observed (k - 1) xs) o (2 * n)))
     (sym h.own_here ∙ ap (λ q. track_named (native_grid n) Observed q xs) (sym back))
 
 pub even-odd : (k : ℕ) → k % 2 ≡ 1 → even_lower k ≡ k

@@ -1,5 +1,6 @@
 -- The best pair of two native lines, and the lines around it.
-use Rattle.std.proofs.Common.{◌≡◌, ℕ, zero, suc, ◌+◌, ◌-◌, ◌*◌, ◌/◌, ◌%◌, ◌<◌, ◌≤◌, ◌^◌, Bool, true, false, eqb, ltb, ◌&&◌, pos, ◌-ℤ◌, List, [], ◌∷◌, Option, Some, None, length, refl, sym, ap, ◌∙◌, subst, arith, inl, inr}
+use Rattle.std.proofs.Common.{◌≡◌, ℕ, zero, suc, ◌+◌, ◌-◌, ◌*◌, ◌/◌, ◌%◌, ◌<◌, ◌≤◌, ◌^◌, Bool, true, false, eqb, ltb, ◌&&◌, pos, ◌-ℤ◌, List}
+use Rattle.std.proofs.Common.{[], ◌∷◌, Option, Some, None, length, refl, sym, ap, ◌∙◌, subst, arith, inl, inr}
 use Rattle.std.proofs.lemmas.Bool.{cases_Bool, false≢true, and_parts, or_cases, eqb-true, leb-true}
 use Rattle.std.proofs.lemmas.Int.{ints}
 use Rattle.std.proofs.lemmas.Nat.{div-mul-add, div-add-mod'}
@@ -18,7 +19,8 @@ use Rattle.detector.specs.Index.{IsReached}
 use Rattle.detector.specs.Pairs.{IsNativeLine}
 use Rattle.detector.proofs.Gets.{slice_cases}
 
-first_best-cons : (f : ℕ × ℕ → ℕ) (t : ℕ × ℕ → Bool) (x : ℕ × ℕ) (o : Option (ℕ × ℕ)) (p : ℕ × ℕ) → t x ≡ true → ((q : ℕ × ℕ) → o ≡ Some q → t q ≡ true)
+first_best-cons : (f : ℕ × ℕ → ℕ) (t : ℕ × ℕ → Bool) (x : ℕ × ℕ) (o : Option (ℕ × ℕ)) (p : ℕ × ℕ) → t x ≡ true
+    → ((q : ℕ × ℕ) → o ≡ Some q → t q ≡ true)
     → option_map_or (λ q. if ltb (f x) (f q) then Some q else Some x) o (Some x) ≡ Some p → t p ≡ true
 first_best-cons f t x None p first rest e = ap t (sym (same_Some x p e)) ∙ first
 first_best-cons f t x (Some q) p first rest e =
@@ -32,7 +34,8 @@ first_best-passes : (f : ℕ × ℕ → ℕ) (t : ℕ × ℕ → Bool) (ps : Lis
 first_best-passes f t [] p e = absurd (none-some p e)
 first_best-passes f t (x ∷ ps) p e =
     elim (cases_Bool (t x)) [
-      | inl hit ↦ first_best-cons f t x (first_best f (filter t ps)) p hit (λ q. first_best-passes f t ps q) (sym (ap (λ b. first_best f (if b then x ∷ filter t ps else filter t ps)) hit) ∙ e)
+      | inl hit ↦ first_best-cons f t x (first_best f (filter t ps)) p hit (λ q. first_best-passes f t ps q)
+          (sym (ap (λ b. first_best f (if b then x ∷ filter t ps else filter t ps)) hit) ∙ e)
       | inr miss ↦ first_best-passes f t ps p (sym (ap (λ b. first_best f (if b then x ∷ filter t ps else filter t ps)) miss) ∙ e)
     ]
 
@@ -45,18 +48,25 @@ pub record IsPair (lower upper : List Word) (within : ℕ) (p : ℕ × ℕ) : Ty
 hot-in : (lower upper : List Word) (p : ℕ × ℕ) → is_hot_at lower upper p ≡ true → (p.0 < length lower) × (p.1 < length upper)
 hot-in lower upper p h =
     elim (slice_cases (slice_get lower p.0)) [
-      | inl none ↦ absurd (false≢true (sym (ap (λ o. option_map_or (λ x. option_map_or (is_hot_pair lower upper x) (slice_get upper p.1) false) o false) none) ∙ h))
+      | inl none ↦
+          absurd (false≢true
+          (sym (ap (λ o. option_map_or (λ x. option_map_or (is_hot_pair lower upper x) (slice_get upper p.1) false) o false) none) ∙ h))
       | inr x ↦ elim (slice_cases (slice_get upper p.1)) [
-        | inl none ↦ absurd (false≢true (sym (ap (λ o. option_map_or (λ z. option_map_or (is_hot_pair lower upper z) o false) (slice_get lower p.0) false) none ∙ ap (λ o. option_map_or (λ z. false) o false) x.1) ∙ h))
+        | inl none ↦
+            absurd (false≢true
+            (sym (ap (λ o. option_map_or (λ z. option_map_or (is_hot_pair lower upper z) o false) (slice_get lower p.0) false) none
+            ∙ ap (λ o. option_map_or (λ z. false) o false) x.1) ∙ h))
         | inr y ↦ (slice_get_within lower p.0 x.0 x.1, slice_get_within upper p.1 y.0 y.1)
       ]
     ]
 
-pub best-is_pair : (lower upper : List Word) (within : ℕ) (p : ℕ × ℕ) → best_pair_of lower upper within ≡ Some p → IsPair lower upper within p
+pub best-is_pair : (lower upper : List Word) (within : ℕ) (p : ℕ × ℕ) → best_pair_of lower upper within ≡ Some p
+    → IsPair lower upper within p
 unfolding best_pair_of
 best-is_pair lower upper within p e =
     let t : is_hot_at lower upper p && is_near (length lower) within p ≡ true =
-    first_best-passes (score lower upper) (λ q. is_hot_at lower upper q && is_near (length lower) within q) (all_pairs (length lower) (length upper)) p e in
+    first_best-passes (score lower upper) (λ q. is_hot_at lower upper q && is_near (length lower) within q)
+    (all_pairs (length lower) (length upper)) p e in
     let parts = and_parts (is_hot_at lower upper p) (is_near (length lower) within p) t in
     let ins = hot-in lower upper p parts.0 in
     record { lower_in = ins.0; upper_in = ins.1; near = leb-true _ _ parts.1 }
@@ -93,7 +103,8 @@ EndsInTime a n = ((a + n - 0) / n * n ≤ 2 ^ 32) × (1 ≤ (a + n - 0) / n) × 
 
 ends_at : (n a : ℕ) → is_native_size n ≡ true → a < 2 ^ 32 → EndsInTime a n
 ends_at n a h less =
-    at_native (EndsInTime a) n h (omega arith, omega arith, omega arith) (omega arith, omega arith, omega arith) (omega arith, omega arith, omega arith) (omega arith, omega arith, omega arith)
+    at_native (EndsInTime a) n h (omega arith, omega arith, omega arith) (omega arith, omega arith, omega arith)
+    (omega arith, omega arith, omega arith) (omega arith, omega arith, omega arith)
 
 pub reached-native : (g : Grid) (k : ℕ) → is_native_size g.size ≡ true → g.offset ≡ 0 → IsReached g k → IsNativeLine g.size k
 reached-native g k native none w =
@@ -121,7 +132,8 @@ pub native-abs : (n k : ℕ) → 1 ≤ k → nat_abs (pos (k * n + 0) -ℤ pos n
 native-abs n k h = let e = native-begins n k h in omega (arith, ints)
 
 -- two native lines side by side
-pub native-neighbours : (n k : ℕ) → is_native_size n ≡ true → IsNativeLine n k → IsNativeLine n (k + 1) → AreNeighbours (range_of (native_line n k)) (range_of (native_line n (k + 1)))
+pub native-neighbours : (n k : ℕ) → is_native_size n ≡ true → IsNativeLine n k → IsNativeLine n (k + 1)
+    → AreNeighbours (range_of (native_line n k)) (range_of (native_line n (k + 1)))
 native-neighbours n k native lower upper =
     let next : (k + 1) * n ≡ k * n + n = omega arith in
     let begins = native-begins n k lower.some in
@@ -150,7 +162,8 @@ pub record AreWordsOf (n k : ℕ) (p : ℕ × ℕ) : Type 0 where
   pub upper_is : word_address n (k + 1) p.1 ≡ k * n + 4 * p.1
 
 address_in : (n m i : ℕ) → 4 * i < n → (n * m + 4 * i) / n ≡ m
-address_in n m i less = let swap : n * m + 4 * i ≡ m * n + 4 * i = ap (λ z. z + 4 * i) (mul_comm n m) in ap (λ z. z / n) swap ∙ div-mul-add m n (4 * i) less
+address_in n m i less = let swap : n * m + 4 * i ≡ m * n + 4 * i = ap (λ z. z + 4 * i) (mul_comm n m) in ap (λ z. z / n) swap
+    ∙ div-mul-add m n (4 * i) less
 
 word_in : (n m i : ℕ) → n % 4 ≡ 0 → (n * m + 4 * i) % 4 ≡ 0
 word_in n m i words =

@@ -1,5 +1,6 @@
 -- What counting and naming leave of the entries.
-use Rattle.std.proofs.Common.{◌≡◌, ◌≢◌, ℕ, ◌+◌, ◌-◌, ◌<◌, ◌≤◌, Bool, true, false, eqb, List, ◌++◌, Option, Some, None, length, refl, sym, ap, ◌∙◌, subst, arith, inl, inr}
+use Rattle.std.proofs.Common.{◌≡◌, ◌≢◌, ℕ, ◌+◌, ◌-◌, ◌<◌, ◌≤◌, Bool, true, false, eqb, List, ◌++◌, Option, Some, None, length, refl, sym}
+use Rattle.std.proofs.Common.{ap, ◌∙◌, subst, arith, inl, inr}
 use Rattle.std.proofs.lemmas.Bool.{cases_Bool, cases_eq, eqb-true, eq-eqb}
 use Rattle.std.proofs.lemmas.Option.{none-some}
 use Rattle.std.specs.Prelude.{if◌then◌else◌, option_map}
@@ -29,36 +30,47 @@ pub counted-names : (f h : ℕ → LineEntry) (k : ℕ) → ((q : ℕ) → h q �
 counted-names f h k each = λ i kind q. by_kind kind q i
   where
     by_kind : (kind : LineKind) (q : ℕ) → names_in h kind q ≡ names_in f kind q
-    by_kind Observed q = ap (λ (e : LineEntry). e.track) (each q) ∙ elim (cases_Bool (eqb q k)) [ inl here ↦ rw here (ap (λ z. (f z).track) (sym (eqb-true q k here))) | inr other ↦ rw other ]
-    by_kind Shifted q = ap (λ (e : LineEntry). e.shifted) (each q) ∙ elim (cases_Bool (eqb q k)) [ inl here ↦ rw here (ap (λ z. (f z).shifted) (sym (eqb-true q k here))) | inr other ↦ rw other ]
-    by_kind Doubled q = ap (λ (e : LineEntry). e.doubled) (each q) ∙ elim (cases_Bool (eqb q k)) [ inl here ↦ rw here (ap (λ z. (f z).doubled) (sym (eqb-true q k here))) | inr other ↦ rw other ]
+    by_kind Observed q = ap (λ (e : LineEntry). e.track) (each q)
+        ∙ elim (cases_Bool (eqb q k)) [ inl here ↦ rw here (ap (λ z. (f z).track) (sym (eqb-true q k here))) | inr other ↦ rw other ]
+    by_kind Shifted q = ap (λ (e : LineEntry). e.shifted) (each q)
+        ∙ elim (cases_Bool (eqb q k)) [ inl here ↦ rw here (ap (λ z. (f z).shifted) (sym (eqb-true q k here))) | inr other ↦ rw other ]
+    by_kind Doubled q = ap (λ (e : LineEntry). e.doubled) (each q)
+        ∙ elim (cases_Bool (eqb q k)) [ inl here ↦ rw here (ap (λ z. (f z).doubled) (sym (eqb-true q k here))) | inr other ↦ rw other ]
 
-pub counted-writes : (f h : ℕ → LineEntry) (k : ℕ) → ((q : ℕ) → h q ≡ (if eqb q k then counted (f k) else f q)) → (q : ℕ) → (h q).writes ≡ (if eqb q k then (f k).writes + 1 else (f q).writes)
-counted-writes f h k each q = ap (λ (e : LineEntry). e.writes) (each q) ∙ elim (cases_Bool (eqb q k)) [ inl here ↦ rw here | inr other ↦ rw other ]
+pub counted-writes : (f h : ℕ → LineEntry) (k : ℕ) → ((q : ℕ) → h q ≡ (if eqb q k then counted (f k) else f q)) → (q : ℕ)
+    → (h q).writes ≡ (if eqb q k then (f k).writes + 1 else (f q).writes)
+counted-writes f h k each q = ap (λ (e : LineEntry). e.writes) (each q)
+    ∙ elim (cases_Bool (eqb q k)) [ inl here ↦ rw here | inr other ↦ rw other ]
 
-counted-some : (f h : ℕ → LineEntry) (k q : ℕ) → ((q : ℕ) → h q ≡ (if eqb q k then counted (f k) else f q)) → (q ≢ k → 0 < (f q).writes) → 0 < (h q).writes
+counted-some : (f h : ℕ → LineEntry) (k q : ℕ) → ((q : ℕ) → h q ≡ (if eqb q k then counted (f k) else f q)) → (q ≢ k → 0 < (f q).writes)
+    → 0 < (h q).writes
 counted-some f h k q each some =
     elim (cases_eq q k) [
       | inl e ↦ rw (counted-writes f h k each q, eq-eqb q k e) (omega arith)
       | inr other ↦
-          let was : (h q).writes ≡ (f q).writes = counted-writes f h k each q ∙ ap (λ b. if b then (f k).writes + 1 else (f q).writes) (not_eq other) in
+          let was : (h q).writes ≡ (f q).writes = counted-writes f h k each q ∙ ap (λ b. if b then (f k).writes + 1 else (f q).writes)
+          (not_eq other) in
           subst (λ n. 0 < n) (sym was) (some other)
     ]
   where
     not_eq : q ≢ k → eqb q k ≡ false
     not_eq other = elim (cases_Bool (eqb q k)) [ inl t ↦ absurd (other (eqb-true q k t)) | inr f ↦ f ]
 
-pub settled-written : (f h : ℕ → LineEntry) (k q : ℕ) (o : Option ℕ) → ((q : ℕ) → h q ≡ (if eqb q k then counted (f k) else f q)) → ((p : ℕ) → o ≡ Some p → q ≢ k → 0 < (f q).writes) → (p : ℕ) → o ≡ Some p → 0 < (h q).writes
+pub settled-written : (f h : ℕ → LineEntry) (k q : ℕ) (o : Option ℕ) → ((q : ℕ) → h q ≡ (if eqb q k then counted (f k) else f q))
+    → ((p : ℕ) → o ≡ Some p → q ≢ k → 0 < (f q).writes) → (p : ℕ) → o ≡ Some p → 0 < (h q).writes
 settled-written f h k q o each some p e = counted-some f h k q each (some p e)
 
 -- the names after all is settled
-pub named-turn : (N : Names) (g : Grid) (xs : List Kept) (k : ℕ) (own : Option ℕ) (searches : Bool) (o : Openings) → IsNamed (with_name N Observed k own) g xs → 0 < g.size → (searches ≡ true → IsNativeGrid g) → IsReached g k
-    → o ≡ turn_opens g k searches xs → (searches ≡ true → AreShaped g.size k o) → IsNamed (settled N k own (opened_places (length xs) o)) g (xs ++ opened_tracks o)
+pub named-turn : (N : Names) (g : Grid) (xs : List Kept) (k : ℕ) (own : Option ℕ) (searches : Bool) (o : Openings)
+    → IsNamed (with_name N Observed k own) g xs → 0 < g.size → (searches ≡ true → IsNativeGrid g) → IsReached g k
+    → o ≡ turn_opens g k searches xs → (searches ≡ true → AreShaped g.size k o) → IsNamed (settled N k own (opened_places (length xs) o)) g
+    (xs ++ opened_tracks o)
 named-turn N g xs k own true o named some native reached is shaped =
     let grid = native refl in
     opened-named N g xs k own o named some (reached-native g k grid.size grid.offset reached).some grid.offset is (shaped refl)
 named-turn N g xs k own false o named some native reached is shaped =
-    subst (λ z. IsNamed (settled N k own (opened_places (length xs) z)) g (xs ++ opened_tracks z)) (sym is) (unopened-named N g xs k own named)
+    subst (λ z. IsNamed (settled N k own (opened_places (length xs) z)) g (xs ++ opened_tracks z)) (sym is)
+    (unopened-named N g xs k own named)
 
 -- the places of what opens, one by one
 place_of_opening : (n : ℕ) (o : Option Range) (p : ℕ) → option_map (λ r. n) o ≡ Some p → (r : Range) × (o ≡ Some r)
@@ -66,14 +78,18 @@ place_of_opening n None p e = absurd (none-some p e)
 place_of_opening n (Some r) p e = (r, refl)
 
 -- a pair at which a line opens has a lower line with a track, which was written
-pub below-written : (f : ℕ → LineEntry) (g : Grid) (xs zs : List Kept) (T p k i n : ℕ) (own : Option ℕ) (searches : Bool) (o : Openings) → IsIndexed f g zs T p → 1 ≤ T → IsNamed (with_name (names_in f) Observed k own) g xs
-    → (searches ≡ true → IsNativeGrid g) → IsReached g k → o ≡ turn_opens g k searches xs → (opened_places n o).below ≡ Some i → 0 < (f (k - 1)).writes
+pub below-written : (f : ℕ → LineEntry) (g : Grid) (xs zs : List Kept) (T p k i n : ℕ) (own : Option ℕ) (searches : Bool) (o : Openings)
+    → IsIndexed f g zs T p → 1 ≤ T → IsNamed (with_name (names_in f) Observed k own) g xs
+    → (searches ≡ true → IsNativeGrid g) → IsReached g k → o ≡ turn_opens g k searches xs → (opened_places n o).below ≡ Some i
+    → 0 < (f (k - 1)).writes
 below-written f g xs zs T p k i n own true o indexed positive named native reached is e =
     let w = place_of_opening n o.below i e in
-    let opens = shifted-opens (with_name (names_in f) Observed k own) g xs (k - 1) w.0 named (ap (λ (z : Openings). z.below) (sym is) ∙ w.1) in
+    let opens = shifted-opens (with_name (names_in f) Observed k own) g xs (k - 1) w.0 named (ap (λ (z : Openings). z.below) (sym is) ∙ w.1)
+    in
     let grid = native refl in
     let low : 1 ≤ k = (reached-native g k grid.size grid.offset reached).some in
-    let track : (f (k - 1)).track ≡ Some opens.1.0 = sym (with_name-other (names_in f) Observed Observed k (k - 1) own (λ h. absurd (off h.1 low))) ∙ opens.1.1 in
+    let track : (f (k - 1)).track ≡ Some opens.1.0 =
+    sym (with_name-other (names_in f) Observed Observed k (k - 1) own (λ h. absurd (off h.1 low))) ∙ opens.1.1 in
     let late = indexed.late (k - 1) opens.1.0 track in
     omega arith
   where
@@ -82,12 +98,15 @@ below-written f g xs zs T p k i n own true o indexed positive named native reach
 below-written f g xs zs T p k i n own false o indexed positive named native reached is e =
     let w = place_of_opening n o.below i e in absurd (none-some w.0 (sym (ap (λ (z : Openings). z.below) is) ∙ w.1))
 
-pub doubled-written : (f : ℕ → LineEntry) (g : Grid) (xs zs : List Kept) (T p k i n m : ℕ) (own : Option ℕ) (searches : Bool) (o : Openings) → IsIndexed f g zs T p → 1 ≤ T → IsNamed (with_name (names_in f) Observed k own) g xs
+pub doubled-written : (f : ℕ → LineEntry) (g : Grid) (xs zs : List Kept) (T p k i n m : ℕ) (own : Option ℕ) (searches : Bool) (o : Openings)
+    → IsIndexed f g zs T p → 1 ≤ T → IsNamed (with_name (names_in f) Observed k own) g xs
     → o ≡ turn_opens g k searches xs → option_map (λ r. m) o.doubled ≡ Some i → even_lower k ≢ k → 0 < (f (even_lower k)).writes
 doubled-written f g xs zs T p k i n m own true o indexed positive named is e other =
     let w = place_of_opening m o.doubled i e in
-    let opens = doubled-opens (with_name (names_in f) Observed k own) g xs (even_lower k) w.0 named (ap (λ (z : Openings). z.doubled) (sym is) ∙ w.1) in
-    let track : (f (even_lower k)).track ≡ Some opens.1.0 = sym (with_name-other (names_in f) Observed Observed k (even_lower k) own (λ h. other h.1)) ∙ opens.1.1 in
+    let opens = doubled-opens (with_name (names_in f) Observed k own) g xs (even_lower k) w.0 named
+    (ap (λ (z : Openings). z.doubled) (sym is) ∙ w.1) in
+    let track : (f (even_lower k)).track ≡ Some opens.1.0 =
+    sym (with_name-other (names_in f) Observed Observed k (even_lower k) own (λ h. other h.1)) ∙ opens.1.1 in
     let late = indexed.late (even_lower k) opens.1.0 track in
     omega arith
 doubled-written f g xs zs T p k i n m own false o indexed positive named is e other =

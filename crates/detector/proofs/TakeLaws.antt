@@ -16,24 +16,31 @@ use Rattle.detector.specs.Watch.{touched}
 use Rattle.detector.proofs.TouchLaws.{indexed-touched, places-can, places-touched}
 use Rattle.detector.proofs.ChangeLaws.{layout-small}
 
-pub due-can : (f : ℕ → LineEntry) (g : Grid) (xs : List Kept) (k : ℕ) (turn : Turn) (p T : ℕ) (a : Touch) (q : Places) → IsDueAt f g xs k turn p T → q ≡ places f k → CanTouchAll xs p a q
-due-can f g xs k turn p T a q due is = subst (λ (z : Places). CanTouchAll xs p a z) (sym is) (places-can f g xs p a k due.indexed.names due.indexed.in_time)
+pub due-can : (f : ℕ → LineEntry) (g : Grid) (xs : List Kept) (k : ℕ) (turn : Turn) (p T : ℕ) (a : Touch) (q : Places)
+    → IsDueAt f g xs k turn p T → q ≡ places f k → CanTouchAll xs p a q
+due-can f g xs k turn p T a q due is = subst (λ (z : Places). CanTouchAll xs p a z) (sym is)
+    (places-can f g xs p a k due.indexed.names due.indexed.in_time)
 
-pub due-touched : (g : Grid) (f : ℕ → LineEntry) (xs ys : List Kept) (k : ℕ) (turn : Turn) (p T : ℕ) (a : Touch) (q : Places) → IsDueAt f g xs k turn p T → is_layout g.size g.offset ≡ true → k ≡ line_number g.size g.offset a.addr
+pub due-touched : (g : Grid) (f : ℕ → LineEntry) (xs ys : List Kept) (k : ℕ) (turn : Turn) (p T : ℕ) (a : Touch) (q : Places)
+    → IsDueAt f g xs k turn p T → is_layout g.size g.offset ≡ true → k ≡ line_number g.size g.offset a.addr
     → q ≡ places f k → ys ≡ touched_places p a q xs → ys ≡ map (touched p a) xs
 due-touched g f xs ys k turn p T a q due layout line is noted =
-    noted ∙ ap (λ (z : Places). touched_places p a z xs) (is ∙ ap (places f) line) ∙ places-touched f g xs p a (layout-small g layout).0 due.indexed.names
+    noted ∙ ap (λ (z : Places). touched_places p a z xs) (is ∙ ap (places f) line)
+    ∙ places-touched f g xs p a (layout-small g layout).0 due.indexed.names
 
-pub due-after : (f : ℕ → LineEntry) (g : Grid) (xs ys : List Kept) (k : ℕ) (turn : Turn) (p T : ℕ) (a : Touch) → IsDueAt f g xs k turn p T → ys ≡ map (touched p a) xs → IsDue f g ys k turn p T
+pub due-after : (f : ℕ → LineEntry) (g : Grid) (xs ys : List Kept) (k : ℕ) (turn : Turn) (p T : ℕ) (a : Touch) → IsDueAt f g xs k turn p T
+    → ys ≡ map (touched p a) xs → IsDue f g ys k turn p T
 due-after f g xs ys k turn p T a due is = record {
   indexed = subst (λ zs. IsIndexed f g zs T (p + 1)) (sym is)
-      (indexed-touched f f g xs T p a due.indexed (λ q. refl) (λ q. refl) (λ q. refl) (λ q. omega arith) (λ q. let w = due.indexed.written q in omega arith));
+      (indexed-touched f f g xs T p a due.indexed (λ q. refl) (λ q. refl) (λ q. refl) (λ q. omega arith) (λ q. let w = due.indexed.written q
+      in omega arith));
   positive = due.positive;
   due = due.due;
   written = due.indexed.written k;
 }
 
-pub due-turn : (f : ℕ → LineEntry) (g : Grid) (xs ys : List Kept) (k : ℕ) (turn : Turn) (p T : ℕ) (a : Touch) → IsDueAt f g xs k turn p T → ys ≡ map (touched p a) xs
+pub due-turn : (f : ℕ → LineEntry) (g : Grid) (xs ys : List Kept) (k : ℕ) (turn : Turn) (p T : ℕ) (a : Touch) → IsDueAt f g xs k turn p T
+    → ys ≡ map (touched p a) xs
     → (turn.searches ≡ true → IsNativeGrid g) → is_layout g.size g.offset ≡ true → k ≤ 2 ^ 30 → IsReached g k → IsTurn f g ys k turn p a
 due-turn f g xs ys k turn p T a due is native layout small reached = record {
   tracking = T;
@@ -44,11 +51,14 @@ due-turn f g xs ys k turn p T a due is native layout small reached = record {
   reached = reached;
 }
 
-pub due-few : (f : ℕ → LineEntry) (g : Grid) (xs ys : List Kept) (k : ℕ) (turn : Turn) (p T : ℕ) (a : Touch) → IsDueAt f g xs k turn p T → ys ≡ map (touched p a) xs → length ys ≤ 2 ^ 31
-due-few f g xs ys k turn p T a due is = let few = due.indexed.few in subst (λ zs. length zs ≤ 2 ^ 31) (sym is) (subst (λ n. n ≤ 2 ^ 31) (sym (length-map xs (touched p a))) few)
+pub due-few : (f : ℕ → LineEntry) (g : Grid) (xs ys : List Kept) (k : ℕ) (turn : Turn) (p T : ℕ) (a : Touch) → IsDueAt f g xs k turn p T
+    → ys ≡ map (touched p a) xs → length ys ≤ 2 ^ 31
+due-few f g xs ys k turn p T a due is = let few = due.indexed.few in subst (λ zs. length zs ≤ 2 ^ 31) (sym is)
+    (subst (λ n. n ≤ 2 ^ 31) (sym (length-map xs (touched p a))) few)
 
 -- where its own track begins a line has none
-pub due-none : (f : ℕ → LineEntry) (g : Grid) (xs : List Kept) (k : ℕ) (turn : Turn) (p T : ℕ) → IsDueAt f g xs k turn p T → turn.begins ≡ true → (f k).track ≡ None
+pub due-none : (f : ℕ → LineEntry) (g : Grid) (xs : List Kept) (k : ℕ) (turn : Turn) (p T : ℕ) → IsDueAt f g xs k turn p T
+    → turn.begins ≡ true → (f k).track ≡ None
 due-none f g xs k turn p T due b = by_track (f k).track refl
   where
     by_track : (o : Option ℕ) → (f k).track ≡ o → (f k).track ≡ None

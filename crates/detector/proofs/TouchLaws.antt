@@ -1,5 +1,6 @@
 -- What one access makes of the tracks, by the places that the entries name.
-use Rattle.std.proofs.Common.{◌≡◌, ◌≢◌, ℕ, zero, suc, ◌+◌, ◌-◌, ◌%◌, ◌<◌, ◌≤◌, ◌^◌, true, false, eqb, List, [], ◌∷◌, Option, Some, None, map, length, refl, sym, ap, ◌∙◌, subst, arith, inl, inr}
+use Rattle.std.proofs.Common.{◌≡◌, ◌≢◌, ℕ, zero, suc, ◌+◌, ◌-◌, ◌%◌, ◌<◌, ◌≤◌, ◌^◌, true, false, eqb, List, [], ◌∷◌, Option, Some, None}
+use Rattle.std.proofs.Common.{map, length, refl, sym, ap, ◌∙◌, subst, arith, inl, inr}
 use Rattle.std.proofs.lemmas.Bool.{cases_Bool, ne_eqb, eq-eqb}
 use Rattle.std.proofs.lemmas.Option.{same_Some, none-some, slice_get_within}
 use Rattle.std.proofs.lemmas.List.{length-map}
@@ -22,7 +23,8 @@ use Rattle.detector.proofs.ShapeLaws.{Reaches, shaped-reaches}
 use Rattle.detector.proofs.InTimeLaws.{touched-blank, touched-in_time, touched-kind, touched-range}
 
 -- one place has one name
-same_names : (N : Names) (g : Grid) (xs : List Kept) (j q : LineKind) (k l i : ℕ) → IsNamed N g xs → N j k ≡ Some i → N q l ≡ Some i → (j ≡ q) × (k ≡ l)
+same_names : (N : Names) (g : Grid) (xs : List Kept) (j q : LineKind) (k l i : ℕ) → IsNamed N g xs → N j k ≡ Some i → N q l ≡ Some i
+    → (j ≡ q) × (k ≡ l)
 same_names N g xs j q k l i named one other =
     let v = named.named j k i one in
     let w = named.named q l i other in
@@ -36,7 +38,8 @@ unlike j q other e = other (ap rank e)
 low : (N : Names) (g : Grid) (xs : List Kept) (k i : ℕ) → IsNamed N g xs → N Shifted k ≡ Some i → 1 ≤ k
 low N g xs k i named e =
     let w = named.named Shifted k i e in
-    let shaped : IsShaped g k Shifted w.0.range = subst (λ q. IsShaped g q Shifted w.0.range) w.3 (subst (λ j. IsShaped g (line_of_base g w.0.range) j w.0.range) w.2 (named.shaped i w.0 w.1)) in
+    let shaped : IsShaped g k Shifted w.0.range = subst (λ q. IsShaped g q Shifted w.0.range) w.3
+    (subst (λ j. IsShaped g (line_of_base g w.0.range) j w.0.range) w.2 (named.shaped i w.0 w.1)) in
     shaped.0
 
 -- the doubled place is that of one of the two entries
@@ -48,27 +51,34 @@ doubled_place f k i e =
     ]
 
 -- no two of the four places are the same
-pub places-apart : (f : ℕ → LineEntry) (g : Grid) (xs : List Kept) (k : ℕ) → IsNamed (names_in f) g xs → AreApart (places f k).own (places f k).shifted (places f k).below (places f k).doubled
+pub places-apart : (f : ℕ → LineEntry) (g : Grid) (xs : List Kept) (k : ℕ) → IsNamed (names_in f) g xs
+    → AreApart (places f k).own (places f k).shifted (places f k).below (places f k).doubled
 places-apart f g xs k named = record {
   one_two = λ j e h. unlike Observed Shifted (λ z. absurd (omega arith)) (same_names (names_in f) g xs Observed Shifted k k j named e h).0;
-  one_three = λ j e h. unlike Observed Shifted (λ z. absurd (omega arith)) (same_names (names_in f) g xs Observed Shifted k (k - 1) j named e h).0;
-  one_four = λ j e h. let w = doubled_place f k j h in unlike Observed Doubled (λ z. absurd (omega arith)) (same_names (names_in f) g xs Observed Doubled k w.0 j named e w.1).0;
+  one_three = λ j e h. unlike Observed Shifted (λ z. absurd (omega arith))
+      (same_names (names_in f) g xs Observed Shifted k (k - 1) j named e h).0;
+  one_four = λ j e h. let w = doubled_place f k j h in unlike Observed Doubled (λ z. absurd (omega arith))
+      (same_names (names_in f) g xs Observed Doubled k w.0 j named e w.1).0;
   two_three = λ j e h.
       let same : k ≡ k - 1 = (same_names (names_in f) g xs Shifted Shifted k (k - 1) j named e h).1 in
       let some : 1 ≤ k = low (names_in f) g xs k j named e in
       absurd (omega arith);
-  two_four = λ j e h. let w = doubled_place f k j h in unlike Shifted Doubled (λ z. absurd (omega arith)) (same_names (names_in f) g xs Shifted Doubled k w.0 j named e w.1).0;
-  three_four = λ j e h. let w = doubled_place f k j h in unlike Shifted Doubled (λ z. absurd (omega arith)) (same_names (names_in f) g xs Shifted Doubled (k - 1) w.0 j named e w.1).0;
+  two_four = λ j e h. let w = doubled_place f k j h in unlike Shifted Doubled (λ z. absurd (omega arith))
+      (same_names (names_in f) g xs Shifted Doubled k w.0 j named e w.1).0;
+  three_four = λ j e h. let w = doubled_place f k j h in unlike Shifted Doubled (λ z. absurd (omega arith))
+      (same_names (names_in f) g xs Shifted Doubled (k - 1) w.0 j named e w.1).0;
 }
 
 -- a place that is named is that of a track in time
-named-can : (f : ℕ → LineEntry) (g : Grid) (xs : List Kept) (p : ℕ) (j : LineKind) (q : ℕ) → IsNamed (names_in f) g xs → AreInTime xs p → CanTouch xs p (names_in f j q)
+named-can : (f : ℕ → LineEntry) (g : Grid) (xs : List Kept) (p : ℕ) (j : LineKind) (q : ℕ) → IsNamed (names_in f) g xs → AreInTime xs p
+    → CanTouch xs p (names_in f j q)
 named-can f g xs p j q named times = record {
   within = λ i e. let w = named.named j q i e in slice_get_within xs i w.0 w.1;
   in_time = λ i x e at. times i x at;
 }
 
-doubled-can : (f : ℕ → LineEntry) (g : Grid) (xs : List Kept) (p k : ℕ) → IsNamed (names_in f) g xs → AreInTime xs p → CanTouch xs p (places f k).doubled
+doubled-can : (f : ℕ → LineEntry) (g : Grid) (xs : List Kept) (p k : ℕ) → IsNamed (names_in f) g xs → AreInTime xs p
+    → CanTouch xs p (places f k).doubled
 doubled-can f g xs p k named times = record {
   within = λ i e. let v = doubled_place f k i e in let w = named.named Doubled v.0 i v.1 in slice_get_within xs i w.0 w.1;
   in_time = λ i x e at. times i x at;
@@ -80,7 +90,8 @@ slice_get-get_or_at (x ∷ xs) zero h = (x, refl)
 slice_get-get_or_at (x ∷ xs) (suc i) h = slice_get-get_or_at xs i (omega arith)
 
 -- it stays so after another place was touched
-can-after : (p : ℕ) (a : Touch) (o q : Option ℕ) (xs : List Kept) → ((i : ℕ) → o ≡ Some i → q ≢ Some i) → CanTouch xs p q → CanTouch (touched_at p a o xs) p q
+can-after : (p : ℕ) (a : Touch) (o q : Option ℕ) (xs : List Kept) → ((i : ℕ) → o ≡ Some i → q ≢ Some i) → CanTouch xs p q
+    → CanTouch (touched_at p a o xs) p q
 can-after p a o q xs apart can = record {
   within = λ i e.
       let same : slice_get (touched_at p a o xs) i ≡ slice_get xs i = change_at-other (touched p a) o xs i (λ h. apart i h e) in
@@ -97,7 +108,8 @@ can-after p a o q xs apart can = record {
         let some = slice_get-get_or_at xs i within in
         none-some some.0 (sym none ∙ some.1)
 
-pub places-can : (f : ℕ → LineEntry) (g : Grid) (xs : List Kept) (p : ℕ) (a : Touch) (k : ℕ) → IsNamed (names_in f) g xs → AreInTime xs p → CanTouchAll xs p a (places f k)
+pub places-can : (f : ℕ → LineEntry) (g : Grid) (xs : List Kept) (p : ℕ) (a : Touch) (k : ℕ) → IsNamed (names_in f) g xs → AreInTime xs p
+    → CanTouchAll xs p a (places f k)
 places-can f g xs p a k named times =
     let apart = places-apart f g xs k named in
     let o₁ = (places f k).own in
@@ -125,7 +137,8 @@ odd_of : (k j : ℕ) → k ≡ j → j % 2 ≡ 1 → eqb (k % 2) 1 ≡ true
 odd_of k j e odd = eq-eqb (k % 2) 1 (ap (λ z. z % 2) e ∙ odd)
 
 -- a track that holds the address stands at one of the places
-holds-placed : (f : ℕ → LineEntry) (k j i : ℕ) (kind : LineKind) (o : Option ℕ) → (kind ≡ Doubled → j % 2 ≡ 1) → Reaches kind j k → names_in f kind j ≡ Some i
+holds-placed : (f : ℕ → LineEntry) (k j i : ℕ) (kind : LineKind) (o : Option ℕ) → (kind ≡ Doubled → j % 2 ≡ 1) → Reaches kind j k
+    → names_in f kind j ≡ Some i
     → (places f k).own ≢ Some i → (places f k).shifted ≢ Some i → (places f k).below ≢ Some i → (places f k).doubled ≢ Some i → ⊥
 holds-placed f k j i Observed o odd reach e n₁ n₂ n₃ n₄ = n₁ (ap (λ q. (f q).track) reach ∙ e)
 holds-placed f k j i Shifted o odd (inl same) e n₁ n₂ n₃ n₄ = n₂ (ap (λ q. (f q).shifted) same ∙ e)
@@ -133,7 +146,8 @@ holds-placed f k j i Shifted o odd (inr next) e n₁ n₂ n₃ n₄ = n₃ (ap (
 holds-placed f k j i Doubled o odd (inl same) e n₁ n₂ n₃ n₄ =
     n₄ (ap (λ b. if b then (f k).doubled else (f (k - 1)).doubled) (odd_of k j same (odd refl)) ∙ ap (λ q. (f q).doubled) same ∙ e)
 holds-placed f k j i Doubled o odd (inr next) e n₁ n₂ n₃ n₄ =
-    n₄ (ap (λ b. if b then (f k).doubled else (f (k - 1)).doubled) (even_of k j next (odd refl)) ∙ ap (λ q. (f q).doubled) (below_of k j next) ∙ e)
+    n₄ (ap (λ b. if b then (f k).doubled else (f (k - 1)).doubled) (even_of k j next (odd refl))
+    ∙ ap (λ q. (f q).doubled) (below_of k j next) ∙ e)
 
 odd_line : (g : Grid) (j : ℕ) (kind : LineKind) (x : Kept) → x.kind ≡ kind → IsShaped g j x.kind x.range → kind ≡ Doubled → j % 2 ≡ 1
 odd_line g j kind x same shaped is = let s : IsShaped g j Doubled x.range = subst (λ z. IsShaped g j z x.range) (same ∙ is) shaped in s.0
@@ -143,13 +157,15 @@ pub places-touched : (f : ℕ → LineEntry) (g : Grid) (xs : List Kept) (p : �
     → touched_places p a (places f (number_of g a)) xs ≡ map (touched p a) xs
 places-touched f g xs p a small named =
     let k = number_of g a in
-    change_four (touched p a) (places f (number_of g a)).own (places f (number_of g a)).shifted (places f (number_of g a)).below (places f (number_of g a)).doubled xs
+    change_four (touched p a) (places f (number_of g a)).own (places f (number_of g a)).shifted (places f (number_of g a)).below
+    (places f (number_of g a)).doubled xs
     (places-apart f g xs (number_of g a) named)
     (λ i x at n₁ n₂ n₃ n₄.
     elim (cases_Bool (holds_address x.range a.addr)) [
       | inl held ↦
           let shaped = named.shaped i x at in
-          absurd (holds-placed f (number_of g a) (line_of_base g x.range) i x.kind None (odd_line g (line_of_base g x.range) x.kind x refl shaped)
+          absurd (holds-placed f (number_of g a) (line_of_base g x.range) i x.kind None
+          (odd_line g (line_of_base g x.range) x.kind x refl shaped)
           (shaped-reaches g (line_of_base g x.range) x.kind x.range a.addr small shaped held) (named.placed i x at) n₁ n₂ n₃ n₄)
       | inr misses ↦ rw misses
     ])
@@ -159,7 +175,8 @@ pub indexed-touched : (f h : ℕ → LineEntry) (g : Grid) (xs : List Kept) (T p
     → ((q : ℕ) → (h q).track ≡ (f q).track) → ((q : ℕ) → (h q).shifted ≡ (f q).shifted) → ((q : ℕ) → (h q).doubled ≡ (f q).doubled)
     → ((q : ℕ) → (f q).writes ≤ (h q).writes) → ((q : ℕ) → (h q).writes ≤ p + 1) → IsIndexed h g (map (touched p a) xs) T (p + 1)
 indexed-touched f h g xs T p a indexed tracks shifted doubled more few = record {
-  names = subst (λ N. IsNamed N g (map (touched p a) xs)) same (named-map (names_in f) g (touched p a) xs (touched-kind p a) (touched-range p a) indexed.names);
+  names = subst (λ N. IsNamed N g (map (touched p a) xs)) same (named-map (names_in f) g (touched p a) xs (touched-kind p a)
+      (touched-range p a) indexed.names);
   late = λ k i e. let before = indexed.late k i (sym (tracks k) ∙ e) in let up = more k in omega arith;
   written = few;
   in_time = λ i y at.

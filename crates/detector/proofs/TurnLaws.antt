@@ -1,5 +1,6 @@
 -- What begins and opens at a write is named.
-use Rattle.std.proofs.Common.{◌≡◌, ◌≢◌, ℕ, zero, suc, ◌+◌, ◌-◌, ◌*◌, ◌<◌, ◌≤◌, ◌^◌, Bool, true, false, eqb, ◌&&◌, List, [], ◌∷◌, ◌++◌, Option, Some, None, length, take, refl, sym, ap, ◌∙◌, subst, arith, inl, inr}
+use Rattle.std.proofs.Common.{◌≡◌, ◌≢◌, ℕ, zero, suc, ◌+◌, ◌-◌, ◌*◌, ◌<◌, ◌≤◌, ◌^◌, Bool, true, false, eqb, ◌&&◌, List, [], ◌∷◌, ◌++◌}
+use Rattle.std.proofs.Common.{Option, Some, None, length, take, refl, sym, ap, ◌∙◌, subst, arith, inl, inr}
 use Rattle.std.proofs.lemmas.Bool.{cases_Bool, false≢true, eqb-true}
 use Rattle.std.proofs.lemmas.Option.{same_Some, none-some}
 use Rattle.std.proofs.lemmas.List.{append-nil, append_assoc, length-append, take_at, take-take, set_at}
@@ -53,20 +54,24 @@ with_name-none N kind k = λ i j q. each j q i
     each j q = elim (cases_Bool (eqb (rank j) (rank kind) && eqb q k)) [ inl t ↦ rw t | inr f ↦ rw f ]
 
 -- the line's own track, where it begins
-pub begun-named : (N : Names) (g : Grid) (xs : List Kept) (k p : ℕ) (a : Touch) (begins : Bool) (own : Option ℕ) → IsNamed N g xs → 0 < g.size → IsReached g k → (begins ≡ true → N Observed k ≡ None)
+pub begun-named : (N : Names) (g : Grid) (xs : List Kept) (k p : ℕ) (a : Touch) (begins : Bool) (own : Option ℕ) → IsNamed N g xs
+    → 0 < g.size → IsReached g k → (begins ≡ true → N Observed k ≡ None)
     → own ≡ (if begins then Some (length xs) else N Observed k) → IsNamed (with_name N Observed k own) g (tracks_begun g k p a begins xs)
 begun-named N g xs k p a true own named some reached none is =
     let range : (begun g k p a).range ≡ range_of (grid_line g k) = noted-range (waiting Observed (range_of (grid_line g k))) p a in
     let shaped : IsShaped g k Observed (begun g k p a).range = (range, reached) in
     subst (λ o. IsNamed (with_name N Observed k o) g (xs ++ begun g k p a ∷ [])) (sym is)
-    (named-more-as N g xs (begun g k p a) Observed k named (noted-kind (waiting Observed (range_of (grid_line g k))) p a) (shaped-line g k Observed (begun g k p a).range some shaped) (none refl) shaped)
+    (named-more-as N g xs (begun g k p a) Observed k named (noted-kind (waiting Observed (range_of (grid_line g k))) p a)
+    (shaped-line g k Observed (begun g k p a).range some shaped) (none refl) shaped)
 begun-named N g xs k p a false own named some reached none is =
     subst (λ o. IsNamed (with_name N Observed k o) g (xs ++ [])) (sym is)
-    (subst (λ (M : Names). IsNamed M g (xs ++ [])) (sym (with_name-same N Observed k)) (subst (λ zs. IsNamed N g zs) (sym (append-nil xs)) named))
+    (subst (λ (M : Names). IsNamed M g (xs ++ [])) (sym (with_name-same N Observed k))
+    (subst (λ zs. IsNamed N g zs) (sym (append-nil xs)) named))
 
 -- a range that opens, if there is one
 pub waiting-named : (N : Names) (g : Grid) (xs : List Kept) (kind : LineKind) (k : ℕ) (o : Option Range) → IsNamed N g xs → 0 < g.size
-    → ((r : Range) → o ≡ Some r → (N kind k ≡ None) × IsShaped g k kind r) → IsNamed (with_name N kind k (option_map (λ r. length xs) o)) g (xs ++ waiting_for kind o)
+    → ((r : Range) → o ≡ Some r → (N kind k ≡ None) × IsShaped g k kind r) → IsNamed (with_name N kind k (option_map (λ r. length xs) o)) g
+    (xs ++ waiting_for kind o)
 waiting-named N g xs kind k None named some opens =
     subst (λ (M : Names). IsNamed M g (xs ++ [])) (sym (with_name-none N kind k)) (subst (λ zs. IsNamed N g zs) (sym (append-nil xs)) named)
 waiting-named N g xs kind k (Some r) named some opens =
@@ -90,29 +95,38 @@ some_of None e = absurd (false≢true e)
 some_of (Some i) e = (i, refl)
 
 opens_by : (N : Names) (g : Grid) (xs : List Kept) (kind : LineKind) (k within : ℕ) (f : ℕ × ℕ → Range) (r : Range) → IsNamed N g xs
-    → (if is_some (track_named g kind k xs) then None else option_map f (best_of_two (track_named g Observed k xs) (track_named g Observed (k + 1) xs) within)) ≡ Some r → Opens N kind k
+    → (if is_some (track_named g kind k xs) then None
+    else option_map f (best_of_two (track_named g Observed k xs) (track_named g Observed (k + 1) xs) within)) ≡ Some r → Opens N kind k
 opens_by N g xs kind k within f r named e =
     elim (cases_Bool (is_some (track_named g kind k xs))) [
-      | inl there ↦ absurd (none-some r (sym (ap (λ b. if b then None else option_map f (best_of_two (track_named g Observed k xs) (track_named g Observed (k + 1) xs) within)) there) ∙ e))
+      | inl there ↦
+          absurd (none-some r
+          (sym (ap (λ b. if b then None
+          else option_map f (best_of_two (track_named g Observed k xs) (track_named g Observed (k + 1) xs) within)) there) ∙ e))
       | inr none ↦
           let e' : option_map f (best_of_two (track_named g Observed k xs) (track_named g Observed (k + 1) xs) within) ≡ Some r =
-          sym (ap (λ b. if b then None else option_map f (best_of_two (track_named g Observed k xs) (track_named g Observed (k + 1) xs) within)) none) ∙ e in (
+          sym (ap (λ b. if b then None
+          else option_map f (best_of_two (track_named g Observed k xs) (track_named g Observed (k + 1) xs) within)) none) ∙ e in (
             none_from (N kind k) (sym (is_some-kept N g xs kind k named) ∙ none),
             elim (slice_cases (best_of_two (track_named g Observed k xs) (track_named g Observed (k + 1) xs) within)) [
               | inl not_one ↦ absurd (none-some r (sym (ap (option_map f) not_one) ∙ e'))
-              | inr p ↦ some_of (N Observed k) (sym (is_some-kept N g xs Observed k named) ∙ own_some (track_named g Observed k xs) (track_named g Observed (k + 1) xs) within p.0 p.1)
+              | inr p ↦ some_of (N Observed k) (sym (is_some-kept N g xs Observed k named) ∙ own_some (track_named g Observed k xs)
+                  (track_named g Observed (k + 1) xs) within p.0 p.1)
             ],
           )
     ]
 
-pub shifted-opens : (N : Names) (g : Grid) (xs : List Kept) (k : ℕ) (r : Range) → IsNamed N g xs → shifted_opens g k xs ≡ Some r → Opens N Shifted k
+pub shifted-opens : (N : Names) (g : Grid) (xs : List Kept) (k : ℕ) (r : Range) → IsNamed N g xs → shifted_opens g k xs ≡ Some r
+    → Opens N Shifted k
 shifted-opens N g xs k r named e = opens_by N g xs Shifted k g.size _ r named e
 
-pub doubled-opens : (N : Names) (g : Grid) (xs : List Kept) (k : ℕ) (r : Range) → IsNamed N g xs → doubled_opens g k xs ≡ Some r → Opens N Doubled k
+pub doubled-opens : (N : Names) (g : Grid) (xs : List Kept) (k : ℕ) (r : Range) → IsNamed N g xs → doubled_opens g k xs ≡ Some r
+    → Opens N Doubled k
 doubled-opens N g xs k r named e = opens_by N g xs Doubled k (2 * g.size) _ r named e
 
 -- what opens at a write is named as the entries are settled
-pub opened-named : (N : Names) (g : Grid) (xs : List Kept) (k : ℕ) (own : Option ℕ) (o : Openings) → IsNamed (with_name N Observed k own) g xs → 0 < g.size → 1 ≤ k → g.offset ≡ 0
+pub opened-named : (N : Names) (g : Grid) (xs : List Kept) (k : ℕ) (own : Option ℕ) (o : Openings)
+    → IsNamed (with_name N Observed k own) g xs → 0 < g.size → 1 ≤ k → g.offset ≡ 0
     → o ≡ openings g k xs → AreShaped g.size k o → IsNamed (settled N k own (opened_places (length xs) o)) g (xs ++ opened_tracks o)
 opened-named N g xs k own o named some low none is shaped =
     let N₁ : Names = with_name N Observed k own in
@@ -121,35 +135,54 @@ opened-named N g xs k own o named some low none is shaped =
     let at_grid : native_grid g.size ≡ g = λ i. record { size = g.size; offset = sym none i } in
     let ys : List Kept = xs ++ waiting_for Shifted o.below in
     let first : IsNamed N₂ g (xs ++ waiting_for Shifted o.below) =
-    waiting-named (with_name N Observed k own) g xs Shifted (k - 1) o.below named some (λ r e.
-    ((shifted-opens (with_name N Observed k own) g xs (k - 1) r named (ap (λ (z : Openings). z.below) (sym is) ∙ e)).0, subst (λ h. IsShaped h (k - 1) Shifted r) at_grid (shaped.below r e))) in
-    let second : IsNamed (with_name N₂ Shifted k (option_map (λ r. length (xs ++ waiting_for Shifted o.below)) o.here)) g ((xs ++ waiting_for Shifted o.below) ++ waiting_for Shifted o.here) =
+    waiting-named (with_name N Observed k own) g xs Shifted (k - 1) o.below named some (λ r e. (
+      (shifted-opens (with_name N Observed k own) g xs (k - 1) r named (ap (λ (z : Openings). z.below) (sym is) ∙ e)).0,
+      subst (λ h. IsShaped h (k - 1) Shifted r) at_grid (shaped.below r e),
+    )) in
+    let second : IsNamed (with_name N₂ Shifted k (option_map (λ r. length (xs ++ waiting_for Shifted o.below)) o.here)) g
+    ((xs ++ waiting_for Shifted o.below) ++ waiting_for Shifted o.here) =
     waiting-named N₂ g (xs ++ waiting_for Shifted o.below) Shifted k o.here first some (λ r e. (
       with_name-other (with_name N Observed k own) Shifted Shifted (k - 1) k (option_map (λ r. length xs) o.below) (λ h. apart h.1)
           ∙ (shifted-opens (with_name N Observed k own) g xs k r named (ap (λ (z : Openings). z.here) (sym is) ∙ e)).0,
       subst (λ h. IsShaped h k Shifted r) at_grid (shaped.here r e),
     )) in
-    let third : IsNamed (with_name (with_name N₂ Shifted k (option_map (λ r. length (xs ++ waiting_for Shifted o.below)) o.here)) Doubled (even_lower k)
-    (option_map (λ r. length ((xs ++ waiting_for Shifted o.below) ++ waiting_for Shifted o.here)) o.doubled)) g (((xs ++ waiting_for Shifted o.below) ++ waiting_for Shifted o.here) ++ waiting_for Doubled o.doubled) =
-    waiting-named (with_name N₂ Shifted k (option_map (λ r. length (xs ++ waiting_for Shifted o.below)) o.here)) g ((xs ++ waiting_for Shifted o.below) ++ waiting_for Shifted o.here) Doubled (even_lower k) o.doubled second some (λ r e.
-    ((doubled-opens (with_name N Observed k own) g xs (even_lower k) r named (ap (λ (z : Openings). z.doubled) (sym is) ∙ e)).0, subst (λ h. IsShaped h (even_lower k) Doubled r) at_grid (shaped.doubled r e))) in
-    let len₁ : length (xs ++ waiting_for Shifted o.below) ≡ length xs + length (waiting_for Shifted o.below) = length-append xs (waiting_for Shifted o.below) in
-    let len₂ : length ((xs ++ waiting_for Shifted o.below) ++ waiting_for Shifted o.here) ≡ length xs + length (waiting_for Shifted o.below) + length (waiting_for Shifted o.here) =
-    length-append (xs ++ waiting_for Shifted o.below) (waiting_for Shifted o.here) ∙ ap (λ n. n + length (waiting_for Shifted o.here)) len₁ in
-    let joined : ((xs ++ waiting_for Shifted o.below) ++ waiting_for Shifted o.here) ++ waiting_for Doubled o.doubled ≡ xs ++ opened_tracks o =
+    let third : IsNamed (with_name (with_name N₂ Shifted k (option_map (λ r. length (xs ++ waiting_for Shifted o.below)) o.here)) Doubled
+    (even_lower k)
+    (option_map (λ r. length ((xs ++ waiting_for Shifted o.below) ++ waiting_for Shifted o.here)) o.doubled)) g
+    (((xs ++ waiting_for Shifted o.below) ++ waiting_for Shifted o.here) ++ waiting_for Doubled o.doubled) =
+    waiting-named (with_name N₂ Shifted k (option_map (λ r. length (xs ++ waiting_for Shifted o.below)) o.here)) g
+    ((xs ++ waiting_for Shifted o.below) ++ waiting_for Shifted o.here) Doubled (even_lower k) o.doubled second some (λ r e. (
+      (doubled-opens (with_name N Observed k own) g xs (even_lower k) r named (ap (λ (z : Openings). z.doubled) (sym is) ∙ e)).0,
+      subst (λ h. IsShaped h (even_lower k) Doubled r) at_grid (shaped.doubled r e),
+    )) in
+    let len₁ : length (xs ++ waiting_for Shifted o.below) ≡ length xs + length (waiting_for Shifted o.below) =
+    length-append xs (waiting_for Shifted o.below) in
+    let len₂ : length ((xs ++ waiting_for Shifted o.below) ++ waiting_for Shifted o.here) ≡ length xs + length (waiting_for Shifted o.below)
+    + length (waiting_for Shifted o.here) =
+    length-append (xs ++ waiting_for Shifted o.below) (waiting_for Shifted o.here) ∙ ap (λ n. n + length (waiting_for Shifted o.here)) len₁
+    in
+    let joined : ((xs ++ waiting_for Shifted o.below) ++ waiting_for Shifted o.here) ++ waiting_for Doubled o.doubled ≡ xs
+    ++ opened_tracks o =
     ap (λ zs. zs ++ waiting_for Doubled o.doubled) (append_assoc xs (waiting_for Shifted o.below) (waiting_for Shifted o.here))
     ∙ append_assoc xs (waiting_for Shifted o.below ++ waiting_for Shifted o.here) (waiting_for Doubled o.doubled) in
     subst (λ zs. IsNamed (settled N k own (opened_places (length xs) o)) g zs) joined
-    (subst (λ n. IsNamed (with_name (with_name N₂ Shifted k (option_map (λ r. length xs + length (waiting_for Shifted o.below)) o.here)) Doubled (even_lower k) (option_map (λ r. n) o.doubled)) g (((xs ++ waiting_for Shifted o.below) ++ waiting_for Shifted o.here) ++ waiting_for Doubled o.doubled)) len₂
-    (subst (λ n. IsNamed (with_name (with_name N₂ Shifted k (option_map (λ r. n) o.here)) Doubled (even_lower k) (option_map (λ r. length ((xs ++ waiting_for Shifted o.below) ++ waiting_for Shifted o.here)) o.doubled)) g (((xs ++ waiting_for Shifted o.below) ++ waiting_for Shifted o.here) ++ waiting_for Doubled o.doubled)) len₁ third))
+    (subst (λ n. IsNamed (with_name (with_name N₂ Shifted k (option_map (λ r. length xs + length (waiting_for Shifted o.below)) o.here))
+    Doubled (even_lower k) (option_map (λ r. n) o.doubled)) g (((xs ++ waiting_for Shifted o.below) ++ waiting_for Shifted o.here)
+    ++ waiting_for Doubled o.doubled)) len₂
+    (subst (λ n. IsNamed (with_name (with_name N₂ Shifted k (option_map (λ r. n) o.here)) Doubled (even_lower k)
+    (option_map (λ r. length ((xs ++ waiting_for Shifted o.below) ++ waiting_for Shifted o.here)) o.doubled)) g
+    (((xs ++ waiting_for Shifted o.below) ++ waiting_for Shifted o.here) ++ waiting_for Doubled o.doubled)) len₁ third))
 
 -- where nothing opens
-pub unopened-named : (N : Names) (g : Grid) (xs : List Kept) (k : ℕ) (own : Option ℕ) → IsNamed (with_name N Observed k own) g xs → IsNamed (settled N k own (opened_places (length xs) nothing_opens)) g (xs ++ opened_tracks nothing_opens)
+pub unopened-named : (N : Names) (g : Grid) (xs : List Kept) (k : ℕ) (own : Option ℕ) → IsNamed (with_name N Observed k own) g xs
+    → IsNamed (settled N k own (opened_places (length xs) nothing_opens)) g (xs ++ opened_tracks nothing_opens)
 unopened-named N g xs k own named =
     let same : settled N k own (opened_places (length xs) nothing_opens) ≡ with_name N Observed k own =
     with_name-none (with_name (with_name (with_name N Observed k own) Shifted (k - 1) None) Shifted k None) Doubled (even_lower k)
-    ∙ with_name-none (with_name (with_name N Observed k own) Shifted (k - 1) None) Shifted k ∙ with_name-none (with_name N Observed k own) Shifted (k - 1) in
-    subst (λ (M : Names). IsNamed M g (xs ++ [])) (sym same) (subst (λ zs. IsNamed (with_name N Observed k own) g zs) (sym (append-nil xs)) named)
+    ∙ with_name-none (with_name (with_name N Observed k own) Shifted (k - 1) None) Shifted k
+    ∙ with_name-none (with_name N Observed k own) Shifted (k - 1) in
+    subst (λ (M : Names). IsNamed M g (xs ++ [])) (sym same) (subst (λ zs. IsNamed (with_name N Observed k own) g zs) (sym (append-nil xs))
+    named)
 
 -- one element more at the end, changed there
 pub set_end : {X : Type 0} (xs : List X) (x y : X) (n : ℕ) → n ≡ length xs → slice_set (xs ++ x ∷ []) n y ≡ xs ++ y ∷ []
@@ -190,16 +223,21 @@ waiting-sound p kind r = (tt, λ e. record { count = refl; words = refl })
 
 begun-sound : (g : Grid) (k p : ℕ) (a : Touch) → IsSound (p + 1) (begun g k p a)
 begun-sound g k p a =
-    let w : IsSound p (waiting Observed (range_of (grid_line g k))) = waiting-sound p Observed (range_of (grid_line g k)) in
-    (noted-in_time (waiting Observed (range_of (grid_line g k))) p a w.0 w.1, noted-blank (waiting Observed (range_of (grid_line g k))) p a w.1)
+    let w : IsSound p (waiting Observed (range_of (grid_line g k))) = waiting-sound p Observed (range_of (grid_line g k)) in (
+      noted-in_time (waiting Observed (range_of (grid_line g k))) p a w.0 w.1,
+      noted-blank (waiting Observed (range_of (grid_line g k))) p a
+          w.1,
+    )
 
-turned-sound : (g : Grid) (xs : List Kept) (k p : ℕ) (a : Touch) (begins : Bool) (o : Openings) → Each (IsSound (p + 1)) xs → Each (IsSound (p + 1)) (tracks_begun g k p a begins xs ++ opened_tracks o)
+turned-sound : (g : Grid) (xs : List Kept) (k p : ℕ) (a : Touch) (begins : Bool) (o : Openings) → Each (IsSound (p + 1)) xs
+    → Each (IsSound (p + 1)) (tracks_begun g k p a begins xs ++ opened_tracks o)
 turned-sound g xs k p a begins o old =
     each_append (IsSound (p + 1)) (tracks_begun g k p a begins xs) (opened_tracks o)
     (each_append (IsSound (p + 1)) xs (if begins then begun g k p a ∷ [] else []) old (new begins))
     (each_append (IsSound (p + 1)) (waiting_for Shifted o.below ++ waiting_for Shifted o.here) (waiting_for Doubled o.doubled)
     (each_append (IsSound (p + 1)) (waiting_for Shifted o.below) (waiting_for Shifted o.here)
-    (each_waiting (IsSound (p + 1)) Shifted o.below (waiting-sound (p + 1) Shifted)) (each_waiting (IsSound (p + 1)) Shifted o.here (waiting-sound (p + 1) Shifted)))
+    (each_waiting (IsSound (p + 1)) Shifted o.below (waiting-sound (p + 1) Shifted))
+    (each_waiting (IsSound (p + 1)) Shifted o.here (waiting-sound (p + 1) Shifted)))
     (each_waiting (IsSound (p + 1)) Doubled o.doubled (waiting-sound (p + 1) Doubled)))
   where
     new : (b : Bool) → Each (IsSound (p + 1)) (if b then begun g k p a ∷ [] else [])
@@ -207,12 +245,15 @@ turned-sound g xs k p a begins o old =
     new false = each_none (IsSound (p + 1))
 
 -- the entries name the tracks after what was due began and opened
-pub turned-indexed : (f h : ℕ → LineEntry) (g : Grid) (xs ys : List Kept) (T p k : ℕ) (a : Touch) (begins : Bool) (own : Option ℕ) (o : Openings) (places : Opened) → IsIndexed f g xs T (p + 1)
-    → ys ≡ tracks_begun g k p a begins xs ++ opened_tracks o → names_in h ≡ settled (names_in f) k own places → IsNamed (settled (names_in f) k own places) g (tracks_begun g k p a begins xs ++ opened_tracks o)
+pub turned-indexed : (f h : ℕ → LineEntry) (g : Grid) (xs ys : List Kept) (T p k : ℕ) (a : Touch) (begins : Bool) (own : Option ℕ)
+    (o : Openings) (places : Opened) → IsIndexed f g xs T (p + 1)
+    → ys ≡ tracks_begun g k p a begins xs ++ opened_tracks o → names_in h ≡ settled (names_in f) k own places
+    → IsNamed (settled (names_in f) k own places) g (tracks_begun g k p a begins xs ++ opened_tracks o)
     → own ≡ (if begins then Some (length xs) else (f k).track) → (begins ≡ true → (f k).writes + 1 ≡ T) → (f k).writes ≤ p
     → ((q : ℕ) → (h q).writes ≡ (if eqb q k then (f k).writes + 1 else (f q).writes)) → length ys ≤ 2 ^ 31 → IsIndexed h g ys T (p + 1)
 turned-indexed f h g xs ys T p k a begins own o places indexed is names named own_is due written writes few =
-    let sound : Each (IsSound (p + 1)) ys = subst (Each (IsSound (p + 1))) (sym is) (turned-sound g xs k p a begins o (λ i x e. (indexed.in_time i x e, indexed.blank i x e))) in
+    let sound : Each (IsSound (p + 1)) ys = subst (Each (IsSound (p + 1))) (sym is)
+    (turned-sound g xs k p a begins o (λ i x e. (indexed.in_time i x e, indexed.blank i x e))) in
     record {
       names = subst (λ (N : Names). IsNamed N g ys) (sym names) (subst (IsNamed (settled (names_in f) k own places) g) (sym is) named);
       late = λ q i e. late q i (sym (ap (λ (N : Names). N Observed q) names) ∙ e);
@@ -226,7 +267,8 @@ turned-indexed f h g xs ys T p k a begins own o places indexed is names named ow
       few = few;
     }
   where
-    by_begins : (b : Bool) (i : ℕ) → begins ≡ b → own ≡ (if b then Some (length xs) else (f k).track) → option_or own (f k).track ≡ Some i → T ≤ (f k).writes + 1
+    by_begins : (b : Bool) (i : ℕ) → begins ≡ b → own ≡ (if b then Some (length xs) else (f k).track) → option_or own (f k).track ≡ Some i
+        → T ≤ (f k).writes + 1
     by_begins true i e is at = let d = due e in omega arith
     by_begins false i e is at =
         let track : (f k).track ≡ Some i = sym (or_itself (f k).track) ∙ ap (λ z. option_or z (f k).track) (sym is) ∙ at in
@@ -241,7 +283,8 @@ turned-indexed f h g xs ys T p k a begins own o places indexed is names named ow
         elim (cases_Bool (eqb q k)) [
           | inl here ↦
               let same : q ≡ k = eqb-true q k here in
-              let at : option_or own (f k).track ≡ Some i = ap (λ z. option_or own (f z).track) (sym same) ∙ sym (ap (λ b. if b then option_or own (f q).track else (f q).track) here) ∙ e in
+              let at : option_or own (f k).track ≡ Some i = ap (λ z. option_or own (f z).track) (sym same)
+              ∙ sym (ap (λ b. if b then option_or own (f q).track else (f q).track) here) ∙ e in
               rw (writes q, here) (by_begins begins i refl own_is at)
           | inr other ↦
               let at : (f q).track ≡ Some i = sym (ap (λ b. if b then option_or own (f q).track else (f q).track) other) ∙ e in

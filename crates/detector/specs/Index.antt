@@ -1,5 +1,6 @@
 -- What ties the tracks to the entries of the index.
-use Rattle.std.specs.Prelude.{◌≡◌, ℕ, ◌+◌, ◌*◌, ◌%◌, ◌<◌, ◌≤◌, ◌^◌, pos, ◌-ℤ◌, List, length, Option, Some, None, slice_get}
+use Rattle.std.specs.Prelude.{◌≡◌, ℕ, ◌+◌, ◌*◌, ◌%◌, ◌<◌, ◌≤◌, ◌^◌, pos, ◌-ℤ◌, List, length, Option}
+use Rattle.std.specs.Prelude.{Some, None, slice_get}
 use Rattle.predator_base.specs.Lines.{Grid, line_number}
 use Rattle.predator_base.specs.declared.layout.Range.{Range}
 use Rattle.line_counters.specs.declared.line_entry.LineEntry.{LineEntry}
@@ -26,25 +27,30 @@ names_in entry_of kind k = place_in (entry_of k) kind
 abbrev pub IsReached : Grid → ℕ → Type 0
 IsReached g k = (a : ℕ) × (a < 2 ^ 32) × (line_number g.size g.offset a ≡ k)
 
--- A range that begins in line k is that of a track of a kind: the line's own; one of the same size, from within the
--- line on; or that of an even pair, of which k is the lower line.
+-- A range that begins in line k is that of a track of a kind: the line's own; one of the same size,
+-- from within the line on; or that of an even pair, of which k is the lower line.
 abbrev pub IsShaped : Grid → ℕ → LineKind → Range → Type 0
 IsShaped g k Observed r = (r ≡ range_of (grid_line g k)) × IsReached g k
 IsShaped g k Shifted r =
-    (1 ≤ k) × (r.size ≡ g.size) × ((d : ℕ) × (d < g.size) × (r.base ≡ (pos (k * g.size + g.offset + d) -ℤ pos g.size)))
+    (1 ≤ k) × (r.size ≡ g.size)
+    × ((d : ℕ) × (d < g.size) × (r.base ≡ (pos (k * g.size + g.offset + d) -ℤ pos g.size)))
 IsShaped g k Doubled r =
     (k % 2 ≡ 1) × (r.size ≡ 2 * g.size) × (r.base ≡ (pos (k * g.size + g.offset) -ℤ pos g.size))
 
--- Each track is named once, by the entry of the line in which it begins and under its kind, and no other place is named.
+-- Each track is named once, by the entry of the line in which it begins and under its kind, and no
+-- other place is named.
 pub record IsNamed (names : Names) (g : Grid) (tracks : List Kept) : Type 0 where
-  pub placed : (i : ℕ) (x : Kept) → slice_get tracks i ≡ Some x → names x.kind (line_of_base g x.range) ≡ Some i
+  pub placed : (i : ℕ) (x : Kept) → slice_get tracks i ≡ Some x
+      → names x.kind (line_of_base g x.range) ≡ Some i
   pub named : (kind : LineKind) (k i : ℕ) → names kind k ≡ Some i
       → (x : Kept) × (slice_get tracks i ≡ Some x) × (x.kind ≡ kind) × (line_of_base g x.range ≡ k)
-  pub shaped : (i : ℕ) (x : Kept) → slice_get tracks i ≡ Some x → IsShaped g (line_of_base g x.range) x.kind x.range
+  pub shaped : (i : ℕ) (x : Kept) → slice_get tracks i ≡ Some x
+      → IsShaped g (line_of_base g x.range) x.kind x.range
 
--- The entries name the tracks. A line that has a track of its own was written at least T times; no line was written
--- more often than there were accesses, and each track is in time.
-pub record IsIndexed (entry_of : ℕ → LineEntry) (g : Grid) (tracks : List Kept) (T position : ℕ) : Type 0 where
+-- The entries name the tracks. A line that has a track of its own was written at least T times; no
+-- line was written more often than there were accesses, and each track is in time.
+pub record IsIndexed (entry_of : ℕ → LineEntry) (g : Grid) (tracks : List Kept) (T position : ℕ) :
+    Type 0 where
   pub names : IsNamed (names_in entry_of) g tracks
   pub late : (k i : ℕ) → (entry_of k).track ≡ Some i → T ≤ (entry_of k).writes
   pub written : (k : ℕ) → (entry_of k).writes ≤ position

@@ -16,8 +16,9 @@ number_of g a = line_number g.size g.offset a.addr
 abbrev pub line_of_base : Grid → Range → ℕ
 line_of_base g r = nat_abs (r.base +ℤ pos g.size -ℤ pos g.offset) / g.size
 
--- Whether a track is the one of a kind and a line: an observed one has the line's range, a shifted one begins in the
--- lower line of its pair, and a doubled one where the lower line of its pair begins.
+-- Whether a track is the one of a kind and a line: an observed one has the line's range, a shifted
+-- one begins in the lower line of its pair, and a doubled one where the lower line of its pair
+-- begins.
 abbrev pub is_named : Grid → LineKind → ℕ → Kept → Bool
 is_named g kind k x = (rank x.kind == rank kind) && (line_of_base g x.range == k)
 

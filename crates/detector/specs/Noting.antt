@@ -1,5 +1,7 @@
--- The places of the tracks that may hold an address of a line, and what noting them makes of the tracks.
-use Rattle.std.specs.Prelude.{◌≡◌, ℕ, ◌-◌, ◌%◌, ◌<◌, ◌==◌, if◌then◌else◌, List, length, Option, Some, None, option_and_then, slice_get, slice_set}
+-- The places of the tracks that may hold an address of a line, and what noting them makes of the
+-- tracks.
+use Rattle.std.specs.Prelude.{◌≡◌, ℕ, ◌-◌, ◌%◌, ◌<◌, ◌==◌, if◌then◌else◌, List, length, Option}
+use Rattle.std.specs.Prelude.{Some, None, option_and_then, slice_get, slice_set}
 use Rattle.std.specs.Option.{option_map_or}
 use Rattle.predator_base.specs.Ranges.{holds_address}
 use Rattle.predator_base.specs.Touch.{Touch}
@@ -12,8 +14,8 @@ use Rattle.predator_base.specs.Lines.{Grid, line_number}
 use Rattle.detector.specs.Index.{IsNamed, names_in}
 use Rattle.detector.specs.Watch.{touched}
 
--- where the line's own track stands, the shifted ones of its pairs with the line above and with the line below, and
--- the doubled one of its even pair
+-- where the line's own track stands, the shifted ones of its pairs with the line above and with the
+-- line below, and the doubled one of its even pair
 abbrev pub places : (ℕ → LineEntry) → ℕ → Places
 places entry_of k = record {
   own = (entry_of k).track;
@@ -25,12 +27,15 @@ places entry_of k = record {
 -- the track at a place is noted if its range holds the address
 abbrev pub touched_at : ℕ → Touch → Option ℕ → List Kept → List Kept
 touched_at position a place xs =
-    option_map_or (λ i. option_map_or (λ x. slice_set xs i (touched position a x)) (slice_get xs i) xs) place xs
+    option_map_or (λ i. option_map_or (λ x. slice_set xs i (touched position a x))
+    (slice_get xs i) xs) place xs
 
 -- one after the other
 abbrev pub touched_places : ℕ → Touch → Places → List Kept → List Kept
 touched_places position a p xs =
-    touched_at position a p.doubled (touched_at position a p.below (touched_at position a p.shifted (touched_at position a p.own xs)))
+    touched_at position a p.doubled
+    (touched_at position a p.below
+    (touched_at position a p.shifted (touched_at position a p.own xs)))
 
 -- each track is in time
 abbrev pub AreInTime : List Kept → ℕ → Type 0
@@ -45,32 +50,46 @@ pub record CanTouch (xs : List Kept) (position : ℕ) (place : Option ℕ) : Typ
 pub record CanTouchAll (xs : List Kept) (position : ℕ) (a : Touch) (p : Places) : Type 0 where
   pub own : CanTouch xs position p.own
   pub shifted : CanTouch (touched_at position a p.own xs) position p.shifted
-  pub below : CanTouch (touched_at position a p.shifted (touched_at position a p.own xs)) position p.below
-  pub doubled : CanTouch (touched_at position a p.below (touched_at position a p.shifted (touched_at position a p.own xs))) position p.doubled
+  pub below : CanTouch (touched_at position a p.shifted (touched_at position a p.own xs)) position
+      p.below
+  pub doubled : CanTouch
+      (touched_at position a p.below
+      (touched_at position a p.shifted (touched_at position a p.own xs))) position p.doubled
 
 -- what undoes the note of the track at a place: nothing where it isn't noted
 abbrev pub undo_at : ℕ → Option ℕ → List Kept → Option Undo
 undo_at addr place xs =
-    option_and_then (λ i. option_and_then (λ x. if holds_address x.range addr then Some (record { place = i; mark = mark_of x addr }) else None) (slice_get xs i)) place
+    option_and_then
+    (λ i. option_and_then (λ x. if holds_address x.range addr
+    then Some (record { place = i; mark = mark_of x addr }) else None) (slice_get xs i)) place
 
 -- a track that can be given back what is remembered of it
 abbrev pub CanTakeBack : List Kept → Option Undo → Type 0
-CanTakeBack xs o = (u : Undo) → o ≡ Some u → (u.place < length xs) × ((x : Kept) → slice_get xs u.place ≡ Some x → CanRestore x u.mark)
+CanTakeBack xs o = (u : Undo) → o ≡ Some u → (u.place < length xs)
+    × ((x : Kept) → slice_get xs u.place ≡ Some x → CanRestore x u.mark)
 
 -- the tracks that an access of line k can be noted in, by the entries
-pub record IsNotable (entry_of : ℕ → LineEntry) (g : Grid) (xs : List Kept) (k position : ℕ) (a : Touch) : Type 0 where
+pub record IsNotable (entry_of : ℕ → LineEntry) (g : Grid) (xs : List Kept) (k position : ℕ)
+    (a : Touch) : Type 0 where
   pub names : IsNamed (names_in entry_of) g xs
   pub in_time : AreInTime xs position
   pub layout : g.offset < g.size
   pub line : k ≡ line_number g.size g.offset a.addr
 
 -- what undoes notes at the places of a line, each made before the note
-pub record AreUndos (xs : List Kept) (position : ℕ) (a : Touch) (p : Places) (u : Undos) : Type 0 where
-  pub own : u.own ≡ undo_at a.addr p.own xs
-  pub shifted : u.shifted ≡ undo_at a.addr p.shifted (touched_at position a p.own xs)
-  pub below : u.below ≡ undo_at a.addr p.below (touched_at position a p.shifted (touched_at position a p.own xs))
-  pub doubled : u.doubled ≡ undo_at a.addr p.doubled (touched_at position a p.below (touched_at position a p.shifted (touched_at position a p.own xs)))
-  pub can_own : CanTakeBack (touched_at position a p.own xs) u.own
-  pub can_shifted : CanTakeBack (touched_at position a p.shifted (touched_at position a p.own xs)) u.shifted
-  pub can_below : CanTakeBack (touched_at position a p.below (touched_at position a p.shifted (touched_at position a p.own xs))) u.below
-  pub can_doubled : CanTakeBack (touched_places position a p xs) u.doubled
+pub record AreUndos (xs : List Kept) (position : ℕ) (a : Touch) (p : Places) (u : Undos) : Type 0
+  where
+    pub own : u.own ≡ undo_at a.addr p.own xs
+    pub shifted : u.shifted ≡ undo_at a.addr p.shifted (touched_at position a p.own xs)
+    pub below : u.below ≡ undo_at a.addr p.below
+        (touched_at position a p.shifted (touched_at position a p.own xs))
+    pub doubled : u.doubled ≡ undo_at a.addr p.doubled
+        (touched_at position a p.below
+        (touched_at position a p.shifted (touched_at position a p.own xs)))
+    pub can_own : CanTakeBack (touched_at position a p.own xs) u.own
+    pub can_shifted : CanTakeBack (touched_at position a p.shifted (touched_at position a p.own xs))
+        u.shifted
+    pub can_below : CanTakeBack
+        (touched_at position a p.below
+        (touched_at position a p.shifted (touched_at position a p.own xs))) u.below
+    pub can_doubled : CanTakeBack (touched_places position a p xs) u.doubled

@@ -1,5 +1,6 @@
 -- The predicted lines that open at a write, by the tracks that the write is noted in.
-use Rattle.std.specs.Prelude.{ℕ, ◌+◌, ◌-◌, ◌*◌, if◌then◌else◌, List, ◌++◌, Option, None, is_some, option_map, option_and_then}
+use Rattle.std.specs.Prelude.{ℕ, ◌+◌, ◌-◌, ◌*◌, if◌then◌else◌, List, ◌++◌, Option, None, is_some}
+use Rattle.std.specs.Prelude.{option_map, option_and_then}
 use Rattle.std.specs.Option.{option_to_list}
 use Rattle.predator_base.specs.Lines.{Grid}
 use Rattle.predator_base.specs.declared.layout.Range.{Range}
@@ -23,8 +24,8 @@ abbrev pub best_among : Grid → ℕ → ℕ → List Kept → Option (ℕ × �
 best_among g within k tracks =
     best_of_two (track_named g Observed k tracks) (track_named g Observed (k + 1) tracks) within
 
--- The range of the shifted line that opens for lines k and k+1: none where there is one already, or no pair that one
--- line can hold.
+-- The range of the shifted line that opens for lines k and k+1: none where there is one already, or
+-- no pair that one line can hold.
 abbrev pub shifted_opens : Grid → ℕ → List Kept → Option Range
 shifted_opens g k tracks =
     if is_some (track_named g Shifted k tracks) then None
@@ -52,4 +53,5 @@ abbrev pub waiting_for : LineKind → Option Range → List Kept
 waiting_for kind o = option_to_list (option_map (waiting kind) o)
 
 abbrev pub opened_tracks : Openings → List Kept
-opened_tracks o = waiting_for Shifted o.below ++ waiting_for Shifted o.here ++ waiting_for Doubled o.doubled
+opened_tracks o = waiting_for Shifted o.below ++ waiting_for Shifted o.here ++ waiting_for Doubled
+    o.doubled

@@ -1,11 +1,14 @@
 -- Two neighbouring lines by the places of their tracks, and the entries around a line.
-use Rattle.std.specs.Prelude.{◌≡◌, ℕ, ◌+◌, ◌-◌, ◌*◌, ◌/◌, ◌<◌, ◌≤◌, ◌^◌, if◌then◌else◌, IsTrue, List, length, Option, None, Some, is_some, option_map, option_and_then, slice_get}
+use Rattle.std.specs.Prelude.{◌≡◌, ℕ, ◌+◌, ◌-◌, ◌*◌, ◌/◌, ◌<◌, ◌≤◌, ◌^◌, if◌then◌else◌, IsTrue}
+use Rattle.std.specs.Prelude.{List, length, Option, None, Some, is_some, option_map}
+use Rattle.std.specs.Prelude.{option_and_then, slice_get}
 use Rattle.predator_base.specs.Lines.{Grid}
 use Rattle.predator_base.specs.declared.layout.Range.{Range}
 use Rattle.line_counters.specs.declared.line_entry.LineEntry.{LineEntry}
 use Rattle.sharing_rules.specs.Lines.{native_line, range_of}
 use Rattle.sharing_rules.specs.Opened.{even_lower}
-use Rattle.sharing_rules.specs.Predicted.{doubled_line, is_native_size, shifted_around, word_address}
+use Rattle.sharing_rules.specs.Predicted.{doubled_line, is_native_size, shifted_around}
+use Rattle.sharing_rules.specs.Predicted.{word_address}
 use Rattle.sharing_rules.specs.declared.line_kind.LineKind.TheVariants.{Observed, Shifted, Doubled}
 use Rattle.virtual_lines.specs.Kept.{Kept}
 use Rattle.hot_pairs.specs.declared.pair.Pair.{Pair}
@@ -41,12 +44,14 @@ pub record ArePair (n k : ℕ) (tracks : List Kept) (lower upper : Option ℕ) :
 abbrev pub shifted_between : ℕ → ℕ → List Kept → LineEntry → LineEntry → Option Range
 shifted_between n k tracks lower upper =
     if is_some lower.shifted then None
-    else option_map (λ p. range_of (shifted_around n k p)) (best_of_two (kept_at tracks lower.track) (kept_at tracks upper.track) n)
+    else option_map (λ p. range_of (shifted_around n k p))
+    (best_of_two (kept_at tracks lower.track) (kept_at tracks upper.track) n)
 
 abbrev pub doubled_between : ℕ → ℕ → List Kept → LineEntry → LineEntry → Option Range
 doubled_between n k tracks lower upper =
     if is_some lower.doubled then None
-    else option_map (λ p. range_of (doubled_line n k)) (best_of_two (kept_at tracks lower.track) (kept_at tracks upper.track) (2 * n))
+    else option_map (λ p. range_of (doubled_line n k))
+    (best_of_two (kept_at tracks lower.track) (kept_at tracks upper.track) (2 * n))
 
 -- the entries of line k and of its neighbours name the tracks
 pub record AreAround (g : Grid) (k : ℕ) (tracks : List Kept) (e : Around) : Type 0 where
@@ -62,7 +67,8 @@ pub record AreAround (g : Grid) (k : ℕ) (tracks : List Kept) (e : Around) : Ty
   pub doubled_here : is_some (track_named g Doubled k tracks) ≡ is_some e.here.doubled
 
 -- the best hot pair of two such lines, by the addresses of its words
-pub record IsPairOf (n k : ℕ) (tracks : List Kept) (lower upper : Option ℕ) (within : ℕ) (pair : Pair) : Type 0 where
+pub record IsPairOf (n k : ℕ) (tracks : List Kept) (lower upper : Option ℕ) (within : ℕ)
+    (pair : Pair) : Type 0 where
   pub places : ℕ × ℕ
   pub best : best_of_two (kept_at tracks lower) (kept_at tracks upper) within ≡ Some places
   pub lower_at : pair.x ≡ word_address n k places.0

@@ -1,5 +1,6 @@
 -- A write at which a track may begin, or a predicted line may open.
-use Rattle.std.specs.Prelude.{◌≡◌, ◌≤◌, ◌^◌, IsTrue, ℕ, ◌+◌, ◌-◌, ◌%◌, Bool, false, ◌&&◌, ◌==◌, if◌then◌else◌, List, [], ◌∷◌, ◌++◌, length, Option, option_map}
+use Rattle.std.specs.Prelude.{◌≡◌, ◌≤◌, ◌^◌, IsTrue, ℕ, ◌+◌, ◌-◌, ◌%◌, Bool, false, ◌&&◌, ◌==◌}
+use Rattle.std.specs.Prelude.{if◌then◌else◌, List, [], ◌∷◌, ◌++◌, length, Option, option_map}
 use Rattle.std.specs.Option.{option_map_or, option_or}
 use Rattle.predator_base.specs.Levels.{Levels}
 use Rattle.predator_base.specs.Lines.{Grid, is_layout}
@@ -24,28 +25,55 @@ with_name N kind k o j q = if (rank j == rank kind) && (q == k) then option_or o
 
 -- an entry with a place for a kind, if one is given
 abbrev pub with_place : LineEntry → LineKind → Option ℕ → LineEntry
-with_place e Observed o = record { writes = e.writes; track = option_or o e.track; shifted = e.shifted; doubled = e.doubled }
-with_place e Shifted o = record { writes = e.writes; track = e.track; shifted = option_or o e.shifted; doubled = e.doubled }
-with_place e Doubled o = record { writes = e.writes; track = e.track; shifted = e.shifted; doubled = option_or o e.doubled }
+with_place e Observed o = record {
+  writes = e.writes;
+  track = option_or o e.track;
+  shifted =
+      e.shifted;
+  doubled = e.doubled;
+}
+with_place e Shifted o = record {
+  writes = e.writes;
+  track = e.track;
+  shifted =
+      option_or o e.shifted;
+  doubled = e.doubled;
+}
+with_place e Doubled o = record {
+  writes = e.writes;
+  track = e.track;
+  shifted = e.shifted;
+  doubled =
+      option_or o e.doubled;
+}
 
 -- an entry after one write more
 abbrev pub counted : LineEntry → LineEntry
-counted e = record { writes = e.writes + 1; track = e.track; shifted = e.shifted; doubled = e.doubled }
+counted e = record {
+  writes = e.writes + 1;
+  track = e.track;
+  shifted = e.shifted;
+  doubled =
+      e.doubled;
+}
 
 -- where the tracks stand of what opens, behind n others
 abbrev pub opened_places : ℕ → Openings → Opened
 opened_places n o = record {
   below = option_map (λ r. n) o.below;
   here = option_map (λ r. n + length (waiting_for Shifted o.below)) o.here;
-  doubled = option_map (λ r. n + length (waiting_for Shifted o.below) + length (waiting_for Shifted o.here)) o.doubled;
+  doubled = option_map (λ r. n + length (waiting_for Shifted o.below) + length
+      (waiting_for Shifted o.here)) o.doubled;
 }
 
 -- the names with those of line k's own track and of what opened for it
 abbrev pub settled : Names → ℕ → Option ℕ → Opened → Names
 settled N k own o =
-    with_name (with_name (with_name (with_name N Observed k own) Shifted (k - 1) o.below) Shifted k o.here) Doubled (even_lower k) o.doubled
+    with_name (with_name (with_name (with_name N Observed k own) Shifted (k - 1) o.below) Shifted k
+    o.here) Doubled (even_lower k) o.doubled
 
--- the tracks after a write of line k was noted in those that were there: its own, where it begins, and what opens
+-- the tracks after a write of line k was noted in those that were there: its own, where it begins,
+-- and what opens
 abbrev pub tracks_begun : Grid → ℕ → ℕ → Touch → Bool → List Kept → List Kept
 tracks_begun g k position a begins xs = xs ++ (if begins then begun g k position a ∷ [] else [])
 
@@ -54,17 +82,21 @@ turn_opens g k searches xs = if searches then openings g k xs else nothing_opens
 
 abbrev pub tracks_turned : Grid → ℕ → ℕ → Touch → Bool → Bool → List Kept → List Kept
 tracks_turned g k position a begins searches xs =
-    tracks_begun g k position a begins xs ++ opened_tracks (turn_opens g k searches (tracks_begun g k position a begins xs))
+    tracks_begun g k position a begins xs ++ opened_tracks
+    (turn_opens g k searches (tracks_begun g k position a begins xs))
 
--- What a write needs of the entries and of the tracks in which it was noted: they are tied, the line's own track begins
--- only where there is none, and pairs are searched only under a native layout.
-pub record IsDue (entry_of : ℕ → LineEntry) (g : Grid) (xs : List Kept) (k : ℕ) (turn : Turn) (position T : ℕ) : Type 0 where
+-- What a write needs of the entries and of the tracks in which it was noted: they are tied, the
+-- line's own track begins only where there is none, and pairs are searched only under a native
+-- layout.
+pub record IsDue (entry_of : ℕ → LineEntry) (g : Grid) (xs : List Kept) (k : ℕ) (turn : Turn)
+    (position T : ℕ) : Type 0 where
   pub indexed : IsIndexed entry_of g xs T (position + 1)
   pub positive : 1 ≤ T
   pub due : IsTrue turn.begins → (entry_of k).writes + 1 ≡ T
   pub written : (entry_of k).writes ≤ position
 
-pub record IsTurn (entry_of : ℕ → LineEntry) (g : Grid) (xs : List Kept) (k : ℕ) (turn : Turn) (position : ℕ) (a : Touch) : Type 0 where
+pub record IsTurn (entry_of : ℕ → LineEntry) (g : Grid) (xs : List Kept) (k : ℕ) (turn : Turn)
+    (position : ℕ) (a : Touch) : Type 0 where
   pub tracking : ℕ
   pub is_due : IsDue entry_of g xs k turn position tracking
   pub native : IsTrue turn.searches → IsNativeGrid g
@@ -73,7 +105,8 @@ pub record IsTurn (entry_of : ℕ → LineEntry) (g : Grid) (xs : List Kept) (k 
   pub reached : IsReached g k
 
 -- the same before the write is noted
-pub record IsDueAt (entry_of : ℕ → LineEntry) (g : Grid) (xs : List Kept) (k : ℕ) (turn : Turn) (position T : ℕ) : Type 0 where
+pub record IsDueAt (entry_of : ℕ → LineEntry) (g : Grid) (xs : List Kept) (k : ℕ) (turn : Turn)
+    (position T : ℕ) : Type 0 where
   pub indexed : IsIndexed entry_of g xs T position
   pub positive : 1 ≤ T
   pub due : IsTrue turn.begins → (entry_of k).writes + 1 ≡ T

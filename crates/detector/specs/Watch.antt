@@ -1,6 +1,8 @@
--- What a detector has seen: how many accesses under which layout and thresholds, the writes of each line, and what is
--- kept of each line, observed or predicted, in the order in which they came to be kept.
-use Rattle.std.specs.Prelude.{ℕ, ◌+◌, ◌%◌, Bool, false, ◌&&◌, ◌||◌, ◌==◌, nat_lt, if◌then◌else◌, List, [], ◌∷◌, ◌++◌, length, map, Option}
+-- What a detector has seen: how many accesses under which layout and thresholds, the writes of each
+-- line, and what is kept of each line, observed or predicted, in the order in which they came to be
+-- kept.
+use Rattle.std.specs.Prelude.{ℕ, ◌+◌, ◌%◌, Bool, false, ◌&&◌, ◌||◌, ◌==◌, nat_lt, if◌then◌else◌}
+use Rattle.std.specs.Prelude.{List, [], ◌∷◌, ◌++◌, length, map, Option}
 use Rattle.std.specs.Option.{option_map_or}
 use Rattle.predator_base.specs.Touch.{Touch, is_write}
 use Rattle.predator_base.specs.Lines.{Grid}
@@ -24,7 +26,14 @@ pub record Watch : Type 0 where
 
 -- what an index and tracks mean under a layout and thresholds, at a position
 abbrev pub watch_of : Entries → List Kept → Grid → Levels → ℕ → Watch
-watch_of m tracks g v position = record { position = position; grid = g; levels = v; writes = counts_of m; tracks = tracks }
+watch_of m tracks g v position = record {
+  position = position;
+  grid = g;
+  levels = v;
+  writes =
+      counts_of m;
+  tracks = tracks;
+}
 
 -- before the first access
 abbrev pub nothing_seen : Grid → Levels → Watch
@@ -41,19 +50,24 @@ begins_track T writes k a = is_write a.kind && (count_at writes k + 1 == T)
 abbrev pub begun : Grid → ℕ → ℕ → Touch → Kept
 begun g k position a = note_kept (waiting Observed (range_of (grid_line g k))) position a
 
--- the tracks in which an access of line k is noted: those that were there, and the line's own from its T-th write on
+-- the tracks in which an access of line k is noted: those that were there, and the line's own from
+-- its T-th write on
 abbrev pub tracks_noted : Watch → ℕ → Touch → List Kept
 tracks_noted w k a =
     map (touched w.position a) w.tracks
-    ++ (if begins_track w.levels.tracking w.writes k a then begun w.grid k w.position a ∷ [] else [])
+    ++ (if begins_track w.levels.tracking w.writes k a then begun w.grid k w.position a ∷ []
+    else [])
 
--- whether an access of line k is a write that brings its writes to a multiple of the prediction threshold
+-- whether an access of line k is a write that brings its writes to a multiple of the prediction
+-- threshold
 abbrev pub is_search : Option ℕ → Counts → ℕ → Touch → Bool
-is_search prediction writes k a = option_map_or (λ P. is_write a.kind && ((count_at writes k + 1) % P == 0)) prediction false
+is_search prediction writes k a = option_map_or
+    (λ P. is_write a.kind && ((count_at writes k + 1) % P == 0)) prediction false
 
 -- what opens at an access of line k, over the tracks in which it is noted
 abbrev pub opens_at : Watch → ℕ → Touch → List Kept → Openings
-opens_at w k a noted = if is_search w.levels.prediction w.writes k a then openings w.grid k noted else nothing_opens
+opens_at w k a noted = if is_search w.levels.prediction w.writes k a then openings w.grid k noted
+    else nothing_opens
 
 -- the counts after an access of line k
 abbrev pub writes_after : ℕ → Touch → Counts → Counts

@@ -42,17 +42,22 @@ of_harts-harts (owner.One h) = refl
 of_harts-harts owner.Many = refl
 
 abbrev owner_code : Coded Owner
-owner_code = code_by (Option (Option ℕ)) (coded_option (coded_option coded_ℕ)) harts_of of_harts of_harts-harts
+owner_code = code_by (Option (Option ℕ)) (coded_option (coded_option coded_ℕ)) harts_of of_harts
+    of_harts-harts
 
 abbrev word_code : Coded Word
 word_code =
     code_by (ℕ × (ℕ × Owner)) (coded× coded_ℕ (coded× coded_ℕ owner_code))
-    (λ w. (w.reads, (w.writes, w.owner))) (λ p. record { reads = p.0; writes = p.1.0; owner = p.1.1 }) (λ _. refl)
+    (λ w. (w.reads, (w.writes, w.owner)))
+    (λ p. record { reads = p.0; writes = p.1.0; owner = p.1.1 }) (λ _. refl)
 
 abbrev kept_code : Coded Kept
 kept_code =
     code_by (LineKind × ((ℤ × ℕ) × (Option ℕ × (List ℕ × (ℕ × List Word)))))
-    (coded× kind_code (coded× (coded× coded_ℤ coded_ℕ) (coded× (coded_option coded_ℕ) (coded× (coded_list coded_ℕ) (coded× coded_ℕ (coded_list word_code))))))
+    (coded× kind_code
+    (coded× (coded× coded_ℤ coded_ℕ)
+    (coded× (coded_option coded_ℕ)
+    (coded× (coded_list coded_ℕ) (coded× coded_ℕ (coded_list word_code))))))
     (λ x. (x.kind, ((x.range.base, x.range.size), (x.start, (x.entries, (x.count, x.words))))))
     (λ p. record {
       kind = p.0;
@@ -68,8 +73,20 @@ kept_code =
 abbrev pub watch_code : Coded Watch
 watch_code =
     code_by (ℕ × ((ℕ × ℕ) × ((ℕ × (Option ℕ × ℕ)) × (Counts × List Kept))))
-    (coded× coded_ℕ (coded× (coded× coded_ℕ coded_ℕ) (coded× (coded× coded_ℕ (coded× (coded_option coded_ℕ) coded_ℕ)) (coded× (finite.code coded_ℕ coded_ℕ) (coded_list kept_code)))))
-    (λ w. (w.position, ((w.grid.size, w.grid.offset), ((w.levels.tracking, (w.levels.prediction, w.levels.report)), (w.writes, w.tracks)))))
+    (coded× coded_ℕ
+    (coded× (coded× coded_ℕ coded_ℕ)
+    (coded× (coded× coded_ℕ (coded× (coded_option coded_ℕ) coded_ℕ))
+    (coded× (finite.code coded_ℕ coded_ℕ) (coded_list kept_code)))))
+    (λ w. (
+      w.position,
+      (
+        (w.grid.size, w.grid.offset),
+        (
+          (w.levels.tracking, (w.levels.prediction, w.levels.report)),
+          (w.writes, w.tracks),
+        ),
+      ),
+    ))
     (λ p. record {
       position = p.0;
       grid = record { size = p.1.0.0; offset = p.1.0.1 };

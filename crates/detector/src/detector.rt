@@ -1,5 +1,6 @@
 // The tracks, and the index of all lines.
-ghost use Rattle.std.specs.Prelude.{◌≡◌, ◌+◌, ◌*◌, ◌/◌, ◌<◌, ◌≤◌, ◌^◌, [], ◌∷◌, ◌++◌, if◌then◌else◌, IsOk, IsTrue, IsFalse, OnOk, OnErr};
+ghost use Rattle.std.specs.Prelude.{◌≡◌, ◌+◌, ◌*◌, ◌/◌, ◌<◌, ◌≤◌, ◌^◌, [], ◌∷◌, ◌++◌};
+ghost use Rattle.std.specs.Prelude.{if◌then◌else◌, IsOk, IsTrue, IsFalse, OnOk, OnErr};
 ghost use Rattle.sharing_rules.specs.AccessLists.{AccessList};
 ghost use Rattle.line_counters.specs.Entries.{no_entries};
 ghost use Rattle.sharing_rules.specs.Listed.{may_predict};
@@ -19,8 +20,8 @@ use virtual_lines::{Track, Tracks};
 
 /// What is known of the accesses so far, under a layout and thresholds, over an index of lines.
 ///
-/// Contracts see its position, its layout, its thresholds, how often each line was written, and its tracks, in the
-/// order in which they came to be kept.
+/// Contracts see its position, its layout, its thresholds, how often each line was written, and its
+/// tracks, in the order in which they came to be kept.
 #[derive(Drop)]
 pub struct Detector<I: LineIndex> {
     index: I,
@@ -54,12 +55,13 @@ impl<I: LineIndex> Model for Detector<I> {
 
     ghost invariant = { λ d.
         IsIndexed (entry_at (I.entries d.index)) d.layout d.tracks d.thresholds.tracking d.position
-        × IsTrue (is_layout d.layout.size d.layout.offset) × IsTrue (may_predict d.layout d.thresholds) };
+        × IsTrue (is_layout d.layout.size d.layout.offset)
+        × IsTrue (may_predict d.layout d.thresholds) };
 }
 
 impl<I: LineIndex> Detector<I> {
-    /// A detector that has seen no access, over an index with no entry. It keeps the allocator. Lines are predicted
-    /// only under a native layout: of offset 0, and of size 32, 64, 128 or 256.
+    /// A detector that has seen no access, over an index with no entry. It keeps the allocator.
+    /// Lines are predicted only under a native layout: of offset 0, and of size 32, 64, 128 or 256.
     pub fn new(alloc: Global, index: I, layout: Layout, thresholds: Thresholds) -> Detector<I>
         requires empty { I.entries index ≡ no_entries }
         requires native { IsTrue (may_predict layout thresholds) }
@@ -77,12 +79,13 @@ impl<I: LineIndex> Detector<I> {
         }
     }
 
-    /// One access more. It takes memory only where a counter begins, a track begins or a predicted line opens: at the
-    /// first write of a line, at the one with the tracking threshold's number, and at one that brings its line to a
-    /// multiple of the prediction threshold.
+    /// One access more. It takes memory only where a counter begins, a track begins or a predicted
+    /// line opens: at the first write of a line, at the one with the tracking threshold's number,
+    /// and at one that brings its line to a multiple of the prediction threshold.
     ///
-    /// At most 4 steps, and where the pairs of its line are searched one more for each pair of their words, of which
-    /// there are at most three times the square of the words of a line. NoMemory leaves the detector as it was.
+    /// At most 4 steps, and where the pairs of its line are searched one more for each pair of
+    /// their words, of which there are at most three times the square of the words of a line.
+    /// NoMemory leaves the detector as it was.
     #[inline]
     pub fn on_access<L: Ledger>(
         &mut self,
@@ -99,7 +102,8 @@ impl<I: LineIndex> Detector<I> {
         ensures stands { OnOk result ((t : AccessList)
             → StandsFor t self.old → StandsFor (t ++ access ∷ []) self.new) }
         // and where memory ran out, for the list that it stood for
-        ensures still { OnErr result ((t : AccessList) → StandsFor t self.old → StandsFor t self.new) }
+        ensures still { OnErr result ((t : AccessList) → StandsFor t self.old
+            → StandsFor t self.new) }
     {
         let line = self.layout.number_of(access.addr());
         // A layout has whole words, and thresholds are at least 1, as these say.
@@ -143,8 +147,9 @@ impl<I: LineIndex> Detector<I> {
         self.thresholds
     }
 
-    /// All that is kept, in the order in which it came to be kept: a track for each line that was written as often as
-    /// the tracking threshold says, and one for each predicted line that opened.
+    /// All that is kept, in the order in which it came to be kept: a track for each line that was
+    /// written as often as the tracking threshold says, and one for each predicted line that
+    /// opened.
     ///
     /// With m tracks of lines of n bytes that were written so often there are, where m isn't 0,
     /// fewer shifted ones and at most m / 2 doubled ones. All have at most 5 m entries and

@@ -1,9 +1,10 @@
-//! The detector: one pass over the accesses of a run, and a track for each line that is kept, observed or predicted.
+//! The detector: one pass over the accesses of a run, and a track for each line that is kept,
+//! observed or predicted.
 //!
-//! A layout cuts the addresses into lines, and an index keeps how often each line was written, and where its tracks
-//! stand. A line has a track of its own from the write on that brings its writes to the tracking threshold. At each
-//! write that brings a line to a multiple of the prediction threshold, the pairs of the line are searched, and what
-//! opens has a track from then on.
+//! A layout cuts the addresses into lines, and an index keeps how often each line was written, and
+//! where its tracks stand. A line has a track of its own from the write on that brings its writes
+//! to the tracking threshold. At each write that brings a line to a multiple of the prediction
+//! threshold, the pairs of the line are searched, and what opens has a track from then on.
 #![tactic(auto)]
 
 mod count;

@@ -19,7 +19,8 @@ pub fn see<I: LineIndex>(detector: &mut Detector<I>, access: Access) -> Result<(
     ensures known { IsFalse (takes_memory detector.old access) → IsOk result }
     ensures stands { OnOk result ((t : AccessList)
         → StandsFor t detector.old → StandsFor (t ++ access ∷ []) detector.new) }
-    ensures still { OnErr result ((t : AccessList) → StandsFor t detector.old → StandsFor t detector.new) }
+    ensures still { OnErr result ((t : AccessList) → StandsFor t detector.old
+        → StandsFor t detector.new) }
 {
     counted::<Brand, I>(detector, access, Blank::new(1))
 }
@@ -40,7 +41,8 @@ fn counted<L: Ledger, I: LineIndex>(
     ensures known { IsFalse (takes_memory detector.old access) → IsOk result }
     ensures stands { OnOk result ((t : AccessList)
         → StandsFor t detector.old → StandsFor (t ++ access ∷ []) detector.new) }
-    ensures still { OnErr result ((t : AccessList) → StandsFor t detector.old → StandsFor t detector.new) }
+    ensures still { OnErr result ((t : AccessList) → StandsFor t detector.old
+        → StandsFor t detector.new) }
 {
     let mut steps = Steps::<L>::new(blank);
     detector.on_access(access, &mut steps)

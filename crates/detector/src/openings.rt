@@ -7,7 +7,8 @@ ghost use Rattle.hot_pairs.specs.Neighbours.{reach};
 ghost use Rattle.detector.specs.Index.{IsShaped};
 ghost use Rattle.detector.specs.Openings.{best_of_two, doubled_opens};
 ghost use Rattle.detector.specs.Openings as open_of;
-ghost use Rattle.detector.specs.Pairs.{AreAround, ArePair, AreShaped, IsPairOf, doubled_between, kept_at, native_grid, shifted_between};
+ghost use Rattle.detector.specs.Pairs.{AreAround, ArePair, AreShaped, IsPairOf, doubled_between};
+ghost use Rattle.detector.specs.Pairs.{kept_at, native_grid, shifted_between};
 
 use hot_pairs::{Pair, best_pair};
 use line_counters::LineEntry;
@@ -15,8 +16,8 @@ use predator_base::{Range, Steps};
 use std::sync::ledger::Ledger;
 use virtual_lines::{Tracks, doubled_range, shifted_range};
 
-/// The ranges of the predicted lines that open for a line: the shifted ones of its pairs with the line below and with
-/// the line above, and the doubled one of its even pair.
+/// The ranges of the predicted lines that open for a line: the shifted ones of its pairs with the
+/// line below and with the line above, and the doubled one of its even pair.
 #[derive(Clone, Copy, Drop)]
 pub struct Openings {
     pub below: Option<Range>,
@@ -39,7 +40,8 @@ pub struct Around {
     pub above: LineEntry,
 }
 
-// The best hot pair of two neighbouring lines, by the places of their tracks: none where one has no track.
+// The best hot pair of two neighbouring lines, by the places of their tracks: none where one has no
+// track.
 fn pair_between<L: Ledger>(
     tracks: &Tracks,
     lower: Option<u32>,
@@ -51,7 +53,8 @@ fn pair_between<L: Ledger>(
     ensures found { (n k : ℕ) → ArePair n k tracks.now lower upper → MatchOption result
         (best_of_two (kept_at tracks.now lower) (kept_at tracks.now upper) (reach n within) ≡ None)
         (IsPairOf n k tracks.now lower upper (reach n within)) }
-    ensures cost { (n k : ℕ) → ArePair n k tracks.now lower upper → steps.new ≤ steps.old + n / 4 * (n / 4) }
+    ensures cost { (n k : ℕ) → ArePair n k tracks.now lower upper
+        → steps.new ≤ steps.old + n / 4 * (n / 4) }
 {
     let lower = &tracks.all()[lower? as usize];
     let upper = &tracks.all()[upper? as usize];
@@ -60,7 +63,8 @@ fn pair_between<L: Ledger>(
     best_pair(lower.shadow(), upper.shadow(), within, steps)
 }
 
-// The range of the shifted line that opens for two lines of a size: none where they have one already.
+// The range of the shifted line that opens for two lines of a size: none where they have one
+// already.
 fn shifted_opening<L: Ledger>(
     tracks: &Tracks,
     lower: &LineEntry,
@@ -82,7 +86,8 @@ fn shifted_opening<L: Ledger>(
     shifted_range(pair.x, pair.y, size)
 }
 
-// The range of the doubled line that opens for an even pair of lines of a size: none where it has one already.
+// The range of the doubled line that opens for an even pair of lines of a size: none where it has
+// one already.
 fn doubled_opening<L: Ledger>(
     tracks: &Tracks,
     lower: &LineEntry,
@@ -114,7 +119,8 @@ fn even_opening<L: Ledger>(
 ) -> Option<Range>
     requires { AreAround (native_grid size) line tracks.now around.now }
     ensures value { result ≡ doubled_opens (native_grid size) (even_lower line) tracks.now }
-    ensures shaped { (r : Span) → result ≡ Some r → IsShaped (native_grid size) (even_lower line) Doubled r }
+    ensures shaped { (r : Span) → result ≡ Some r
+        → IsShaped (native_grid size) (even_lower line) Doubled r }
     ensures cost { steps.new ≤ steps.old + size / 4 * (size / 4) }
 {
     if line % 2 == 1 {

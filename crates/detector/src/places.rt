@@ -8,8 +8,8 @@ use predator_base::{Access, Steps};
 use std::sync::ledger::Ledger;
 use virtual_lines::Tracks;
 
-/// The places of the tracks that may hold an address of a line: its own, the shifted ones of its pairs with the line
-/// above and with the line below, and the doubled one of its even pair.
+/// The places of the tracks that may hold an address of a line: its own, the shifted ones of its
+/// pairs with the line above and with the line below, and the doubled one of its even pair.
 #[derive(Clone, Copy, Drop)]
 pub struct Places {
     pub own: Option<u32>,

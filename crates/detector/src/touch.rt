@@ -1,5 +1,6 @@
 // One access: of the tracks that hold its address, and of its line's entry in the index.
-ghost use Rattle.std.specs.Prelude.{◌≡◌, ◌≢◌, ℕ, ◌+◌, ◌*◌, ◌/◌, ◌%◌, ◌==◌, ◌<◌, ◌≤◌, ◌^◌, false, if◌then◌else◌, map, IsOk, IsTrue, IsFalse, OnOk, OnErr, Some};
+ghost use Rattle.std.specs.Prelude.{◌≡◌, ◌≢◌, ℕ, ◌+◌, ◌*◌, ◌/◌, ◌%◌, ◌==◌, ◌<◌, ◌≤◌, ◌^◌, false};
+ghost use Rattle.std.specs.Prelude.{if◌then◌else◌, map, IsOk, IsTrue, IsFalse, OnOk, OnErr, Some};
 ghost use Rattle.std.specs.Option.{option_map_or};
 ghost use Rattle.predator_base.specs.Lines.{Grid, is_layout, line_number};
 ghost use Rattle.predator_base.specs.Touch.{is_write};
@@ -9,7 +10,8 @@ ghost use Rattle.detector.specs.Counts.{counts_of};
 ghost use Rattle.detector.specs.Index.{IsIndexed, IsReached};
 ghost use Rattle.detector.specs.Noting.{IsNotable};
 ghost use Rattle.detector.specs.Turns.{IsTurnOf};
-ghost use Rattle.detector.specs.Watch.{is_search, may_take_memory, touched, tracks_after, watch_of, writes_after};
+ghost use Rattle.detector.specs.Watch.{is_search, may_take_memory, touched, tracks_after, watch_of};
+ghost use Rattle.detector.specs.Watch.{writes_after};
 
 use crate::count::count;
 use crate::places::{note_places, places_of};
@@ -42,7 +44,8 @@ fn note<I: LineIndex, L: Ledger>(
 )
     requires small { line ≤ 2 ^ 30 }
     requires early { position < 2 ^ 40 }
-    requires notable { (g : Grid) × IsNotable (entry_at (I.entries index.now)) g tracks.old line position access }
+    requires notable { (g : Grid) × IsNotable (entry_at (I.entries index.now)) g tracks.old line
+        position access }
     ensures tracks { tracks.new ≡ map (touched position access) tracks.old }
     ensures steps { steps.new ≤ steps.old + 4 }
 {
@@ -62,51 +65,9 @@ fn turn_of<I: LineIndex>(index: &I, thresholds: Thresholds, line: u64) -> Turn
     Turn { begins, searches }
 }
 
-// A write.
-#[inline(always)]
-fn write<I: LineIndex, L: Ledger>(
-    index: &mut I,
-    tracks: &mut Tracks,
-    layout: Layout,
-    thresholds: Thresholds,
-    line: u64,
-    position: u64,
-    access: Access,
-    steps: &mut Steps<L>,
-) -> Result<(), NoMemory>
-    requires indexed { IsIndexed (entry_at (I.entries index.old)) layout tracks.old thresholds.tracking position }
-    requires small { line ≤ 2 ^ 30 }
-    requires reached { IsReached layout line }
-    requires early { position < 2 ^ 40 }
-    requires line { line ≡ line_number layout.size layout.offset access.addr }
-    requires layout { IsTrue (is_layout layout.size layout.offset) }
-    requires native { IsTrue (may_predict layout thresholds) }
-    requires some { 1 ≤ thresholds.tracking }
-    requires writes { IsTrue (is_write access.kind) }
-    ensures tracks { OnOk result (tracks.new ≡ tracks_after (watch_of (I.entries index.old) tracks.old layout thresholds position) line access) }
-    ensures counts { OnOk result (counts_of (I.entries index.new) ≡ writes_after line access (counts_of (I.entries index.old))) }
-    ensures indexed { OnOk result (IsIndexed (entry_at (I.entries index.new)) layout tracks.new thresholds.tracking (position + 1)) }
-    ensures same { OnErr result (I.entries index.new ≡ I.entries index.old) }
-    ensures same_tracks { OnErr result (tracks.new ≡ tracks.old) }
-    ensures known { IsFalse (may_take_memory (watch_of (I.entries index.old) tracks.old layout thresholds position) line access) → IsOk result }
-    ensures steps { steps.new ≤ steps.old + 4
-        + (if is_search thresholds.prediction (counts_of (I.entries index.old)) line access then 3 * (layout.size / 4 * (layout.size / 4)) else 0) }
-{
-    let turn = turn_of(index, thresholds, line);
-    if turn.begins || turn.searches {
-        return take_turn(index, tracks, layout, line, turn, position, access, steps);
-    }
-    match count(index, line) {
-        Ok(()) => {
-            note(index, tracks, line, position, access, steps);
-            Ok(())
-        }
-        Err(refused) => Err(refused),
-    }
-}
-
-/// An access: the tracks that hold its address are noted, a write is counted, and what is due begins and opens. At
-/// most 4 steps, and where the pairs of its line are searched one more for each pair of their words.
+/// An access: the tracks that hold its address are noted, a write is counted, and what is due
+/// begins and opens. At most 4 steps, and where the pairs of its line are searched one more for
+/// each pair of their words.
 ///
 /// NoMemory leaves all as it was.
 #[inline(always)]
@@ -120,7 +81,8 @@ pub fn touch<I: LineIndex, L: Ledger>(
     access: Access,
     steps: &mut Steps<L>,
 ) -> Result<(), NoMemory>
-    requires indexed { IsIndexed (entry_at (I.entries index.old)) layout tracks.old thresholds.tracking position }
+    requires indexed { IsIndexed (entry_at (I.entries index.old)) layout tracks.old
+        thresholds.tracking position }
     requires small { line ≤ 2 ^ 30 }
     requires reached { IsReached layout line }
     requires early { position < 2 ^ 40 }
@@ -128,22 +90,40 @@ pub fn touch<I: LineIndex, L: Ledger>(
     requires layout { IsTrue (is_layout layout.size layout.offset) }
     requires native { IsTrue (may_predict layout thresholds) }
     requires some { 1 ≤ thresholds.tracking }
-    ensures tracks { OnOk result (tracks.new ≡ tracks_after (watch_of (I.entries index.old) tracks.old layout thresholds position) line access) }
-    ensures counts { OnOk result (counts_of (I.entries index.new) ≡ writes_after line access (counts_of (I.entries index.old))) }
-    ensures indexed { OnOk result (IsIndexed (entry_at (I.entries index.new)) layout tracks.new thresholds.tracking (position + 1)) }
+    ensures tracks { OnOk result
+        (tracks.new ≡ tracks_after
+        (watch_of (I.entries index.old) tracks.old layout thresholds position) line access) }
+    ensures counts { OnOk result (counts_of (I.entries index.new) ≡ writes_after line access
+        (counts_of (I.entries index.old))) }
+    ensures indexed { OnOk result
+        (IsIndexed (entry_at (I.entries index.new)) layout tracks.new thresholds.tracking
+        (position + 1)) }
     ensures same { OnErr result (I.entries index.new ≡ I.entries index.old) }
     ensures same_tracks { OnErr result (tracks.new ≡ tracks.old) }
-    ensures known { IsFalse (may_take_memory (watch_of (I.entries index.old) tracks.old layout thresholds position) line access) → IsOk result }
+    ensures known { IsFalse
+        (may_take_memory (watch_of (I.entries index.old) tracks.old layout thresholds position) line
+        access) → IsOk result }
     ensures steps { steps.new ≤ steps.old + 4
-        + (if is_search thresholds.prediction (counts_of (I.entries index.old)) line access then 3 * (layout.size / 4 * (layout.size / 4)) else 0) }
+        + (if is_search thresholds.prediction (counts_of (I.entries index.old)) line access
+        then 3 * (layout.size / 4 * (layout.size / 4)) else 0) }
 {
     match access.kind() {
         Kind::Read => {
             note(index, tracks, line, position, access, steps);
             Ok(())
         }
-        Kind::Write => write(
-            index, tracks, layout, thresholds, line, position, access, steps,
-        ),
+        Kind::Write => {
+            let turn = turn_of(index, thresholds, line);
+            if turn.begins || turn.searches {
+                return take_turn(index, tracks, layout, line, turn, position, access, steps);
+            }
+            match count(index, line) {
+                Ok(()) => {
+                    note(index, tracks, line, position, access, steps);
+                    Ok(())
+                }
+                Err(refused) => Err(refused),
+            }
+        }
     }
 }

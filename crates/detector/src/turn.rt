@@ -1,5 +1,7 @@
 // A write at which a track may begin, or a predicted line may open.
-ghost use Rattle.std.specs.Prelude.{◌≡◌, ◌≢◌, ℕ, ◌+◌, ◌*◌, ◌/◌, ◌%◌, ◌≤◌, ◌<◌, ◌^◌, ◌-◌, ◌∷◌, [], ◌++◌, ◌==◌, List, Option, IsOk, IsFalse, IsTrue, OnOk, OnErr, IfOk, None, Some, length, map, take, option_map, if◌then◌else◌};
+ghost use Rattle.std.specs.Prelude.{◌≡◌, ◌≢◌, ℕ, ◌+◌, ◌*◌, ◌/◌, ◌%◌, ◌≤◌, ◌<◌, ◌^◌, ◌-◌, ◌∷◌, []};
+ghost use Rattle.std.specs.Prelude.{◌++◌, ◌==◌, List, Option, IsOk, IsFalse, IsTrue, OnOk, OnErr};
+ghost use Rattle.std.specs.Prelude.{IfOk, None, Some, length, map, take, option_map, if◌then◌else◌};
 ghost use Rattle.line_counters.specs.Entries.{blank_entry, entry_at};
 ghost use Rattle.predator_base.specs.declared.layout.Range.{Range as Span};
 ghost use Rattle.predator_base.specs.Lines.{is_layout, line_number};
@@ -13,7 +15,9 @@ ghost use Rattle.detector.specs.Openings as open_of;
 ghost use Rattle.detector.specs.Openings.{nothing_opens, opened_tracks, waiting_for};
 ghost use Rattle.detector.specs.Pairs.{AreShaped, IsNativeGrid};
 ghost use Rattle.sharing_rules.specs.Opened.{even_lower};
-ghost use Rattle.detector.specs.Turns.{IsDue, IsDueAt, IsTurn, opened_places, settled, tracks_begun, tracks_turned, turn_opens, with_name, with_place};
+ghost use Rattle.detector.specs.Turns.{IsDue, IsDueAt, IsTurn, opened_places, settled};
+ghost use Rattle.detector.specs.Turns.{tracks_begun, tracks_turned, turn_opens, with_name};
+ghost use Rattle.detector.specs.Turns.{with_place};
 ghost use Rattle.detector.specs.Noting.{CanTouch};
 ghost use Rattle.detector.specs.Watch.{begun, touched};
 
@@ -26,7 +30,8 @@ use predator_base::{Access, Layout, NoMemory, Range, Steps};
 use std::sync::ledger::Ledger;
 use virtual_lines::{LineKind, Tracks};
 
-/// What a write may do beside being noted: begin its line's own track, and search the pairs of its line.
+/// What a write may do beside being noted: begin its line's own track, and search the pairs of its
+/// line.
 #[derive(Clone, Copy, Drop)]
 pub struct Turn {
     pub begins: bool,
@@ -145,7 +150,8 @@ fn own_place<L: Ledger>(
     requires early { position < 2 ^ 40 }
     requires few { length tracks.old ≤ 2 ^ 31 }
     ensures tracks { OnOk result (tracks.new
-        ≡ tracks_begun layout (line_number layout.size layout.offset access.addr) position access begins tracks.old) }
+        ≡ tracks_begun layout (line_number layout.size layout.offset access.addr) position access
+        begins tracks.old) }
     ensures place { IfOk result (λ own. own ≡ (if begins then Some (length tracks.old) else named)) }
     ensures few { OnOk result (length tracks.new ≤ 2 ^ 31) }
     ensures same { OnErr result (tracks.new ≡ tracks.old) }
@@ -171,14 +177,17 @@ fn openings_at<I: LineIndex, L: Ledger>(
     layout: Layout,
     steps: &mut Steps<L>,
 ) -> Openings
-    requires named { IsNamed (with_name (names_in (entry_at (I.entries index.now))) Observed line own) layout tracks.now }
-    requires own { own ≡ with_name (names_in (entry_at (I.entries index.now))) Observed line own Observed line }
+    requires named { IsNamed
+        (with_name (names_in (entry_at (I.entries index.now))) Observed line own) layout tracks.now }
+    requires own { own ≡ with_name (names_in (entry_at (I.entries index.now))) Observed line own
+        Observed line }
     requires native { IsTrue searches → IsNativeGrid layout }
     requires reached { IsReached layout line }
     ensures value { result ≡ turn_opens layout line searches tracks.now }
     ensures shaped { (n : ℕ) × (k : ℕ) × (n % 4 ≡ 0) × AreShaped n k result }
     ensures shaped_here { IsTrue searches → AreShaped layout.size line result }
-    ensures cost { steps.new ≤ steps.old + (if searches then 3 * (layout.size / 4 * (layout.size / 4)) else 0) }
+    ensures cost { steps.new ≤ steps.old +
+        (if searches then 3 * (layout.size / 4 * (layout.size / 4)) else 0) }
 {
     if !searches {
         return NOTHING;
@@ -229,8 +238,10 @@ fn set_place(entry: &mut LineEntry, kind: LineKind, place: u32)
 fn name<I: LineIndex>(index: &mut I, line: u64, kind: LineKind, place: Option<u32>)
     requires small { line ≤ 2 ^ 30 }
     requires written { (p : ℕ) → place ≡ Some p → 0 < (entry_at (I.entries index.old) line).writes }
-    ensures names { names_in (entry_at (I.entries index.new)) ≡ with_name (names_in (entry_at (I.entries index.old))) kind line place }
-    ensures writes { (q : ℕ) → (entry_at (I.entries index.new) q).writes ≡ (entry_at (I.entries index.old) q).writes }
+    ensures names { names_in (entry_at (I.entries index.new)) ≡ with_name
+        (names_in (entry_at (I.entries index.old))) kind line place }
+    ensures writes { (q : ℕ) → (entry_at (I.entries index.new) q).writes ≡
+        (entry_at (I.entries index.old) q).writes }
     ensures counts { counts_of (I.entries index.new) ≡ counts_of (I.entries index.old) }
 {
     if let Some(place) = place {
@@ -257,13 +268,17 @@ fn settle<I: LineIndex>(index: &mut I, line: u64, own: Option<u32>, opened: Open
     requires small { line ≤ 2 ^ 30 }
     requires placed { IsTrue (I.has_place index.old line) }
     requires few { (entry_at (I.entries index.old) line).writes < 2 ^ 40 }
-    requires below { (p : ℕ) → opened.below ≡ Some p → 0 < (entry_at (I.entries index.old) (line - 1)).writes }
+    requires below { (p : ℕ) → opened.below ≡ Some p
+        → 0 < (entry_at (I.entries index.old) (line - 1)).writes }
     requires doubled { (p : ℕ) → opened.doubled ≡ Some p → even_lower line ≢ line
         → 0 < (entry_at (I.entries index.old) (even_lower line)).writes }
-    ensures names { names_in (entry_at (I.entries index.new)) ≡ settled (names_in (entry_at (I.entries index.old))) line own opened }
+    ensures names { names_in (entry_at (I.entries index.new)) ≡ settled
+        (names_in (entry_at (I.entries index.old))) line own opened }
     ensures writes { (q : ℕ) → (entry_at (I.entries index.new) q).writes
-        ≡ (if q == line then (entry_at (I.entries index.old) line).writes + 1 else (entry_at (I.entries index.old) q).writes) }
-    ensures counts { counts_of (I.entries index.new) ≡ with_write (counts_of (I.entries index.old)) line }
+        ≡ (if q == line then (entry_at (I.entries index.old) line).writes + 1
+        else (entry_at (I.entries index.old) q).writes) }
+    ensures counts { counts_of (I.entries index.new) ≡ with_write (counts_of (I.entries index.old))
+        line }
 {
     match count(index, line) {
         Ok(()) => {}
@@ -280,7 +295,8 @@ fn settle<I: LineIndex>(index: &mut I, line: u64, own: Option<u32>, opened: Open
     name(index, lower_of(line), LineKind::Doubled, opened.doubled);
 }
 
-// Begins and opens what is due at a write that was noted in the tracks that were there, and counts it.
+// Begins and opens what is due at a write that was noted in the tracks that were there, and counts
+// it.
 fn change<I: LineIndex, L: Ledger>(
     index: &mut I,
     tracks: &mut Tracks,
@@ -294,15 +310,23 @@ fn change<I: LineIndex, L: Ledger>(
     requires early { position < 2 ^ 40 }
     requires line { line ≡ line_number layout.size layout.offset access.addr }
     requires placed { IsTrue (I.has_place index.old line) }
-    requires turn { IsTurn (entry_at (I.entries index.old)) layout tracks.old line turn position access }
-    ensures tracks { OnOk result (tracks.new ≡ tracks_turned layout line position access turn.begins turn.searches tracks.old) }
-    ensures counts { OnOk result (counts_of (I.entries index.new) ≡ with_write (counts_of (I.entries index.old)) line) }
-    ensures indexed { OnOk result ((T : ℕ) → IsDue (entry_at (I.entries index.old)) layout tracks.old line turn position T
+    requires turn { IsTurn (entry_at (I.entries index.old)) layout tracks.old line turn position
+        access }
+    ensures tracks { OnOk result
+        (tracks.new ≡ tracks_turned layout line position access turn.begins turn.searches
+        tracks.old) }
+    ensures counts { OnOk result
+        (counts_of (I.entries index.new) ≡ with_write (counts_of (I.entries index.old)) line) }
+    ensures indexed { OnOk result
+        ((T : ℕ) → IsDue (entry_at (I.entries index.old)) layout tracks.old line turn position T
         → IsIndexed (entry_at (I.entries index.new)) layout tracks.new T (position + 1)) }
     ensures same { OnErr result (I.entries index.new ≡ I.entries index.old) }
     ensures kept { OnErr result (take (length tracks.old) tracks.new ≡ tracks.old) }
-    ensures known { IsFalse turn.begins → turn_opens layout line turn.searches (tracks_begun layout line position access turn.begins tracks.old) ≡ nothing_opens → IsOk result }
-    ensures steps { steps.new ≤ steps.old + (if turn.begins then 1 else 0) + (if turn.searches then 3 * (layout.size / 4 * (layout.size / 4)) else 0) }
+    ensures known { IsFalse turn.begins → turn_opens layout line turn.searches
+        (tracks_begun layout line position access turn.begins tracks.old) ≡ nothing_opens
+        → IsOk result }
+    ensures steps { steps.new ≤ steps.old + (if turn.begins then 1 else 0) +
+        (if turn.searches then 3 * (layout.size / 4 * (layout.size / 4)) else 0) }
 {
     let named = index.peek(line).track;
     let own = match own_place(tracks, turn.begins, named, layout, position, access, steps) {
@@ -327,8 +351,8 @@ fn count_of(tracks: &Tracks) -> u32
     tracks.all().len() as u32
 }
 
-/// A write of a line at which its own track may begin, or its pairs are searched: it is noted and counted, and what is
-/// due begins and opens.
+/// A write of a line at which its own track may begin, or its pairs are searched: it is noted and
+/// counted, and what is due begins and opens.
 ///
 /// NoMemory leaves all as it was.
 pub fn take_turn<I: LineIndex, L: Ledger>(
@@ -345,20 +369,26 @@ pub fn take_turn<I: LineIndex, L: Ledger>(
     requires line { line ≡ line_number layout.size layout.offset access.addr }
     requires small { line ≤ 2 ^ 30 }
     requires reached { IsReached layout line }
-    requires turn { (T : ℕ) × IsDueAt (entry_at (I.entries index.old)) layout tracks.old line turn position T }
+    requires turn { (T : ℕ) × IsDueAt (entry_at (I.entries index.old)) layout tracks.old line turn
+        position T }
     requires native { IsTrue turn.searches → IsNativeGrid layout }
     requires layout { IsTrue (is_layout layout.size layout.offset) }
     ensures tracks { OnOk result (tracks.new
-        ≡ tracks_turned layout line position access turn.begins turn.searches (map (touched position access) tracks.old)) }
-    ensures counts { OnOk result (counts_of (I.entries index.new) ≡ with_write (counts_of (I.entries index.old)) line) }
-    ensures indexed { OnOk result ((T : ℕ) → IsDueAt (entry_at (I.entries index.old)) layout tracks.old line turn position T
+        ≡ tracks_turned layout line position access turn.begins turn.searches
+        (map (touched position access) tracks.old)) }
+    ensures counts { OnOk result
+        (counts_of (I.entries index.new) ≡ with_write (counts_of (I.entries index.old)) line) }
+    ensures indexed { OnOk result
+        ((T : ℕ) → IsDueAt (entry_at (I.entries index.old)) layout tracks.old line turn position T
         → IsIndexed (entry_at (I.entries index.new)) layout tracks.new T (position + 1)) }
     ensures same { OnErr result (I.entries index.new ≡ I.entries index.old) }
     ensures same_tracks { OnErr result (tracks.new ≡ tracks.old) }
     ensures known { IsFalse turn.begins → 0 < (entry_at (I.entries index.old) line).writes
-        → turn_opens layout line turn.searches (tracks_begun layout line position access turn.begins (map (touched position access) tracks.old)) ≡ nothing_opens
+        → turn_opens layout line turn.searches (tracks_begun layout line position access turn.begins
+        (map (touched position access) tracks.old)) ≡ nothing_opens
         → IsOk result }
-    ensures steps { steps.new ≤ steps.old + 4 + (if turn.searches then 3 * (layout.size / 4 * (layout.size / 4)) else 0) }
+    ensures steps { steps.new ≤ steps.old + 4 +
+        (if turn.searches then 3 * (layout.size / 4 * (layout.size / 4)) else 0) }
 {
     match reserve(index, line) {
         Ok(()) => {}

@@ -1,8 +1,10 @@
 // Notes that can be undone.
-ghost use Rattle.std.specs.Prelude.{◌≡◌, ℕ, ◌+◌, ◌≤◌, ◌<◌, ◌^◌, List, Option, is_some, if◌then◌else◌};
+ghost use Rattle.std.specs.Prelude.{◌≡◌, ℕ, ◌+◌, ◌≤◌, ◌<◌, ◌^◌, List, Option, is_some};
+ghost use Rattle.std.specs.Prelude.{if◌then◌else◌};
 ghost use Rattle.predator_base.specs.Touch.{Touch};
 ghost use Rattle.virtual_lines.specs.Kept.{Kept};
-ghost use Rattle.detector.specs.Noting.{AreUndos, CanTakeBack, CanTouch, CanTouchAll, touched_at, touched_places, undo_at};
+ghost use Rattle.detector.specs.Noting.{AreUndos, CanTakeBack, CanTouch, CanTouchAll, touched_at};
+ghost use Rattle.detector.specs.Noting.{touched_places, undo_at};
 ghost use Rattle.detector.specs.declared.places.Places.{Places as Spots};
 
 use crate::places::Places;
@@ -44,7 +46,8 @@ pub fn note_undoably<L: Ledger>(
 /// Undoes the last note, if there was one.
 pub fn take_back(tracks: &mut Tracks, undo: Option<Undo>)
     requires { CanTakeBack tracks.old undo }
-    ensures { (xs : List Kept) (place : Option ℕ) (position : ℕ) (a : Touch) → tracks.old ≡ touched_at position a place xs
+    ensures { (xs : List Kept) (place : Option ℕ) (position : ℕ) (a : Touch)
+        → tracks.old ≡ touched_at position a place xs
         → undo ≡ undo_at a.addr place xs → tracks.new ≡ xs }
 {
     if let Some(undo) = undo {
@@ -90,8 +93,11 @@ pub fn note_all_undoably<L: Ledger>(
 
 /// Undoes them, the last one first.
 pub fn take_all_back(tracks: &mut Tracks, undos: Undos)
-    requires { (xs : List Kept) × (position : ℕ) × (a : Touch) × (p : Spots) × (tracks.old ≡ touched_places position a p xs) × AreUndos xs position a p undos }
-    ensures { (xs : List Kept) (position : ℕ) (a : Touch) (p : Spots) → tracks.old ≡ touched_places position a p xs → AreUndos xs position a p undos → tracks.new ≡ xs }
+    requires { (xs : List Kept) × (position : ℕ) × (a : Touch) × (p : Spots)
+        × (tracks.old ≡ touched_places position a p xs) × AreUndos xs position a p undos }
+    ensures { (xs : List Kept) (position : ℕ) (a : Touch) (p : Spots)
+        → tracks.old ≡ touched_places position a p xs → AreUndos xs position a p undos
+        → tracks.new ≡ xs }
 {
     let Undos {
         own,

@@ -1,5 +1,5 @@
-//! The detector against the plain slow program `sharing_oracle`, over random short lists. Only tests
-//! stand here.
+//! The detector against the plain slow program `sharing_oracle`, over random short lists. Only
+//! tests stand here.
 #![tactic(auto)]
 
 #[cfg(test)]

@@ -1,5 +1,6 @@
 -- How placing one segment after the other gives the image.
-use Rattle.std.proofs.Common.{◌≡◌, ℕ, ◌+◌, ◌-◌, ◌≤◌, List, [], ◌∷◌, Bool, true, false, ◌&&◌, ◌||◌, cond, nat_lt, nat_le, Option, Some, None, length, slice_index, refl, ap, sym, subst, ◌∙◌, ◌^◌, ◌%◌, ◌*◌, ◌/◌, arith, if◌then◌else◌}
+use Rattle.std.proofs.Common.{◌≡◌, ℕ, ◌+◌, ◌-◌, ◌≤◌, List, [], ◌∷◌, Bool, true, false, ◌&&◌, ◌||◌, cond, nat_lt, nat_le, Option, Some, None}
+use Rattle.std.proofs.Common.{length, slice_index, refl, ap, sym, subst, ◌∙◌, ◌^◌, ◌%◌, ◌*◌, ◌/◌, arith, if◌then◌else◌}
 use Rattle.std.proofs.lemmas.Bool.Decides.{nat_tests}
 use Rattle.std.proofs.lemmas.List.{get_or_past}
 use Rattle.std.specs.List.{list_any, find}
@@ -8,7 +9,8 @@ use Rattle.guest_memory.specs.declared.page.Page.{Page}
 use Rattle.guest_memory.specs.Space.{Space, byte_at, page_at, size_of, is_among, no_page, IsFresh}
 use Rattle.guest_memory.specs.Changes.{touches, granted, Maps}
 use Rattle.elf_loader.specs.Programs.{Loaded}
-use Rattle.elf_loader.specs.Images.{may_run, may_write, holds, image_byte, least, greatest_end, touches_page, writes_at, runs_at, image_page, base_of, heap_start_of, IsImage}
+use Rattle.elf_loader.specs.Images.{may_run, may_write, holds, image_byte, least, greatest_end, touches_page, writes_at, runs_at}
+use Rattle.elf_loader.specs.Images.{image_page, base_of, heap_start_of, IsImage}
 use Rattle.elf_loader.specs.Placing.{AreApart, AreWithin, with_segments}
 
 pub same_pages : (m n : Space) (a : ℕ) → n.base ≡ m.base → n.pages ≡ m.pages → page_at n a ≡ page_at m a

@@ -11,7 +11,8 @@ use Rattle.elf_loader.specs.Images.{image_byte, image_page}
 use Rattle.elf_loader.specs.PlacedImages.{place_fault, image_of}
 use Rattle.elf_loader.specs.declared.image.Space.{Space}
 use Rattle.elf_loader.specs.declared.image.Image.{Image}
-use Rattle.elf_loader.specs.declared.fault.ElfFault.TheVariants.{TooShort, BadMachine, BadFlags, HeadersOutside, SegmentOutsideFile, SegmentSizes, SegmentOverlap, BadSymbols, BadSymbolName}
+use Rattle.elf_loader.specs.declared.fault.ElfFault.TheVariants.{TooShort, BadMachine, BadFlags, HeadersOutside, SegmentOutsideFile}
+use Rattle.elf_loader.specs.declared.fault.ElfFault.TheVariants.{SegmentSizes, SegmentOverlap, BadSymbols, BadSymbolName}
 
 -- the bytes of words
 bytes : List ℕ → List ℕ

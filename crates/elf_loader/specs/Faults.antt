@@ -1,12 +1,21 @@
 -- The faults of a program file in their order, each with the test of the file that says where it
 -- has that fault.
-use Rattle.std.specs.Prelude.{ℕ, ◌*◌, ◌%◌, ◌==◌, Bool, not, ◌&&◌, ◌||◌, nat_lt, nat_eq, List, [], ◌∷◌, ◌++◌, length, find, slice_index, Option}
+use Rattle.std.specs.Prelude.{ℕ, ◌*◌, ◌%◌, ◌==◌, Bool, not, ◌&&◌, ◌||◌, nat_lt, nat_eq, List, []}
+use Rattle.std.specs.Prelude.{◌∷◌, ◌++◌, length, find, slice_index, Option}
 use Rattle.std.specs.Option.{option_map}
 use Rattle.std.specs.List.{list_any, starts_with}
 use Rattle.elf_loader.specs.declared.fault.ElfFault.{ElfFault}
-use Rattle.elf_loader.specs.declared.fault.ElfFault.TheVariants.{TooShort, BadMagic, BadClass, BadData, BadVersion, BadType, BadMachine, BadFlags, BadHeaderSize, HeadersOutside, Dynamic, SegmentOutsideFile, SegmentSizes, SegmentOverlap, BadSymbols, BadSymbolName}
-use Rattle.elf_loader.specs.Fields.{field16, field32, lies_in, program_offset, program_row_size, program_count, section_offset, section_row_size, section_count}
-use Rattle.elf_loader.specs.Programs.{program_headers, is_dynamic, is_outside, has_wrong_size, overlap, some_pair}
+use Rattle.elf_loader.specs.declared.fault.ElfFault.TheVariants.{TooShort, BadMagic, BadClass}
+use Rattle.elf_loader.specs.declared.fault.ElfFault.TheVariants.{BadData, BadVersion, BadType}
+use Rattle.elf_loader.specs.declared.fault.ElfFault.TheVariants.{BadMachine, BadFlags}
+use Rattle.elf_loader.specs.declared.fault.ElfFault.TheVariants.{BadHeaderSize, HeadersOutside}
+use Rattle.elf_loader.specs.declared.fault.ElfFault.TheVariants.{Dynamic, SegmentOutsideFile}
+use Rattle.elf_loader.specs.declared.fault.ElfFault.TheVariants.{SegmentSizes, SegmentOverlap}
+use Rattle.elf_loader.specs.declared.fault.ElfFault.TheVariants.{BadSymbols, BadSymbolName}
+use Rattle.elf_loader.specs.Fields.{field16, field32, lies_in, program_offset, program_row_size}
+use Rattle.elf_loader.specs.Fields.{program_count, section_offset, section_row_size, section_count}
+use Rattle.elf_loader.specs.Programs.{program_headers, is_dynamic, is_outside, has_wrong_size}
+use Rattle.elf_loader.specs.Programs.{overlap, some_pair}
 use Rattle.elf_loader.specs.Symbols.{has_no_table, has_open_names}
 
 -- a table of faults, first to last

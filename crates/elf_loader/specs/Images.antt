@@ -1,6 +1,8 @@
 -- The memory of a program file: what its segments, the heap and the stacks take, and where each
 -- lies.
-use Rattle.std.specs.Prelude.{◌≡◌, ℕ, ◌+◌, ◌-◌, ◌*◌, ◌/◌, ◌%◌, ◌^◌, ◌==◌, Bool, not, ◌&&◌, ◌||◌, nat_lt, nat_le, min, max, List, [], ◌∷◌, length, map, find, slice_index}
+use Rattle.std.specs.Prelude.{◌≡◌, ℕ, ◌+◌, ◌-◌, ◌*◌, ◌/◌, ◌%◌, ◌^◌, ◌==◌, Bool, not, ◌&&◌, ◌||◌}
+use Rattle.std.specs.Prelude.{nat_lt, nat_le, min, max, List, [], ◌∷◌, length, map, find}
+use Rattle.std.specs.Prelude.{slice_index}
 use Rattle.std.specs.Option.{option_map_or}
 use Rattle.std.specs.List.{list_any, range_with_len}
 use Rattle.guest_memory.specs.declared.page.Page.{Page}
@@ -9,7 +11,9 @@ use Rattle.guest_memory.specs.Changes.{touches}
 use Rattle.elf_loader.specs.Fields.{entry_of}
 use Rattle.elf_loader.specs.Programs.{Loaded, segments_of}
 use Rattle.elf_loader.specs.Faults.{Faults}
-use Rattle.elf_loader.specs.declared.fault.ElfFault.TheVariants.{SegmentOutsideMemory, EntryMisaligned, EntryNotExecutable}
+use Rattle.elf_loader.specs.declared.fault.ElfFault.TheVariants.{SegmentOutsideMemory}
+use Rattle.elf_loader.specs.declared.fault.ElfFault.TheVariants.{EntryMisaligned}
+use Rattle.elf_loader.specs.declared.fault.ElfFault.TheVariants.{EntryNotExecutable}
 
 -- PF_X and PF_W
 abbrev pub may_run : Loaded → Bool

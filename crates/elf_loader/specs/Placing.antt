@@ -1,5 +1,6 @@
 -- Segments that are placed one after the other.
-use Rattle.std.specs.Prelude.{◌≡◌, ℕ, ◌+◌, ◌≤◌, true, List, [], ◌∷◌, length, find, None, if◌then◌else◌}
+use Rattle.std.specs.Prelude.{◌≡◌, ℕ, ◌+◌, ◌≤◌, true, List, [], ◌∷◌, length, find, None}
+use Rattle.std.specs.Prelude.{if◌then◌else◌}
 use Rattle.guest_memory.specs.declared.page.Page.{Page}
 use Rattle.guest_memory.specs.Changes.{touches, granted}
 use Rattle.elf_loader.specs.Programs.{Loaded}

@@ -1,5 +1,6 @@
 -- The program headers of an ELF file, and the segments that they place in memory.
-use Rattle.std.specs.Prelude.{ℕ, ◌+◌, ◌^◌, ◌==◌, Bool, false, not, ◌&&◌, ◌||◌, nat_lt, List, [], ◌∷◌, map, filter}
+use Rattle.std.specs.Prelude.{ℕ, ◌+◌, ◌^◌, ◌==◌, Bool, false, not, ◌&&◌, ◌||◌, nat_lt, List, []}
+use Rattle.std.specs.Prelude.{◌∷◌, map, filter}
 use Rattle.std.specs.List.{list_any}
 use Rattle.elf_loader.specs.Fields.{field32, lies_in, part, rows, program_offset, program_count}
 use Rattle.elf_loader.specs.declared.program.ProgramHeader.{ProgramHeader}

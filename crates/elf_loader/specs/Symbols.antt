@@ -1,11 +1,14 @@
 -- The symbol table of an ELF file, and the symbols of it that are kept.
-use Rattle.std.specs.Prelude.{ℕ, ◌/◌, ◌%◌, ◌==◌, Bool, false, not, ◌&&◌, nat_lt, List, [], map, find, filter_map, drop, slice_get, slice_index, Option, Some, None, if◌then◌else◌}
+use Rattle.std.specs.Prelude.{ℕ, ◌/◌, ◌%◌, ◌==◌, Bool, false, not, ◌&&◌, nat_lt, List, [], map}
+use Rattle.std.specs.Prelude.{find, filter_map, drop, slice_get, slice_index, Option, Some, None}
+use Rattle.std.specs.Prelude.{if◌then◌else◌}
 use Rattle.std.specs.Option.{option_map, option_and_then, option_map_or, is_some}
 use Rattle.std.specs.List.{list_any, take_while}
 use Rattle.heap_objects.specs.declared.symbol.SymbolKind.{SymbolKind}
 use Rattle.heap_objects.specs.declared.symbol.SymbolKind.TheVariants.{Object, Function}
 use Rattle.heap_objects.specs.Symbols.{Symbol}
-use Rattle.elf_loader.specs.Fields.{field16, field32, lies_in, part, rows, section_offset, section_count}
+use Rattle.elf_loader.specs.Fields.{field16, field32, lies_in, part, rows, section_offset}
+use Rattle.elf_loader.specs.Fields.{section_count}
 use Rattle.elf_loader.specs.declared.section.SectionHeader.{SectionHeader}
 use Rattle.elf_loader.specs.declared.symbol.SymbolEntry.{SymbolEntry}
 

@@ -1,7 +1,9 @@
 // The file header, and the two tables that it places.
 ghost use Rattle.std.specs.Prelude.{◌≡◌, ◌+◌, ◌*◌, ◌^◌, ◌≤◌, ◌<◌, length, false};
-ghost use Rattle.elf_loader.specs.Fields.{rows, program_count, program_offset, section_count, section_offset};
-ghost use Rattle.elf_loader.specs.Faults.{first_fault, header_faults, table_faults, has_other_rows, is_table_outside};
+ghost use Rattle.elf_loader.specs.Fields.{rows, program_count, program_offset, section_count};
+ghost use Rattle.elf_loader.specs.Fields.{section_offset};
+ghost use Rattle.elf_loader.specs.Faults.{first_fault, header_faults, table_faults, has_other_rows};
+ghost use Rattle.elf_loader.specs.Faults.{is_table_outside};
 
 use crate::fault::ElfFault;
 use crate::fields::{rows_at, u16_at, u32_at};

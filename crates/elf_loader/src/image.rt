@@ -1,11 +1,15 @@
 // Placing a program file in memory.
-ghost use Rattle.std.specs.Prelude.{◌≡◌, ◌+◌, ◌-◌, ◌*◌, ◌/◌, ◌%◌, ◌^◌, ◌<◌, ◌≤◌, ◌==◌, ℕ, length, slice_index, if◌then◌else◌, true, false, None, Some, IfOk, OnOk, IfErr, Err};
+ghost use Rattle.std.specs.Prelude.{◌≡◌, ◌+◌, ◌-◌, ◌*◌, ◌/◌, ◌%◌, ◌^◌, ◌<◌, ◌≤◌, ◌==◌, ℕ, length};
+ghost use Rattle.std.specs.Prelude.{slice_index, if◌then◌else◌, true, false, None, Some, IfOk};
+ghost use Rattle.std.specs.Prelude.{OnOk, IfErr, Err};
 ghost use Rattle.std.specs.List.{list_any};
 ghost use Rattle.guest_memory.specs.Space.{byte_at, page_at, size_of, is_among, IsRange};
 ghost use Rattle.guest_memory.specs.Changes.{touches, granted};
 ghost use Rattle.elf_loader.specs.Fields.{entry_of};
 ghost use Rattle.elf_loader.specs.Programs.{segments_of};
-ghost use Rattle.elf_loader.specs.Images.{may_run, may_write, least, greatest_end, base_of, top_of, heap_start_of, has_no_room, runs_at, place_faults, image_byte, IsImage};
+ghost use Rattle.elf_loader.specs.Images.{may_run, may_write, least, greatest_end, base_of, top_of};
+ghost use Rattle.elf_loader.specs.Images.{heap_start_of, has_no_room, runs_at, place_faults};
+ghost use Rattle.elf_loader.specs.Images.{image_byte, IsImage};
 ghost use Rattle.elf_loader.specs.Faults.{first_fault, read_fault};
 ghost use Rattle.elf_loader.specs.PlacedImages.{IsAllowedSpace, place_fault, IsImageOf, image_of};
 ghost use Rattle.elf_loader.specs.declared.fault.ElfFault.{ElfFault};
@@ -238,10 +242,10 @@ fn places_of(view: &ElfView<'_>, memory: u32, stacks: u32) -> (u32, u32)
 
 /// Places a program file in memory: its segments with their rights, the heap behind them, and the
 /// stacks at the top.
-/// It takes memory for all of the space.
+/// It takes memory for all of the space, once it has judged all faults.
 ///
 /// Refused with the first fault of `SegmentOutsideMemory`, `EntryMisaligned` and
-/// `EntryNotExecutable`.
+/// `EntryNotExecutable`. A file that has one is never answered with NoMemory.
 #[tactic(auto, using(crate::proofs::Wholes::whole_memory, crate::proofs::Rooms::whole_below))]
 pub fn place(alloc: Global, view: &ElfView<'_>, space: Space) -> Result<Image, PlaceFault>
     requires { IsAllowedSpace space }
@@ -251,6 +255,11 @@ pub fn place(alloc: Global, view: &ElfView<'_>, space: Space) -> Result<Image, P
     ensures accepted { OnOk result (place_fault space view.now ≡ None) }
     ensures refused { IfErr result (λ fault. (e : ElfFault) → fault ≡ PlaceFault.Refused e
         → place_fault space view.now ≡ Some e) }
+
+    // Memory runs out only at a file without a fault: all faults are judged before any is taken.
+    ensures memory { result ≡ Err PlaceFault.NoMemory → place_fault space view.now ≡ None }
+    ensures judged { (e : ElfFault) → place_fault space view.now ≡ Some e
+        → result ≡ Err (PlaceFault.Refused e) }
 
     // What is placed is the image, said address by address and as a value.
     ensures placed { IfOk result (λ image. IsImageOf view.now space image) }

@@ -1,7 +1,10 @@
 // Program headers, and the segments that they place in memory.
-ghost use Rattle.std.specs.Prelude.{◌≡◌, ◌+◌, ◌*◌, ◌<◌, ◌≤◌, ℕ, List, [], ◌∷◌, length, map, filter, take, drop, false, true, IfSome, MatchOption};
+ghost use Rattle.std.specs.Prelude.{◌≡◌, ◌+◌, ◌*◌, ◌<◌, ◌≤◌, ℕ, List, [], ◌∷◌, length, map, filter};
+ghost use Rattle.std.specs.Prelude.{take, drop, false, true, IfSome, MatchOption};
 ghost use Rattle.std.specs.List.{list_any};
-ghost use Rattle.elf_loader.specs.Programs.{loaded, segments_in, program_header, is_dynamic, is_outside, has_wrong_size, is_segment, overlap, some_pair};
+ghost use Rattle.elf_loader.specs.Programs.{loaded, segments_in, program_header, is_dynamic};
+ghost use Rattle.elf_loader.specs.Programs.{is_outside, has_wrong_size, is_segment, overlap};
+ghost use Rattle.elf_loader.specs.Programs.{some_pair};
 
 use crate::fields::{part_of, u32_at};
 use std::marker::Model;
@@ -119,7 +122,8 @@ pub struct Segments<'a> {
 impl<'a> Model for Segments<'a> {
     ghost use Rattle.std.specs.Prelude.{List, ◌≡◌, map, false};
     ghost use Rattle.std.specs.List.{list_any};
-    ghost use Rattle.elf_loader.specs.Programs.{loaded, segments_in, Loaded, program_header, is_outside, segments_in};
+    ghost use Rattle.elf_loader.specs.Programs.{loaded, segments_in, Loaded, program_header};
+    ghost use Rattle.elf_loader.specs.Programs.{is_outside, segments_in};
 
     ghost Value = { List Loaded };
 

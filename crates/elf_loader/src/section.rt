@@ -2,7 +2,8 @@
 ghost use Rattle.std.specs.Prelude.{◌≡◌, map, find, slice_get};
 ghost use Rattle.std.specs.Option.{option_map, option_and_then};
 ghost use Rattle.elf_loader.specs.Fields.{part};
-ghost use Rattle.elf_loader.specs.Symbols.{section_header, is_symbols, is_names, is_table, names_in};
+ghost use Rattle.elf_loader.specs.Symbols.{section_header, is_symbols, is_names, is_table};
+ghost use Rattle.elf_loader.specs.Symbols.{names_in};
 
 use crate::fields::{part_of, u32_at};
 

@@ -1,9 +1,11 @@
 // The symbol table, and the symbols of it that are kept.
-ghost use Rattle.std.specs.Prelude.{◌≡◌, ◌+◌, ◌*◌, ◌<◌, ◌≤◌, ◌==◌, ℕ, List, [], ◌∷◌, length, map, filter_map, drop, false, true, IfSome, MatchOption, Some};
+ghost use Rattle.std.specs.Prelude.{◌≡◌, ◌+◌, ◌*◌, ◌<◌, ◌≤◌, ◌==◌, ℕ, List, [], ◌∷◌, length, map};
+ghost use Rattle.std.specs.Prelude.{filter_map, drop, false, true, IfSome, MatchOption, Some};
 ghost use Rattle.std.specs.List.{list_any, position, position_or_len};
 ghost use Rattle.std.specs.Option.{option_map};
 ghost use Rattle.elf_loader.specs.Fields.{rows};
-ghost use Rattle.elf_loader.specs.Symbols.{symbol_entry, kind_of, kept_kind, ends, name_at, has_open_name, symbol_in};
+ghost use Rattle.elf_loader.specs.Symbols.{symbol_entry, kind_of, kept_kind, ends, name_at};
+ghost use Rattle.elf_loader.specs.Symbols.{has_open_name, symbol_in};
 
 use crate::fields::{u16_at, u32_at};
 use heap_objects::SymbolKind;

@@ -1,11 +1,13 @@
 // A program file that was read.
 ghost use Rattle.std.specs.Prelude.{◌≡◌, ◌≤◌, length, map, false, None, Some, IfOk, OnOk, IfErr};
 ghost use Rattle.std.specs.Option.{option_map};
-ghost use Rattle.elf_loader.specs.Fields.{rows, entry_of, program_count, program_offset, section_count, section_offset};
+ghost use Rattle.elf_loader.specs.Fields.{rows, entry_of, program_count, program_offset};
+ghost use Rattle.elf_loader.specs.Fields.{section_count, section_offset};
 ghost use Rattle.elf_loader.specs.Programs.{segments_of};
 ghost use Rattle.elf_loader.specs.Symbols.{table_in, symbol_table, symbols_of};
 ghost use Rattle.elf_loader.specs.SymbolViews.{table_shown};
-ghost use Rattle.elf_loader.specs.Faults.{first_fault, segment_faults, read_fault, symbols_fault, is_table_outside};
+ghost use Rattle.elf_loader.specs.Faults.{first_fault, segment_faults, read_fault, symbols_fault};
+ghost use Rattle.elf_loader.specs.Faults.{is_table_outside};
 
 use crate::fault::ElfFault;
 use crate::fields::{rows_at, u32_at};

@@ -1,5 +1,6 @@
 -- The bytes of a range of mapped pages.
-use Rattle.std.proofs.Common.{◌≡◌, ℕ, zero, suc, ◌+◌, ◌-◌, ◌*◌, ◌/◌, ◌<◌, ◌≤◌, true, false, List, length, take, drop, get_or, refl, arith, inl, inr, nat_le}
+use Rattle.std.proofs.Common.{◌≡◌, ℕ, zero, suc, ◌+◌, ◌-◌, ◌*◌, ◌/◌, ◌<◌, ◌≤◌, true, false, List, length, take, drop, get_or, refl, arith}
+use Rattle.std.proofs.Common.{inl, inr, nat_le}
 use Rattle.std.proofs.lemmas.Bool.{le-ltb, leb-true, leb-false, cases_Bool}
 use Rattle.std.proofs.Math.Seq.{drop-cons}
 use Rattle.guest_memory.specs.declared.page.Page.{Page}

@@ -1,5 +1,7 @@
 -- What a store leaves, and what is loaded after it.
-use Rattle.std.proofs.Common.{◌≡◌, ◌≢◌, ◌⊎◌, ℕ, zero, suc, ◌+◌, ◌-◌, ◌/◌, ◌%◌, ◌^◌, ◌<◌, ◌≤◌, ◌∙◌, Bool, true, false, cond, not, List, length, get_or, set, refl, ap, arith, inl, inr, nat_lt, nat_eq, Some, None, Ok, get_or-set_same, get_or-set_other, lit<}
+use Rattle.std.proofs.Common.{◌≡◌, ◌≢◌, ◌⊎◌, ℕ, zero, suc, ◌+◌, ◌-◌, ◌/◌, ◌%◌, ◌^◌, ◌<◌, ◌≤◌, ◌∙◌, Bool, true, false, cond, not, List}
+use Rattle.std.proofs.Common.{length, get_or, set, refl, ap, arith, inl, inr, nat_lt, nat_eq, Some, None, Ok, get_or-set_same}
+use Rattle.std.proofs.Common.{get_or-set_other, lit<}
 use Rattle.std.proofs.lemmas.Bool.{ltb-false, eqb-true, not-false, cases_Bool}
 use Rattle.std.proofs.lemmas.List.{length-set}
 use Rattle.std.proofs.Math.Nat.{pow-suc, one-le-pow}

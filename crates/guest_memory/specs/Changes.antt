@@ -1,5 +1,6 @@
 -- What changes a memory, and what it leaves.
-use Rattle.std.specs.Prelude.{◌≡◌, ℕ, ◌+◌, ◌-◌, ◌/◌, Bool, true, ◌&&◌, ◌||◌, List, length, nat_le, nat_lt, if◌then◌else◌, slice_index}
+use Rattle.std.specs.Prelude.{◌≡◌, ℕ, ◌+◌, ◌-◌, ◌/◌, Bool, true, ◌&&◌, ◌||◌, List, length, nat_le}
+use Rattle.std.specs.Prelude.{nat_lt, if◌then◌else◌, slice_index}
 use Rattle.guest_memory.specs.Bytes.{with_number}
 use Rattle.guest_memory.specs.Space.{Space, byte_at, page_at, size_of, is_among}
 use Rattle.guest_memory.specs.declared.page.Page.{Page}

@@ -1,8 +1,10 @@
 -- The faults of accesses: each access has the first of its list that holds.
-use Rattle.std.specs.Prelude.{ℕ, ◌%◌, not, Option, Some, None, Result, Ok, Err, nat_eq, if◌then◌else◌}
+use Rattle.std.specs.Prelude.{ℕ, ◌%◌, not, Option, Some, None, Result, Ok, Err, nat_eq}
+use Rattle.std.specs.Prelude.{if◌then◌else◌}
 use Rattle.guest_memory.specs.Space.{Space, page_at, number_at}
 use Rattle.guest_memory.specs.declared.page.MemFault.{MemFault}
-use Rattle.guest_memory.specs.declared.page.MemFault.TheVariants.{Misaligned, Outside, ReadOnly, NotExecutable}
+use Rattle.guest_memory.specs.declared.page.MemFault.TheVariants.{Misaligned, Outside, ReadOnly}
+use Rattle.guest_memory.specs.declared.page.MemFault.TheVariants.{NotExecutable}
 
 abbrev pub load_fault : Space → ℕ → ℕ → Option MemFault
 load_fault m a size =

@@ -1,8 +1,12 @@
 // The memory of a guest.
-ghost use Rattle.std.specs.Prelude.{◌≡◌, ◌⊎◌, ℕ, ◌+◌, ◌-◌, ◌*◌, ◌/◌, ◌%◌, ◌^◌, ◌<◌, ◌≤◌, ◌↔◌, ◌&&◌, if◌then◌else◌, nat_le, nat_lt, slice_index_or, length, IsTrue, IfSome, IfNone, IfOk, OnOk, OnErr, OnSome, IfErr, None, Some, Ok, false};
+ghost use Rattle.std.specs.Prelude.{◌≡◌, ◌⊎◌, ℕ, ◌+◌, ◌-◌, ◌*◌, ◌/◌, ◌%◌, ◌^◌, ◌<◌, ◌≤◌, ◌↔◌, ◌&&◌};
+ghost use Rattle.std.specs.Prelude.{if◌then◌else◌, nat_le, nat_lt, slice_index_or, length, IsTrue};
+ghost use Rattle.std.specs.Prelude.{IfSome, IfNone, IfOk, OnOk, OnErr, OnSome, IfErr, None, Some};
+ghost use Rattle.std.specs.Prelude.{Ok, false};
 ghost use Rattle.std.specs.Bool.{OnTrue, OnFalse};
 ghost use Rattle.guest_memory.specs.Bytes.{IsSize};
-ghost use Rattle.guest_memory.specs.Space.{Space, IsSpace, IsRange, AllMapped, SomeUnmapped, IsFresh, size_of, page_at, byte_at, bytes_at, no_page};
+ghost use Rattle.guest_memory.specs.Space.{Space, IsSpace, IsRange, AllMapped, SomeUnmapped};
+ghost use Rattle.guest_memory.specs.Space.{IsFresh, size_of, page_at, byte_at, bytes_at, no_page};
 ghost use Rattle.guest_memory.specs.Faults.{load_fault, store_fault, fetch_fault, loaded, fetched};
 ghost use Rattle.guest_memory.specs.Changes.{stored, granted, Maps, Fills};
 

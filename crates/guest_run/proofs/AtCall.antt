@@ -12,13 +12,16 @@ use Rattle.guest_run.specs.Calls.{RunTurn, call_turn}
 use Rattle.guest_run.specs.Turns.{machine_of, with_machine, hart_turn}
 
 put-back : (hart : ℕ) (c : Config) (x : Machine) → x ≡ machine_of hart c → with_machine hart x c ≡ c
-put-back hart c x h = ap (λ (y : Machine). with_machine hart y c) h ∙ ap (λ (states : List Registers). record c { states = states }) (set-get_or c.states hart unused)
+put-back hart c x h = ap (λ (y : Machine). with_machine hart y c) h ∙ ap (λ (states : List Registers). record c { states = states })
+    (set-get_or c.states hart unused)
 
-turn-at-call : (s : Setup) (hart : ℕ) (c : Config) (x : Machine) → outcome Call x ≡ stepped hart (machine_of hart c) → hart_turn s hart c ≡ call_turn s hart c
+turn-at-call : (s : Setup) (hart : ℕ) (c : Config) (x : Machine) → outcome Call x ≡ stepped hart (machine_of hart c)
+    → hart_turn s hart c ≡ call_turn s hart c
 turn-at-call s hart c x h = rw (← h) refl
 
 -- what was read at a hart's place is its registers
-pub read_state : (c : Config) (hart place : ℕ) (old : Registers) → place ≡ hart → hart < length c.states → old ≡ get_or c.states place old → old ≡ state_of c hart
+pub read_state : (c : Config) (hart place : ℕ) (old : Registers) → place ≡ hart → hart < length c.states → old ≡ get_or c.states place old
+    → old ≡ state_of c hart
 read_state c hart place old same inside read =
     let at : old ≡ get_or c.states hart old = rw same at read in
     sym (get_or_from_slice_get c.states hart old unused (slice_get_read c.states (length c.states) hart old refl inside at))
@@ -31,7 +34,8 @@ whole_left hart place c old new m held same inside read left =
     let is_old : old ≡ state_of c hart = read_state c hart place old same inside read in
     let before : machine old c.memory c.held ≡ machine_of hart c = ap (λ (r : Registers). machine r c.memory c.held) is_old in
     let moved : set c.states place new ≡ set c.states hart new = ap (λ (k : ℕ). set c.states k new) same in
-    ap (λ (states : List Registers). record c { states = states; memory = m; held = held }) moved ∙ put-back hart c (machine new m held) (left ∙ before)
+    ap (λ (states : List Registers). record c { states = states; memory = m; held = held }) moved ∙ put-back hart c (machine new m held)
+    (left ∙ before)
 
 pub called : (s : Setup) (hart place : ℕ) (c : Config) (old new : Registers) (m : Space) (held : List (Option ℕ)) (t : RunTurn)
     → place ≡ hart → hart < length c.states → old ≡ get_or c.states place old

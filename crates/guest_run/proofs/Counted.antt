@@ -1,5 +1,6 @@
 -- What each turn counts: a step and its access, or no more than the budget at the end.
-use Rattle.std.proofs.Common.{◌≡◌, ℕ, ◌+◌, ◌<◌, ◌≤◌, Bool, true, false, List, [], ◌∷◌, length, Option, Some, None, Result, Ok, Err, refl, arith, inl, inr, nat_lt}
+use Rattle.std.proofs.Common.{◌≡◌, ℕ, ◌+◌, ◌<◌, ◌≤◌, Bool, true, false, List, [], ◌∷◌, length, Option, Some, None, Result, Ok, Err, refl}
+use Rattle.std.proofs.Common.{arith, inl, inr, nat_lt}
 use Rattle.std.proofs.lemmas.Bool.{cases_Bool, ltb-true}
 use Rattle.std.specs.Prelude.{if◌then◌else◌, nat_eq, ◌||◌, ◌&&◌, ◌%◌, min}
 use Rattle.predator_base.specs.Touch.{Touch}
@@ -16,11 +17,14 @@ use Rattle.thread_calls.specs.Calls.{exited, joiner_of, join_end, joined, lowest
 use Rattle.hart_scheduler.specs.Choices.{choice}
 use Rattle.guest_run.specs.declared.setup.Setup.{Setup}
 use Rattle.std.specs.List.{list_any}
-use Rattle.heap_objects.specs.Heaps.{after_alloc, after_free, lives_at}
+use Rattle.heap_objects.specs.Heaps.{after_alloc, lives_at}
 use Rattle.guest_run.specs.Places.{least_place}
 use Rattle.guest_run.specs.Configs.{Config, state_of, value_in, noted, passed, answered, counted}
-use Rattle.guest_run.specs.Calls.{RunEvent, RunTurn, ran, over, quietly, minus, refused, are_mapped, put_out, written, write_turn, block_answered, alloc_turn, free_turn, given_to, exit_turn, started_with, spawn_turn, joined_with, join_turn, looked, wait_turn, wake_turn, call_turn}
-use Rattle.guest_run.specs.Turns.{machine_of, with_machine, made, after_step, hart_turn, runnable_in, chosen, turn_with, turn_unless, turn_of}
+use Rattle.guest_run.specs.Calls.{RunEvent, RunTurn, ran, over, quietly, minus, refused, are_mapped, put_out, written, write_turn}
+use Rattle.guest_run.specs.Calls.{block_answered, alloc_turn, free_turn, given_to, exit_turn, started_with, spawn_turn, joined_with}
+use Rattle.guest_run.specs.Calls.{join_turn, looked, wait_turn, wake_turn, call_turn}
+use Rattle.guest_run.specs.Turns.{machine_of, with_machine, made, after_step, hart_turn, runnable_in, chosen, turn_with, turn_unless}
+use Rattle.guest_run.specs.Turns.{turn_of}
 use Rattle.guest_run.specs.Runs.{touch_in}
 
 pub record Step (s : Setup) (c : Config) (e : RunEvent) (d : Config) : Type 0 where
@@ -54,13 +58,15 @@ no_touch at (b ∷ bytes) = refl
 
 written_one : (hart at len : ℕ) (s : Setup) (c : Config) → c.steps < s.budget → Counted s c (written hart at len c)
 written_one hart at len s c room =
-    either (are_mapped c.memory at len) s c (ran (put_out at (bytes_at c.memory at len)) (counted (answered hart len c))) (refused hart 14 c)
+    either (are_mapped c.memory at len) s c (ran (put_out at (bytes_at c.memory at len)) (counted (answered hart len c)))
+    (refused hart 14 c)
     (record { room = room; steps = refl; accesses = omega (arith, no_touch at (bytes_at c.memory at len)) })
     (refused_one hart 14 s c room)
 
 write_one : (hart : ℕ) (s : Setup) (c : Config) → c.steps < s.budget → Counted s c (write_turn hart c)
 write_one hart s c room =
-    either (nat_eq (value_in c hart 10) 1 || nat_eq (value_in c hart 10) 2) s c (written hart (value_in c hart 11) (min (value_in c hart 12) 4096) c) (refused hart 22 c)
+    either (nat_eq (value_in c hart 10) 1 || nat_eq (value_in c hart 10) 2) s c
+    (written hart (value_in c hart 11) (min (value_in c hart 12) 4096) c) (refused hart 22 c)
     (written_one hart (value_in c hart 11) (min (value_in c hart 12) 4096) s c room) (refused_one hart 22 s c room)
 
 block_one : (hart size : ℕ) (s : Setup) (c d : Config) (o : Option ℕ) → c.steps < s.budget → d.steps ≡ c.steps → d.accesses ≡ c.accesses
@@ -78,13 +84,15 @@ free_one hart s c room =
     either (list_any (lives_at (value_in c hart 10)) c.heap.blocks) s c _ (refused hart 22 c)
     (record { room = room; steps = refl; accesses = omega arith }) (refused_one hart 22 s c room)
 
-given_one : (o : Option ℕ) (code : ℕ) (s : Setup) (c d : Config) → c.steps < s.budget → d.steps ≡ c.steps → d.accesses ≡ c.accesses → Counted s c (quietly (given_to o code d))
+given_one : (o : Option ℕ) (code : ℕ) (s : Setup) (c d : Config) → c.steps < s.budget → d.steps ≡ c.steps → d.accesses ≡ c.accesses
+    → Counted s c (quietly (given_to o code d))
 given_one None code s c d room steps accesses = quiet_one s c d room steps accesses
 given_one (Some joiner) code s c d room steps accesses = quiet_one s c (given_to (Some joiner) code d) room steps accesses
 
 exit_one : (hart : ℕ) (s : Setup) (c : Config) → c.steps < s.budget → Counted s c (exit_turn hart c)
 exit_one hart s c room =
-    given_one (joiner_of c.phases hart) (value_in c hart 10) s c (passed hart (record c { phases = exited c.phases hart (value_in c hart 10) })) room refl refl
+    given_one (joiner_of c.phases hart) (value_in c hart 10) s c
+    (passed hart (record c { phases = exited c.phases hart (value_in c hart 10) })) room refl refl
 
 started_one : (hart pc : ℕ) (s : Setup) (c : Config) (o : Option ℕ) → c.steps < s.budget → Counted s c (started_with s hart pc c o)
 started_one hart pc s c None room = refused_one hart 11 s c room
@@ -93,10 +101,12 @@ started_one hart pc s c (Some new) room = record { room = room; steps = refl; ac
 spawn_one : (hart : ℕ) (s : Setup) (c : Config) → c.steps < s.budget → Counted s c (spawn_turn s hart c)
 spawn_one hart s c room =
     let pc = value_in c hart 10 in
-    either (nat_eq (pc % 4) 0 && ((page_at c.memory pc).mapped && (page_at c.memory pc).executable)) s c (started_with s hart pc c (lowest_free c.phases)) (refused hart 22 c)
+    either (nat_eq (pc % 4) 0 && ((page_at c.memory pc).mapped && (page_at c.memory pc).executable)) s c
+    (started_with s hart pc c (lowest_free c.phases)) (refused hart 22 c)
     (started_one hart pc s c (lowest_free c.phases) room) (refused_one hart 22 s c room)
 
-joined_one : (hart : ℕ) (s : Setup) (c d : Config) (e : JoinEnd) → c.steps < s.budget → d.steps ≡ c.steps → d.accesses ≡ c.accesses → Counted s c (joined_with hart d e)
+joined_one : (hart : ℕ) (s : Setup) (c d : Config) (e : JoinEnd) → c.steps < s.budget → d.steps ≡ c.steps → d.accesses ≡ c.accesses
+    → Counted s c (joined_with hart d e)
 joined_one hart s c d Bad room steps accesses = quiet_one s c (answered hart (minus 22) d) room steps accesses
 joined_one hart s c d (Done code) room steps accesses = quiet_one s c (answered hart code d) room steps accesses
 joined_one hart s c d Waits room steps accesses = quiet_one s c (passed hart d) room steps accesses
@@ -106,7 +116,8 @@ join_one hart s c room =
     let target = value_in c hart 10 in
     joined_one hart s c (record c { phases = joined c.phases hart target }) (join_end c.phases hart target) room refl refl
 
-looked_one : (hart addr value : ℕ) (s : Setup) (c : Config) (r : Result ℕ MemFault) → c.steps < s.budget → Counted s c (looked hart addr value c r)
+looked_one : (hart addr value : ℕ) (s : Setup) (c : Config) (r : Result ℕ MemFault) → c.steps < s.budget
+    → Counted s c (looked hart addr value c r)
 looked_one hart addr value s c (Ok word) room =
     either (nat_eq word value) s c _ (refused hart 11 c)
     (record { room = room; steps = refl; accesses = omega arith }) (refused_one hart 11 s c room)
@@ -140,7 +151,8 @@ call_one hart s c room =
     (either (nat_eq number 1030) s c _ (refused hart 38 c) (record { room = room; steps = refl; accesses = omega arith })
     (refused_one hart 38 s c room))))))))))
 
-made_one : (a : Option Touch) (s : Setup) (c d : Config) → c.steps < s.budget → d.steps ≡ c.steps → d.accesses ≡ c.accesses → Counted s c (made a d)
+made_one : (a : Option Touch) (s : Setup) (c d : Config) → c.steps < s.budget → d.steps ≡ c.steps → d.accesses ≡ c.accesses
+    → Counted s c (made a d)
 made_one None s c d room steps accesses = quiet_one s c d room steps accesses
 made_one (Some a) s c d room steps accesses = record { room = room; steps = omega arith; accesses = omega arith }
 
@@ -159,7 +171,8 @@ with_one s c None within = record { steps = within; accesses = refl; memory = re
 with_one s c (Some hart) within =
     let x = stepped hart (machine_of hart (chosen c)) in
     elim (cases_Bool (nat_lt c.steps s.budget)) [
-      | inl more ↦ rw more (moved_to s c (hart_turn s hart (chosen c)) (step_one hart s (chosen c) x.end x.machine (ltb-true c.steps s.budget more)))
+      | inl more ↦
+          rw more (moved_to s c (hart_turn s hart (chosen c)) (step_one hart s (chosen c) x.end x.machine (ltb-true c.steps s.budget more)))
       | inr all ↦ rw all (record { steps = within; accesses = refl; memory = refl; least = omega arith })
     ]
 

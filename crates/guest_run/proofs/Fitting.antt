@@ -19,7 +19,9 @@ use Rattle.guest_run.specs.declared.setup.Setup.{Setup}
 use Rattle.guest_run.specs.declared.turn.Turn.{Turn}
 use Rattle.guest_run.specs.declared.turn.Turn.TheVariants.{Ran, Ended}
 use Rattle.guest_run.specs.Configs.{Config, Fits, stack_end, state_of, value_in, with_state, passed, answered, counted}
-use Rattle.guest_run.specs.Calls.{RunTurn, ran, over, quietly, minus, refused, are_mapped, written, write_turn, block_answered, alloc_turn, free_turn, given_to, exit_turn, started_with, spawn_turn, joined_with, join_turn, looked, wait_turn, wake_turn, call_turn}
+use Rattle.guest_run.specs.Calls.{RunTurn, ran, over, quietly, minus, refused, are_mapped, written, write_turn, block_answered, alloc_turn}
+use Rattle.guest_run.specs.Calls.{free_turn, given_to, exit_turn, started_with, spawn_turn, joined_with, join_turn, looked, wait_turn}
+use Rattle.guest_run.specs.Calls.{wake_turn, call_turn}
 use Rattle.std.specs.Option.{option_map_or}
 use Rattle.hart_scheduler.specs.Choices.{Plan, choice, plan_with}
 use Rattle.guest_run.specs.Turns.{chosen, runnable_in}
@@ -38,9 +40,17 @@ fits_counted : (h : ℕ) (c : Config) → Fits h c → Fits h (counted c)
 fits_counted h c f = record { states = f.states; held = f.held; phases = f.phases; calls = f.calls; plan = f.plan }
 
 fits_state : (h hart : ℕ) (s : Registers) (c : Config) → Fits h c → Fits h (with_state hart s c)
-fits_state h hart s c f = record { states = length-set c.states hart s ∙ f.states; held = f.held; phases = f.phases; calls = f.calls; plan = f.plan }
+fits_state h hart s c f = record {
+  states = length-set c.states hart s ∙ f.states;
+  held = f.held;
+  phases = f.phases;
+  calls = f.calls;
+  plan =
+      f.plan;
+}
 
-fits_phases : (h : ℕ) (phases : List HartPhase) (c : Config) → length phases ≡ length c.phases → Fits h c → Fits h (record c { phases = phases })
+fits_phases : (h : ℕ) (phases : List HartPhase) (c : Config) → length phases ≡ length c.phases → Fits h c
+    → Fits h (record c { phases = phases })
 fits_phases h phases c same f = record { states = f.states; held = f.held; phases = same ∙ f.phases; calls = f.calls; plan = f.plan }
 
 fits_answered : (h hart v : ℕ) (c : Config) → Fits h c → Fits h (counted (answered hart v c))
@@ -58,7 +68,8 @@ fits_written h hart at len c f =
 
 fits_write : (h hart : ℕ) (c : Config) → Fits h c → FitsTurn h (write_turn hart c)
 fits_write h hart c f =
-    either (nat_eq (value_in c hart 10) 1 || nat_eq (value_in c hart 10) 2) h (written hart (value_in c hart 11) (min (value_in c hart 12) 4096) c) (refused hart 22 c)
+    either (nat_eq (value_in c hart 10) 1 || nat_eq (value_in c hart 10) 2) h
+    (written hart (value_in c hart 11) (min (value_in c hart 12) 4096) c) (refused hart 22 c)
     (fits_written h hart (value_in c hart 11) (min (value_in c hart 12) 4096) c f) (fits_refused h hart 22 c f)
 
 fits_block : (h hart size : ℕ) (o : Option ℕ) (c : Config) → Fits h c → FitsTurn h (block_answered hart size o c)
@@ -82,19 +93,27 @@ fits_free h hart c f =
 
 fits_given : (h : ℕ) (o : Option ℕ) (code : ℕ) (c : Config) → Fits h c → FitsTurn h (quietly (given_to o code c))
 fits_given h None code c f = fits_counted h c f
-fits_given h (Some joiner) code c f = fits_counted h (given_to (Some joiner) code c) (fits_state h joiner (with_reg (state_of c joiner) 10 code) c f)
+fits_given h (Some joiner) code c f = fits_counted h (given_to (Some joiner) code c)
+    (fits_state h joiner (with_reg (state_of c joiner) 10 code) c f)
 
 fits_exit : (h hart : ℕ) (c : Config) → Fits h c → FitsTurn h (exit_turn hart c)
 fits_exit h hart c f =
     let code = value_in c hart 10 in
     let d : Config = record c { phases = exited c.phases hart code } in
-    fits_given h (joiner_of c.phases hart) code (passed hart d) (fits_passed h hart d (fits_phases h (exited c.phases hart code) c (length-exited c.phases hart code) f))
+    fits_given h (joiner_of c.phases hart) code (passed hart d)
+    (fits_passed h hart d (fits_phases h (exited c.phases hart code) c (length-exited c.phases hart code) f))
 
 fits_started : (h hart pc : ℕ) (s : Setup) (c : Config) (o : Option ℕ) → Fits h c → FitsTurn h (started_with s hart pc c o)
 fits_started h hart pc s c None f = fits_refused h hart 11 c f
 fits_started h hart pc s c (Some new) f =
     let state : Registers = started pc (stack_end s new) (value_in c hart 3) (value_in c hart 11) in
-    let d : Config = record c { states = set c.states new state; held = set c.held new None; phases = spawned c.phases; calls = set c.calls new [] } in
+    let d : Config = record c {
+      states = set c.states new state;
+      held = set c.held new None;
+      phases = spawned c.phases;
+      calls =
+          set c.calls new [];
+    } in
     fits_answered h hart new d
     (record {
       states = length-set c.states new state ∙ f.states;
@@ -107,7 +126,8 @@ fits_started h hart pc s c (Some new) f =
 fits_spawn : (h hart : ℕ) (s : Setup) (c : Config) → Fits h c → FitsTurn h (spawn_turn s hart c)
 fits_spawn h hart s c f =
     let pc = value_in c hart 10 in
-    either (nat_eq (pc % 4) 0 && ((page_at c.memory pc).mapped && (page_at c.memory pc).executable)) h (started_with s hart pc c (lowest_free c.phases)) (refused hart 22 c)
+    either (nat_eq (pc % 4) 0 && ((page_at c.memory pc).mapped && (page_at c.memory pc).executable)) h
+    (started_with s hart pc c (lowest_free c.phases)) (refused hart 22 c)
     (fits_started h hart pc s c (lowest_free c.phases) f) (fits_refused h hart 22 c f)
 
 fits_joined : (h hart : ℕ) (c : Config) (e : JoinEnd) → Fits h c → FitsTurn h (joined_with hart c e)
@@ -118,13 +138,15 @@ fits_joined h hart c Waits f = fits_counted h (passed hart c) (fits_passed h har
 fits_join : (h hart : ℕ) (c : Config) → Fits h c → FitsTurn h (join_turn hart c)
 fits_join h hart c f =
     let target = value_in c hart 10 in
-    fits_joined h hart (record c { phases = joined c.phases hart target }) (join_end c.phases hart target) (fits_phases h (joined c.phases hart target) c (length-joined c.phases hart target) f)
+    fits_joined h hart (record c { phases = joined c.phases hart target }) (join_end c.phases hart target)
+    (fits_phases h (joined c.phases hart target) c (length-joined c.phases hart target) f)
 
 fits_looked : (h hart addr value : ℕ) (c : Config) (r : Result ℕ MemFault) → Fits h c → FitsTurn h (looked hart addr value c r)
 fits_looked h hart addr value c (Ok word) f =
     let d : Config = record c { phases = set c.phases hart (Waiting addr) } in
     either (nat_eq word value) h (quietly (answered hart 0 d)) (refused hart 11 c)
-    (fits_answered h hart 0 d (fits_phases h (set c.phases hart (Waiting addr)) c (length-set c.phases hart (Waiting addr)) f)) (fits_refused h hart 11 c f)
+    (fits_answered h hart 0 d (fits_phases h (set c.phases hart (Waiting addr)) c (length-set c.phases hart (Waiting addr)) f))
+    (fits_refused h hart 11 c f)
 fits_looked h hart addr value c (Err Misaligned) f = fits_refused h hart 22 c f
 fits_looked h hart addr value c (Err Outside) f = fits_refused h hart 14 c f
 fits_looked h hart addr value c (Err ReadOnly) f = fits_refused h hart 14 c f
@@ -139,7 +161,8 @@ fits_wake h hart c f =
     let most = value_in c hart 11 in
     let d : Config = record c { phases = woken c.phases addr most } in
     either (nat_eq (addr % 4) 0) h (quietly (answered hart (woken_count c.phases addr most) d)) (refused hart 22 c)
-    (fits_answered h hart (woken_count c.phases addr most) d (fits_phases h (woken c.phases addr most) c (length-woken c.phases addr most) f)) (fits_refused h hart 22 c f)
+    (fits_answered h hart (woken_count c.phases addr most) d (fits_phases h (woken c.phases addr most) c (length-woken c.phases addr most)
+    f)) (fits_refused h hart 22 c f)
 
 pub fits_call : (h hart : ℕ) (s : Setup) (c : Config) → Fits h c → FitsTurn h (call_turn s hart c)
 fits_call h hart s c f =
@@ -180,7 +203,8 @@ fits_chosen h c f = record {
 
 -- after a call that comes behind a step, which keeps the number of reservations
 pub fits_called : (h hart place : ℕ) (s : Setup) (c : Config) (new : Registers) (m : Space) (held : List (Option ℕ)) (t : Turn) (d : Config)
-    → turn_seen t d ≡ call_turn s hart (record c { states = set c.states place new; memory = m; held = held }) → length held ≡ length c.held → Fits h c → Fits h d
+    → turn_seen t d ≡ call_turn s hart (record c { states = set c.states place new; memory = m; held = held }) → length held ≡ length c.held
+    → Fits h c → Fits h d
 fits_called h hart place s c new m held t d e same f =
     fits_seen h hart s (record c { states = set c.states place new; memory = m; held = held }) t d e
     (record { states = length-set c.states place new ∙ f.states; held = same ∙ f.held; phases = f.phases; calls = f.calls; plan = f.plan })

@@ -7,27 +7,32 @@ use Rattle.guest_run.specs.declared.setup.Setup.{Setup}
 use Rattle.guest_run.specs.Configs.{Config}
 use Rattle.guest_run.specs.Calls.{RunEvent, RunTurn, ran, over}
 use Rattle.guest_run.specs.Turns.{turn_of}
-use Rattle.guest_run.specs.Runs.{Run, led_by, ended_run, ending_with, last_turn, followed, run_for, run_of, touch_in, touches_of, rest_with, IsShort}
+use Rattle.guest_run.specs.Runs.{Run, led_by, ended_run, ending_with, last_turn, followed, run_for, run_of, touch_in, touches_of, rest_with}
+use Rattle.guest_run.specs.Runs.{IsShort}
 use Rattle.guest_run.proofs.Counted.{Step, Counted, turn_one}
 
-for-over : (s : Setup) (n : ℕ) (c : Config) (o : Outcome) (d : Config) → turn_of s c ≡ over o d → run_for s n c ≡ ended_run (ending_with o d)
+for-over : (s : Setup) (n : ℕ) (c : Config) (o : Outcome) (d : Config) → turn_of s c ≡ over o d
+    → run_for s n c ≡ ended_run (ending_with o d)
 for-over s zero c o d h = rw h refl
 for-over s (suc n) c o d h = rw h refl
 
 pub run_over : (s : Setup) (c : Config) (o : Outcome) (d : Config) → turn_of s c ≡ over o d → run_of s c ≡ ended_run (ending_with o d)
 run_over s c o d h = for-over s (s.budget - c.steps) c o d h
 
-for-ran : (s : Setup) (n : ℕ) (c : Config) (e : RunEvent) (d : Config) → turn_of s c ≡ ran e d → run_for s (suc n) c ≡ led_by e (run_for s n d)
+for-ran : (s : Setup) (n : ℕ) (c : Config) (e : RunEvent) (d : Config) → turn_of s c ≡ ran e d
+    → run_for s (suc n) c ≡ led_by e (run_for s n d)
 for-ran s n c e d h = rw h refl
 
-pub run_ran : (s : Setup) (c : Config) (e : RunEvent) (d : Config) → turn_of s c ≡ ran e d → c.steps ≤ s.budget → run_of s c ≡ led_by e (run_of s d)
+pub run_ran : (s : Setup) (c : Config) (e : RunEvent) (d : Config) → turn_of s c ≡ ran e d → c.steps ≤ s.budget
+    → run_of s c ≡ led_by e (run_of s d)
 run_ran s c e d h within =
     let one : Step s c e d = rw h at (turn_one s c within) in
     let left : s.budget - c.steps ≡ suc (s.budget - d.steps) = omega arith in
     rw left (for-ran s (s.budget - d.steps) c e d h)
 
 -- what is left of a run, which goes on or has ended, begins with the turn that it makes
-pub rest_ran : (s : Setup) (c : Config) (o : Option Ending) (e : RunEvent) (d : Config) → o ≡ None → ran e d ≡ turn_of s c → c.steps ≤ s.budget
+pub rest_ran : (s : Setup) (c : Config) (o : Option Ending) (e : RunEvent) (d : Config) → o ≡ None → ran e d ≡ turn_of s c
+    → c.steps ≤ s.budget
     → rest_with s c o ≡ led_by e (rest_with s d o)
 rest_ran s c o e d none h within = rw none (run_ran s c e d (sym h) within)
 

@@ -7,7 +7,8 @@ use Rattle.thread_calls.specs.declared.phase.HartPhase.{HartPhase}
 use Rattle.thread_calls.specs.declared.phase.HartPhase.TheVariants.{Free, Runnable, Joining, Ended}
 use Rattle.thread_calls.specs.declared.phase.JoinEnd.{JoinEnd}
 use Rattle.thread_calls.specs.declared.phase.JoinEnd.TheVariants.{Bad, Done, Waits}
-use Rattle.thread_calls.specs.Calls.{started, lowest_free, spawned, after_join, join_end, joined, woken_phase, woken, after_exit, joiner_of, exited}
+use Rattle.thread_calls.specs.Calls.{started, lowest_free, spawned, after_join, join_end, joined, woken_phase, woken, after_exit, joiner_of}
+use Rattle.thread_calls.specs.Calls.{exited}
 
 length-started : (phases : List HartPhase) (o : Option ℕ) → length (started phases o) ≡ length phases
 length-started phases None = refl
@@ -25,7 +26,8 @@ pub length-joined : (phases : List HartPhase) (caller target : ℕ) → length (
 length-joined phases caller target = length-after_join phases caller target (join_end phases caller target)
 
 pub length-woken : (phases : List HartPhase) (addr most : ℕ) → length (woken phases addr most) ≡ length phases
-length-woken phases addr most = length-map (range_with_len 0 (length phases)) (woken_phase phases addr most) ∙ length-range_with_len 0 (length phases)
+length-woken phases addr most = length-map (range_with_len 0 (length phases)) (woken_phase phases addr most)
+    ∙ length-range_with_len 0 (length phases)
 
 length-after_exit : (phases : List HartPhase) (caller code : ℕ) (o : Option ℕ) → length (after_exit phases caller code o) ≡ length phases
 length-after_exit phases caller code None = length-set phases caller (Ended code)

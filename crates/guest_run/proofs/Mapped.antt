@@ -11,7 +11,8 @@ and_false false = refl
 
 pub all_mapped : (m : Space) (at len : ℕ) → AllMapped m at len → are_mapped m at len ≡ true
 all_mapped m at zero all = refl
-all_mapped m at (suc n) all = rw (all at (omega arith) (omega arith)) (all_mapped m (at + 1) n (λ a low high. all a (omega arith) (omega arith)))
+all_mapped m at (suc n) all = rw (all at (omega arith) (omega arith))
+    (all_mapped m (at + 1) n (λ a low high. all a (omega arith) (omega arith)))
 
 unmapped-at : (m : Space) (at len a : ℕ) → at ≤ a → a < at + len → (page_at m a).mapped ≡ false → are_mapped m at len ≡ false
 unmapped-at m at zero a low high off = absurd (omega arith)

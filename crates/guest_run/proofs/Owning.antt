@@ -11,12 +11,14 @@ use Rattle.guest_memory.specs.Faults.{fetched}
 use Rattle.guest_memory.specs.declared.page.MemFault.{MemFault}
 use Rattle.rv32_decode.specs.Table.{decoded}
 use Rattle.rv32_decode.specs.declared.instruction.Instr.{Instr}
-use Rattle.rv32_decode.specs.declared.instruction.Instr.TheVariants.{Lui, Auipc, Jal, Jalr, Branch, Load, Store, Imm, Op, Fence, Ecall, Ebreak, Lr, Sc, Amo}
+use Rattle.rv32_decode.specs.declared.instruction.Instr.TheVariants.{Lui, Auipc, Jal, Jalr, Branch, Load, Store, Imm, Op, Fence, Ecall}
+use Rattle.rv32_decode.specs.declared.instruction.Instr.TheVariants.{Ebreak, Lr, Sc, Amo}
 use Rattle.rv32_machine.specs.Registers.{Registers, reg, moved}
 use Rattle.rv32_machine.specs.Reserved.{is_of, held_by}
 use Rattle.rv32_machine.specs.declared.step_end.StepEnd.{StepEnd}
 use Rattle.rv32_machine.specs.declared.step_end.StepEnd.TheVariants.{Next, Call, Trap}
-use Rattle.rv32_machine.specs.Effect.{Machine, Outcome, outcome, jumps, branches, holds, extended, after_load, after_store, after_lr, after_sc, effect, after_decode, after_fetch, stepped}
+use Rattle.rv32_machine.specs.Effect.{Machine, Outcome, outcome, jumps, branches, holds, extended, after_load, after_store, after_lr}
+use Rattle.rv32_machine.specs.Effect.{after_sc, effect, after_decode, after_fetch, stepped}
 
 abbrev pub IsOwnAccess : ℕ → Option Touch → Type 0
 IsOwnAccess hart None = Unit {0}
@@ -34,11 +36,13 @@ either : (b : Bool) (hart : ℕ) (o p : Outcome) → IsOwn hart o → IsOwn hart
 either true hart o p h k = h
 either false hart o p h k = k
 
-own_load : (hart : ℕ) (i : Instr) (d a size : ℕ) (f : ℕ → ℕ) (x : Machine) (r : Result ℕ MemFault) → IsOwn hart (after_load hart i d a size f x r)
+own_load : (hart : ℕ) (i : Instr) (d a size : ℕ) (f : ℕ → ℕ) (x : Machine) (r : Result ℕ MemFault)
+    → IsOwn hart (after_load hart i d a size f x r)
 own_load hart i d a size f x (Ok v) = refl
 own_load hart i d a size f x (Err e) = tt
 
-own_store : (hart : ℕ) (i : Instr) (a size value : ℕ) (s : Registers) (x : Machine) (r : Option MemFault) → IsOwn hart (after_store hart i a size value s x r)
+own_store : (hart : ℕ) (i : Instr) (a size value : ℕ) (s : Registers) (x : Machine) (r : Option MemFault)
+    → IsOwn hart (after_store hart i a size value s x r)
 own_store hart i a size value s x None = refl
 own_store hart i a size value s x (Some e) = tt
 
@@ -61,7 +65,8 @@ own_effect hart (Lui d n) x = tt
 own_effect hart (Auipc d n) x = tt
 own_effect hart (Jal d z) x = own_jump hart _ _ _ _ x
 own_effect hart (Jalr d s z) x = own_jump hart _ _ _ _ x
-own_effect hart (Branch t s r z) x = either (holds t (reg x.state s) (reg x.state r)) hart _ _ (own_branch hart (Branch t s r z) (moved x.state.pc z) x) tt
+own_effect hart (Branch t s r z) x = either (holds t (reg x.state s) (reg x.state r)) hart _ _
+    (own_branch hart (Branch t s r z) (moved x.state.pc z) x) tt
 own_effect hart (Load k d s z) x = own_load hart _ _ _ _ (extended k) x _
 own_effect hart (Store k s t z) x = own_store hart _ _ _ _ _ x _
 own_effect hart (Imm o d s z) x = tt
@@ -88,11 +93,13 @@ own_step hart x = own_fetch hart x (fetched x.memory x.state.pc)
 own_access : (hart : ℕ) (x y : Machine) (i : Instr) (a : Touch) → outcome (Next i (Some a)) y ≡ stepped hart x → a.hart ≡ hart
 own_access hart x y i a h = let P : Outcome → Type 0 = λ o. IsOwn hart o in subst P (sym h) (own_step hart x)
 
-own_below : (hart harts : ℕ) (x y : Machine) (i : Instr) (a : Touch) → outcome (Next i (Some a)) y ≡ stepped hart x → hart < harts → a.hart < harts
+own_below : (hart harts : ℕ) (x y : Machine) (i : Instr) (a : Touch) → outcome (Next i (Some a)) y ≡ stepped hart x → hart < harts
+    → a.hart < harts
 own_below hart harts x y i a h below = rw (own_access hart x y i a h) below
 
 -- what is seen of a step is an access of its hart, or nothing
-pub own_seen : (hart harts : ℕ) (x y : Machine) (i : Instr) (o : Option Touch) (c : Config) → outcome (Next i o) y ≡ stepped hart x → hart < harts
+pub own_seen : (hart harts : ℕ) (x y : Machine) (i : Instr) (o : Option Touch) (c : Config) → outcome (Next i o) y ≡ stepped hart x
+    → hart < harts
     → IsSeen harts (Ran (option_map_or Touched o Quiet)) c
 own_seen hart harts x y i None c h below = tt
 own_seen hart harts x y i (Some a) c h below = own_below hart harts x y i a h below

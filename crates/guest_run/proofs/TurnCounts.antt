@@ -35,8 +35,14 @@ made-by : (s : Setup) (c : Config) (t : Turn) (d : Config) → Counted s c (turn
 made-by s c (Ran e) d one within =
     let n : length (touch_in (seen d.memory e)) ≡ accesses_in e = touches-seen d.memory e in
     let accesses : d.accesses ≡ c.accesses + accesses_in e = omega (arith, one.accesses, n) in
-    record { counts = (one.steps, accesses); accesses = omega (arith, one.steps, at-most-one e); steps = omega (arith, one.steps, one.room) }
+    record {
+      counts = (one.steps, accesses);
+      accesses = omega (arith, one.steps, at-most-one e);
+      steps =
+          omega (arith, one.steps, one.room);
+    }
 made-by s c (Ended o) d one within = record { counts = one.memory; accesses = omega (arith, one.accesses, one.least); steps = one.steps }
 
-pub turn_counts : (s : Setup) (c : Config) (t : Turn) (d : Config) → turn_seen t d ≡ turn_of s c → c.accesses ≤ c.steps → c.steps ≤ s.budget → Made s c t d
+pub turn_counts : (s : Setup) (c : Config) (t : Turn) (d : Config) → turn_seen t d ≡ turn_of s c → c.accesses ≤ c.steps → c.steps ≤ s.budget
+    → Made s c t d
 turn_counts s c t d h within room = made-by s c t d (rw h (turn_one s c room)) within

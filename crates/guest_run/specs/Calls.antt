@@ -1,5 +1,7 @@
--- The calls of a guest. A call's number stands in x17, what it is given in x10, x11 and x12, and its answer in x10.
-use Rattle.std.specs.Prelude.{ℕ, ◌-◌, ◌%◌, ◌^◌, Bool, ◌&&◌, ◌||◌, if◌then◌else◌, nat_eq, min, List, [], ◌∷◌, Option, None, Some, Result, Ok, Err, slice_set}
+-- The calls of a guest. A call's number stands in x17, what it is given in x10, x11 and x12, and
+-- its answer in x10.
+use Rattle.std.specs.Prelude.{ℕ, ◌-◌, ◌%◌, ◌^◌, Bool, ◌&&◌, ◌||◌, if◌then◌else◌, nat_eq, min, List}
+use Rattle.std.specs.Prelude.{[], ◌∷◌, Option, None, Some, Result, Ok, Err, slice_set}
 use Rattle.std.specs.List.{list_all, list_any, range_with_len}
 use Rattle.predator_base.specs.Touch.{Touch}
 use Rattle.predator_base.specs.declared.ending.Outcome.{Outcome}
@@ -7,20 +9,24 @@ use Rattle.predator_base.specs.declared.ending.Outcome.TheVariants.{Exit}
 use Rattle.guest_memory.specs.Space.{Space, page_at, bytes_at}
 use Rattle.guest_memory.specs.Faults.{loaded}
 use Rattle.guest_memory.specs.declared.page.MemFault.{MemFault}
-use Rattle.guest_memory.specs.declared.page.MemFault.TheVariants.{Misaligned, Outside, ReadOnly, NotExecutable}
+use Rattle.guest_memory.specs.declared.page.MemFault.TheVariants.{Misaligned, Outside, ReadOnly}
+use Rattle.guest_memory.specs.declared.page.MemFault.TheVariants.{NotExecutable}
 use Rattle.rv32_machine.specs.Registers.{started}
 use Rattle.thread_calls.specs.declared.phase.HartPhase.TheVariants.{Waiting}
 use Rattle.thread_calls.specs.declared.phase.JoinEnd.{JoinEnd}
 use Rattle.thread_calls.specs.declared.phase.JoinEnd.TheVariants.{Bad, Done, Waits}
-use Rattle.thread_calls.specs.Calls.{exited, joiner_of, join_end, joined, lowest_free, spawned, woken, woken_count}
+use Rattle.thread_calls.specs.Calls.{exited, joiner_of, join_end, joined, lowest_free, spawned}
+use Rattle.thread_calls.specs.Calls.{woken, woken_count}
 use Rattle.guest_run.specs.declared.setup.Setup.{Setup}
 use Rattle.heap_objects.specs.Heaps.{after_alloc, after_free, lives_at}
 use Rattle.callsites.specs.Calls.{last_four}
 use Rattle.guest_run.specs.Places.{least_place}
-use Rattle.guest_run.specs.Configs.{Config, stack_end, value_in, calls_of, given, passed, answered, counted}
+use Rattle.guest_run.specs.Configs.{Config, stack_end, value_in, calls_of, given, passed, answered}
+use Rattle.guest_run.specs.Configs.{counted}
 
--- What is seen of a step: nothing, the access that it made, the block that it made, by its address, its size and the
--- last calls of its hart, the block that it freed, or the bytes that it put out, from an address on.
+-- What is seen of a step: nothing, the access that it made, the block that it made, by its address,
+-- its size and the last calls of its hart, the block that it freed, or the bytes that it put out,
+-- from an address on.
 pub data RunEvent : Type 0 where
   quiet : RunEvent
   touch : Touch → RunEvent
@@ -58,14 +64,16 @@ put_out at (b ∷ bytes) = output at (b ∷ bytes)
 -- the bytes from an address on are put out
 abbrev pub written : ℕ → ℕ → ℕ → Config → RunTurn
 written hart at len c =
-    if are_mapped c.memory at len then ran (put_out at (bytes_at c.memory at len)) (counted (answered hart len c))
+    if are_mapped c.memory at len then ran (put_out at (bytes_at c.memory at len))
+    (counted (answered hart len c))
     else refused hart 14 c
 
 -- to the file 1 or 2, of so many bytes from an address on, of which it takes 4096 at most
 abbrev pub write_turn : ℕ → Config → RunTurn
 write_turn hart c =
     let file = value_in c hart 10 in
-    if nat_eq file 1 || nat_eq file 2 then written hart (value_in c hart 11) (min (value_in c hart 12) 4096) c
+    if nat_eq file 1 || nat_eq file 2 then written hart (value_in c hart 11)
+    (min (value_in c hart 12) 4096) c
     else refused hart 22 c
 
 -- ---- alloc and free
@@ -104,7 +112,8 @@ given_to (Some joiner) code c = given joiner code c
 abbrev pub exit_turn : ℕ → Config → RunTurn
 exit_turn hart c =
     let code = value_in c hart 10 in
-    quietly (given_to (joiner_of c.phases hart) code (passed hart (record c { phases = exited c.phases hart code })))
+    quietly (given_to (joiner_of c.phases hart) code
+    (passed hart (record c { phases = exited c.phases hart code })))
 
 abbrev pub exit_group_turn : ℕ → Config → RunTurn
 exit_group_turn hart c = over (Exit (value_in c hart 10)) (counted (passed hart c))
@@ -116,7 +125,8 @@ abbrev pub started_with : Setup → ℕ → ℕ → Config → Option ℕ → Ru
 started_with s hart pc c None = refused hart 11 c
 started_with s hart pc c (Some new) =
     quietly (answered hart new (record c {
-      states = slice_set c.states new (started pc (stack_end s new) (value_in c hart 3) (value_in c hart 11));
+      states = slice_set c.states new
+          (started pc (stack_end s new) (value_in c hart 3) (value_in c hart 11));
       held = slice_set c.held new None;
       phases = spawned c.phases;
       calls = slice_set c.calls new [];
@@ -140,14 +150,17 @@ joined_with hart c Waits = quietly (passed hart c)
 abbrev pub join_turn : ℕ → Config → RunTurn
 join_turn hart c =
     let target = value_in c hart 10 in
-    joined_with hart (record c { phases = joined c.phases hart target }) (join_end c.phases hart target)
+    joined_with hart (record c { phases = joined c.phases hart target })
+    (join_end c.phases hart target)
 
 -- ---- wait and wake
 
 -- the word is judged as it is loaded
 abbrev pub looked : ℕ → ℕ → ℕ → Config → Result ℕ MemFault → RunTurn
 looked hart addr value c (Ok word) =
-    if nat_eq word value then quietly (answered hart 0 (record c { phases = slice_set c.phases hart (Waiting addr) }))
+    if nat_eq word value
+    then quietly
+    (answered hart 0 (record c { phases = slice_set c.phases hart (Waiting addr) }))
     else refused hart 11 c
 looked hart addr value c (Err Misaligned) = refused hart 22 c
 looked hart addr value c (Err Outside) = refused hart 14 c
@@ -166,7 +179,9 @@ wake_turn hart c =
     let addr = value_in c hart 10 in
     let most = value_in c hart 11 in
     if nat_eq (addr % 4) 0
-    then quietly (answered hart (woken_count c.phases addr most) (record c { phases = woken c.phases addr most }))
+    then quietly
+    (answered hart (woken_count c.phases addr most)
+    (record c { phases = woken c.phases addr most }))
     else refused hart 22 c
 
 -- ---- all calls

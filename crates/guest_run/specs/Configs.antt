@@ -1,5 +1,6 @@
 -- The configurations of a guest's run: all that its steps change.
-use Rattle.std.specs.Prelude.{◌≡◌, ℕ, ◌+◌, ◌-◌, ◌*◌, ◌<◌, ◌^◌, List, [], length, replicate, Option, None, slice_index_or, slice_set}
+use Rattle.std.specs.Prelude.{◌≡◌, ℕ, ◌+◌, ◌-◌, ◌*◌, ◌<◌, ◌^◌, List, [], length, replicate, Option}
+use Rattle.std.specs.Prelude.{None, slice_index_or, slice_set}
 use Rattle.guest_memory.specs.Space.{Space}
 use Rattle.rv32_machine.specs.Registers.{Registers, started, reg, with_reg, advanced}
 use Rattle.thread_calls.specs.declared.phase.HartPhase.{HartPhase}
@@ -11,8 +12,8 @@ use Rattle.rv32_decode.specs.declared.instruction.Instr.{Instr}
 use Rattle.hart_scheduler.specs.Choices.{Plan}
 use Rattle.guest_run.specs.declared.setup.Setup.{Setup}
 
--- The memory; the registers, the reservation, the phase and the call list of each hart; the heap; what the schedule has
--- still to say; and the steps and the accesses so far.
+-- The memory; the registers, the reservation, the phase and the call list of each hart; the heap;
+-- what the schedule has still to say; and the steps and the accesses so far.
 pub record Config : Type 0 where
   pub memory : Space
   pub states : List Registers
@@ -32,7 +33,8 @@ stack_end s hart = s.top - hart * s.stack
 abbrev pub unused : Registers
 unused = started 0 0 0 0
 
--- hart 0 is at the entry, with its stack's end in x2, and all other registers are zero; no block was made
+-- hart 0 is at the entry, with its stack's end in x2, and all other registers are zero; no block
+-- was made
 abbrev pub first_config : Setup → Space → Heap → ℕ → Plan → Config
 first_config s memory heap entry plan = record {
   memory = memory;

@@ -2,7 +2,8 @@
 use Rattle.std.specs.Prelude.{◌≡◌, ℕ, ◌+◌, ◌<◌, ◌≤◌, ◌%◌, ◌^◌, Option, None, Some}
 use Rattle.predator_base.specs.declared.ending.Ending.{Ending}
 use Rattle.predator_base.specs.declared.ending.Outcome.{Outcome}
-use Rattle.predator_base.specs.declared.ending.Outcome.TheVariants.{Exit, Budget, Deadlock, Trap, Part}
+use Rattle.predator_base.specs.declared.ending.Outcome.TheVariants.{Exit, Budget, Deadlock, Trap}
+use Rattle.predator_base.specs.declared.ending.Outcome.TheVariants.{Part}
 use Rattle.guest_memory.specs.Space.{Space, bytes_at, AllMapped}
 use Rattle.guest_run.specs.declared.turn.Event.{Event}
 use Rattle.guest_run.specs.declared.turn.Event.TheVariants.{Quiet, Touch, Alloc, Free, Output}
@@ -52,7 +53,8 @@ pub record IsWithin (p : Progress) : Type 0 where
   pub accesses : p.config.accesses ≤ p.config.steps
   pub steps : p.config.steps ≤ p.setup.budget
 
--- a code is a word; a trap is that of one of so many harts, at an address that is a multiple of 4; a run is whole
+-- a code is a word; a trap is that of one of so many harts, at an address that is a multiple of 4;
+-- a run is whole
 abbrev pub IsEndOf : ℕ → Outcome → Type 0
 IsEndOf harts (Exit code) = code < 2 ^ 32
 IsEndOf harts Budget = Unit {0}
@@ -60,7 +62,8 @@ IsEndOf harts Deadlock = Unit {0}
 IsEndOf harts (Trap hart pc cause) = (hart < harts) × (pc < 2 ^ 32) × (pc % 4 ≡ 0)
 IsEndOf harts Part = ⊥
 
--- an access is that of one of so many harts; 1 to 4096 bytes are put out, which can be read in the memory
+-- an access is that of one of so many harts; 1 to 4096 bytes are put out, which can be read in the
+-- memory
 abbrev pub IsSeen : ℕ → Turn → Config → Type 0
 IsSeen harts (Ran Quiet) c = Unit {0}
 IsSeen harts (Ran (Touch a)) c = a.hart < harts

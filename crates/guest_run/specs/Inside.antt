@@ -3,4 +3,16 @@ use Rattle.guest_run.specs.declared.configuration.Configuration.{Configuration}
 use Rattle.guest_run.specs.Configs.{Config}
 
 abbrev pub config_of : Configuration → Config
-config_of x = record { memory = x.memory; states = x.states.items; held = x.held; phases = x.threads; calls = x.calls.items; heap = x.heap; plan = x.schedule; steps = x.steps; accesses = x.accesses }
+config_of x = record {
+  memory = x.memory;
+  states = x.states.items;
+  held = x.held;
+  phases =
+      x.threads;
+  calls = x.calls.items;
+  heap = x.heap;
+  plan = x.schedule;
+  steps = x.steps;
+  accesses =
+      x.accesses;
+}

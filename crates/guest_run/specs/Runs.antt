@@ -1,5 +1,6 @@
 -- Whole runs.
-use Rattle.std.specs.Prelude.{◌≡◌, ℕ, zero, suc, ◌-◌, ◌≤◌, List, [], ◌∷◌, ◌++◌, length, Option, None, Some}
+use Rattle.std.specs.Prelude.{◌≡◌, ℕ, zero, suc, ◌-◌, ◌≤◌, List, [], ◌∷◌, ◌++◌, length, Option}
+use Rattle.std.specs.Prelude.{None, Some}
 use Rattle.predator_base.specs.Touch.{Touch}
 use Rattle.predator_base.specs.declared.ending.Ending.{Ending}
 use Rattle.predator_base.specs.declared.ending.Outcome.{Outcome}
@@ -35,8 +36,9 @@ abbrev pub followed : (Config → Run) → RunTurn → Run
 followed later (ran e d) = led_by e (later d)
 followed later (over o d) = ended_run (ending_with o d)
 
--- The run from a configuration on: each configuration is judged, and is the last one or makes one step to the next. The
--- number is that of the steps which the budget leaves, so that the last turn is none that makes a step.
+-- The run from a configuration on: each configuration is judged, and is the last one or makes one
+-- step to the next. The number is that of the steps which the budget leaves, so that the last turn
+-- is none that makes a step.
 abbrev pub run_for : Setup → ℕ → Config → Run
 run_for s zero c = last_turn c (turn_of s c)
 run_for s (suc n) c = followed (λ d. run_for s n d) (turn_of s c)

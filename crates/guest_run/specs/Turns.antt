@@ -1,8 +1,9 @@
 -- One turn of a guest: it is judged whether the run is over, and else a hart makes one step.
-use Rattle.std.specs.Prelude.{ℕ, ◌+◌, Bool, true, false, ◌&&◌, if◌then◌else◌, nat_eq, nat_lt, List, map, Option, None, Some, slice_set}
-use Rattle.std.specs.Option.{option_map_or}
+use Rattle.std.specs.Prelude.{◌≡◌, ℕ, ◌+◌, Bool, true, false, if◌then◌else◌, nat_lt, List, map}
+use Rattle.std.specs.Prelude.{Option, None, Some, slice_set}
 use Rattle.predator_base.specs.Touch.{Touch}
-use Rattle.predator_base.specs.declared.ending.Outcome.TheVariants.{Exit, Budget, Deadlock, Trap as Trapped}
+use Rattle.predator_base.specs.declared.ending.Outcome.TheVariants.{Exit, Budget, Deadlock}
+use Rattle.predator_base.specs.declared.ending.Outcome.TheVariants.{Trap as Trapped}
 use Rattle.rv32_machine.specs.Effect.{Machine, machine, stepped}
 use Rattle.rv32_machine.specs.declared.step_end.StepEnd.{StepEnd}
 use Rattle.rv32_machine.specs.declared.step_end.StepEnd.TheVariants.{Next, Call, Trap}
@@ -10,15 +11,20 @@ use Rattle.thread_calls.specs.Phases.{is_runnable}
 use Rattle.thread_calls.specs.Calls.{finished_code}
 use Rattle.hart_scheduler.specs.Choices.{choice, plan_after}
 use Rattle.guest_run.specs.declared.setup.Setup.{Setup}
-use Rattle.guest_run.specs.Configs.{Config, state_of, value_in, noted, counted}
-use Rattle.guest_run.specs.Calls.{touch, RunTurn, ran, over, quietly, call_turn}
+use Rattle.guest_run.specs.Configs.{Config, state_of, noted, counted}
+use Rattle.guest_run.specs.Calls.{RunEvent, quiet, touch, alloc, free, output, RunTurn, ran, over}
+use Rattle.guest_run.specs.Calls.{quietly, call_turn}
 
 -- what a step of a hart sees, and the configuration that the step leaves
 abbrev pub machine_of : ℕ → Config → Machine
 machine_of hart c = machine (state_of c hart) c.memory c.held
 
 abbrev pub with_machine : ℕ → Machine → Config → Config
-with_machine hart x c = record c { memory = x.memory; states = slice_set c.states hart x.state; held = x.held }
+with_machine hart x c = record c {
+  memory = x.memory;
+  states = slice_set c.states hart x.state;
+  held = x.held;
+}
 
 -- a step with its access, if it made one
 abbrev pub made : Option Touch → Config → RunTurn
@@ -27,7 +33,8 @@ made (Some a) c = ran (touch a) (counted (record c { accesses = c.accesses + 1 }
 
 -- the hart's call list sees each instruction that is made; a trap ends the run, and is no step
 abbrev pub after_step : Setup → ℕ → Config → StepEnd → Machine → RunTurn
-after_step s hart c (Next instr a) x = made a (noted hart instr (state_of c hart).pc (with_machine hart x c))
+after_step s hart c (Next instr a) x =
+    made a (noted hart instr (state_of c hart).pc (with_machine hart x c))
 after_step s hart c Call x = call_turn s hart c
 after_step s hart c (Trap cause) x = over (Trapped hart (state_of c hart).pc cause) c
 
@@ -41,31 +48,36 @@ hart_turn s hart c =
 abbrev pub runnable_in : Config → List Bool
 runnable_in c = map is_runnable c.phases
 
+-- this hart is the one that the schedule chooses
+abbrev pub IsNext : ℕ → Config → Type 0
+IsNext hart c = choice (runnable_in c) c.plan ≡ Some hart
+
 -- the choice of a hart is made
 abbrev pub chosen : Config → Config
 chosen c = record c { plan = plan_after (runnable_in c) c.plan }
 
 abbrev pub turn_with : Setup → Config → Option ℕ → RunTurn
 turn_with s c None = over Deadlock c
-turn_with s c (Some hart) = if nat_lt c.steps s.budget then hart_turn s hart (chosen c) else over Budget c
+turn_with s c (Some hart) = if nat_lt c.steps s.budget then hart_turn s hart (chosen c)
+    else over Budget c
 
 abbrev pub turn_unless : Setup → Config → Option ℕ → RunTurn
 turn_unless s c (Some code) = over (Exit code) c
 turn_unless s c None = turn_with s c (choice (runnable_in c) c.plan)
 
--- whether the next step is the call that makes a block, if a step is left
-abbrev pub is_at_call : StepEnd → Bool
-is_at_call (Next instr a) = false
-is_at_call Call = true
-is_at_call (Trap cause) = false
-
-abbrev pub is_at_alloc : Config → ℕ → Bool
-is_at_alloc c hart = is_at_call (stepped hart (machine_of hart c)).end && nat_eq (value_in c hart 17) 1024
-
-abbrev pub makes_block : Config → Bool
-makes_block c = option_map_or (is_at_alloc c) (choice (runnable_in c) c.plan) false
-
--- A turn: all harts have ended, or none can run, or all steps that the run may take are taken, or else the hart that is
--- next carries out an instruction.
+-- A turn: all harts have ended, or none can run, or all steps that the run may take are taken, or
+-- else the hart that is next carries out an instruction.
 unfoldable pub turn_of : Setup → Config → RunTurn
 turn_of s c = turn_unless s c (finished_code c.phases)
+
+-- whether a turn makes a heap block, which no turn does that ends the run
+abbrev pub is_block : RunEvent → Bool
+is_block quiet = false
+is_block (touch a) = false
+is_block (alloc at size sites) = true
+is_block (free at) = false
+is_block (output at bytes) = false
+
+abbrev pub makes_block : RunTurn → Bool
+makes_block (ran e c) = is_block e
+makes_block (over o c) = false

@@ -1,5 +1,5 @@
 -- What is true of every guest.
-use Rattle.std.specs.Prelude.{◌≡◌, ◌≤◌, ◌^◌, IfSome}
+use Rattle.std.specs.Prelude.{◌≡◌, ◌≤◌, IfSome}
 use Rattle.guest_run.specs.declared.guest.Guest.TheInside.{Inside}
 use Rattle.guest_run.specs.Configs.{Fits}
 use Rattle.guest_run.specs.Inside.{config_of}

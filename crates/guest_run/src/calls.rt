@@ -1,11 +1,15 @@
 // The calls of a guest, each a counted step.
-ghost use Rattle.std.specs.Prelude.{◌≡◌, ◌≢◌, ℕ, ◌+◌, ◌<◌, ◌≤◌, ◌%◌, ◌^◌, length, IfOk, IsOk, OnErr};
+ghost use Rattle.std.specs.Prelude.{◌≡◌, ◌≢◌, ℕ, ◌+◌, ◌<◌, ◌≤◌, ◌%◌, ◌^◌, length, IfOk, IsOk};
+ghost use Rattle.std.specs.Prelude.{IsFalse, OnErr};
 ghost use Rattle.std.specs.Bool.{OnTrue};
 ghost use Rattle.guest_memory.specs.Space.{AllMapped};
 ghost use Rattle.thread_calls.specs.Calls.{lowest_free};
 ghost use Rattle.guest_run.specs.Configs.{CanStep, answered, value_in};
-ghost use Rattle.guest_run.specs.Turns.{chosen};
-ghost use Rattle.guest_run.specs.Calls.{alloc_turn, are_mapped, block_answered, call_turn, exit_group_turn, exit_turn, free_turn, join_turn, minus, quietly, refused, spawn_turn, started_with, wait_turn, wake_turn, write_turn, written};
+ghost use Rattle.guest_run.specs.Turns.{IsNext, chosen, makes_block};
+ghost use Rattle.guest_run.specs.Calls.{alloc_turn, are_mapped, block_answered, call_turn};
+ghost use Rattle.guest_run.specs.Calls.{exit_group_turn, exit_turn, free_turn, join_turn, minus};
+ghost use Rattle.guest_run.specs.Calls.{quietly, refused, spawn_turn, started_with, wait_turn};
+ghost use Rattle.guest_run.specs.Calls.{wake_turn, write_turn, written};
 ghost use Rattle.guest_run.specs.Inside.{config_of};
 ghost use Rattle.guest_run.specs.Facts.{IsSeen, turn_seen};
 
@@ -80,7 +84,8 @@ impl Configuration {
     fn answer_quietly(&mut self, hart: Hart, value: u32) -> Turn
         requires there { hart < length self.old.states.items }
         requires few { self.old.steps + 1 < 2 ^ 64 }
-        ensures turn { turn_seen result (config_of self.new) ≡ quietly (answered hart value (config_of self.old)) }
+        ensures turn { turn_seen result (config_of self.new) ≡ quietly
+            (answered hart value (config_of self.old)) }
         ensures quiet { result ≡ Turn.Ran Event.Quiet }
     {
         self.answer(hart, value);
@@ -92,7 +97,8 @@ impl Configuration {
         requires there { hart < length self.old.states.items }
         requires few { self.old.steps + 1 < 2 ^ 64 }
         requires fault { 1 ≤ fault }
-        ensures turn { turn_seen result (config_of self.new) ≡ refused hart fault (config_of self.old) }
+        ensures turn { turn_seen result (config_of self.new) ≡ refused hart fault
+            (config_of self.old) }
         ensures quiet { result ≡ Turn.Ran Event.Quiet }
     {
         self.answer_quietly(hart, minus(fault))
@@ -117,7 +123,8 @@ impl Configuration {
     fn put_out(&mut self, hart: Hart, addr: u32, len: u32) -> Turn
         requires ready { CanStep hart (config_of self.old) }
         requires most { len ≤ 4096 }
-        ensures turn { turn_seen result (config_of self.new) ≡ written hart addr len (config_of self.old) }
+        ensures turn { turn_seen result (config_of self.new) ≡ written hart addr len
+            (config_of self.old) }
         ensures seen { (harts : ℕ) → IsSeen harts result (config_of self.new) }
     {
         if !are_mapped(&self.memory, addr, len) {
@@ -150,7 +157,8 @@ impl Configuration {
     // 94: the run ends.
     fn exit_group(&mut self, hart: Hart) -> Turn
         requires { CanStep hart (config_of self.old) }
-        ensures turn { turn_seen result (config_of self.new) ≡ exit_group_turn hart (config_of self.old) }
+        ensures turn { turn_seen result (config_of self.new) ≡ exit_group_turn hart
+            (config_of self.old) }
         ensures seen { (harts : ℕ) → IsSeen harts result (config_of self.new) }
     {
         let code = self.value_in(hart, A0);
@@ -162,7 +170,8 @@ impl Configuration {
     // 1026: the lowest free hart starts, at an address that can be fetched from.
     fn spawn(&mut self, setup: &Setup, hart: Hart) -> Turn
         requires { CanStep hart (config_of self.old) }
-        ensures turn { turn_seen result (config_of self.new) ≡ spawn_turn setup.now hart (config_of self.old) }
+        ensures turn { turn_seen result (config_of self.new) ≡ spawn_turn setup.now hart
+            (config_of self.old) }
         ensures quiet { result ≡ Turn.Ran Event.Quiet }
     {
         let pc = self.value_in(hart, A0);
@@ -176,7 +185,8 @@ impl Configuration {
     fn start(&mut self, setup: &Setup, hart: Hart, pc: u32) -> Turn
         requires ready { CanStep hart (config_of self.old) }
         requires aligned { pc % 4 ≡ 0 }
-        ensures turn { turn_seen result (config_of self.new) ≡ started_with setup.now hart pc (config_of self.old) (lowest_free self.old.threads) }
+        ensures turn { turn_seen result (config_of self.new) ≡ started_with setup.now hart pc
+            (config_of self.old) (lowest_free self.old.threads) }
         ensures quiet { result ≡ Turn.Ran Event.Quiet }
     {
         let gp = self.value_in(hart, GP);
@@ -251,18 +261,23 @@ impl Configuration {
         self.answer_quietly(hart, count)
     }
 
-    // 1024: makes a block at the least place that the heap has for it, and then the hart has its turn.
+    // 1024: makes a block at the least place that the heap has for it, and then the hart has its
+    // turn.
     fn make_block(&mut self, hart: Hart) -> Result<Turn, NoMemory>
         requires ready { CanStep hart (config_of self.old) }
         requires plan { self.old.schedule.harts ≡ length self.old.threads }
-        ensures turn { IfOk result (λ turn. turn_seen turn (config_of self.new) ≡ alloc_turn hart (chosen (config_of self.old))) }
+        requires next { IsNext hart (config_of self.old) }
+        ensures turn { IfOk result (λ turn. turn_seen turn (config_of self.new) ≡ alloc_turn hart
+            (chosen (config_of self.old))) }
         ensures seen { IfOk result (λ turn. (harts : ℕ) → IsSeen harts turn (config_of self.new)) }
         ensures refused { OnErr result (config_of self.new ≡ config_of self.old) }
+        ensures settled { IsFalse (makes_block (alloc_turn hart (chosen (config_of self.old))))
+            → IsOk result }
     {
         let size = self.value_in(hart, A0);
         match self.heap.alloc(size) {
             Ok(place) => {
-                self.take_turn();
+                self.take_turn(hart);
                 Ok(self.answer_block(hart, size, place))
             }
             Err(refused) => Err(refused),
@@ -274,7 +289,8 @@ impl Configuration {
         requires there { hart < length self.old.states.items }
         requires calls { hart < length self.old.calls.items }
         requires few { self.old.steps + 1 < 2 ^ 64 }
-        ensures turn { turn_seen result (config_of self.new) ≡ block_answered hart size place (config_of self.old) }
+        ensures turn { turn_seen result (config_of self.new) ≡ block_answered hart size place
+            (config_of self.old) }
         ensures seen { (harts : ℕ) → IsSeen harts result (config_of self.new) }
     {
         match place {
@@ -309,7 +325,8 @@ impl Configuration {
     fn other_call(&mut self, setup: &Setup, hart: Hart) -> Turn
         requires ready { CanStep hart (config_of self.old) }
         requires other { value_in (config_of self.old) hart 17 ≢ 1024 }
-        ensures turn { turn_seen result (config_of self.new) ≡ call_turn setup.now hart (config_of self.old) }
+        ensures turn { turn_seen result (config_of self.new) ≡ call_turn setup.now hart
+            (config_of self.old) }
         ensures seen { (harts : ℕ) → IsSeen harts result (config_of self.new) }
     {
         match self.value_in(hart, A7) {
@@ -326,22 +343,26 @@ impl Configuration {
         }
     }
 
-    /// The call of a hart that is at an ECALL, with its turn. Only the call that makes a block takes memory, and it does so
-    /// before the hart has its turn.
+    /// The call of a hart that is at an ECALL, with its turn. Only a call that makes a block takes
+    /// memory, and it does so before the hart has its turn.
     ///
     /// NoMemory leaves all as it was.
     pub fn call(&mut self, setup: &Setup, hart: Hart) -> Result<Turn, NoMemory>
         requires ready { CanStep hart (config_of self.old) }
         requires plan { self.old.schedule.harts ≡ length self.old.threads }
-        ensures turn { IfOk result (λ turn. turn_seen turn (config_of self.new) ≡ call_turn setup.now hart (chosen (config_of self.old))) }
+        requires next { IsNext hart (config_of self.old) }
+        ensures turn { IfOk result
+            (λ turn. turn_seen turn (config_of self.new) ≡ call_turn setup.now hart
+            (chosen (config_of self.old))) }
         ensures seen { IfOk result (λ turn. (harts : ℕ) → IsSeen harts turn (config_of self.new)) }
         ensures refused { OnErr result (config_of self.new ≡ config_of self.old) }
-        ensures settled { value_in (config_of self.old) hart 17 ≢ 1024 → IsOk result }
+        ensures settled { IsFalse
+            (makes_block (call_turn setup.now hart (chosen (config_of self.old)))) → IsOk result }
     {
         if self.value_in(hart, A7) == MAKE_BLOCK {
             self.make_block(hart)
         } else {
-            self.take_turn();
+            self.take_turn(hart);
             Ok(self.other_call(setup, hart))
         }
     }

@@ -1,13 +1,17 @@
 // What the steps of a guest change.
-ghost use Rattle.std.specs.Prelude.{◌≡◌, ◌%◌, ◌<◌, ◌≤◌, [], length, replicate, IfOk};
-ghost use Rattle.guest_run.specs.Configs.{answered, first_config, given, noted, passed, state_of, unused, value_in};
-ghost use Rattle.guest_run.specs.Turns.{chosen};
+ghost use Rattle.std.specs.Prelude.{◌≡◌, ◌%◌, ◌<◌, ◌≤◌, [], length, replicate, IfOk, IfSome};
+ghost use Rattle.hart_scheduler.specs.Choices.{choice};
+ghost use Rattle.thread_calls.specs.Phases.{phase_of};
+ghost use Rattle.thread_calls.specs.declared.phase.HartPhase.TheVariants.{Runnable};
+ghost use Rattle.guest_run.specs.Configs.{answered, first_config, given, noted, passed, state_of};
+ghost use Rattle.guest_run.specs.Configs.{unused, value_in};
+ghost use Rattle.guest_run.specs.Turns.{IsNext, chosen, runnable_in};
 ghost use Rattle.guest_run.specs.Inside.{config_of};
 
 use crate::setup::Setup;
 use callsites::CallList;
 use guest_memory::Memory;
-use hart_scheduler::Schedule;
+use hart_scheduler::{Schedule, lone_is_chosen};
 use heap_objects::GuestHeap;
 use predator_base::{Hart, NoMemory};
 use rv32_decode::{Instr, Reg};
@@ -15,8 +19,8 @@ use rv32_machine::{HartState, Reservations};
 use std::alloc::Global;
 use thread_calls::Threads;
 
-/// The memory, the registers, reservation, phase and calls of each hart, the heap, what the schedule has still to say,
-/// and the counts.
+/// The memory, the registers, reservation, phase and calls of each hart, the heap, what the
+/// schedule has still to say, and the counts.
 #[derive(Drop)]
 pub struct Configuration {
     pub memory: Memory,
@@ -135,13 +139,31 @@ impl Configuration {
         calls.note(instr, pc);
     }
 
-    /// The choice of a hart is made, as the schedule says.
+    /// The hart that the schedule chooses, and None where none can run. The others aren't looked at
+    /// where one alone can.
     #[inline]
-    pub fn take_turn(&mut self)
-        requires { self.old.schedule.harts ≡ length self.old.threads }
+    pub fn next_hart(&self) -> Option<Hart>
+        requires { self.now.schedule.harts ≡ length self.now.threads }
+        ensures value { result ≡ choice (runnable_in (config_of self.now)) self.now.schedule }
+        ensures runs { IfSome result (λ hart. phase_of self.now.threads hart ≡ Runnable) }
+    {
+        match self.threads.lone() {
+            Some(hart) => {
+                lone_is_chosen();
+                Some(hart)
+            }
+            None => self.schedule.peek(self.threads.runnable()),
+        }
+    }
+
+    /// The hart that is next has its turn, as the schedule says.
+    #[inline]
+    pub fn take_turn(&mut self, hart: Hart)
+        requires plan { self.old.schedule.harts ≡ length self.old.threads }
+        requires next { IsNext hart (config_of self.old) }
         ensures { config_of self.new ≡ chosen (config_of self.old) }
     {
-        let _taken = self.schedule.next(self.threads.runnable());
+        self.schedule.advance(self.threads.runnable(), hart);
     }
 
     /// Puts a value into a hart's x10.

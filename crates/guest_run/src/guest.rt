@@ -1,11 +1,13 @@
 // A guest, and its turns.
-ghost use Rattle.std.specs.Prelude.{◌≡◌, ◌+◌, ◌*◌, ◌≤◌, ◌<◌, ◌↔◌, ◌%◌, length, None, Ok, IfOk, IsOk, OnErr, IsFalse, IfSome, OnSome, IsSome};
+ghost use Rattle.std.specs.Prelude.{◌≡◌, ◌+◌, ◌*◌, ◌≤◌, ◌<◌, ◌↔◌, ◌%◌, length, None, Ok, IfOk};
+ghost use Rattle.std.specs.Prelude.{IsOk, OnErr, IsFalse, IfSome, OnSome, IsSome};
 ghost use Rattle.guest_memory.specs.Space.{AllMapped, bytes_at};
 ghost use Rattle.guest_run.specs.Places.{heap_over};
 ghost use Rattle.guest_run.specs.Configs.{first_config};
 ghost use Rattle.guest_run.specs.Turns.{makes_block, turn_of};
 ghost use Rattle.guest_run.specs.Runs.{IsShort, rest_of};
-ghost use Rattle.guest_run.specs.Facts.{Counts, IsSeen, IsWithin, begun_with, ending_after, turn_seen};
+ghost use Rattle.guest_run.specs.Facts.{Counts, IsSeen, IsWithin, begun_with, ending_after};
+ghost use Rattle.guest_run.specs.Facts.{turn_seen};
 
 use crate::configuration::Configuration;
 use crate::setup::{RunSettings, Setup};
@@ -40,11 +42,12 @@ impl Model for Guest {
 }
 
 impl Guest {
-    /// A guest before its first turn: hart 0 is at the image's entry with its stack's end in x2, and all other registers are
-    /// zero. It takes memory for what is kept of each hart.
+    /// A guest before its first turn: hart 0 is at the image's entry with its stack's end in x2,
+    /// and all other registers are zero. It takes memory for what is kept of each hart.
     ///
-    /// The image, the schedule and the settings are for the same harts, 1 to 256, and the schedule has the settings' quantum.
-    /// The entry is a multiple of 4; the heap begins and ends at multiples of 16, and ends where the stacks begin.
+    /// The image, the schedule and the settings are for the same harts, 1 to 256, and the schedule
+    /// has the settings' quantum. The entry is a multiple of 4; the heap begins and ends at
+    /// multiples of 16, and ends where the stacks begin.
     pub fn new(
         alloc: Global,
         image: Image,
@@ -61,8 +64,16 @@ impl Guest {
         requires heap_end { image.heap_end % 16 ≡ 0 }
         requires heap { image.heap_start ≤ image.heap_end }
         requires stacks { image.heap_end + image.harts * image.stack ≡ image.top }
-        ensures setup { IfOk result (λ guest. guest.setup ≡ record { harts = settings.harts; budget = settings.budget; top = image.top; stack = image.stack }) }
-        ensures config { IfOk result (λ guest. guest.config ≡ first_config guest.setup image.memory (heap_over image.heap_start image.heap_end) image.entry schedule) }
+        ensures setup { IfOk result
+            (λ guest. guest.setup ≡ record {
+              harts = settings.harts;
+              budget = settings.budget;
+              top =
+                  image.top;
+              stack = image.stack;
+            }) }
+        ensures config { IfOk result (λ guest. guest.config ≡ first_config guest.setup image.memory
+            (heap_over image.heap_start image.heap_end) image.entry schedule) }
         ensures ending { IfOk result (λ guest. guest.ending ≡ None) }
         // the whole run has at most as many steps as the budget
         ensures short { IfOk result (λ guest. IsShort guest.setup (rest_of guest)) }
@@ -89,19 +100,25 @@ impl Guest {
         })
     }
 
-    /// One turn. The run has ended where every hart is free or has ended, where no hart can run, or where all steps of the
-    /// budget are taken, judged in this order; else the hart that the schedule chooses carries out one instruction. A trap
-    /// ends the run and is no step, and `exit_group` is a step that ends it.
+    /// One turn. The run has ended where every hart is free or has ended, where no hart can run, or
+    /// where all steps of the budget are taken, judged in this order; else the hart that the
+    /// schedule chooses carries out one instruction. A trap ends the run and is no step, and
+    /// `exit_group` is a step that ends it.
     ///
     /// Once it has answered `Ended` it answers the same again, and all stays.
     ///
-    /// NoMemory comes only at the call that makes a heap block, and leaves the guest as it was, its schedule included.
+    /// NoMemory comes only at a turn that makes a heap block: at no exit, deadlock or end of the
+    /// budget, and only where the hart that is next is at the call and the heap has a place. It
+    /// leaves the guest as it was, its schedule included.
     #[inline]
     pub fn step(&mut self) -> Result<Turn, NoMemory>
         // the turn of the definition, and the configuration that it gives
-        ensures exact { self.old.ending ≡ None → IfOk result (λ turn. turn_seen turn self.new.config ≡ turn_of self.old.setup self.old.config) }
+        ensures exact { self.old.ending ≡ None
+            → IfOk result
+            (λ turn. turn_seen turn self.new.config ≡ turn_of self.old.setup self.old.config) }
         // once the run has ended, the same end again
-        ensures again { IfSome self.old.ending (λ e. (result ≡ Ok (Turn.Ended e.outcome)) × (self.new ≡ self.old)) }
+        ensures again { IfSome self.old.ending (λ e. (result ≡ Ok (Turn.Ended e.outcome))
+            × (self.new ≡ self.old)) }
         // the run that was left begins with this turn, and goes on as the one that is left now
         ensures run { IfOk result (λ turn. rest_of self.old ≡ begun_with turn self.new) }
         ensures setup { self.new.setup ≡ self.old.setup }
@@ -110,8 +127,10 @@ impl Guest {
         ensures within { IsWithin self.new }
         ensures seen { IfOk result (λ turn. IsSeen self.new.setup.harts turn self.new.config) }
         ensures refused { OnErr result (self.new ≡ self.old) }
-        // only the call that makes a block takes memory
-        ensures settled { IsFalse (makes_block self.old.config) → IsOk result }
+        // only a turn that makes a block takes memory, so none where the run ends or is at the end
+        // of its budget
+        ensures settled { IsFalse (makes_block (turn_of self.old.setup self.old.config))
+            → IsOk result }
     {
         match self.ending {
             Some(ending) => Ok(Turn::Ended(ending.outcome)),
@@ -156,9 +175,11 @@ impl Guest {
         self.ending
     }
 
-    /// The `len` bytes of the guest's memory from `addr` on: None exactly where one of them is in no mapped page.
+    /// The `len` bytes of the guest's memory from `addr` on: None exactly where one of them is in
+    /// no mapped page.
     pub fn bytes(&self, addr: u32, len: u32) -> Option<&[u8]>
-        ensures bytes { IfSome result (λ bytes. bytes.now ≡ bytes_at self.now.config.memory addr len) }
+        ensures bytes { IfSome result
+            (λ bytes. bytes.now ≡ bytes_at self.now.config.memory addr len) }
         ensures mapped { IsSome result ↔ AllMapped self.now.config.memory addr len }
     {
         self.config.memory.slice(addr, len)

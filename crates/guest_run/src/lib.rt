@@ -1,7 +1,8 @@
-//! A guest: the machine, its threads and a schedule together, from the entry of a program to the end of its run.
+//! A guest: the machine, its threads and a schedule together, from the entry of a program to the
+//! end of its run.
 //!
-//! `specs/Turns.antt` says what one turn does, `specs/Calls.antt` what each call does, and `specs/Runs.antt` what a whole
-//! run is.
+//! `specs/Turns.antt` says what one turn does, `specs/Calls.antt` what each call does, and
+//! `specs/Runs.antt` what a whole run is.
 #![tactic(auto)]
 
 mod calls;

@@ -6,7 +6,7 @@ ghost use Rattle.guest_run.specs.Configs.{CanStep, Fits, noted};
 ghost use Rattle.guest_run.specs.Calls.{over};
 ghost use Rattle.guest_run.specs.Runs.{ending_with};
 ghost use Rattle.guest_run.specs.declared.setup.Setup.{Setup};
-ghost use Rattle.guest_run.specs.Turns.{chosen, hart_turn, is_at_alloc, made, makes_block, turn_of};
+ghost use Rattle.guest_run.specs.Turns.{IsNext, chosen, hart_turn, made, makes_block, turn_of};
 ghost use Rattle.guest_run.specs.Inside.{config_of};
 ghost use Rattle.guest_run.specs.Facts.{IsEndOf, IsSeen, turn_seen};
 
@@ -35,11 +35,14 @@ impl Configuration {
         requires ready { CanStep hart (config_of self.old) }
         requires accesses { self.old.accesses ≤ self.old.steps }
         requires plan { self.old.schedule.harts ≡ length self.old.threads }
-        ensures turn { turn_seen result (config_of self.new) ≡ made access (noted hart instr pc (chosen (config_of self.old))) }
-        ensures fits { (harts : ℕ) → Fits harts (config_of self.old) → Fits harts (config_of self.new) }
+        requires next { IsNext hart (config_of self.old) }
+        ensures turn { turn_seen result (config_of self.new) ≡ made access
+            (noted hart instr pc (chosen (config_of self.old))) }
+        ensures fits { (harts : ℕ) → Fits harts (config_of self.old)
+            → Fits harts (config_of self.new) }
         ensures seen { result ≡ Turn.Ran (option_map_or Event.Touch access Event.Quiet) }
     {
-        self.take_turn();
+        self.take_turn(hart);
         self.note_call(hart, instr, pc);
         self.steps += 1;
         match access {
@@ -57,11 +60,17 @@ impl Configuration {
         requires ready { CanStep hart (config_of self.old) }
         requires accesses { self.old.accesses ≤ self.old.steps }
         requires plan { self.old.schedule.harts ≡ length self.old.threads }
-        ensures turn { IfOk result (λ turn. turn_seen turn (config_of self.new) ≡ hart_turn setup.now hart (chosen (config_of self.old))) }
-        ensures fits { OnOk result ((harts : ℕ) → Fits harts (config_of self.old) → Fits harts (config_of self.new)) }
-        ensures seen { IfOk result (λ turn. IsSeen (length self.old.threads) turn (config_of self.new)) }
+        requires next { IsNext hart (config_of self.old) }
+        ensures turn { IfOk result
+            (λ turn. turn_seen turn (config_of self.new) ≡ hart_turn setup.now hart
+            (chosen (config_of self.old))) }
+        ensures fits { OnOk result ((harts : ℕ) → Fits harts (config_of self.old)
+            → Fits harts (config_of self.new)) }
+        ensures seen { IfOk result
+            (λ turn. IsSeen (length self.old.threads) turn (config_of self.new)) }
         ensures refused { OnErr result (config_of self.new ≡ config_of self.old) }
-        ensures settled { IsFalse (is_at_alloc (config_of self.old) hart) → IsOk result }
+        ensures settled { IsFalse
+            (makes_block (hart_turn setup.now hart (chosen (config_of self.old)))) → IsOk result }
     {
         let pc = self.pc(hart);
         let state = &mut self.states[usize::from(hart.number())];
@@ -69,7 +78,7 @@ impl Configuration {
             StepEnd::Next(instr, access) => Ok(self.go_on(hart, instr, pc, access)),
             StepEnd::Call => self.call(setup, hart),
             StepEnd::Trap(cause) => {
-                self.take_turn();
+                self.take_turn(hart);
                 Ok(Turn::Ended(Outcome::Trap(hart, pc, cause)))
             }
         }
@@ -77,7 +86,8 @@ impl Configuration {
 
     // The end of the run where no hart can run.
     fn rest(&self) -> Outcome
-        ensures outcome { result ≡ option_map_or Outcome.Exit (finished_code self.now.threads) Outcome.Deadlock }
+        ensures outcome { result ≡ option_map_or Outcome.Exit (finished_code self.now.threads)
+            Outcome.Deadlock }
         ensures end { (harts : ℕ) → IsEndOf harts result }
     {
         match self.threads.finished() {
@@ -86,13 +96,15 @@ impl Configuration {
         }
     }
 
-    // The end of the run where all steps of the budget are taken. No hart is taken from the schedule.
+    // The end of the run where all steps of the budget are taken. No hart is taken from the
+    // schedule.
     fn budget_end(&self) -> Outcome
         requires fits { Fits self.now.schedule.harts (config_of self.now) }
-        ensures outcome { (s : Setup) → s.budget ≤ self.now.steps → over result (config_of self.now) ≡ turn_of s (config_of self.now) }
+        ensures outcome { (s : Setup) → s.budget ≤ self.now.steps
+            → over result (config_of self.now) ≡ turn_of s (config_of self.now) }
         ensures end { (harts : ℕ) → IsEndOf harts result }
     {
-        match self.schedule.peek(self.threads.runnable()) {
+        match self.next_hart() {
             None => self.rest(),
             Some(_) => Outcome::Budget,
         }
@@ -103,14 +115,16 @@ impl Configuration {
     pub fn turn(&mut self, setup: &Setup) -> Result<Turn, NoMemory>
         requires fits { Fits setup.now.harts (config_of self.old) }
         requires accesses { self.old.accesses ≤ self.old.steps }
-        ensures turn { IfOk result (λ turn. turn_seen turn (config_of self.new) ≡ turn_of setup.now (config_of self.old)) }
+        ensures turn { IfOk result (λ turn. turn_seen turn (config_of self.new) ≡ turn_of setup.now
+            (config_of self.old)) }
         ensures fits { Fits setup.now.harts (config_of self.new) }
         ensures seen { IfOk result (λ turn. IsSeen setup.now.harts turn (config_of self.new)) }
         ensures refused { OnErr result (config_of self.new ≡ config_of self.old) }
-        ensures settled { IsFalse (makes_block (config_of self.old)) → IsOk result }
+        ensures settled { IsFalse (makes_block (turn_of setup.now (config_of self.old)))
+            → IsOk result }
     {
         if self.steps < setup.budget {
-            match self.schedule.peek(self.threads.runnable()) {
+            match self.next_hart() {
                 None => Ok(Turn::Ended(self.rest())),
                 Some(hart) => self.run(setup, hart),
             }

@@ -2,11 +2,17 @@
 
 ghost use Rattle.std.specs.Prelude.{◌≡◌, ◌≤◌, ◌^◌, length};
 
+mod instructions;
+
 use crate::{Event, Guest, RunSettings, Turn};
 use elf_loader::{ElfView, Space, place};
 use hart_scheduler::Schedule;
+use instructions::{
+    A0, A1, A2, A7, ECALL, T0, T1, T2, addi, amoadd, li, lui, lw, sc, stay, sw, word_of,
+};
 use predator_base::{Cause, Ending, Hart, Outcome};
-use std::alloc::{AllocError, Global};
+use rv32_decode::Instr;
+use std::alloc::Global;
 use std::test::Fail;
 
 // The head of a file with one loadable segment, at 0x10000, which is the entry; its sizes follow.
@@ -30,21 +36,25 @@ const HEAD: [u32; 17] = [
     0,
 ];
 
-// The program file of some words.
-fn file_of(alloc: Global, words: &[u32]) -> Result<Vec<u8>, AllocError>
-    requires { length words.now ≤ 16 }
+// The program file of some instructions.
+fn file_of(alloc: Global, program: &[Option<Instr>]) -> Result<Vec<u8>, Fail>
+    requires { length program.now ≤ 16 }
 {
-    let size = words.len() as u32 * 4;
+    let size = program.len() as u32 * 4;
     let mut file = Vec::new(alloc);
-    for part in [HEAD.as_slice(), [size, size, 7, 0].as_slice(), words] {
+    for part in [HEAD.as_slice(), [size, size, 7, 0].as_slice()] {
         for word in part {
             file.extend_from_slice(&word.to_le_bytes())?;
         }
     }
+    for line in program {
+        file.extend_from_slice(&word_of(line)?.to_le_bytes())?;
+    }
     Ok(file)
 }
 
-// What is seen of a run: the harts of its accesses, where it made and freed blocks, and the bytes that it put out.
+// What is seen of a run: the harts of its accesses, where it made and freed blocks, and the bytes
+// that it put out.
 #[derive(Drop)]
 struct Seen {
     harts: Vec<u16>,
@@ -75,17 +85,17 @@ impl Seen {
 // The guest of a program.
 fn guest_of(
     alloc: Global,
-    words: &[u32],
+    program: &[Option<Instr>],
     schedule: &[u8],
     settings: RunSettings,
 ) -> Result<Guest, Fail>
-    requires few { length words.now ≤ 16 }
+    requires few { length program.now ≤ 16 }
     requires harts { settings.harts ≤ 256 }
     requires some { 1 ≤ settings.harts }
     requires quantum { 1 ≤ settings.quantum }
     requires most { settings.quantum ≤ 2 ^ 20 }
 {
-    let file = file_of(alloc, words)?;
+    let file = file_of(alloc, program)?;
     let view = ElfView::read(&file)?;
     let space = Space {
         memory: 0x1_0000,
@@ -120,20 +130,23 @@ fn run(alloc: Global, mut guest: Guest) -> Result<(Ending, Seen), Fail> {
     Ok((ending, seen))
 }
 
-const TWO_HARTS: [u32; 12] = [
-    0x4020_0893,
-    0x0001_0537,
-    0x0105_0513,
-    0x0000_0073,
-    0x0001_02b7,
-    0x4002_8293,
-    0x0010_0313,
-    0x0062_a02f,
-    0x1862_a3af,
-    0x05d0_0893,
-    0x0000_0513,
-    0x0000_0073,
-];
+// The call that makes a hart, which begins behind it; both add to a word, and end.
+fn two_harts() -> [Option<Instr>; 12] {
+    [
+        li(A7, 1026),
+        lui(A0, 0x10000),
+        addi(A0, A0, 16),
+        ECALL,
+        lui(T0, 0x10000),
+        addi(T0, T0, 1024),
+        li(T1, 1),
+        amoadd(0, T1, T0),
+        sc(T2, T1, T0),
+        li(A7, 93),
+        li(A0, 0),
+        ECALL,
+    ]
+}
 
 fn settings_of(harts: u16, budget: u64) -> RunSettings
     ensures harts { result.harts ≡ harts }
@@ -158,16 +171,16 @@ fn ending(outcome: Outcome, steps: u64, accesses: u64) -> Ending {
 
 #[test]
 fn a_program_exits(rt: HostRuntime) -> Result<(), Fail> {
-    let words = [0x05d0_0893, 0x0070_0513, 0x0000_0073];
+    let program = [li(A7, 93), li(A0, 7), ECALL];
     let made = run(
         rt.alloc(),
-        guest_of(rt.alloc(), &words, b"", settings_of(8, 1000))?,
+        guest_of(rt.alloc(), &program, b"", settings_of(8, 1000))?,
     )?;
     assert_eq!(rt; made.0, ending(Outcome::Exit(7), 3, 0));
-    let words = [0x7d00_0893, 0x0000_0073, 0x05d0_0893, 0x0000_0073];
+    let program = [li(A7, 2000), ECALL, li(A7, 93), ECALL];
     let made = run(
         rt.alloc(),
-        guest_of(rt.alloc(), &words, b"", settings_of(8, 1000))?,
+        guest_of(rt.alloc(), &program, b"", settings_of(8, 1000))?,
     )?;
     assert_eq!(rt; made.0, ending(Outcome::Exit(4_294_967_258), 4, 0));
     Ok(())
@@ -177,20 +190,20 @@ fn a_program_exits(rt: HostRuntime) -> Result<(), Fail> {
 fn a_run_ends_otherwise(rt: HostRuntime) -> Result<(), Fail> {
     let made = run(
         rt.alloc(),
-        guest_of(rt.alloc(), &[0x0000_006f], b"", settings_of(8, 5))?,
+        guest_of(rt.alloc(), &[stay()], b"", settings_of(8, 5))?,
     )?;
     assert_eq!(rt; made.0, ending(Outcome::Budget, 5, 0));
     let made = run(
         rt.alloc(),
-        guest_of(rt.alloc(), &[0x0010_2283], b"", settings_of(8, 5))?,
+        guest_of(rt.alloc(), &[lw(T0, 1, 0)], b"", settings_of(8, 5))?,
     )?;
     let hart = Hart::new(0).ok_or("no hart")?;
     let trap = Outcome::Trap(hart, 0x10000, Cause::LoadMisaligned);
     assert_eq!(rt; made.0, ending(trap, 0, 0));
-    let words = [0x4040_0893, 0x0001_0537, 0x0005_2583, 0x0000_0073];
+    let program = [li(A7, 1028), lui(A0, 0x10000), lw(A1, 0, A0), ECALL];
     let made = run(
         rt.alloc(),
-        guest_of(rt.alloc(), &words, b"", settings_of(8, 1000))?,
+        guest_of(rt.alloc(), &program, b"", settings_of(8, 1000))?,
     )?;
     assert_eq!(rt; made.0, ending(Outcome::Deadlock, 4, 1));
     Ok(())
@@ -200,19 +213,24 @@ fn a_run_ends_otherwise(rt: HostRuntime) -> Result<(), Fail> {
 fn two_harts_run(rt: HostRuntime) -> Result<(), Fail> {
     let made = run(
         rt.alloc(),
-        guest_of(rt.alloc(), &TWO_HARTS, b"", settings_of(8, 1000))?,
+        guest_of(rt.alloc(), &two_harts(), b"", settings_of(8, 1000))?,
     )?;
     assert_eq!(rt; made.0, ending(Outcome::Exit(0), 20, 2));
     assert_eq!(rt; made.1.harts.as_slice(), [0, 1].as_slice());
     let made = run(
         rt.alloc(),
-        guest_of(rt.alloc(), &TWO_HARTS, b"0 4\n1 8\n", settings_of(8, 1000))?,
+        guest_of(
+            rt.alloc(),
+            &two_harts(),
+            b"0 4\n1 8\n",
+            settings_of(8, 1000),
+        )?,
     )?;
     assert_eq!(rt; made.0, ending(Outcome::Exit(0), 20, 2));
     assert_eq!(rt; made.1.harts.as_slice(), [1, 0].as_slice());
     let made = run(
         rt.alloc(),
-        guest_of(rt.alloc(), &TWO_HARTS, b"", settings_of(1, 1000))?,
+        guest_of(rt.alloc(), &two_harts(), b"", settings_of(1, 1000))?,
     )?;
     assert_eq!(rt; made.0, ending(Outcome::Exit(0), 12, 1));
     Ok(())
@@ -220,18 +238,18 @@ fn two_harts_run(rt: HostRuntime) -> Result<(), Fail> {
 
 #[test]
 fn bytes_are_put_out(rt: HostRuntime) -> Result<(), Fail> {
-    let words = [
-        0x0400_0893,
-        0x0010_0513,
-        0x0001_05b7,
-        0x0040_0613,
-        0x0000_0073,
-        0x05d0_0893,
-        0x0000_0073,
+    let program = [
+        li(A7, 64),
+        li(A0, 1),
+        lui(A1, 0x10000),
+        li(A2, 4),
+        ECALL,
+        li(A7, 93),
+        ECALL,
     ];
     let made = run(
         rt.alloc(),
-        guest_of(rt.alloc(), &words, b"", settings_of(8, 1000))?,
+        guest_of(rt.alloc(), &program, b"", settings_of(8, 1000))?,
     )?;
     assert_eq!(rt; made.0, ending(Outcome::Exit(4), 7, 0));
     assert_eq!(rt;
@@ -243,23 +261,23 @@ fn bytes_are_put_out(rt: HostRuntime) -> Result<(), Fail> {
 
 #[test]
 fn blocks_are_made_and_freed(rt: HostRuntime) -> Result<(), Fail> {
-    let words = [
-        0x4000_0893,
-        0x0180_0513,
-        0x0000_0073,
-        0x0005_0293,
-        0x0000_0513,
-        0x0000_0073,
-        0x0002_a023,
-        0x4010_0893,
-        0x0000_0073,
-        0x0000_0073,
-        0x05d0_0893,
-        0x0000_0073,
+    let program = [
+        li(A7, 1024),
+        li(A0, 24),
+        ECALL,
+        addi(T0, A0, 0),
+        li(A0, 0),
+        ECALL,
+        sw(0, 0, T0),
+        li(A7, 1025),
+        ECALL,
+        ECALL,
+        li(A7, 93),
+        ECALL,
     ];
     let made = run(
         rt.alloc(),
-        guest_of(rt.alloc(), &words, b"", settings_of(8, 1000))?,
+        guest_of(rt.alloc(), &program, b"", settings_of(8, 1000))?,
     )?;
     // The second free finds no live block, and the answer -22 is the code of the exit.
     assert_eq!(rt; made.0, ending(Outcome::Exit(4_294_967_274), 12, 1));
@@ -268,16 +286,10 @@ fn blocks_are_made_and_freed(rt: HostRuntime) -> Result<(), Fail> {
         [(0x11000, 24), (0x11020, 0)].as_slice()
     );
     assert_eq!(rt; made.1.freed.as_slice(), [0x11020].as_slice());
-    let words = [
-        0x4000_0893,
-        0xfff0_0513,
-        0x0000_0073,
-        0x05d0_0893,
-        0x0000_0073,
-    ];
+    let program = [li(A7, 1024), li(A0, -1), ECALL, li(A7, 93), ECALL];
     let made = run(
         rt.alloc(),
-        guest_of(rt.alloc(), &words, b"", settings_of(8, 1000))?,
+        guest_of(rt.alloc(), &program, b"", settings_of(8, 1000))?,
     )?;
     assert_eq!(rt; made.0, ending(Outcome::Exit(0), 5, 0));
     Ok(())

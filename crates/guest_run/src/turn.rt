@@ -9,8 +9,8 @@ pub enum Event {
     Quiet,
     /// It made this access.
     Touch(Access),
-    /// It made a heap block at `addr` of `size` bytes; the last four calls of its hart were at `sites`, the newest
-    /// first, 0 where there is none.
+    /// It made a heap block at `addr` of `size` bytes; the last four calls of its hart were at
+    /// `sites`, the newest first, 0 where there is none.
     Alloc {
         addr: u32,
         size: u32,

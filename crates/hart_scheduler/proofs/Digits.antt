@@ -1,5 +1,6 @@
 -- What `parse` reads of a numeral.
-use Rattle.std.proofs.Common.{◌≡◌, ℕ, ◌<◌, ◌≤◌, ◌^◌, Bool, true, false, List, length, get_or, Some, None, Result, Ok, Err, sym, ◌∙◌, ap, inl, inr, arith}
+use Rattle.std.proofs.Common.{◌≡◌, ℕ, ◌<◌, ◌≤◌, ◌^◌, Bool, true, false, List, length, get_or, Some, None, Result, Ok, Err, sym, ◌∙◌, ap}
+use Rattle.std.proofs.Common.{inl, inr, arith}
 use Rattle.std.proofs.lemmas.Bool.{cases_lt, and_parts, and_from, and_right, and_left}
 use Rattle.std.proofs.lemmas.Bool.Decides.{nat_tests}
 use Rattle.std.proofs.lemmas.List.{get_or_past}
@@ -42,9 +43,11 @@ read text (Err e) numeral some h =
       | inr large ↦ sym (too_large text large)
     ]
 
-pub parsed : {E : Type 0} (text : List ℕ) (r : Result ℕ E) → ParsesUnsigned 32 10 text r → is_numeral text ≡ true → result_ok r ≡ number_of text
+pub parsed : {E : Type 0} (text : List ℕ) (r : Result ℕ E) → ParsesUnsigned 32 10 text r → is_numeral text ≡ true
+    → result_ok r ≡ number_of text
 parsed text r h numeral =
-    let parts = and_parts (list_all is_ascii_digit text) (nat_eq (length text) 1 || (nat_lt 1 (length text) && not (nat_eq (slice_index text 0) 48))) numeral in
+    let parts = and_parts (list_all is_ascii_digit text)
+    (nat_eq (length text) 1 || (nat_lt 1 (length text) && not (nat_eq (slice_index text 0) 48))) numeral in
     let some : 0 < length text = grind (arith, nat_tests) in
     read text r numeral some (parse_digits digits 32 text r h parts.0)
 

@@ -1,6 +1,7 @@
 -- Choices in turn: where there is none, no hart is runnable, and the one that is made is runnable.
-use Rattle.std.proofs.Common.{◌≡◌, ℕ, zero, suc, ◌+◌, ◌-◌, ◌<◌, ◌≤◌, Bool, true, false, List, [], ◌∷◌, length, Option, Some, None, refl, sym, ◌∙◌, inl, inr, arith}
-use Rattle.std.proofs.lemmas.Bool.{cases_Bool, cases_lt, and_left, and_parts}
+use Rattle.std.proofs.Common.{◌≡◌, ℕ, zero, suc, ◌+◌, ◌-◌, ◌<◌, ◌≤◌, Bool, true, false, List, [], ◌∷◌, length, Option, Some, None, refl}
+use Rattle.std.proofs.Common.{sym, ap, subst, ◌∙◌, inl, inr, arith}
+use Rattle.std.proofs.lemmas.Bool.{both_ways, cases_Bool, cases_eq, cases_lt, and_left, and_parts}
 use Rattle.std.proofs.lemmas.List.{get_or_past}
 use Rattle.std.proofs.lemmas.List.Folds.{find-append}
 use Rattle.std.proofs.lemmas.Option.{none-some}
@@ -8,7 +9,8 @@ use Rattle.std.specs.Prelude.{◌↔◌, IsTrue}
 use Rattle.std.specs.List.{find, range_with_len}
 use Rattle.std.specs.Option.{option_or, IfSome}
 use Rattle.hart_scheduler.specs.Values.{Turn}
-use Rattle.hart_scheduler.specs.Choices.{Plan, is_runnable, NoneRunnable, harts_after, goes_on, choice_after, choice_in_turn, choice}
+use Rattle.hart_scheduler.specs.Choices.{Plan, is_runnable, IsLone, NoneRunnable, harts_after, goes_on, choice_after, choice_in_turn}
+use Rattle.hart_scheduler.specs.Choices.{choice}
 
 option_or-none : (first second : Option ℕ) → option_or first second ≡ None → (first ≡ None) × (second ≡ None)
 option_or-none None second none = (refl, none)
@@ -47,25 +49,31 @@ range_past runnable a end below miss = range-past (is_runnable runnable) a end b
 
 pub successor_is : (runnable : List Bool) (harts : ℕ) (streak : Turn) (first second : Option ℕ) (n : ℕ) → n ≡ streak.hart
     → goes_on runnable streak ≡ false
-    → first ≡ find (is_runnable runnable) (range_with_len (n + 1) (harts - (n + 1))) → second ≡ find (is_runnable runnable) (range_with_len 0 (n + 1 - 0))
+    → first ≡ find (is_runnable runnable) (range_with_len (n + 1) (harts - (n + 1))) → second ≡ find (is_runnable runnable)
+    (range_with_len 0 (n + 1 - 0))
     → option_or first second ≡ choice_after runnable harts streak
 successor_is runnable harts streak first second n same off is_first is_second =
     let z : n + 1 - 0 ≡ n + 1 = omega arith in
-    rw (is_first, is_second, z, same, off) (sym (find-append (is_runnable runnable) (range_with_len (streak.hart + 1) (harts - (streak.hart + 1))) (range_with_len 0 (streak.hart + 1))))
+    rw (is_first, is_second, z, same, off)
+    (sym (find-append (is_runnable runnable) (range_with_len (streak.hart + 1) (harts - (streak.hart + 1)))
+    (range_with_len 0 (streak.hart + 1))))
 
 -- no hart is runnable where there is no choice in turn
-none-in-order : (runnable : List Bool) (harts : ℕ) → length runnable ≡ harts → find (is_runnable runnable) (range_with_len 0 harts) ≡ None → NoneRunnable runnable
+none-in-order : (runnable : List Bool) (harts : ℕ) → length runnable ≡ harts → find (is_runnable runnable) (range_with_len 0 harts) ≡ None
+    → NoneRunnable runnable
 none-in-order runnable harts all none = λ hart.
     elim (cases_lt hart harts) [
       | inl below ↦ none-in-range (is_runnable runnable) harts 0 hart none (omega arith) (omega arith)
       | inr past ↦ get_or_past runnable hart false (omega arith)
     ]
 
-none-after : (runnable : List Bool) (harts n : ℕ) → length runnable ≡ harts → find (is_runnable runnable) (harts_after harts n) ≡ None → NoneRunnable runnable
+none-after : (runnable : List Bool) (harts n : ℕ) → length runnable ≡ harts → find (is_runnable runnable) (harts_after harts n) ≡ None
+    → NoneRunnable runnable
 none-after runnable harts n all none = λ hart.
     let above = find (is_runnable runnable) (range_with_len (n + 1) (harts - (n + 1))) in
     let rest = find (is_runnable runnable) (range_with_len 0 (n + 1)) in
-    let parts : (above ≡ None) × (rest ≡ None) = option_or-none above rest (sym (find-append (is_runnable runnable) (range_with_len (n + 1) (harts - (n + 1))) (range_with_len 0 (n + 1))) ∙ none) in
+    let parts : (above ≡ None) × (rest ≡ None) = option_or-none above rest
+    (sym (find-append (is_runnable runnable) (range_with_len (n + 1) (harts - (n + 1))) (range_with_len 0 (n + 1))) ∙ none) in
     elim (cases_lt hart (n + 1)) [
       | inl below ↦ none-in-range (is_runnable runnable) (n + 1) 0 hart parts.1 (omega arith) (omega arith)
       | inr past ↦ elim (cases_lt hart harts) [
@@ -98,7 +106,8 @@ in-turn-none runnable harts quantum listed (Some streak) none =
     let off : goes_on runnable streak ≡ false = off-where-none runnable streak none in
     rw off (find-none (is_runnable runnable) (harts_after harts streak.hart) none)
 
-pub choice_none : (runnable : List Bool) (plan : Plan) → length runnable ≡ plan.harts → (choice runnable plan ≡ None) ↔ NoneRunnable runnable
+pub choice_none : (runnable : List Bool) (plan : Plan) → length runnable ≡ plan.harts → (choice runnable plan ≡ None)
+    ↔ NoneRunnable runnable
 choice_none runnable plan all = (
   (λ none. none-in-turn runnable plan.harts plan.quantum plan.listed plan.streak all (option_or-none _ _ none).1),
   (λ none. let listed : find (is_runnable runnable) plan.listed ≡ None = find-none (is_runnable runnable) plan.listed none in
@@ -106,7 +115,8 @@ choice_none runnable plan all = (
 )
 
 -- what is chosen is runnable
-able-after : (runnable : List Bool) (harts : ℕ) (streak : Turn) → IfSome (choice_after runnable harts streak) (λ hart. IsTrue (is_runnable runnable hart))
+able-after : (runnable : List Bool) (harts : ℕ) (streak : Turn) → IfSome (choice_after runnable harts streak)
+    (λ hart. IsTrue (is_runnable runnable hart))
 able-after runnable harts streak =
     elim (cases_Bool (goes_on runnable streak)) [
       | inl on ↦ rw on (and_parts _ _ on).0
@@ -114,7 +124,8 @@ able-after runnable harts streak =
     ]
 
 able-in-turn : (runnable : List Bool) (harts quantum : ℕ) (listed : List ℕ) (streak : Option Turn)
-    → IfSome (choice_in_turn runnable (record { listed = listed; streak = streak; harts = harts; quantum = quantum })) (λ hart. IsTrue (is_runnable runnable hart))
+    → IfSome (choice_in_turn runnable (record { listed = listed; streak = streak; harts = harts; quantum = quantum }))
+    (λ hart. IsTrue (is_runnable runnable hart))
 able-in-turn runnable harts quantum listed None = found-passes (is_runnable runnable) (range_with_len 0 harts)
 able-in-turn runnable harts quantum listed (Some streak) = able-after runnable harts streak
 
@@ -126,3 +137,28 @@ pub choice_able : (runnable : List Bool) (plan : Plan) → IfSome (choice runnab
 choice_able runnable plan =
     either _ _ (λ hart. IsTrue (is_runnable runnable hart)) (found-passes (is_runnable runnable) plan.listed)
     (able-in-turn runnable plan.harts plan.quantum plan.listed plan.streak)
+
+pub chosen_inside : (runnable : List Bool) (plan : Plan) (hart : ℕ) → length runnable ≡ plan.harts → choice runnable plan ≡ Some hart
+    → hart < plan.harts
+chosen_inside runnable plan hart all chosen =
+    let P : Option ℕ → Type 0 = λ o. IfSome o (λ h. IsTrue (is_runnable runnable h)) in
+    let able : is_runnable runnable hart ≡ true = subst P chosen (choice_able runnable plan) in
+    elim (cases_lt hart (length runnable)) [
+      | inl inside ↦ omega (arith, inside, all)
+      | inr past ↦ absurd (both_ways _ (get_or_past runnable hart false past) able)
+    ]
+
+-- the only runnable hart is the one that is chosen
+only-able : (runnable : List Bool) (hart : ℕ) (o : Option ℕ) → IsLone runnable hart → (o ≡ None → NoneRunnable runnable)
+    → IfSome o (λ h. IsTrue (is_runnable runnable h)) → o ≡ Some hart
+only-able runnable hart None lone none able = absurd (both_ways _ (none refl hart) lone.runs)
+only-able runnable hart (Some h) lone none able =
+    elim (cases_eq h hart) [
+      | inl same ↦ ap (λ (n : ℕ). Some n) same
+      | inr other ↦ absurd (both_ways _ (lone.others h other) able)
+    ]
+
+pub lone_chosen : (runnable : List Bool) (plan : Plan) (hart : ℕ) → length runnable ≡ plan.harts → IsLone runnable hart
+    → choice runnable plan ≡ Some hart
+lone_chosen runnable plan hart all lone =
+    only-able runnable hart (choice runnable plan) lone (choice_none runnable plan all).0 (choice_able runnable plan)

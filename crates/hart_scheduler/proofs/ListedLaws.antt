@@ -1,5 +1,6 @@
 -- What passing over an entry, and taking one turn of it, does to the harts that a list names.
-use Rattle.std.proofs.Common.{◌≡◌, ℕ, zero, suc, ◌+◌, ◌-◌, ◌<◌, ◌≤◌, Bool, true, false, List, [], ◌∷◌, ◌++◌, length, replicate, drop, set, get_or, Some, refl, sym, ◌∙◌, ap, add-one, drop-cons, true≢false, arith}
+use Rattle.std.proofs.Common.{◌≡◌, ℕ, zero, suc, ◌+◌, ◌-◌, ◌<◌, ◌≤◌, Bool, true, false, List, [], ◌∷◌, ◌++◌, length, replicate, drop, set}
+use Rattle.std.proofs.Common.{get_or, Some, refl, sym, ◌∙◌, ap, add-one, drop-cons, true≢false, arith}
 use Rattle.std.proofs.lemmas.Bool.Decides.{nat_tests}
 use Rattle.std.specs.Prelude.{◌&&◌, nat_lt}
 use Rattle.std.specs.List.{find, after_first, position_or_len}
@@ -59,33 +60,40 @@ module _ (runnable : List Bool) where
   from_place entries place d inside = rw (add-one place, drop-cons entries place d inside) refl
 
   -- the same of the entry at a place
-  pub found_past : (entries : List ListEntry) (place : ℕ) (d : ListEntry) → place < length entries → is_able runnable (get_or entries place d) ≡ false
+  pub found_past : (entries : List ListEntry) (place : ℕ) (d : ListEntry) → place < length entries
+      → is_able runnable (get_or entries place d) ≡ false
       → find (is_runnable runnable) (harts_from entries place) ≡ find (is_runnable runnable) (harts_from entries (place + 1))
   found_past entries place d inside miss =
       ap (λ (xs : List ℕ). find (is_runnable runnable) xs) (from_place entries place d inside)
       ∙ find-unable (get_or entries place d).count (get_or entries place d).hart (harts_from entries (place + 1)) miss
 
-  pub left_past : (entries : List ListEntry) (place : ℕ) (d : ListEntry) → place < length entries → is_able runnable (get_or entries place d) ≡ false
+  pub left_past : (entries : List ListEntry) (place : ℕ) (d : ListEntry) → place < length entries
+      → is_able runnable (get_or entries place d) ≡ false
       → after_first (is_runnable runnable) (harts_from entries place) ≡ after_first (is_runnable runnable) (harts_from entries (place + 1))
   left_past entries place d inside miss =
       ap (λ (xs : List ℕ). after_first (is_runnable runnable) xs) (from_place entries place d inside)
       ∙ after-unable (get_or entries place d).count (get_or entries place d).hart (harts_from entries (place + 1)) miss
 
-  pub found_at : (entries : List ListEntry) (place : ℕ) (d : ListEntry) → place < length entries → is_able runnable (get_or entries place d) ≡ true
+  pub found_at : (entries : List ListEntry) (place : ℕ) (d : ListEntry) → place < length entries → is_able runnable (get_or entries place d)
+      ≡ true
       → find (is_runnable runnable) (harts_from entries place) ≡ Some (get_or entries place d).hart
   found_at entries place d inside hit =
       ap (λ (xs : List ℕ). find (is_runnable runnable) xs) (from_place entries place d inside)
       ∙ find-able (get_or entries place d).count (get_or entries place d).hart (harts_from entries (place + 1)) hit
 
-  pub left_at : (entries : List ListEntry) (place : ℕ) (d : ListEntry) → place < length entries → is_able runnable (get_or entries place d) ≡ true
-      → after_first (is_runnable runnable) (harts_from entries place) ≡ replicate ((get_or entries place d).count - 1) (get_or entries place d).hart ++ harts_from entries (place + 1)
+  pub left_at : (entries : List ListEntry) (place : ℕ) (d : ListEntry) → place < length entries → is_able runnable (get_or entries place d)
+      ≡ true
+      → after_first (is_runnable runnable) (harts_from entries place) ≡ replicate ((get_or entries place d).count - 1)
+      (get_or entries place d).hart ++ harts_from entries (place + 1)
   left_at entries place d inside hit =
       ap (λ (xs : List ℕ). after_first (is_runnable runnable) xs) (from_place entries place d inside)
       ∙ after-able (get_or entries place d).count (get_or entries place d).hart (harts_from entries (place + 1)) hit
 
   -- one turn of an able entry that is used up leaves what stands after it
-  pub taken : (entries : List ListEntry) (place : ℕ) (entry : ListEntry) → place < length entries → entry ≡ get_or entries place entry → is_able runnable (get_or entries place entry) ≡ true
-      → harts_from (set entries place (record { hart = entry.hart; count = entry.count - 1 })) place ≡ after_first (is_runnable runnable) (harts_from entries place)
+  pub taken : (entries : List ListEntry) (place : ℕ) (entry : ListEntry) → place < length entries → entry ≡ get_or entries place entry
+      → is_able runnable (get_or entries place entry) ≡ true
+      → harts_from (set entries place (record { hart = entry.hart; count = entry.count - 1 })) place ≡ after_first (is_runnable runnable)
+      (harts_from entries place)
   taken entries place entry inside own hit =
       ap (λ (xs : List ListEntry). harts_of xs) (drop-set entries place (record { hart = entry.hart; count = entry.count - 1 }) inside)
       ∙ ap (λ (e : ListEntry). replicate (e.count - 1) e.hart ++ harts_from entries (place + 1)) own

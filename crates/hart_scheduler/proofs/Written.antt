@@ -1,9 +1,11 @@
 -- A number is read exactly where it is written in decimal, and a line exactly where its two numbers are written with one
 -- space between them.
-use Rattle.std.proofs.Common.{◌≡◌, ℕ, ◌+◌, ◌<◌, ◌^◌, Bool, true, false, List, [], ◌∷◌, ◌++◌, length, take, drop, get_or, Option, Some, None, refl, sym, ◌∙◌, ap, inl, inr, arith, suc}
+use Rattle.std.proofs.Common.{◌≡◌, ℕ, ◌+◌, ◌<◌, ◌^◌, Bool, true, false, List, [], ◌∷◌, ◌++◌, length, take, drop, get_or, Option, Some, None}
+use Rattle.std.proofs.Common.{refl, sym, ◌∙◌, ap, inl, inr, arith, suc}
 use Rattle.std.proofs.lemmas.Bool.{cases_lt, cases_Bool, and_parts, and_from}
 use Rattle.std.proofs.lemmas.Bool.Decides.{nat_tests}
-use Rattle.std.proofs.lemmas.Fmt.{digits_decimal, digits_value-decimal, decimal-digits_value, decimal_nonempty, first_decimal, decimal_digit}
+use Rattle.std.proofs.lemmas.Fmt.{digits_decimal, digits_value-decimal, decimal-digits_value, decimal_nonempty, first_decimal}
+use Rattle.std.proofs.lemmas.Fmt.{decimal_digit}
 use Rattle.std.proofs.lemmas.List.{drop_all}
 use Rattle.std.proofs.lemmas.List.Sums.{split_at_first, passes_at_first}
 use Rattle.std.proofs.lemmas.Option.{none-some, same_Some}
@@ -50,7 +52,8 @@ leads-filled text leads = grind (arith, nat_tests)
 written : (text : List ℕ) (n : ℕ) → is_numeral text ≡ true → digits_value 10 text < 2 ^ 32 → digits_value 10 text ≡ n → text ≡ decimal n
 written text n numeral fits value =
     let parts = and_parts (list_all is_ascii_digit text) (leads_well text) numeral in
-    sym (ap (λ m. decimal m) (sym value) ∙ decimal-digits_value digits text parts.0 (leads-filled text parts.1) (leads-none text parts.1) (omega arith))
+    sym (ap (λ m. decimal m) (sym value) ∙ decimal-digits_value digits text parts.0 (leads-filled text parts.1) (leads-none text parts.1)
+    (omega arith))
 
 pub decimal-number_of : (text : List ℕ) (n : ℕ) → number_of text ≡ Some n → text ≡ decimal n
 decimal-number_of text n is =
@@ -82,12 +85,16 @@ drop-front : (xs ys : List ℕ) → drop (length xs + 1) (xs ++ space ∷ ys) �
 drop-front [] ys = refl
 drop-front (x ∷ xs) ys = let e : length (x ∷ xs) + 1 ≡ suc (length xs + 1) = omega arith in rw e (drop-front xs ys)
 
-entry-written : (hart count : ℕ) → hart < 2 ^ 32 → count < 2 ^ 32 → entry_of (decimal hart ++ space ∷ decimal count) ≡ Some (entry_with hart count)
+entry-written : (hart count : ℕ) → hart < 2 ^ 32 → count < 2 ^ 32 → entry_of (decimal hart ++ space ∷ decimal count) ≡ Some
+    (entry_with hart count)
 entry-written hart count small few =
     let line = decimal hart ++ space ∷ decimal count in
-    let at : position_or_len (is_byte space) line ≡ length (decimal hart) = position-past (decimal hart) (decimal count) (digits_decimal digits hart (omega arith)) in
-    let front : before_first (is_byte space) line ≡ decimal hart = ap (λ n. take n line) at ∙ take-front (decimal hart) (space ∷ decimal count) in
-    let back : after_first (is_byte space) line ≡ decimal count = ap (λ n. drop (n + 1) line) at ∙ drop-front (decimal hart) (decimal count) in
+    let at : position_or_len (is_byte space) line ≡ length (decimal hart) = position-past (decimal hart) (decimal count)
+    (digits_decimal digits hart (omega arith)) in
+    let front : before_first (is_byte space) line ≡ decimal hart = ap (λ n. take n line) at
+    ∙ take-front (decimal hart) (space ∷ decimal count) in
+    let back : after_first (is_byte space) line ≡ decimal count = ap (λ n. drop (n + 1) line) at
+    ∙ drop-front (decimal hart) (decimal count) in
     entry_parts line (Some hart) (Some count)
     (ap (λ (text : List ℕ). number_of text) front ∙ number_of-decimal hart small)
     (ap (λ (text : List ℕ). number_of text) back ∙ number_of-decimal count few)
@@ -96,18 +103,23 @@ no_number-empty : number_of [] ≡ None
 no_number-empty = no_number [] refl
 
 -- what an entry with a hart and a count was read from
-hart_in : (h k : Option ℕ) (hart count : ℕ) → option_and_then (λ n. option_map (entry_with n) k) h ≡ Some (entry_with hart count) → (h ≡ Some hart) × (k ≡ Some count)
+hart_in : (h k : Option ℕ) (hart count : ℕ) → option_and_then (λ n. option_map (entry_with n) k) h ≡ Some (entry_with hart count)
+    → (h ≡ Some hart) × (k ≡ Some count)
 hart_in None k hart count is = absurd (none-some _ is)
 hart_in (Some m) None hart count is = absurd (none-some _ is)
-hart_in (Some m) (Some n) hart count is = let same : entry_with m n ≡ entry_with hart count = same_Some _ _ is in (ap (λ (e : ListEntry). Some e.hart) same, ap (λ (e : ListEntry). Some e.count) same)
+hart_in (Some m) (Some n) hart count is = let same : entry_with m n ≡ entry_with hart count = same_Some _ _ is
+    in (ap (λ (e : ListEntry). Some e.hart) same, ap (λ (e : ListEntry). Some e.count) same)
 
-line-written : (line : List ℕ) (hart count : ℕ) → entry_of line ≡ Some (entry_with hart count) → line ≡ decimal hart ++ space ∷ decimal count
+line-written : (line : List ℕ) (hart count : ℕ) → entry_of line ≡ Some (entry_with hart count)
+    → line ≡ decimal hart ++ space ∷ decimal count
 line-written line hart count is =
     let p = is_byte space in
-    let parts = hart_in (number_of (before_first p line)) (number_of (after_first p line)) hart count (sym (entry_parts line _ _ refl refl) ∙ is) in
+    let parts = hart_in (number_of (before_first p line)) (number_of (after_first p line)) hart count (sym (entry_parts line _ _ refl refl)
+    ∙ is) in
     elim (cases_lt (position_or_len p line) (length line)) [
       | inl some ↦
-          let cut : line ≡ before_first p line ++ (get_or line (position_or_len p line) 0 ∷ after_first p line) = split_at_first p line 0 some in
+          let cut : line ≡ before_first p line ++ (get_or line (position_or_len p line) 0 ∷ after_first p line) =
+          split_at_first p line 0 some in
           let passes : p (get_or line (position_or_len p line) 0) ≡ true = passes_at_first p line 0 some in
           let at : get_or line (position_or_len p line) 0 ≡ space = grind (arith, nat_tests) in
           cut ∙ ap (λ (x : ℕ). before_first p line ++ (x ∷ after_first p line)) at

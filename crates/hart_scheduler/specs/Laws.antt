@@ -1,5 +1,6 @@
 -- The same choices by counting: how many turns in a row a hart has had, with no end to the count.
-use Rattle.std.specs.Prelude.{◌≡◌, ℕ, ◌+◌, ◌-◌, Bool, true, false, ◌&&◌, nat_eq, nat_lt, if◌then◌else◌, List, refl}
+use Rattle.std.specs.Prelude.{◌≡◌, ℕ, ◌+◌, ◌-◌, Bool, ◌&&◌, nat_eq, nat_lt, if◌then◌else◌, List}
+use Rattle.std.specs.Prelude.{refl}
 use Rattle.std.proofs.Common.{ap, arith}
 use Rattle.std.proofs.lemmas.Bool.Decides.{nat_tests}
 use Rattle.std.proofs.lemmas.Bool.{cases_Bool}
@@ -20,7 +21,8 @@ left_or_fewer quantum turns = grind (arith, nat_tests)
 
 -- a hart goes on just where it has had fewer turns in a row than the quantum
 pub goes_on-counted : (runnable : List Bool) (quantum hart turns : ℕ)
-    → goes_on runnable (left_after quantum hart turns) ≡ (is_runnable runnable hart && nat_lt turns quantum)
+    → goes_on runnable (left_after quantum hart turns) ≡
+    (is_runnable runnable hart && nat_lt turns quantum)
 goes_on-counted runnable quantum hart turns =
     ap (λ (b : Bool). is_runnable runnable hart && b) (left_or_fewer quantum turns)
 

@@ -7,4 +7,5 @@ use Rattle.hart_scheduler.specs.Texts.{space, entry_with, entry_of}
 abbrev pub LinesAreWritten : Type 0
 LinesAreWritten =
     (line : List ℕ) (hart count : ℕ) → hart < 2 ^ 32 → count < 2 ^ 32
-    → (entry_of line ≡ Some (entry_with hart count)) ↔ (line ≡ decimal hart ++ space ∷ decimal count)
+    → (entry_of line ≡ Some (entry_with hart count))
+    ↔ (line ≡ decimal hart ++ space ∷ decimal count)

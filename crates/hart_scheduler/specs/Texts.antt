@@ -1,10 +1,15 @@
 -- What the text of a schedule says: on each line a hart, one space, and how often it runs.
-use Rattle.std.specs.Prelude.{ℕ, ◌^◌, Bool, nat_eq, nat_lt, nat_le, if◌then◌else◌, List, [], ◌∷◌, length, replicate, Option, Some, None, option_and_then, Result, Ok, Err}
+use Rattle.std.specs.Prelude.{ℕ, ◌^◌, Bool, nat_eq, nat_lt, nat_le, if◌then◌else◌, List, [], ◌∷◌}
+use Rattle.std.specs.Prelude.{length, replicate, Option, Some, None, option_and_then, Result, Ok}
+use Rattle.std.specs.Prelude.{Err}
 use Rattle.std.specs.Option.{option_map, option_map_or}
-use Rattle.std.specs.List.{filter_map, flat_map, before_first, after_first, slice_split, enumerate_from}
+use Rattle.std.specs.List.{filter_map, flat_map, before_first, after_first, slice_split}
+use Rattle.std.specs.List.{enumerate_from}
 use Rattle.hart_scheduler.specs.Values.{ListEntry}
 use Rattle.hart_scheduler.specs.declared.fault.ScheduleFault.{ScheduleFault}
-use Rattle.hart_scheduler.specs.declared.fault.ScheduleFault.TheVariants.{BadLine, HartOutOfRange, ZeroCount, TooLong, NoMemory}
+use Rattle.hart_scheduler.specs.declared.fault.ScheduleFault.TheVariants.{BadLine, HartOutOfRange}
+use Rattle.hart_scheduler.specs.declared.fault.ScheduleFault.TheVariants.{ZeroCount, TooLong}
+use Rattle.hart_scheduler.specs.declared.fault.ScheduleFault.TheVariants.{NoMemory}
 use Rattle.hart_scheduler.specs.Choices.{Plan}
 use Rattle.hart_scheduler.specs.Numbers.{number_of}
 
@@ -32,7 +37,8 @@ entry_with hart count = record { hart = hart; count = count }
 -- the hart and the count that a line says, None where it has another form
 unfoldable pub entry_of : List ℕ → Option ListEntry
 entry_of line =
-    option_and_then (λ hart. option_map (entry_with hart) (number_of (after_first (is_byte space) line)))
+    option_and_then
+    (λ hart. option_map (entry_with hart) (number_of (after_first (is_byte space) line)))
     (number_of (before_first (is_byte space) line))
 
 -- the fault of an entry on the line of a number, if it has one
@@ -49,7 +55,8 @@ line_fault harts line =
 
 -- the faults of the lines of a text whose first has a number, in the order of the lines
 abbrev pub faults_from : ℕ → ℕ → List ℕ → List ScheduleFault
-faults_from harts number content = filter_map (line_fault harts) (enumerate_from number (lines_of content))
+faults_from harts number content = filter_map (line_fault harts)
+    (enumerate_from number (lines_of content))
 
 -- the entries of a text
 abbrev pub entries_of : List ℕ → List ListEntry
@@ -61,14 +68,20 @@ harts_of entries = flat_map (λ entry. replicate entry.count entry.hart) entries
 
 -- the plan of a list of entries, with no choice in turn made yet
 abbrev pub plan_of : ℕ → ℕ → List ListEntry → Plan
-plan_of harts quantum entries = record { listed = harts_of entries; streak = None; harts = harts; quantum = quantum }
+plan_of harts quantum entries = record {
+  listed = harts_of entries;
+  streak = None;
+  harts = harts;
+  quantum = quantum;
+}
 
 -- the plan unless there is a fault, which is the first
 abbrev pub plan_unless : Plan → List ScheduleFault → Result Plan ScheduleFault
 plan_unless plan [] = Ok plan
 plan_unless plan (fault ∷ faults) = Err fault
 
--- the plan that the content of a schedule file gives, or its first fault; its lines are numbered from 1
+-- the plan that the content of a schedule file gives, or its first fault; its lines are numbered
+-- from 1
 abbrev pub schedule_of : ℕ → ℕ → List ℕ → Result Plan ScheduleFault
 schedule_of harts quantum content =
     if nat_lt longest_content (length content) then Err TooLong

@@ -39,7 +39,8 @@ fn place_of(text: &[u8], code: u8) -> usize
     text.len()
 }
 
-// What stands before the first byte of a code and what stands after it: all and nothing where there is none.
+// What stands before the first byte of a code and what stands after it: all and nothing where there
+// is none.
 pub(crate) fn cut_at(text: &[u8], code: u8) -> (&[u8], &[u8])
     ensures front { result.0.now ≡ before_first (is_byte code) text.now }
     ensures back { result.1.now ≡ after_first (is_byte code) text.now }
@@ -95,7 +96,8 @@ pub(crate) fn judge_line(
     harts: u16,
 ) -> Result<Option<Entry>, ScheduleFault>
     requires { harts ≤ 256 }
-    ensures good { IfOk result (λ entry. (line_fault harts (number, line.now) ≡ None) × (entry ≡ entry_of line.now)) }
+    ensures good { IfOk result (λ entry. (line_fault harts (number, line.now) ≡ None)
+        × (entry ≡ entry_of line.now)) }
     ensures bad { IfErr result (λ fault. line_fault harts (number, line.now) ≡ Some fault) }
     ensures of_a_line { IfErr result (λ fault. fault ≢ ScheduleFault.TooLong) }
 {

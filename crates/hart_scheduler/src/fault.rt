@@ -3,8 +3,8 @@
 /// Why the text of a schedule is refused. Lines are numbered from 1, and empty ones are counted.
 #[derive(Clone, Copy, PartialEq, Eq, Debug)]
 pub enum ScheduleFault {
-    /// The line of this number isn't a hart, one space and a count, each below 2^32 in decimal without
-    /// leading zeros.
+    /// The line of this number isn't a hart, one space and a count, each below 2^32 in decimal
+    /// without leading zeros.
     BadLine(u64),
     /// The line of this number names a hart that the guest hasn't.
     HartOutOfRange(u64),

@@ -1,11 +1,12 @@
 //! Which hart runs next: the text of a schedule, read, and the choices that it makes.
 //!
-//! A schedule lists harts in the order in which they run. Harts that can't run are passed over, and after
-//! the list the harts take turns.
+//! A schedule lists harts in the order in which they run. Harts that can't run are passed over, and
+//! after the list the harts take turns.
 #![tactic(auto)]
 
 mod entry;
 mod fault;
+mod laws;
 mod listed;
 mod read;
 mod runnable;
@@ -15,4 +16,5 @@ mod streak;
 mod tests;
 
 pub use fault::ScheduleFault;
+pub use laws::lone_is_chosen;
 pub use schedule::Schedule;

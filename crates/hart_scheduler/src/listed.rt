@@ -1,5 +1,5 @@
 // The list of a schedule, and what is left of it.
-ghost use Rattle.std.specs.Prelude.{◌≡◌, ◌≤◌, ◌<◌, Bool, length, true, slice_index_or};
+ghost use Rattle.std.specs.Prelude.{◌≡◌, ◌≤◌, ◌<◌, Bool, length, true, is_some, slice_index_or};
 ghost use Rattle.std.specs.List.{find, after_first};
 ghost use Rattle.hart_scheduler.specs.Values.{ListEntry};
 ghost use Rattle.hart_scheduler.specs.Choices.{is_runnable};
@@ -11,7 +11,8 @@ use crate::runnable::is_runnable;
 use predator_base::Hart;
 use std::marker::Model;
 
-/// The harts that a list still names, in their order. Contracts see them each as often as it is to run.
+/// The harts that a list still names, in their order. Contracts see them each as often as it is to
+/// run.
 #[derive(Drop)]
 pub struct Listed {
     entries: Vec<Entry>,
@@ -38,14 +39,17 @@ fn is_able(entry: Entry, runnable: &[bool]) -> bool
     entry.count > 0 && is_runnable(runnable, entry.hart)
 }
 
-// The place of the first able entry from a place on, or how many entries there are: the entries before it
-// make no difference to what is found.
+// The place of the first able entry from a place on, or how many entries there are: the entries
+// before it make no difference to what is found.
 fn first_able(entries: &[Entry], place: usize, runnable: &[bool]) -> usize
     requires { place ≤ length entries.now }
     ensures bound { result ≤ length entries.now }
-    ensures able { (d : ListEntry) → result < length entries.now → is_able runnable.now (slice_index_or entries.now result d) ≡ true }
-    ensures found { find (is_runnable runnable.now) (harts_from entries.now place) ≡ find (is_runnable runnable.now) (harts_from entries.now result) }
-    ensures left { after_first (is_runnable runnable.now) (harts_from entries.now place) ≡ after_first (is_runnable runnable.now) (harts_from entries.now result) }
+    ensures able { (d : ListEntry) → result < length entries.now
+        → is_able runnable.now (slice_index_or entries.now result d) ≡ true }
+    ensures found { find (is_runnable runnable.now) (harts_from entries.now place) ≡ find
+        (is_runnable runnable.now) (harts_from entries.now result) }
+    ensures left { after_first (is_runnable runnable.now) (harts_from entries.now place)
+        ≡ after_first (is_runnable runnable.now) (harts_from entries.now result) }
 {
     for able in place..entries.len() {
         if is_able(entries[able], runnable) {
@@ -75,15 +79,20 @@ impl Listed {
         }
     }
 
-    // Takes the first runnable hart, and what stands before it: everything where there is none.
-    pub(crate) fn take(&mut self, runnable: &[bool])
-        ensures { self.new ≡ after_first (is_runnable runnable.now) self.old }
+    // Takes the first runnable hart, and what stands before it: everything where there is none. It
+    // answers whether there is one.
+    pub(crate) fn take(&mut self, runnable: &[bool]) -> bool
+        ensures after { self.new ≡ after_first (is_runnable runnable.now) self.old }
+        ensures taken { result ≡ is_some (find (is_runnable runnable.now) self.old) }
     {
         let place = first_able(self.entries.as_slice(), self.place, runnable);
+        self.place = place;
         if place < self.entries.len() {
             let entry = &mut self.entries[place];
             entry.count -= 1;
+            true
+        } else {
+            false
         }
-        self.place = place;
     }
 }

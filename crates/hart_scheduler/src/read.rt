@@ -1,7 +1,9 @@
 // How the text of a schedule is read.
-ghost use Rattle.std.specs.Prelude.{◌≡◌, ◌≢◌, ◌≤◌, ◌<◌, ◌^◌, ◌↔◌, ◌++◌, length, [], None, Some, Err, Ok, IfOk, IfErr, OnOk, slice_get};
+ghost use Rattle.std.specs.Prelude.{◌≡◌, ◌≢◌, ◌≤◌, ◌<◌, ◌^◌, ◌↔◌, ◌++◌, length, [], None, Some};
+ghost use Rattle.std.specs.Prelude.{Err, Ok, IfOk, IfErr, OnOk, slice_get};
 ghost use Rattle.std.specs.Option.{option_to_list};
-ghost use Rattle.hart_scheduler.specs.Texts.{longest_content, line_fault, entry_of, faults_from, entries_of, schedule_of, UnlessMemory};
+ghost use Rattle.hart_scheduler.specs.Texts.{longest_content, line_fault, entry_of, faults_from};
+ghost use Rattle.hart_scheduler.specs.Texts.{entries_of, schedule_of, UnlessMemory};
 ghost use Rattle.hart_scheduler.specs.Spelling.{LinesAreWritten};
 
 use crate::entry::{Entry, cut_at, judge_line};
@@ -21,8 +23,10 @@ fn read_line(
 ) -> Result<(), ScheduleFault>
     requires { harts ≤ 256 }
     ensures good { OnOk result (line_fault harts (number, line.now) ≡ None) }
-    ensures added { OnOk result (entries.new.items ≡ entries.old.items ++ option_to_list (entry_of line.now)) }
-    ensures bad { IfErr result (λ fault. UnlessMemory fault (line_fault harts (number, line.now) ≡ Some fault)) }
+    ensures added { OnOk result (entries.new.items ≡ entries.old.items ++ option_to_list
+        (entry_of line.now)) }
+    ensures bad { IfErr result
+        (λ fault. UnlessMemory fault (line_fault harts (number, line.now) ≡ Some fault)) }
     ensures of_a_line { IfErr result (λ fault. fault ≢ ScheduleFault.TooLong) }
 {
     match judge_line(line, number, harts) {
@@ -41,7 +45,8 @@ fn read_entries(alloc: Global, content: &[u8], harts: u16) -> Result<Vec<Entry>,
     requires short { length content.now ≤ longest_content }
     ensures good { IfOk result (λ entries. faults_from harts 1 content.now ≡ []) }
     ensures read { IfOk result (λ entries. entries.items ≡ entries_of content.now) }
-    ensures bad { IfErr result (λ fault. UnlessMemory fault (slice_get (faults_from harts 1 content.now) 0 ≡ Some fault)) }
+    ensures bad { IfErr result
+        (λ fault. UnlessMemory fault (slice_get (faults_from harts 1 content.now) 0 ≡ Some fault)) }
     ensures of_a_line { IfErr result (λ fault. fault ≢ ScheduleFault.TooLong) }
 {
     let mut entries = Vec::new(alloc);
@@ -60,14 +65,14 @@ fn read_entries(alloc: Global, content: &[u8], harts: u16) -> Result<Vec<Entry>,
 }
 
 impl Schedule {
-    /// The schedule of a file's content, for harts 0 to `harts` - 1 and turns in a row of `quantum`, or its
-    /// first fault. `harts` is from 1 to 256, `quantum` any number. With a quantum of 0 no hart goes on by
-    /// itself, and each turn goes to the next runnable one.
+    /// The schedule of a file's content, for harts 0 to `harts` - 1 and turns in a row of
+    /// `quantum`, or its first fault. `harts` is from 1 to 256, `quantum` any number. With a
+    /// quantum of 0 no hart goes on by itself, and each turn goes to the next runnable one.
     ///
-    /// Lines end at a line feed, which the last may lack, and empty lines are skipped. Each other line is a
-    /// hart, one space and a count, in decimal without leading zeros. `TooLong` comes exactly where there is
-    /// more than 1 MiB; else the first line that has a fault is named. Want of memory may come before any
-    /// fault but `TooLong`.
+    /// Lines end at a line feed, which the last may lack, and empty lines are skipped. Each other
+    /// line is a hart, one space and a count, in decimal without leading zeros. `TooLong` comes
+    /// exactly where there is more than 1 MiB; else the first line that has a fault is named. Want
+    /// of memory may come before any fault but `TooLong`.
     pub fn read(
         alloc: Global,
         content: &[u8],
@@ -77,12 +82,14 @@ impl Schedule {
         requires some { 1 ≤ harts }
         requires bound { harts ≤ 256 }
         ensures accepted { IfOk result (λ plan. schedule_of harts quantum content.now ≡ Ok plan) }
-        ensures refused { IfErr result (λ fault. UnlessMemory fault (schedule_of harts quantum content.now ≡ Err fault)) }
+        ensures refused { IfErr result
+            (λ fault. UnlessMemory fault (schedule_of harts quantum content.now ≡ Err fault)) }
         // A line is a hart and a count just where it is written as `{hart} {count}`.
         ensures written { LinesAreWritten }
         ensures harts { IfOk result (λ plan. plan.harts ≡ harts) }
         ensures quantum { IfOk result (λ plan. plan.quantum ≡ quantum) }
-        ensures too_long { (result ≡ Err ScheduleFault.TooLong) ↔ (longest_content < length content.now) }
+        ensures too_long { (result ≡ Err ScheduleFault.TooLong)
+            ↔ (longest_content < length content.now) }
     {
         if content.len() > LONGEST_CONTENT {
             return Err(ScheduleFault::TooLong);

@@ -1,6 +1,7 @@
 // A schedule, and the choices that it makes.
-ghost use Rattle.std.specs.Prelude.{◌≡◌, ◌≤◌, ◌^◌, ◌↔◌, length, None, IfSome, IsTrue};
-ghost use Rattle.hart_scheduler.specs.Choices.{is_runnable, NoneRunnable, choice, choice_in_turn, plan_after, streak_with};
+ghost use Rattle.std.specs.Prelude.{◌≡◌, ◌≤◌, ◌^◌, ◌↔◌, length, None, Some, IfSome, IsTrue};
+ghost use Rattle.hart_scheduler.specs.Choices.{is_runnable, NoneRunnable, choice, choice_in_turn};
+ghost use Rattle.hart_scheduler.specs.Choices.{plan_after, streak_with};
 ghost use Rattle.hart_scheduler.specs.Texts.{plan_of};
 
 use crate::entry::Entry;
@@ -10,8 +11,8 @@ use crate::streak::Streak;
 use predator_base::Hart;
 use std::marker::Model;
 
-/// Which hart runs next. Contracts see the harts that its list still names, in their order, and the hart
-/// that was last chosen in turn, with how many harts there are and the quantum.
+/// Which hart runs next. Contracts see the harts that its list still names, in their order, and the
+/// hart that was last chosen in turn, with how many harts there are and the quantum.
 #[derive(Drop)]
 pub struct Schedule {
     listed: Listed,
@@ -79,8 +80,9 @@ impl Schedule {
         }
     }
 
-    /// The hart that `next` would answer now. `runnable` has one entry for each hart. None exactly where no
-    /// hart is runnable.
+    /// The hart that `next` would answer now. `runnable` has one entry for each hart. None exactly
+    /// where no hart is runnable.
+    #[inline]
     pub fn peek(&self, runnable: &[bool]) -> Option<Hart>
         requires { length runnable.now ≡ self.now.harts }
         ensures value { result ≡ choice runnable.now self.now }
@@ -92,11 +94,13 @@ impl Schedule {
 
     /// Chooses the hart that runs next. `runnable` has one entry for each hart.
     ///
-    /// It is the first runnable hart that the list still names, and what stands before it in the list is
-    /// passed over for good. Once the list is used up, or none of its harts is runnable, harts are chosen in
-    /// turn: at first the lowest runnable one, later the one chosen last while it is runnable and has had
-    /// fewer turns in a row than the quantum, else the first runnable one after it in cyclic order, itself
-    /// last. None exactly where no hart is runnable, and then nothing changes.
+    /// It is the first runnable hart that the list still names, and what stands before it in the
+    /// list is passed over for good. Once the list is used up, or none of its harts is runnable,
+    /// harts are chosen in turn: at first the lowest runnable one, later the one chosen last while
+    /// it is runnable and has had fewer turns in a row than the quantum, else the first runnable
+    /// one after it in cyclic order, itself last. None exactly where no hart is runnable, and then
+    /// nothing changes.
+    #[inline]
     pub fn next(&mut self, runnable: &[bool]) -> Option<Hart>
         requires { length runnable.now ≡ self.old.harts }
         ensures value { result ≡ choice runnable.now self.old }
@@ -108,10 +112,22 @@ impl Schedule {
         ensures quantum { self.new.quantum ≡ self.old.quantum }
     {
         let hart = self.peek(runnable)?;
-        if self.listed.first(runnable).is_none() {
+        self.advance(runnable, hart);
+        Some(hart)
+    }
+
+    /// Chooses the hart that `peek` answers now, as `next` does, for a caller that knows which one
+    /// that is. `runnable` has one entry for each hart.
+    #[inline]
+    pub fn advance(&mut self, runnable: &[bool], hart: Hart)
+        requires all { length runnable.now ≡ self.old.harts }
+        requires chosen { choice runnable.now self.old ≡ Some hart }
+        ensures after { self.new ≡ plan_after runnable.now self.old }
+        ensures harts { self.new.harts ≡ self.old.harts }
+        ensures quantum { self.new.quantum ≡ self.old.quantum }
+    {
+        if !self.listed.take(runnable) {
             self.streak = Some(self.streak_with(hart));
         }
-        self.listed.take(runnable);
-        Some(hart)
     }
 }

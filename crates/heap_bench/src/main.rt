@@ -1,7 +1,7 @@
-//! How long a heap takes: `heap_bench COUNT KIND` makes COUNT blocks of 16 bytes, at most 2^20, on a heap that just holds
-//! them, asks for one more, and frees them in the order of making, or in the reverse order where KIND is `reverse`. With
-//! `table` or `reverse-table` a table of objects notes as many blocks and frees. It prints what was done. Without words
-//! there are 1,000 blocks.
+//! How long a heap takes: `heap_bench COUNT KIND` makes COUNT blocks of 16 bytes, at most 2^20, on
+//! a heap that just holds them, asks for one more, and frees them in the order of making, or in the
+//! reverse order where KIND is `reverse`. With `table` or `reverse-table` a table of objects notes
+//! as many blocks and frees. It prints what was done. Without words there are 1,000 blocks.
 #![tactic(auto)]
 
 ghost use Rattle.std.specs.Prelude.{◌+◌, ◌*◌, ◌≤◌, ◌<◌, ◌^◌};

@@ -1,5 +1,5 @@
--- Heap blocks with their lives. A block lives from the position of its birth up to that of its death,
--- if it died.
+-- Heap blocks with their lives. A block lives from the position of its birth up to that of its
+-- death, if it died.
 use Rattle.std.specs.Prelude.{ℕ, List, [], ◌∷◌, ◌++◌, map, Bool, ◌&&◌, ◌==◌, if◌then◌else◌}
 use Rattle.std.specs.Prelude.{Option, Some, None, is_none}
 use Rattle.heap_objects.specs.declared.block.Block.{Block}

@@ -53,4 +53,6 @@ lives_at addr b = b.live && (b.addr == addr)
 -- a heap once the live block at an address, if there is one, died
 abbrev pub after_free : Heap → ℕ → Heap
 after_free h addr =
-    record h { blocks = map (λ b. if lives_at addr b then record b { live = false } else b) h.blocks }
+    record h {
+      blocks = map (λ b. if lives_at addr b then record b { live = false } else b) h.blocks;
+    }

@@ -40,8 +40,8 @@ pub record IsWithin (start end place bytes : ℕ) : Type 0 where
   pub begins : start ≤ place
   pub ends : place + bytes ≤ end
 
--- The live blocks lie in the heap and apart from each other, and up to an address they leave nothing
--- free.
+-- The live blocks lie in the heap and apart from each other, and up to an address they leave
+-- nothing free.
 pub record IsLaidOut (start end full : ℕ) (g : ℕ → Option ℕ) : Type 0 where
   pub full_aligned : full % 16 ≡ 0
   pub full_from : start ≤ full

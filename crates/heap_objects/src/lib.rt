@@ -1,5 +1,5 @@
-//! What stands in the guest's memory: the symbols of the program, each with its name, and the heap's
-//! blocks.
+//! What stands in the guest's memory: the symbols of the program, each with its name, and the
+//! heap's blocks.
 //!
 //! A table keeps the symbols in the order in which they were first seen, each place once, and all
 //! blocks that were ever made, each with its life. A heap gives each block the least free place.

@@ -12,7 +12,8 @@ use Rattle.hot_pairs.specs.declared.pair.Pair.{Pair}
 use Rattle.hot_pairs.specs.Neighbours.{AreObservedWords, pair_at, pair_of, word_at}
 
 less_one : (n k : ℕ) → 0 < k → k * n + 0 ≡ n * (k - 1) + n
-less_one n k some = let e : k ≡ k - 1 + 1 = omega (arith, some) in let m : (k - 1 + 1) * n ≡ n * (k - 1) + n = omega arith in omega (arith, ap (λ z. z * n) e, m)
+less_one n k some = let e : k ≡ k - 1 + 1 = omega (arith, some) in let m : (k - 1 + 1) * n ≡ n * (k - 1) + n = omega arith
+    in omega (arith, ap (λ z. z * n) e, m)
 
 back : (b n : ℕ) → nat_abs (pos (b + n) -ℤ pos n) ≡ b
 back b n = omega (arith, ints)
@@ -32,10 +33,14 @@ mapped f g same None = refl
 mapped f g same (Some p) = ap Some (same p)
 
 pub best-between : (n T k within : ℕ) (t : AccessList) (lower upper : RangeWords) (o : Option Pair) → AreObservedWords n T k t lower upper
-    → o ≡ option_map (pair_at lower.range upper.range) (best_pair_of lower.words upper.words within) → o ≡ option_map (pair_of n k) (best_between n T within k t)
+    → o ≡ option_map (pair_at lower.range upper.range) (best_pair_of lower.words upper.words within)
+    → o ≡ option_map (pair_of n k) (best_between n T within k t)
 best-between n T k within t lower upper o w e =
-    let best : best_between n T within k t ≡ best_pair_of (words_since (native_line n k) w.lower_start t) (words_since (native_line n (k + 1)) w.upper_start t) within = rw (w.lower_observed, w.upper_observed) in
+    let best : best_between n T within k t ≡ best_pair_of (words_since (native_line n k) w.lower_start t)
+    (words_since (native_line n (k + 1)) w.upper_start t) within = rw (w.lower_observed, w.upper_observed) in
     e ∙ ap (λ (v : RangeWords). option_map (pair_at v.range upper.range) (best_pair_of v.words upper.words within)) w.lower_words
-    ∙ ap (λ (v : RangeWords). option_map (pair_at (range_of (native_line n k)) v.range) (best_pair_of (words_since (native_line n k) w.lower_start t) v.words within)) w.upper_words
+    ∙ ap (λ (v : RangeWords). option_map (pair_at (range_of (native_line n k)) v.range)
+    (best_pair_of (words_since (native_line n k) w.lower_start t) v.words within)) w.upper_words
     ∙ ap (option_map (pair_at (range_of (native_line n k)) (range_of (native_line n (k + 1))))) (sym best)
-    ∙ mapped (pair_at (range_of (native_line n k)) (range_of (native_line n (k + 1)))) (pair_of n k) (pairs_alike n k w.number) (best_between n T within k t)
+    ∙ mapped (pair_at (range_of (native_line n k)) (range_of (native_line n (k + 1)))) (pair_of n k) (pairs_alike n k w.number)
+    (best_between n T within k t)

@@ -1,5 +1,6 @@
 -- The hot pairs of two neighbouring ranges, by the addresses of their words.
-use Rattle.std.specs.Prelude.{◌≡◌, ◌<◌, ℕ, ◌+◌, ◌*◌, ◌^◌, pos, nat_abs, ◌+ℤ◌, ◌≤ℤ◌, IsTrue, Option, Some, None}
+use Rattle.std.specs.Prelude.{◌≡◌, ◌<◌, ℕ, ◌+◌, ◌*◌, ◌^◌, pos, nat_abs, ◌+ℤ◌, ◌≤ℤ◌, IsTrue, Option}
+use Rattle.std.specs.Prelude.{Some, None}
 use Rattle.predator_base.specs.declared.layout.Range.{Range}
 use Rattle.sharing_rules.specs.AccessLists.{AccessList}
 use Rattle.sharing_rules.specs.Lines.{Line, is_inside, native_line, range_of}
@@ -17,8 +18,8 @@ pub record AreNeighbours (lower upper : Range) : Type 0 where
   pub begins : pos 0 ≤ℤ lower.base
   pub ends : (upper.base +ℤ pos upper.size) ≤ℤ pos (2 ^ 32)
 
--- How many bytes a pair may take, from the beginning of its lower word to the end of its upper one. Where no number
--- is given, those of both lines of n bytes, in which every pair lies.
+-- How many bytes a pair may take, from the beginning of its lower word to the end of its upper one.
+-- Where no number is given, those of both lines of n bytes, in which every pair lies.
 abbrev pub reach : ℕ → Option ℕ → ℕ
 reach n None = 2 * n
 reach n (Some within) = within

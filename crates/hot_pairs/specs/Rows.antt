@@ -19,4 +19,5 @@ pub record AreRows (lower upper : RangeWords) (count within : ℕ) : Type 0 wher
 
 -- the best of those pairs that are hot and near enough
 abbrev pub best_of : List Word → List Word → ℕ → List (ℕ × ℕ) → Option (ℕ × ℕ)
-best_of lower upper within ps = first_best (score lower upper) (filter (is_passing lower upper within) ps)
+best_of lower upper within ps = first_best (score lower upper)
+    (filter (is_passing lower upper within) ps)

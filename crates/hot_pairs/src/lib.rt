@@ -1,5 +1,5 @@
-//! The best hot pair of two neighbouring lines: the two words, one of each, that would be shared falsely
-//! if they came to lie on one line.
+//! The best hot pair of two neighbouring lines: the two words, one of each, that would be shared
+//! falsely if they came to lie on one line.
 #![tactic(auto)]
 
 mod pair;

@@ -1,11 +1,14 @@
 // The search: all pairs of words of two lines, one step each.
-ghost use Rattle.std.specs.Prelude.{◌≡◌, ℕ, ◌+◌, ◌*◌, ◌/◌, ◌<◌, ◌≤◌, ◌^◌, pos, ◌+ℤ◌, ◌≤ℤ◌, List, [], ◌++◌, filter, length, option_map, Some, None, IsNone, ◌↔◌};
-ghost use Rattle.sharing_rules.specs.Pairs.{best_pair_of, hot_pairs, all_pairs, is_hot_at, first_best, score};
+ghost use Rattle.std.specs.Prelude.{◌≡◌, ℕ, ◌+◌, ◌*◌, ◌/◌, ◌<◌, ◌≤◌, ◌^◌, pos, ◌+ℤ◌, ◌≤ℤ◌, List};
+ghost use Rattle.std.specs.Prelude.{[], ◌++◌, filter, length, option_map, Some, None, IsNone, ◌↔◌};
+ghost use Rattle.sharing_rules.specs.Pairs.{best_pair_of, hot_pairs, all_pairs, is_hot_at};
+ghost use Rattle.sharing_rules.specs.Pairs.{first_best, score};
 ghost use Rattle.sharing_rules.specs.Search.{is_in, keep, row_pairs};
 ghost use Rattle.sharing_rules.specs.Search as search_of;
 ghost use Rattle.sharing_rules.specs.AccessLists.{AccessList};
 ghost use Rattle.sharing_rules.specs.Predicted.{best_between};
-ghost use Rattle.hot_pairs.specs.Neighbours.{AreNeighbours, AreObservedWords, reach, pair_at, pair_of, word_at};
+ghost use Rattle.hot_pairs.specs.Neighbours.{AreNeighbours, AreObservedWords, reach, pair_at};
+ghost use Rattle.hot_pairs.specs.Neighbours.{pair_of, word_at};
 ghost use Rattle.hot_pairs.specs.Rows.{AreRows, best_of};
 
 use crate::pair::Pair;
@@ -14,11 +17,13 @@ use sharing_rules::Owner;
 use std::sync::ledger::Ledger;
 use word_shadow::Shadow;
 
-/// The hot pair of the greatest score of two neighbouring lines of 32, 64, 128 or 256 bytes: both words are hot, one
-/// was written, and not both belong to one single hart. Ties go to the lower `x`, then the lower `y`.
+/// The hot pair of the greatest score of two neighbouring lines of 32, 64, 128 or 256 bytes: both
+/// words are hot, one was written, and not both belong to one single hart. Ties go to the lower
+/// `x`, then the lower `y`.
 ///
-/// `within`, where given, is the greatest distance in bytes from the beginning of the lower word to the end of
-/// the upper one. None exactly where there is no such pair. One step for each pair of words, hot or not.
+/// `within`, where given, is the greatest distance in bytes from the beginning of the lower word to
+/// the end of the upper one. None exactly where there is no such pair. One step for each pair of
+/// words, hot or not.
 pub fn best_pair<L: Ledger>(
     lower: &Shadow,
     upper: &Shadow,
@@ -28,13 +33,19 @@ pub fn best_pair<L: Ledger>(
     requires { AreNeighbours lower.now.range upper.now.range }
     ensures value { result ≡ option_map (pair_at lower.now.range upper.now.range)
         (best_pair_of lower.now.words upper.now.words (reach lower.now.range.size within)) }
-    ensures none { IsNone result ↔ (hot_pairs lower.now.words upper.now.words (reach lower.now.range.size within) ≡ []) }
+    ensures none { IsNone result
+        ↔ (hot_pairs lower.now.words upper.now.words (reach lower.now.range.size within) ≡ []) }
     // with no distance given every hot pair is near enough
-    ensures any { within ≡ None → hot_pairs lower.now.words upper.now.words (reach lower.now.range.size within)
-        ≡ filter (is_hot_at lower.now.words upper.now.words) (all_pairs (length lower.now.words) (length upper.now.words)) }
-    // where they are the words of two observed lines of a list, it is the best pair of the list's definition
-    ensures observed { (T k : ℕ) (t : AccessList) → AreObservedWords lower.now.range.size T k t lower.now upper.now
-        → result ≡ option_map (pair_of lower.now.range.size k) (best_between lower.now.range.size T (reach lower.now.range.size within) k t) }
+    ensures any { within ≡ None → hot_pairs lower.now.words upper.now.words
+        (reach lower.now.range.size within)
+        ≡ filter (is_hot_at lower.now.words upper.now.words)
+        (all_pairs (length lower.now.words) (length upper.now.words)) }
+    // where they are the words of two observed lines of a list, it is the best pair of the list's
+    // definition
+    ensures observed { (T k : ℕ) (t : AccessList)
+        → AreObservedWords lower.now.range.size T k t lower.now upper.now
+        → result ≡ option_map (pair_of lower.now.range.size k)
+        (best_between lower.now.range.size T (reach lower.now.range.size within) k t) }
     ensures cost { steps.new ≡ steps.old + lower.now.range.size / 4 * (lower.now.range.size / 4) }
 {
     let (lower_range, upper_range) = (lower.range(), upper.range());
@@ -86,7 +97,8 @@ fn word_address(range: Range, i: u32) -> u32
 // The best pair by the places of its words.
 fn best_places<L: Ledger>(lines: &Neighbours, steps: &mut Steps<L>) -> Option<(u32, u32)>
     requires { AreRows lines.now.lower.now lines.now.upper.now lines.now.count lines.now.within }
-    ensures best { result ≡ best_pair_of lines.now.lower.now.words lines.now.upper.now.words lines.now.within }
+    ensures best { result ≡ best_pair_of lines.now.lower.now.words lines.now.upper.now.words
+        lines.now.within }
     ensures is_in { is_in lines.now.lower.now.words lines.now.upper.now.words result }
     ensures cost { steps.new ≡ steps.old + lines.now.count * lines.now.count }
 {
@@ -104,12 +116,15 @@ fn best_in_row<L: Ledger>(
     i: u32,
     steps: &mut Steps<L>,
 ) -> Option<(u32, u32)>
-    requires lines { AreRows lines.now.lower.now lines.now.upper.now lines.now.count lines.now.within }
+    requires lines { AreRows lines.now.lower.now lines.now.upper.now lines.now.count
+        lines.now.within }
     requires best { is_in lines.now.lower.now.words lines.now.upper.now.words best }
     requires i { i < lines.now.count }
     ensures is_in { is_in lines.now.lower.now.words lines.now.upper.now.words result }
-    ensures best { (ps : List (ℕ × ℕ)) → best ≡ best_of lines.now.lower.now.words lines.now.upper.now.words lines.now.within ps
-        → result ≡ best_of lines.now.lower.now.words lines.now.upper.now.words lines.now.within (ps ++ row_pairs i lines.now.count) }
+    ensures best { (ps : List (ℕ × ℕ)) → best ≡ best_of lines.now.lower.now.words
+        lines.now.upper.now.words lines.now.within ps
+        → result ≡ best_of lines.now.lower.now.words lines.now.upper.now.words lines.now.within
+        (ps ++ row_pairs i lines.now.count) }
     ensures cost { steps.new ≡ steps.old + lines.now.count }
 {
     let mut best = best;
@@ -124,10 +139,12 @@ fn best_in_row<L: Ledger>(
 
 // Whether words i and j are a hot pair that is near enough.
 fn is_passing(lines: &Neighbours, i: u32, j: u32) -> bool
-    requires lines { AreRows lines.now.lower.now lines.now.upper.now lines.now.count lines.now.within }
+    requires lines { AreRows lines.now.lower.now lines.now.upper.now lines.now.count
+        lines.now.within }
     requires i { i < lines.now.count }
     requires j { j < lines.now.count }
-    ensures { result ≡ search_of.is_passing lines.now.lower.now.words lines.now.upper.now.words lines.now.within (i, j) }
+    ensures { result ≡ search_of.is_passing lines.now.lower.now.words lines.now.upper.now.words
+        lines.now.within (i, j) }
 {
     let x = lines.lower.word(i);
     let y = lines.upper.word(j);
@@ -150,11 +167,13 @@ fn is_same_hart(x: &Owner, y: &Owner) -> bool
 
 // The better of the best pair so far and a later one.
 fn better(lines: &Neighbours, best: Option<(u32, u32)>, i: u32, j: u32) -> (u32, u32)
-    requires lines { AreRows lines.now.lower.now lines.now.upper.now lines.now.count lines.now.within }
+    requires lines { AreRows lines.now.lower.now lines.now.upper.now lines.now.count
+        lines.now.within }
     requires best { is_in lines.now.lower.now.words lines.now.upper.now.words best }
     requires i { i < lines.now.count }
     requires j { j < lines.now.count }
-    ensures keeps { Some result ≡ keep (score lines.now.lower.now.words lines.now.upper.now.words) best (i, j) }
+    ensures keeps { Some result ≡ keep (score lines.now.lower.now.words lines.now.upper.now.words)
+        best (i, j) }
     ensures is_in { is_in lines.now.lower.now.words lines.now.upper.now.words (Some result) }
 {
     match best {
@@ -171,7 +190,8 @@ fn better(lines: &Neighbours, best: Option<(u32, u32)>, i: u32, j: u32) -> (u32,
 
 // The lesser number of accesses of words i and j.
 fn score_at(lines: &Neighbours, i: u32, j: u32) -> u64
-    requires lines { AreRows lines.now.lower.now lines.now.upper.now lines.now.count lines.now.within }
+    requires lines { AreRows lines.now.lower.now lines.now.upper.now lines.now.count
+        lines.now.within }
     requires i { i < lines.now.count }
     requires j { j < lines.now.count }
     ensures { result ≡ score lines.now.lower.now.words lines.now.upper.now.words (i, j) }

@@ -25,7 +25,8 @@ pub directory_reads : (s : PagedIndex) (number q : ℕ) → number * 262144 ≤ 
 directory_reads s number q above below =
     let block : q / 262144 ≡ number = omega arith in
     let place : q % 262144 ≡ q - number * 262144 = omega arith in
-    ap (λ b. directory_entry (items_at s.directories.items b) (q % 262144)) block ∙ ap (directory_entry (items_at s.directories.items number)) place
+    ap (λ b. directory_entry (items_at s.directories.items b) (q % 262144)) block
+    ∙ ap (directory_entry (items_at s.directories.items number)) place
 
 -- what a search of one directory found, in the lines of the whole index
 pub searched : (s : PagedIndex) (number place from to : ℕ) (d : Vec (Vec LineEntry Global) Global)
@@ -34,7 +35,8 @@ pub searched : (s : PagedIndex) (number place from to : ℕ) (d : Vec (Vec LineE
     → NoneWritten (paged_entry s) from (number * 262144 + to)
 searched s number place from to d within is small =
     joined (paged_entry s) (directory_entry d.items) from (number * 262144) place to
-    (λ q above below. directory_reads s number q above (omega arith) ∙ ap (λ ps. directory_entry ps (q - number * 262144)) (items_at-held s.directories.items number d within is))
+    (λ q above below. directory_reads s number q above (omega arith) ∙ ap (λ ps. directory_entry ps (q - number * 262144))
+    (items_at-held s.directories.items number d within is))
 
 -- the entry of a line of one directory
 pub found_in : (s : PagedIndex) (number n : ℕ) (d : Vec (Vec LineEntry Global) Global)

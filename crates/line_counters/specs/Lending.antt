@@ -14,9 +14,12 @@ pub record ChangesEntry (old new : Entries) (line : ℕ) (e : LineEntry) : Type 
 abbrev pub KeepsPlaces : (ℕ → Bool) → (ℕ → Bool) → Type 0
 KeepsPlaces old new = (q : ℕ) → IsTrue (old q) → IsTrue (new q)
 
--- Behind an Ok the line has a place, and its entry ends as what was left there; at an Err every line keeps its own.
-abbrev pub LendsEntry : {E : Type 0} (R : RattleType) → (R.Denot → Entries) → (R.Denot → ℕ → Bool) → MutBor R.Denot → ℕ → Result (MutBor LineEntry) E → Fml
+-- Behind an Ok the line has a place, and its entry ends as what was left there; at an Err every
+-- line keeps its own.
+abbrev pub LendsEntry : {E : Type 0} (R : RattleType) → (R.Denot → Entries) → (R.Denot → ℕ → Bool)
+    → MutBor R.Denot → ℕ → Result (MutBor LineEntry) E → Fml
 LendsEntry R entries has_place s line r =
     LendsSoOk R the_row s r
-    (λ n e. ChangesEntry (entries s.now) (entries n) line e × IsTrue (has_place n line) × KeepsPlaces (has_place s.now) (has_place n))
+    (λ n e. ChangesEntry (entries s.now) (entries n) line e × IsTrue (has_place n line)
+    × KeepsPlaces (has_place s.now) (has_place n))
     (λ n. (entries n ≡ entries s.now) × KeepsPlaces (has_place s.now) (has_place n))

@@ -1,5 +1,6 @@
 -- The entries of pages and directories, and the first written one.
-use Rattle.std.specs.Prelude.{◌≡◌, ℕ, ◌/◌, ◌%◌, ◌<◌, ◌≤◌, Bool, List, [], length, nat_lt, Option, slice_get, unwrap_or, MatchOption}
+use Rattle.std.specs.Prelude.{◌≡◌, ℕ, ◌/◌, ◌%◌, ◌<◌, ◌≤◌, Bool, List, [], length, nat_lt, Option}
+use Rattle.std.specs.Prelude.{slice_get, unwrap_or, MatchOption}
 use Rattle.std.specs.Option.{option_map_or}
 use Rattle.std.specs.declared.vec.Vec.{Vec}
 use Rattle.std.specs.declared.alloc.Global.{Global}
@@ -35,4 +36,5 @@ pub record IsNextAt (entry_of : ℕ → LineEntry) (from end n : ℕ) : Type 0 w
 
 -- the first line from `from` on and below `end` that was written, None exactly where there is none
 abbrev pub IsNext : (ℕ → LineEntry) → ℕ → ℕ → Option ℕ → Type 0
-IsNext entry_of from end r = MatchOption r (NoneWritten entry_of from end) (IsNextAt entry_of from end)
+IsNext entry_of from end r = MatchOption r (NoneWritten entry_of from end)
+    (IsNextAt entry_of from end)

@@ -1,5 +1,6 @@
 // What every index of lines does, and what it means: a finite map from line numbers to entries.
-ghost use Rattle.std.specs.Prelude.{◌≡◌, ℕ, ◌<◌, ◌≤◌, ◌^◌, Bool, false, IfOk, OnErr, IfSome, IfNone};
+ghost use Rattle.std.specs.Prelude.{◌≡◌, ℕ, ◌<◌, ◌≤◌, ◌^◌, Bool, false, IfOk, OnErr, IfSome};
+ghost use Rattle.std.specs.Prelude.{IfNone};
 ghost use Rattle.std.specs.Borrow.{sem};
 ghost use Rattle.line_counters.specs.Entries.{Entries, IsEntry, blank_entry, entry_at, get};
 ghost use Rattle.line_counters.specs.Lending.{LendsEntry};
@@ -20,9 +21,9 @@ pub trait LineIndex {
         requires { line ≤ 2 ^ 30 }
         ensures { result ≡ entry_at (entries self.now) line };
 
-    /// Lends the entry of a line for writing; every other line keeps its own. `NoMemory` comes only for a
-    /// line that has no place yet, and so no write and no track, and then every line keeps its entry.
-    /// A line that was lent keeps its place from then on.
+    /// Lends the entry of a line for writing; every other line keeps its own. `NoMemory` comes only
+    /// for a line that has no place yet, and so no write and no track, and then every line keeps
+    /// its entry. A line that was lent keeps its place from then on.
     fn entry(&mut self, line: u64) -> Result<&mut LineEntry, NoMemory>
         requires { line ≤ 2 ^ 30 }
         ensures* writes_back { sem 𝓛 (LendsEntry Self.row entries has_place self.entry line result) }

@@ -1,5 +1,6 @@
 // An index by an ordered map.
-ghost use Rattle.std.specs.Prelude.{◌≡◌, ℕ, ◌<◌, ◌≤◌, ◌^◌, false, IsTrue, IfSome, IfNone, OnOk, OnErr};
+ghost use Rattle.std.specs.Prelude.{◌≡◌, ℕ, ◌<◌, ◌≤◌, ◌^◌, false, IsTrue, IfSome, IfNone, OnOk};
+ghost use Rattle.std.specs.Prelude.{OnErr};
 ghost use Rattle.std.specs.Ordering.{nat_cmp};
 ghost use Rattle.std.specs.BTreeMap.{get};
 ghost use Rattle.line_counters.specs.Entries.{blank_entry, no_entries};
@@ -51,8 +52,10 @@ impl MapIndex {
         ensures has { IfSome result (λ e. get nat_cmp self.now.lines e.0 ≡ Some e.1) }
         ensures at_or_above { IfSome result (λ e. from ≤ e.0) }
         ensures in_range { IfSome result (λ e. e.0 ≤ 2 ^ 30) }
-        ensures least { IfSome result (λ e. (q : ℕ) → from ≤ q → q < e.0 → get nat_cmp self.now.lines q ≡ None) }
-        ensures none { IfNone result ((q : ℕ) → from ≤ q → q ≤ 2 ^ 30 → get nat_cmp self.now.lines q ≡ None) }
+        ensures least { IfSome result (λ e. (q : ℕ) → from ≤ q → q < e.0
+            → get nat_cmp self.now.lines q ≡ None) }
+        ensures none { IfNone result ((q : ℕ) → from ≤ q → q ≤ 2 ^ 30
+            → get nat_cmp self.now.lines q ≡ None) }
     {
         match self.lines.range(from..=LAST_LINE).next() {
             Some((number, entry)) => Some((*number, *entry)),

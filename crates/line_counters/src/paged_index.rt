@@ -1,5 +1,5 @@
-// An index by pages of 64 lines. Pages stand in directories of 4096, and directories and pages appear
-// once a line of theirs is lent.
+// An index by pages of 64 lines. Pages stand in directories of 4096, and directories and pages
+// appear once a line of theirs is lent.
 ghost use Rattle.std.specs.Prelude.{◌≡◌, ℕ, false, IsTrue, OnOk, OnErr, unwrap_or};
 ghost use Rattle.std.specs.Option.{option_copied};
 ghost use Rattle.line_counters.specs.Entries.{blank_entry, no_entries};
@@ -44,6 +44,7 @@ impl PagedIndex {
     }
 
     // Gives a line a place, with a blank entry where it had none.
+    #[inline(always)]
     fn make_place(&mut self, line: u64) -> Result<(), NoMemory>
         ensures same { (q : ℕ) → paged_entry self.new q ≡ paged_entry self.old q }
         ensures keeps { KeepsPlaces (paged_place self.old) (paged_place self.new) }
@@ -79,6 +80,7 @@ impl LineIndex for PagedIndex {
         }
     }
 
+    #[inline(always)]
     fn entry(&mut self, line: u64) -> Result<&mut LineEntry, NoMemory> {
         match self.make_place(line) {
             Ok(()) => {

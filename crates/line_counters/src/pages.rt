@@ -2,7 +2,8 @@
 ghost use Rattle.std.specs.Prelude.{◌≡◌, ℕ, ◌<◌, ◌≤◌, false, IsTrue, OnOk, OnErr, vec_len};
 ghost use Rattle.line_counters.specs.Entries.{blank_entry};
 ghost use Rattle.line_counters.specs.Lending.{KeepsPlaces};
-ghost use Rattle.line_counters.specs.Pages.{IsNext, directory_entry, has_line, items_at, page_entry};
+ghost use Rattle.line_counters.specs.Pages.{IsNext, directory_entry, has_line, items_at};
+ghost use Rattle.line_counters.specs.Pages.{page_entry};
 
 use crate::line_entry::{BLANK, LineEntry};
 use predator_base::NoMemory;
@@ -27,6 +28,7 @@ pub const DIRECTORY_LINES: u64 = (PAGE_LINES * DIRECTORY_PAGES) as u64;
 pub const DIRECTORIES: usize = 4097;
 
 /// Appends empty vectors until there is one at a place. It is refused only where there was none.
+#[inline(always)]
 pub fn reach<T: Drop>(all: &mut Vec<Vec<T>>, place: usize, alloc: Global) -> Result<(), NoMemory>
     ensures same { (k : ℕ) → items_at all.new.items k ≡ items_at all.old.items k }
     ensures reached { OnOk result (place < vec_len all.new) }
@@ -41,6 +43,7 @@ pub fn reach<T: Drop>(all: &mut Vec<Vec<T>>, place: usize, alloc: Global) -> Res
 }
 
 /// Fills a page up to 64 entries where it has none at a place.
+#[inline(always)]
 pub fn fill_page(page: &mut Page, place: usize) -> Result<(), NoMemory>
     requires { place < 64 }
     ensures same { (k : ℕ) → page_entry page.new.items k ≡ page_entry page.old.items k }
@@ -58,8 +61,10 @@ pub fn fill_page(page: &mut Page, place: usize) -> Result<(), NoMemory>
 }
 
 /// Gives a line of a directory a place in a page.
+#[inline(always)]
 pub fn make_page(directory: &mut Directory, place: usize, alloc: Global) -> Result<(), NoMemory>
-    ensures same { (k : ℕ) → directory_entry directory.new.items k ≡ directory_entry directory.old.items k }
+    ensures same { (k : ℕ) → directory_entry directory.new.items k ≡ directory_entry
+        directory.old.items k }
     ensures keeps { KeepsPlaces (has_line directory.old.items) (has_line directory.new.items) }
     ensures placed { OnOk result (IsTrue (has_line directory.new.items place)) }
     ensures unplaced { OnErr result (has_line directory.old.items place ≡ false) }

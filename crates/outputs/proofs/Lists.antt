@@ -1,5 +1,6 @@
 -- One of the files on their way, and the others beside it.
-use Rattle.std.proofs.Common.{◌≡◌, ◌≢◌, ℕ, ◌<◌, ◌≤◌, zero, suc, List, [], ◌∷◌, ◌++◌, length, get_or, Option, Some, None, true, false, Result, Ok, Err, ◌⊎◌, OnOk, OnErr, IfErr, refl, sym, ap, ◌∙◌, subst, inl, inr, arith}
+use Rattle.std.proofs.Common.{◌≡◌, ◌≢◌, ℕ, ◌<◌, ◌≤◌, zero, suc, List, [], ◌∷◌, ◌++◌, length, get_or, Option, Some, None, true, false}
+use Rattle.std.proofs.Common.{Result, Ok, Err, ◌⊎◌, OnOk, OnErr, IfErr, refl, sym, ap, ◌∙◌, subst, inl, inr, arith}
 use Rattle.std.specs.Prelude.{IsErrOf, IsErrAnd}
 use Rattle.std.proofs.Math.ListN.{set}
 use Rattle.std.proofs.Common.{length-set}
@@ -14,7 +15,8 @@ use Rattle.shelf.specs.declared.shelf.ShelfError.TheVariants.{Failed, NoMemory}
 use Rattle.outputs.specs.Files.{Output, MayStand, RoseAmong, AreCut, AreWritten}
 use Rattle.outputs.specs.OneFile.{Waiting, kept_of, AddsUp, Holds, IsBegun, Sunk, HoldsFront, OthersStay, OthersStand}
 use Rattle.outputs.specs.OnTheirWay.{names_of, IsNew, AreApart, AreBegun, AreSunk, IsOutputs, NothingWaits, changed_at, waiting_with}
-use Rattle.outputs.specs.Laws.{Sunk-front, goes_then, Others, output_names, MayBe, AllMayBe, AreHeld, all_may, held_whole, may_all, front_may, sunk_names}
+use Rattle.outputs.specs.Laws.{Sunk-front, goes_then, Others, output_names, MayBe, AllMayBe, AreHeld, all_may, held_whole, may_all}
+use Rattle.outputs.specs.Laws.{front_may, sunk_names}
 
 pub changed_not : (outputs : List Output) (place : ℕ) → changed_at outputs place (λ b. b) ≡ outputs
 changed_not [] place = refl

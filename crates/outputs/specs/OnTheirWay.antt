@@ -28,15 +28,19 @@ abbrev pub AreSunk : List Waiting → List Output → Outside → Type 0
 AreSunk [] [] outside = Unit {0}
 AreSunk [] (o ∷ outputs) outside = ⊥
 AreSunk (f ∷ files) [] outside = ⊥
-AreSunk (f ∷ files) (o ∷ outputs) outside = (f.name ≡ o.name) × Sunk f o.bytes outside × AreSunk files outputs outside
+AreSunk (f ∷ files) (o ∷ outputs) outside = (f.name ≡ o.name) × Sunk f o.bytes outside
+    × AreSunk files outputs outside
 
--- The files are on their way: what stands in each, and then what waits, is what was put into it so far. A name that is
--- not begun yet is none of them, and stands as it was; a file of which nothing waits is whole. No call failed.
-pub record IsOutputs (files : List Waiting) (outputs : List Output) (before now : Outside) : Type 0 where
-  pub sunk : AreSunk files outputs now
-  pub others : Goes before.written now.written (λ old new. (name : List ℕ) → IsNew name (names_of files) → new name ≡ old name)
-  pub faults : now.write_faults ≡ before.write_faults
-  pub only : OnlyWrites before now
+-- The files are on their way: what stands in each, and then what waits, is what was put into it so
+-- far. A name that is not begun yet is none of them, and stands as it was; a file of which nothing
+-- waits is whole. No call failed.
+pub record IsOutputs (files : List Waiting) (outputs : List Output) (before now : Outside) : Type 0
+  where
+    pub sunk : AreSunk files outputs now
+    pub others : Goes before.written now.written
+        (λ old new. (name : List ℕ) → IsNew name (names_of files) → new name ≡ old name)
+    pub faults : now.write_faults ≡ before.write_faults
+    pub only : OnlyWrites before now
 
 -- the outputs, with the bytes of the one at a place changed
 abbrev pub changed_at : List Output → ℕ → (List ℕ → List ℕ) → List Output

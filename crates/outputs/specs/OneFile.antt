@@ -1,5 +1,7 @@
--- A file on its way: what was put into it stands in the written file of its name, but for what still waits.
-use Rattle.std.specs.Prelude.{◌≡◌, ◌≢◌, ℕ, List, [], ◌++◌, length, take, Some, IsSome, nat_lt, if◌then◌else◌}
+-- A file on its way: what was put into it stands in the written file of its name, but for what
+-- still waits.
+use Rattle.std.specs.Prelude.{◌≡◌, ◌≢◌, ℕ, List, [], ◌++◌, length, take, Some, IsSome, nat_lt}
+use Rattle.std.specs.Prelude.{if◌then◌else◌}
 use Rattle.std.specs.Option.{ForSome}
 use Rattle.shelf.specs.Shelf.{Outside, Files, Told, Goes}
 
@@ -18,7 +20,8 @@ IsBegun name outside = ForSome outside.written (λ files. IsSome (files name))
 
 -- the file of the name and then what waits are the bytes that were put so far, in their order
 abbrev pub AddsUp : Waiting → List ℕ → Files → Type 0
-AddsUp sink pushed files = (file : List ℕ) × (files sink.name ≡ Some file) × (file ++ sink.kept ≡ pushed)
+AddsUp sink pushed files = (file : List ℕ) × (files sink.name ≡ Some file)
+    × (file ++ sink.kept ≡ pushed)
 
 abbrev pub Sunk : Waiting → List ℕ → Outside → Type 0
 Sunk sink pushed outside = Told outside.written (AddsUp sink pushed)
@@ -29,13 +32,16 @@ Holds name bytes outside = Told outside.written (λ files. files name ≡ Some b
 
 -- the file of the name is a front of these bytes
 abbrev pub HoldsFront : List ℕ → List ℕ → Outside → Type 0
-HoldsFront name bytes outside = Told outside.written (λ files. (k : ℕ) × (files name ≡ Some (take k bytes)))
+HoldsFront name bytes outside = Told outside.written
+    (λ files. (k : ℕ) × (files name ≡ Some (take k bytes)))
 
 -- each other name's file is as it was
 abbrev pub OthersStay : List ℕ → Outside → Outside → Type 0
-OthersStay name old new = Goes old.written new.written (λ before now. (n : List ℕ) → n ≢ name → now n ≡ before n)
+OthersStay name old new = Goes old.written new.written (λ before now. (n : List ℕ) → n ≢ name
+    → now n ≡ before n)
 
 -- so what stood of other names' files stands
 pub record OthersStand (name : List ℕ) (old new : Outside) : Type 0 where
   pub begun : (n : List ℕ) → n ≢ name → IsBegun n old → IsBegun n new
-  pub sunk : (other : Waiting) (pushed : List ℕ) → other.name ≢ name → Sunk other pushed old → Sunk other pushed new
+  pub sunk : (other : Waiting) (pushed : List ℕ) → other.name ≢ name → Sunk other pushed old
+      → Sunk other pushed new

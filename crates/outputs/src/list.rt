@@ -2,7 +2,8 @@
 ghost use Rattle.std.specs.Prelude.{◌≡◌, ◌<◌, ◌++◌, ◌∷◌, List, ℕ, [], length, OnOk, IfErr};
 ghost use Rattle.shelf.specs.Shelf.{Outside};
 ghost use Rattle.outputs.specs.Files.{Output, AreCut, AreWritten};
-ghost use Rattle.outputs.specs.OnTheirWay.{AreBegun, IsNew, IsOutputs, NothingWaits, names_of, outputs_with, waiting_with};
+ghost use Rattle.outputs.specs.OnTheirWay.{AreBegun, IsNew, IsOutputs, NothingWaits, names_of};
+ghost use Rattle.outputs.specs.OnTheirWay.{outputs_with, waiting_with};
 
 use crate::sink::Sink;
 use shelf::{Shelf, ShelfError};
@@ -11,8 +12,8 @@ use std::marker::Model;
 
 /// Files on their way, each under a name of its own, in the order in which they were begun.
 ///
-/// Contracts see the name of each file and the bytes that wait for it. After a call that answers an error it isn't
-/// known any more which bytes wait: put nothing more.
+/// Contracts see the name of each file and the bytes that wait for it. After a call that answers an
+/// error it isn't known any more which bytes wait: put nothing more.
 #[derive(Drop)]
 pub struct Outputs<'a> {
     files: Vec<Sink<'a>>,
@@ -41,10 +42,11 @@ impl<'a> Outputs<'a> {
         }
     }
 
-    /// Begins the file of a name that none of the others has. It comes behind them, and nothing is put into it yet.
+    /// Begins the file of a name that none of the others has. It comes behind them, and nothing is
+    /// put into it yet.
     ///
-    /// At an error the name is as it was, or its file is empty. `Failed` comes only where the faults of writing
-    /// this name rose, `NoMemory` for want of memory.
+    /// At an error the name is as it was, or its file is empty. `Failed` comes only where the
+    /// faults of writing this name rose, `NoMemory` for want of memory.
     pub fn begin<S: Shelf>(
         &mut self,
         alloc: Global,
@@ -52,15 +54,18 @@ impl<'a> Outputs<'a> {
         name: &'a str,
     ) -> Result<(), ShelfError>
         requires { IsNew name.now (names_of self.old) }
-        ensures begun { OnOk result (self.new ≡ self.old ++ record { name = name.now; kept = [] } ∷ []) }
+        ensures begun { OnOk result (self.new ≡ self.old ++ record { name = name.now; kept = [] }
+            ∷ []) }
         ensures ready { OnOk result (AreBegun (names_of self.old) (S.outside shelf.old)
             → AreBegun (names_of self.new) (S.outside shelf.new)) }
         ensures outputs { OnOk result ((outputs : List Output) (before : Outside)
             → IsOutputs self.old outputs before (S.outside shelf.old)
-            → IsOutputs self.new (outputs ++ record { name = name.now; bytes = [] } ∷ []) before (S.outside shelf.new)) }
+            → IsOutputs self.new (outputs ++ record { name = name.now; bytes = [] } ∷ []) before
+            (S.outside shelf.new)) }
         ensures cut { IfErr result (λ error. (outputs : List Output) (before : Outside)
             → IsOutputs self.old outputs before (S.outside shelf.old)
-            → AreCut (outputs ++ record { name = name.now; bytes = [] } ∷ []) before (S.outside shelf.new) error) }
+            → AreCut (outputs ++ record { name = name.now; bytes = [] } ∷ []) before
+            (S.outside shelf.new) error) }
     {
         match Sink::begin(alloc, shelf, name) {
             Ok(sink) => {
@@ -71,12 +76,12 @@ impl<'a> Outputs<'a> {
         }
     }
 
-    /// Adds bytes to the file at a place, counted from 0. Once 64 KiB or more wait for it, all of them go to the file in
-    /// one call.
+    /// Adds bytes to the file at a place, counted from 0. Once 64 KiB or more wait for it, all of
+    /// them go to the file in one call.
     ///
-    /// At an error each file is a front of all that was put into it, these bytes included. `Failed` comes only where
-    /// the faults of writing one of the names rose, `NoMemory` for want of memory. The condition is that each file is
-    /// begun, where the shelf tells what is written.
+    /// At an error each file is a front of all that was put into it, these bytes included. `Failed`
+    /// comes only where the faults of writing one of the names rose, `NoMemory` for want of memory.
+    /// The condition is that each file is begun, where the shelf tells what is written.
     #[inline]
     pub fn put<S: Shelf>(
         &mut self,
@@ -92,7 +97,8 @@ impl<'a> Outputs<'a> {
         ensures waiting { OnOk result (self.new ≡ waiting_with self.old place bytes.now) }
         ensures outputs { OnOk result ((outputs : List Output) (before : Outside)
             → IsOutputs self.old outputs before (S.outside shelf.old)
-            → IsOutputs self.new (outputs_with outputs place bytes.now) before (S.outside shelf.new)) }
+            → IsOutputs self.new (outputs_with outputs place bytes.now) before
+            (S.outside shelf.new)) }
         ensures cut { IfErr result (λ error. (outputs : List Output) (before : Outside)
             → IsOutputs self.old outputs before (S.outside shelf.old)
             → AreCut (outputs_with outputs place bytes.now) before (S.outside shelf.new) error) }
@@ -101,12 +107,12 @@ impl<'a> Outputs<'a> {
         file.put(shelf, bytes)
     }
 
-    /// Appends what still waits to the files, in their order: each is then all that was put into it. More may be put
-    /// afterwards.
+    /// Appends what still waits to the files, in their order: each is then all that was put into
+    /// it. More may be put afterwards.
     ///
-    /// At an error each file is a front of all that was put into it. `Failed` comes only where the faults of writing
-    /// one of the names rose, `NoMemory` for want of memory. The condition is that each file is begun, where the shelf
-    /// tells what is written.
+    /// At an error each file is a front of all that was put into it. `Failed` comes only where the
+    /// faults of writing one of the names rose, `NoMemory` for want of memory. The condition is
+    /// that each file is begun, where the shelf tells what is written.
     pub fn finish<S: Shelf>(&mut self, shelf: &mut S) -> Result<(), ShelfError>
         requires { AreBegun (names_of self.old) (S.outside shelf.old) }
         ensures count { OnOk result (length self.new ≡ length self.old) }

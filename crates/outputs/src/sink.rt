@@ -1,7 +1,8 @@
 // The bytes that wait for one file.
 ghost use Rattle.std.specs.Prelude.{◌≡◌, ◌<◌, ◌++◌, List, ℕ, [], length, IfOk, OnOk, OnErr, IsOk};
 ghost use Rattle.shelf.specs.Shelf.{Goes, ChangesAt, Begins, HasCauseAt, OnlyWrites};
-ghost use Rattle.outputs.specs.OneFile.{kept_of, IsBegun, Sunk, Holds, HoldsFront, OthersStay, OthersStand};
+ghost use Rattle.outputs.specs.OneFile.{kept_of, IsBegun, Sunk, Holds, HoldsFront, OthersStay};
+ghost use Rattle.outputs.specs.OneFile.{OthersStand};
 
 use shelf::{Shelf, ShelfError};
 use std::alloc::Global;
@@ -10,8 +11,9 @@ use std::marker::Model;
 // How many bytes are put before the file is written.
 const PIECE: usize = 65536;
 
-// Bytes on their way to the file of a name: what was put is the file's content, and then the fewer than 64 KiB that
-// still wait. After a call that answers an error it isn't known any more which bytes wait.
+// Bytes on their way to the file of a name: what was put is the file's content, and then the fewer
+// than 64 KiB that still wait. After a call that answers an error it isn't known any more which
+// bytes wait.
 #[derive(Drop)]
 pub(crate) struct Sink<'a> {
     name: &'a str,

@@ -1,15 +1,25 @@
 //! The program: the top call of `predator_cli` over the system's files and standard output.
 #![tactic(auto)]
 
+use disk_shelf::DiskShelf;
 use predator_base::NoMemory;
-use predator_cli::{DiskShelf, exit_code, give_up, predator, words_of};
+use predator_cli::{advise, exit_code, give_up, predator, words_of};
 use std::env;
+use std::io::IsTerminal;
 use std::process::ExitCode;
 
 fn main(rt: HostRuntime) -> ExitCode {
-    let mut shelf = DiskShelf::new(&rt);
+    let mut shelf = if rt.stderr().is_terminal() {
+        DiskShelf::on_terminal(&rt)
+    } else {
+        DiskShelf::new(&rt)
+    };
     let status = match words_of(rt.alloc(), env::args(&rt)) {
-        Ok(words) => predator(rt.alloc(), &words, &mut shelf),
+        Ok(words) => {
+            let status = predator(rt.alloc(), &words, &mut shelf);
+            advise(&rt, &words, &status);
+            status
+        }
         Err(NoMemory) => give_up(&mut shelf),
     };
     exit_code(&status)

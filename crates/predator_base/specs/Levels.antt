@@ -14,4 +14,5 @@ is_from_to low high n = nat_le low n && nat_le n high
 -- tracking from 1 to 2^32, prediction, if given, from tracking to 2^32, report from 1 to 2^40
 abbrev pub are_levels : ℕ → Option ℕ → ℕ → Bool
 are_levels tracking prediction report =
-    is_from_to 1 (2 ^ 32) tracking && option_map_or (is_from_to tracking (2 ^ 32)) prediction true && is_from_to 1 (2 ^ 40) report
+    is_from_to 1 (2 ^ 32) tracking && option_map_or (is_from_to tracking (2 ^ 32)) prediction true
+    && is_from_to 1 (2 ^ 40) report

@@ -1,4 +1,5 @@
--- Layouts. A layout (n, o) cuts the addresses into lines of n bytes that begin at o modulo n; the first may begin below 0.
+-- Layouts. A layout (n, o) cuts the addresses into lines of n bytes that begin at o modulo n; the
+-- first may begin below 0.
 use Rattle.std.specs.Prelude.{ℕ, ◌+◌, ◌-◌, ◌/◌, ◌%◌, ◌==◌, Bool, ◌&&◌, nat_lt, eqb, [], ◌∷◌}
 use Rattle.std.specs.List.{list_any}
 

@@ -1,5 +1,6 @@
 -- One access, as contracts see it: an `Access` with its fields open.
-use Rattle.std.specs.Prelude.{◌≡◌, ℕ, ◌<◌, ◌/◌, ◌*◌, ◌%◌, ◌^◌, ◌==◌, Bool, true, false, ◌||◌, IsTrue}
+use Rattle.std.specs.Prelude.{◌≡◌, ℕ, ◌<◌, ◌/◌, ◌*◌, ◌%◌, ◌^◌, ◌==◌, Bool, true, false, ◌||◌}
+use Rattle.std.specs.Prelude.{IsTrue}
 use Rattle.predator_base.specs.declared.access.Kind.{Kind}
 use Rattle.predator_base.specs.declared.access.Kind.TheVariants.{Read, Write}
 

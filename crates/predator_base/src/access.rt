@@ -25,7 +25,8 @@ impl Kind {
     }
 }
 
-/// An access of 1, 2 or 4 bytes, whose address is a multiple of its size: it lies in one word of 4 bytes.
+/// An access of 1, 2 or 4 bytes, whose address is a multiple of its size: it lies in one word of 4
+/// bytes.
 ///
 /// Contracts see its fields `hart`, `addr`, `kind` and `size`.
 #[derive(Clone, Copy, PartialEq, Eq, Debug)]
@@ -49,8 +50,8 @@ impl Model for Access {
 }
 
 impl Access {
-    /// An access of `size` bytes at `addr`: None exactly where the size is not 1, 2 or 4, or does not
-    /// divide the address.
+    /// An access of `size` bytes at `addr`: None exactly where the size is not 1, 2 or 4, or does
+    /// not divide the address.
     pub fn new(hart: Hart, addr: u32, kind: Kind, size: u8) -> Option<Access>
         ensures { SomeIff result (IsTrue (is_access_size size) × (addr % size ≡ 0))
             (record { hart = hart; addr = addr; kind = kind; size = size }) }

@@ -22,7 +22,8 @@ impl<T: Drop> From<AllocFailed<T>> for NoMemory {
 /// Why a saved state is not taken up again.
 #[derive(Clone, Copy, PartialEq, Eq, Debug)]
 pub enum ResumeFault {
-    /// The first unit of the state that is at fault, by its place in bytes from the file's beginning.
+    /// The first unit of the state that is at fault, by its place in bytes from the file's
+    /// beginning.
     BadState(u64),
     /// Memory ran out.
     NoMemory,

@@ -28,7 +28,8 @@ impl Range {
 
 /// A layout: lines of `size` bytes that begin at the addresses congruent to `offset` modulo `size`.
 ///
-/// The size is a power of two from 4 to 1024, and the offset a multiple of 4 below it. Contracts see both.
+/// The size is a power of two from 4 to 1024, and the offset a multiple of 4 below it. Contracts
+/// see both.
 #[derive(Clone, Copy, PartialEq, Eq, Debug)]
 pub struct Layout {
     size: u32,
@@ -51,10 +52,11 @@ impl Model for Layout {
 impl Layout {
     ghost use Rattle.predator_base.specs.Ranges.{IsLineOf, line_range};
 
-    /// The layout of a line size in bytes and an offset: None exactly where the size is no power of two
-    /// from 4 to 1024, or the offset no multiple of 4 below the size.
+    /// The layout of a line size in bytes and an offset: None exactly where the size is no power of
+    /// two from 4 to 1024, or the offset no multiple of 4 below the size.
     pub fn new(size: u32, offset: u32) -> Option<Layout>
-        ensures { SomeIff result (IsTrue (is_layout size offset)) (record { size = size; offset = offset }) }
+        ensures { SomeIff result (IsTrue (is_layout size offset))
+            (record { size = size; offset = offset }) }
     {
         if !is_line_size(size) || offset >= size || offset % 4 != 0 {
             return None;
@@ -88,7 +90,8 @@ impl Layout {
 
     /// The range of an address's line.
     pub fn line_of(&self, addr: u32) -> Range
-        ensures value { result ≡ line_range self.now.size self.now.offset (line_number self.now.size self.now.offset addr) }
+        ensures value { result ≡ line_range self.now.size self.now.offset
+            (line_number self.now.size self.now.offset addr) }
         ensures line { IsLineOf self.now.size self.now.offset addr result }
     {
         let end = self.number_of(addr) * u64::from(self.size) + u64::from(self.offset);

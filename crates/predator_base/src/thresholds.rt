@@ -19,7 +19,12 @@ impl Model for Thresholds {
 
     ghost Value = { Levels };
 
-    ghost view = { λ t. record { tracking = t.tracking; prediction = t.prediction; report = t.report } };
+    ghost view = { λ t. record {
+      tracking = t.tracking;
+      prediction = t.prediction;
+      report =
+          t.report;
+    } };
 
     ghost invariant = { λ t. IsTrue (are_levels t.tracking t.prediction t.report) };
 
@@ -27,8 +32,8 @@ impl Model for Thresholds {
 }
 
 impl Thresholds {
-    /// The thresholds: None exactly where tracking is not from 1 to 2^32, or a prediction threshold is
-    /// given that is not from tracking to 2^32, or report is not from 1 to 2^40.
+    /// The thresholds: None exactly where tracking is not from 1 to 2^32, or a prediction threshold
+    /// is given that is not from tracking to 2^32, or report is not from 1 to 2^40.
     pub fn new(tracking: u64, prediction: Option<u64>, report: u64) -> Option<Thresholds>
         ensures { SomeIff result (IsTrue (are_levels tracking prediction report))
             (record { tracking = tracking; prediction = prediction; report = report }) }
@@ -60,7 +65,8 @@ impl Thresholds {
         self.tracking
     }
 
-    /// At each how many writes of a line its pairs are searched, up to 2^32; None where nothing is predicted.
+    /// At each how many writes of a line its pairs are searched, up to 2^32; None where nothing is
+    /// predicted.
     pub fn prediction(&self) -> Option<u64>
         ensures { result ≡ self.now.prediction }
     {

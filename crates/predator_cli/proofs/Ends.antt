@@ -10,7 +10,8 @@ use Rattle.predator_cli.specs.Written.{AreSame, Writes}
 use Rattle.predator_cli.specs.Again.{RepeatsReport, WhereDone}
 use Rattle.predator_cli.specs.Answer.{answer_of, outputs, refusal_of}
 use Rattle.predator_cli.specs.Statuses.{Kind, kind_of, done, refusal, read_fault, write_fault, no_memory, hides_no_memory}
-use Rattle.predator_cli.specs.Meets.{EndsAs, IsAnswered, IsCaused, IsComplete, IsFaulty, IsPrintable, IsWorked, Meets, NoFaults, Printed, Prints, ReadsInPeace}
+use Rattle.predator_cli.specs.Meets.{EndsAs, IsAnswered, IsCaused, IsComplete, IsFaulty, IsPrintable, IsWorked, Meets, NoFaults, Printed}
+use Rattle.predator_cli.specs.Meets.{Prints, ReadsInPeace}
 use Rattle.predator_cli.specs.Faults.{fault_text}
 use Rattle.predator_cli.specs.declared.status.Status.{Status}
 use Rattle.predator_cli.specs.declared.status.Status.TheVariants as status
@@ -19,7 +20,8 @@ use Rattle.predator_cli.proofs.Told.{told, told_map, told_both, rose_later, whol
 
 -- ---- the line of a fault
 
-caused_after : (asked : Option Demand) (a b d : Outside) (k : Kind) → OnlyPrints b d → b.print_faults ≤ d.print_faults → IsCaused asked a b k → IsCaused asked a d k
+caused_after : (asked : Option Demand) (a b d : Outside) (k : Kind) → OnlyPrints b d → b.print_faults ≤ d.print_faults
+    → IsCaused asked a b k → IsCaused asked a d k
 caused_after asked a b d done only later caused = tt
 caused_after asked a b d refusal only later caused = tt
 caused_after asked a b d no_memory only later caused = tt
@@ -27,7 +29,8 @@ caused_after asked a b d read_fault only later caused = rw only.read_faults caus
 caused_after asked a b d write_fault only later (inl rose) = inl (rw only.write_faults rose)
 caused_after asked a b d write_fault only later (inr rose) = inr (rose_later a.print_faults b.print_faults d.print_faults rose later)
 
-ends_after : (asked : Option Demand) (files : Files) (a b d : Outside) (k : Kind) (s : Status) → OnlyPrints b d → EndsAs asked files a b k s → EndsAs asked files a d k s
+ends_after : (asked : Option Demand) (files : Files) (a b d : Outside) (k : Kind) (s : Status) → OnlyPrints b d → EndsAs asked files a b k s
+    → EndsAs asked files a d k s
 ends_after asked files a b d done s only ends = ends
 ends_after asked files a b d refusal s only ends = ends
 ends_after asked files a b d no_memory s only ends = tt
@@ -38,16 +41,19 @@ printed_prefix : (a d : Outside) (text : List ℕ) → Printed a d text → Adds
 printed_prefix a d text (inl whole) = whole_prefix a.printed d.printed text whole
 printed_prefix a d text (inr (rose, part)) = part
 
-printable_after : (asked : Option Demand) (files : Files) (a b d : Outside) (text : List ℕ) → OnlyPrints b d → IsPrintable asked files a b text → IsPrintable asked files a d text
+printable_after : (asked : Option Demand) (files : Files) (a b d : Outside) (text : List ℕ) → OnlyPrints b d
+    → IsPrintable asked files a b text → IsPrintable asked files a d text
 printable_after asked files a b d text only p = rw (only.read_faults, only.write_faults) p
 
 -- a fault's line was printed, whole or in part
-prints_fault : (asked : Option Demand) (a d : Outside) (k : Kind) (s : Status) → (k ≡ done → ⊥) → Told a.held (λ files. IsPrintable asked files a d (fault_text s)) → Printed a d (fault_text s) → Prints asked a d k s
+prints_fault : (asked : Option Demand) (a d : Outside) (k : Kind) (s : Status) → (k ≡ done → ⊥)
+    → Told a.held (λ files. IsPrintable asked files a d (fault_text s)) → Printed a d (fault_text s) → Prints asked a d k s
 prints_fault asked a d done s n p printed = absurd (n refl)
 prints_fault asked a d refusal s n p printed = printed
 prints_fault asked a d read_fault s n p printed = printed
 prints_fault asked a d write_fault s n p printed = told a.held (λ files. inl printed)
-prints_fault asked a d no_memory s n p printed = told_map a.held (λ files is. (fault_text s, is, printed_prefix a d (fault_text s) printed)) p
+prints_fault asked a d no_memory s n p printed = told_map a.held (λ files is. (fault_text s, is, printed_prefix a d (fault_text s) printed))
+    p
 
 -- printing writes no file, and reads none
 writes_after : (asked : Option Demand) (a b d : Outside) (k : Kind) → OnlyPrints b d → Writes asked a b k → Writes asked a d k
@@ -67,7 +73,8 @@ peace_after a b d no_memory only peace = tt
 -- what stands at a fault may stand where memory runs out after it
 same_later : (asked : Option Demand) (a b : Outside) → Goes a.written b.written AreSame → Writes asked a b no_memory
 same_later asked a b goes =
-    told a.held (λ files. goes_map a.written b.written (λ before now is name. same_may (bytes_for (answer_of asked files).outputs name) (before name) (now name) (is name)) goes)
+    told a.held (λ files. goes_map a.written b.written (λ before now is name. same_may (bytes_for (answer_of asked files).outputs name)
+    (before name) (now name) (is name)) goes)
 
 writes_later : (asked : Option Demand) (a b : Outside) (k : Kind) → (k ≡ done → ⊥) → Writes asked a b k → Writes asked a b no_memory
 writes_later asked a b done n writes = absurd (n refl)
@@ -84,7 +91,8 @@ not_done P (Some demand) files read_fault n = tt
 not_done P (Some demand) files write_fault n = tt
 not_done P (Some demand) files no_memory n = tt
 
-pub refuse_meets : (asked : Option Demand) (a b d : Outside) (s : Status) → IsFaulty asked a b s → OnlyPrints b d → b.print_faults ≤ d.print_faults → Printed b d (fault_text s) → Meets asked a d s
+pub refuse_meets : (asked : Option Demand) (a b d : Outside) (s : Status) → IsFaulty asked a b s → OnlyPrints b d
+    → b.print_faults ≤ d.print_faults → Printed b d (fault_text s) → Meets asked a d s
 refuse_meets asked a b d s faulty only later printed =
     let same : Printed a d (fault_text s) = rw (← faulty.printed, ← faulty.print_faults) printed in
     record {
@@ -94,7 +102,8 @@ refuse_meets asked a b d s faulty only later printed =
       caused = caused_after asked a b d (kind_of s) only later faulty.caused;
       memory = faulty.memory;
       peace = peace_after a b d (kind_of s) only faulty.peace;
-      prints = prints_fault asked a d (kind_of s) s faulty.fault (told_map a.held (λ files p. printable_after asked files a b d (fault_text s) only p) faulty.printable) same;
+      prints = prints_fault asked a d (kind_of s) s faulty.fault
+          (told_map a.held (λ files p. printable_after asked files a b d (fault_text s) only p) faulty.printable) same;
       writes = writes_after asked a b d (kind_of s) only faulty.writes;
       only = rw only.written faulty.only;
       held = only.held ∙ faulty.held;
@@ -102,7 +111,8 @@ refuse_meets asked a b d s faulty only later printed =
     }
 
 -- memory ran out while a fault's line was printed
-pub refuse_out_of_memory : (asked : Option Demand) (a b d : Outside) (s : Status) → IsFaulty asked a b s → OnlyPrints b d → AddsFront b.printed d.printed (fault_text s) → Meets asked a d status.NoMemory
+pub refuse_out_of_memory : (asked : Option Demand) (a b d : Outside) (s : Status) → IsFaulty asked a b s → OnlyPrints b d
+    → AddsFront b.printed d.printed (fault_text s) → Meets asked a d status.NoMemory
 refuse_out_of_memory asked a b d s faulty only printed =
     let part : AddsFront a.printed d.printed (fault_text s) = rw (← faulty.printed) printed in
     record {
@@ -140,32 +150,47 @@ faulty_for_memory asked a b s faulty = record {
 -- ---- the command's own text
 
 -- the answer of a command whose files are accepted
-pub accepted_answer : (demand : Demand) (files : Files) → first_refusal (readings_of demand) files ≡ None → answer_of (Some demand) files ≡ work_of demand files
+pub accepted_answer : (demand : Demand) (files : Files) → first_refusal (readings_of demand) files ≡ None
+    → answer_of (Some demand) files ≡ work_of demand files
 accepted_answer demand files none = rw none refl
 
-finished_ends : (demand : Demand) (files : Files) (a d : Outside) (s : Status) → kind_of s ≡ done → first_refusal (readings_of demand) files ≡ None → (work_of demand files).status ≡ s → EndsAs (Some demand) files a d (kind_of s) s
+finished_ends : (demand : Demand) (files : Files) (a d : Outside) (s : Status) → kind_of s ≡ done → first_refusal (readings_of demand) files
+    ≡ None → (work_of demand files).status ≡ s → EndsAs (Some demand) files a d (kind_of s) s
 finished_ends demand files a d s kind none is = rw kind (ap (λ (w : Work). w.status) (accepted_answer demand files none) ∙ is)
 
-own_text : (demand : Demand) (files : Files) (text : List ℕ) → first_refusal (readings_of demand) files ≡ None → (work_of demand files).text ≡ text → (answer_of (Some demand) files).text ≡ text
+own_text : (demand : Demand) (files : Files) (text : List ℕ) → first_refusal (readings_of demand) files ≡ None
+    → (work_of demand files).text ≡ text → (answer_of (Some demand) files).text ≡ text
 own_text demand files text none is = ap (λ (w : Work). w.text) (accepted_answer demand files none) ∙ is
 
-own_texts : (demand : Demand) (a b : Outside) (s : Status) (text : List ℕ) → IsWorked demand a b s text → Told a.held (λ files. (answer_of (Some demand) files).text ≡ text)
+own_texts : (demand : Demand) (a b : Outside) (s : Status) (text : List ℕ) → IsWorked demand a b s text
+    → Told a.held (λ files. (answer_of (Some demand) files).text ≡ text)
 own_texts demand a b s text worked = told_both a.held (λ files none is. own_text demand files text none is) worked.accepts worked.same_text
 
 -- the outputs of a command whose files are accepted
-pub own_outputs : (demand : Demand) (files : Files) (P : List Output → Type 0) → first_refusal (readings_of demand) files ≡ None → P (work_of demand files).outputs → P (answer_of (Some demand) files).outputs
+pub own_outputs : (demand : Demand) (files : Files) (P : List Output → Type 0) → first_refusal (readings_of demand) files ≡ None
+    → P (work_of demand files).outputs → P (answer_of (Some demand) files).outputs
 own_outputs demand files P none p = rw (ap (λ (w : Work). w.outputs) (accepted_answer demand files none)) p
 
-whole_after : (demand : Demand) (a b : Outside) (s : Status) (text : List ℕ) → IsWorked demand a b s text → Told a.held (λ files. Goes a.written b.written (AreWhole (answer_of (Some demand) files).outputs))
-whole_after demand a b s text worked = told_both a.held (λ files none whole. own_outputs demand files (λ outputs. Goes a.written b.written (AreWhole outputs)) none whole) worked.accepts worked.whole
+whole_after : (demand : Demand) (a b : Outside) (s : Status) (text : List ℕ) → IsWorked demand a b s text
+    → Told a.held (λ files. Goes a.written b.written (AreWhole (answer_of (Some demand) files).outputs))
+whole_after demand a b s text worked =
+    told_both a.held (λ files none whole. own_outputs demand files (λ outputs. Goes a.written b.written (AreWhole outputs)) none whole)
+    worked.accepts worked.whole
 
-part_after : (demand : Demand) (a b : Outside) (s : Status) (text : List ℕ) → IsWorked demand a b s text → Told a.held (λ files. Goes a.written b.written (AllMayStand (answer_of (Some demand) files).outputs))
-part_after demand a b s text worked = told_map a.held (λ files goes. goes_map a.written b.written (λ before now is. whole_stands (answer_of (Some demand) files).outputs before now is) goes) (whole_after demand a b s text worked)
+part_after : (demand : Demand) (a b : Outside) (s : Status) (text : List ℕ) → IsWorked demand a b s text
+    → Told a.held (λ files. Goes a.written b.written (AllMayStand (answer_of (Some demand) files).outputs))
+part_after demand a b s text worked =
+    told_map a.held
+    (λ files goes. goes_map a.written b.written (λ before now is. whole_stands (answer_of (Some demand) files).outputs before now is) goes)
+    (whole_after demand a b s text worked)
 
-whole_writes : (k : Kind) (asked : Option Demand) (a b : Outside) → k ≡ done → Told a.held (λ files. Goes a.written b.written (AreWhole (answer_of asked files).outputs)) → Writes asked a b k
+whole_writes : (k : Kind) (asked : Option Demand) (a b : Outside) → k ≡ done
+    → Told a.held (λ files. Goes a.written b.written (AreWhole (answer_of asked files).outputs)) → Writes asked a b k
 whole_writes k asked a b is whole = rw is whole
 
-whole_printed : (demand : Demand) (a d : Outside) (s : Status) (text : List ℕ) → kind_of s ≡ done → Told a.held (λ files. (answer_of (Some demand) files).text ≡ text) → Adds a.printed d.printed text → Prints (Some demand) a d (kind_of s) s
+whole_printed : (demand : Demand) (a d : Outside) (s : Status) (text : List ℕ) → kind_of s ≡ done
+    → Told a.held (λ files. (answer_of (Some demand) files).text ≡ text) → Adds a.printed d.printed text
+    → Prints (Some demand) a d (kind_of s) s
 whole_printed demand a d s text kind texts printed = rw kind (told_map a.held (λ files is. rw is printed) texts)
 
 peace_kept : (a d : Outside) (k : Kind) → k ≡ done → d.read_faults ≡ a.read_faults → ReadsInPeace a d k
@@ -178,6 +203,7 @@ no_memory_hidden (status.Elf fault) kind = refl
 no_memory_hidden (status.Schedule fault) kind = let k : refusal ≡ done = kind in cc
 no_memory_hidden (status.Settings fault) kind = let k : refusal ≡ done = kind in cc
 no_memory_hidden (status.Trace fault) kind = let k : refusal ≡ done = kind in cc
+no_memory_hidden (status.State fault) kind = refl
 no_memory_hidden status.ReadFault kind = refl
 no_memory_hidden status.WriteFault kind = refl
 no_memory_hidden status.NoMemory kind = refl
@@ -191,10 +217,12 @@ no_usage s kind u = let k : kind_of status.Usage ≡ done = ap kind_of (sym u) �
 no_cause : (asked : Option Demand) (a d : Outside) (k : Kind) → k ≡ done → IsCaused asked a d k
 no_cause asked a d k is = rw is tt
 
-at_done : (P : Demand → Files → Type 0) (k : Kind) (demand : Demand) (files : Files) → k ≡ done → P demand files → WhereDone P (Some demand) files k
+at_done : (P : Demand → Files → Type 0) (k : Kind) (demand : Demand) (files : Files) → k ≡ done → P demand files
+    → WhereDone P (Some demand) files k
 at_done P k demand files is holds = rw is holds
 
-pub finish_meets : (demand : Demand) (a b d : Outside) (s : Status) (text : List ℕ) → kind_of s ≡ done → IsWorked demand a b s text → OnlyPrints b d → Adds b.printed d.printed text → Meets (Some demand) a d s
+pub finish_meets : (demand : Demand) (a b d : Outside) (s : Status) (text : List ℕ) → kind_of s ≡ done → IsWorked demand a b s text
+    → OnlyPrints b d → Adds b.printed d.printed text → Meets (Some demand) a d s
 finish_meets demand a b d s text kind worked only printed =
     let whole : Adds a.printed d.printed text = rw (← worked.printed) printed in
     record {
@@ -205,14 +233,16 @@ finish_meets demand a b d s text kind worked only printed =
       memory = no_memory_hidden s kind;
       peace = peace_kept a d (kind_of s) kind (only.read_faults ∙ worked.reads);
       prints = whole_printed demand a d s text kind (own_texts demand a b s text worked) whole;
-      writes = writes_after (Some demand) a b d (kind_of s) only (whole_writes (kind_of s) (Some demand) a b kind (whole_after demand a b s text worked));
+      writes = writes_after (Some demand) a b d (kind_of s) only
+          (whole_writes (kind_of s) (Some demand) a b kind (whole_after demand a b s text worked));
       only = rw only.written worked.only;
       held = only.held ∙ worked.held;
       again = told_map a.held (λ files is. at_done RepeatsReport (kind_of s) demand files kind is) worked.again;
     }
 
 -- printing it failed
-pub finish_failed : (demand : Demand) (a b d : Outside) (s : Status) (text : List ℕ) → IsWorked demand a b s text → OnlyPrints b d → Rose b.print_faults d.print_faults → AddsFront b.printed d.printed text → Meets (Some demand) a d status.WriteFault
+pub finish_failed : (demand : Demand) (a b d : Outside) (s : Status) (text : List ℕ) → IsWorked demand a b s text → OnlyPrints b d
+    → Rose b.print_faults d.print_faults → AddsFront b.printed d.printed text → Meets (Some demand) a d status.WriteFault
 finish_failed demand a b d s text worked only rose printed =
     let rose_a : Rose a.print_faults d.print_faults = rw (← worked.print_faults) rose in
     let part : AddsFront a.printed d.printed text = rw (← worked.printed) printed in
@@ -231,7 +261,8 @@ finish_failed demand a b d s text worked only rose printed =
     }
 
 -- memory ran out while it was printed
-pub finish_out_of_memory : (demand : Demand) (a b d : Outside) (s : Status) (text : List ℕ) → IsWorked demand a b s text → OnlyPrints b d → AddsFront b.printed d.printed text → Meets (Some demand) a d status.NoMemory
+pub finish_out_of_memory : (demand : Demand) (a b d : Outside) (s : Status) (text : List ℕ) → IsWorked demand a b s text → OnlyPrints b d
+    → AddsFront b.printed d.printed text → Meets (Some demand) a d status.NoMemory
 finish_out_of_memory demand a b d s text worked only printed =
     let part : AddsFront a.printed d.printed text = rw (← worked.printed) printed in
     record {
@@ -294,8 +325,12 @@ same_written : (asked : Option Demand) (a b : Outside) (k : Kind) → (k ≡ don
 same_written asked a b done n same = absurd (n refl)
 same_written asked a b refusal n same = rw same (goes_same AreSame a.written (λ before name. refl))
 same_written asked a b read_fault n same = rw same (goes_same AreSame a.written (λ before name. refl))
-same_written asked a b write_fault n same = rw same (told a.held (λ files. goes_same _ a.written (λ before name. may_stay (bytes_for (answer_of asked files).outputs name) (before name))))
-same_written asked a b no_memory n same = rw same (told a.held (λ files. goes_same _ a.written (λ before name. may_stay (bytes_for (answer_of asked files).outputs name) (before name))))
+same_written asked a b write_fault n same =
+    rw same (told a.held
+    (λ files. goes_same _ a.written (λ before name. may_stay (bytes_for (answer_of asked files).outputs name) (before name))))
+same_written asked a b no_memory n same =
+    rw same (told a.held
+    (λ files. goes_same _ a.written (λ before name. may_stay (bytes_for (answer_of asked files).outputs name) (before name))))
 
 pub memory_faulty : (asked : Option Demand) (a b : Outside) → OnlyReads a b → IsFaulty asked a b status.NoMemory
 memory_faulty asked a b only = record {
@@ -315,13 +350,16 @@ memory_faulty asked a b only = record {
 }
 
 pub words_unread : (asked : Option Demand) (a : Outside) → IsFaulty asked a a status.NoMemory
-words_unread asked a = memory_faulty asked a a (record { held = refl; written = refl; printed = refl; write_faults = refl; print_faults = refl })
+words_unread asked a = memory_faulty asked a a
+    (record { held = refl; written = refl; printed = refl; write_faults = refl; print_faults = refl })
 
-refused_answer : (demand : Demand) (files : Files) (s : Status) → first_refusal (readings_of demand) files ≡ Some s → answer_of (Some demand) files ≡ refusal_of s
+refused_answer : (demand : Demand) (files : Files) (s : Status) → first_refusal (readings_of demand) files ≡ Some s
+    → answer_of (Some demand) files ≡ refusal_of s
 refused_answer demand files s is = rw is refl
 
 -- a file is refused
-file_faulty : (demand : Demand) (a b : Outside) (s : Status) → kind_of s ≡ refusal → s ≢ status.Usage → hides_no_memory s ≡ false → Told a.held (λ files. first_refusal (readings_of demand) files ≡ Some s)
+file_faulty : (demand : Demand) (a b : Outside) (s : Status) → kind_of s ≡ refusal → s ≢ status.Usage → hides_no_memory s ≡ false
+    → Told a.held (λ files. first_refusal (readings_of demand) files ≡ Some s)
     → b.read_faults ≡ a.read_faults → OnlyReads a b → IsFaulty (Some demand) a b s
 file_faulty demand a b s kind words memory refused peace only = record {
   fault = not_done_so;
@@ -352,7 +390,8 @@ file_faulty demand a b s kind words memory refused peace only = record {
     peace_so = rw kind peace
 
 -- reading a file failed
-reading_faulty : (demand : Demand) (a b : Outside) → IsStopped (readings_of demand) a b status.ReadFault → IsFaulty (Some demand) a b status.ReadFault
+reading_faulty : (demand : Demand) (a b : Outside) → IsStopped (readings_of demand) a b status.ReadFault
+    → IsFaulty (Some demand) a b status.ReadFault
 reading_faulty demand a b stopped = record {
   fault = λ e. cc;
   ends = stopped.why.1;
@@ -372,10 +411,16 @@ reading_faulty demand a b stopped = record {
 pub stopped_faulty : (demand : Demand) (a b : Outside) (s : Status) → IsStopped (readings_of demand) a b s → IsFaulty (Some demand) a b s
 stopped_faulty demand a b status.Done stopped = absurd stopped.why
 stopped_faulty demand a b status.Usage stopped = absurd (stopped.words refl)
-stopped_faulty demand a b (status.Elf fault) stopped = file_faulty demand a b (status.Elf fault) refl stopped.words stopped.memory stopped.why.0 stopped.why.1 stopped.only
-stopped_faulty demand a b (status.Schedule fault) stopped = file_faulty demand a b (status.Schedule fault) refl stopped.words stopped.memory stopped.why.0 stopped.why.1 stopped.only
-stopped_faulty demand a b (status.Settings fault) stopped = file_faulty demand a b (status.Settings fault) refl stopped.words stopped.memory stopped.why.0 stopped.why.1 stopped.only
-stopped_faulty demand a b (status.Trace fault) stopped = file_faulty demand a b (status.Trace fault) refl stopped.words stopped.memory stopped.why.0 stopped.why.1 stopped.only
+stopped_faulty demand a b (status.Elf fault) stopped = file_faulty demand a b (status.Elf fault) refl stopped.words stopped.memory
+    stopped.why.0 stopped.why.1 stopped.only
+stopped_faulty demand a b (status.Schedule fault) stopped = file_faulty demand a b (status.Schedule fault) refl stopped.words stopped.memory
+    stopped.why.0 stopped.why.1 stopped.only
+stopped_faulty demand a b (status.Settings fault) stopped = file_faulty demand a b (status.Settings fault) refl stopped.words stopped.memory
+    stopped.why.0 stopped.why.1 stopped.only
+stopped_faulty demand a b (status.Trace fault) stopped = file_faulty demand a b (status.Trace fault) refl stopped.words stopped.memory
+    stopped.why.0 stopped.why.1 stopped.only
+stopped_faulty demand a b (status.State fault) stopped = file_faulty demand a b (status.State fault) refl stopped.words stopped.memory
+    stopped.why.0 stopped.why.1 stopped.only
 stopped_faulty demand a b status.ReadFault stopped = reading_faulty demand a b stopped
 stopped_faulty demand a b status.WriteFault stopped = absurd stopped.why
 stopped_faulty demand a b status.NoMemory stopped = memory_faulty (Some demand) a b stopped.only
@@ -386,13 +431,15 @@ stopped_faulty demand a b status.Trapped stopped = absurd stopped.why
 -- ---- completeness
 
 -- without faults of the outside the end is the one that is asked for
-ends_without : (asked : Option Demand) (files : Files) (old new : Outside) (s : Status) → EndsAs asked files old new (kind_of s) s → IsCaused asked old new (kind_of s) → NoFaults asked old new → (s ≡ (answer_of asked files).status) ⊎ (s ≡ status.NoMemory)
+ends_without : (asked : Option Demand) (files : Files) (old new : Outside) (s : Status) → EndsAs asked files old new (kind_of s) s
+    → IsCaused asked old new (kind_of s) → NoFaults asked old new → (s ≡ (answer_of asked files).status) ⊎ (s ≡ status.NoMemory)
 ends_without asked files old new status.Done ends caused none = inl (sym ends)
 ends_without asked files old new status.Usage ends caused none = inl (sym ends)
 ends_without asked files old new (status.Elf fault) ends caused none = inl (sym ends)
 ends_without asked files old new (status.Schedule fault) ends caused none = inl (sym ends)
 ends_without asked files old new (status.Settings fault) ends caused none = inl (sym ends)
 ends_without asked files old new (status.Trace fault) ends caused none = inl (sym ends)
+ends_without asked files old new (status.State fault) ends caused none = inl (sym ends)
 ends_without asked files old new status.ReadFault ends caused none = absurd (none.reads caused)
 ends_without asked files old new status.WriteFault ends (inl rose) none = absurd (none.writes rose)
 ends_without asked files old new status.WriteFault ends (inr rose) none = absurd (none.prints rose)
@@ -401,5 +448,7 @@ ends_without asked files old new status.Budget ends caused none = inl (sym ends)
 ends_without asked files old new status.Deadlock ends caused none = inl (sym ends)
 ends_without asked files old new status.Trapped ends caused none = inl (sym ends)
 
-pub meets_complete : (asked : Option Demand) (old new : Outside) (s : Status) → Meets asked old new s → Told old.held (λ files. IsComplete asked files old new s)
-meets_complete asked old new s meets = told_map old.held (λ files ends none. ends_without asked files old new s ends meets.caused none) meets.ends
+pub meets_complete : (asked : Option Demand) (old new : Outside) (s : Status) → Meets asked old new s
+    → Told old.held (λ files. IsComplete asked files old new s)
+meets_complete asked old new s meets = told_map old.held (λ files ends none. ends_without asked files old new s ends meets.caused none)
+    meets.ends

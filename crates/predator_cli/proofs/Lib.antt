@@ -2,9 +2,14 @@ pub mod Told
 pub mod ReadingLaws
 pub mod Standing
 pub mod Ends
-mod DiskLaws
 mod FileLaws
 mod SteadyLaws
-mod WatchLaws
+mod TraceFiles
+mod SpelledAgain
+mod SymbolLaws
 mod RunLaws
+mod RecountLaws
+mod WriteEnds
 mod RunEnds
+mod SummaryLaws
+mod GenEnds

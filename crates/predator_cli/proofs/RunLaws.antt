@@ -1,8 +1,8 @@
 -- The run that the files of a demand decide.
-use Rattle.std.proofs.Common.{◌≡◌, ◌≤◌, ℕ, List, [], ◌∷◌, Option, Some, None, Ok, refl, sym, ap, ◌∙◌}
-use Rattle.shelf.specs.Shelf.{Files, Outside, Told, content}
+use Rattle.std.proofs.Common.{◌≡◌, ℕ, List, Option, Some, None, Ok, refl, sym, ap, ◌∙◌}
+use Rattle.shelf.specs.Shelf.{Files, Told, content}
 use Rattle.command_line.specs.Run.{RunDemand}
-use Rattle.command_line.specs.Words.{Demand, replay, check, run}
+use Rattle.command_line.specs.Words.{Demand, replay, check, run, gen}
 use Rattle.settings.specs.declared.values.Settings.{Settings}
 use Rattle.hart_scheduler.specs.Choices.{Plan}
 use Rattle.elf_loader.specs.declared.image.Image.{Image}
@@ -20,29 +20,36 @@ use Rattle.predator_cli.proofs.FileLaws.{settings_chosen}
 use Rattle.predator_cli.proofs.ReadingLaws.{none_alone}
 use Rattle.predator_cli.proofs.Told.{told_both}
 
-pub schedule_pass : (named name : Option (List ℕ)) (files : Files) (s : Settings) (plan : Plan) → settings_in named files ≡ Ok s → schedule_in s name files ≡ Ok plan → first_refusal (schedule_readings named name) files ≡ None
+pub schedule_pass : (named name : Option (List ℕ)) (files : Files) (s : Settings) (plan : Plan) → settings_in named files ≡ Ok s
+    → schedule_in s name files ≡ Ok plan → first_refusal (schedule_readings named name) files ≡ None
 schedule_pass named None files s plan is read = refl
 schedule_pass named (Some n) files s plan is read =
     none_alone (schedule_refusal (schedule_in (chosen_settings named files) (Some n) files))
     (ap (λ x. schedule_refusal (schedule_in x (Some n) files)) (settings_chosen named files s is) ∙ ap schedule_refusal read)
 
-run_is : (s : Settings) (program : List ℕ) (name : Option (List ℕ)) (files : Files) (image : Image) (plan : Plan) (r : Run) → image ≡ image_of (space_of s) (content files program) → schedule_in s name files ≡ Ok plan
+run_is : (s : Settings) (program : List ℕ) (name : Option (List ℕ)) (files : Files) (image : Image) (plan : Plan) (r : Run)
+    → image ≡ image_of (space_of s) (content files program) → schedule_in s name files ≡ Ok plan
     → r ≡ whole_run s image plan → r ≡ run_in s (content files program) (plan_in s name files)
 run_is s program name files image plan r i p is =
     let planned : plan_in s name files ≡ plan = rw p refl in
     is ∙ ap (λ x. whole_run s x plan) i ∙ ap (λ x. run_in s (content files program) x) (sym planned)
 
-pub run_told : (d : RunDemand) (s : Settings) (o : Option Files) (image : Image) (plan : Plan) (r : Run) → Told o (λ files. image ≡ image_of (space_of s) (content files d.program))
-    → Told o (λ files. schedule_in s d.schedule files ≡ Ok plan) → r ≡ whole_run s image plan → Told o (λ files. r ≡ run_for_demand d s files)
+pub run_told : (d : RunDemand) (s : Settings) (o : Option Files) (image : Image) (plan : Plan) (r : Run)
+    → Told o (λ files. image ≡ image_of (space_of s) (content files d.program))
+    → Told o (λ files. schedule_in s d.schedule files ≡ Ok plan) → r ≡ whole_run s image plan
+    → Told o (λ files. r ≡ run_for_demand d s files)
 run_told d s o image plan r i p is = told_both o (λ files a b. run_is s d.program d.schedule files image plan r a b is) i p
 
 -- every run keeps its budget
-pub stays_within : ((s : Setup) (c : Config) → c.steps ≡ 0 → c.accesses ≡ 0 → IsShort s (run_of s c)) → (asked : Option Demand) (files : Files) → StaysWithinBudget asked files
+pub stays_within : ((s : Setup) (c : Config) → c.steps ≡ 0 → c.accesses ≡ 0 → IsShort s (run_of s c))
+    → (asked : Option Demand) (files : Files) → StaysWithinBudget asked files
 stays_within short None files = tt
 stays_within short (Some (replay d)) files = tt
 stays_within short (Some (check d)) files = tt
+stays_within short (Some (gen d)) files = tt
 stays_within short (Some (run d)) files =
     let s = chosen_settings d.settings files in
     let image = image_of (space_of s) (content files d.program) in
     let setup = setup_of s image in
-    (short setup (first_config setup image.memory (heap_over image.heap_start image.heap_end) image.entry (plan_in s d.schedule files)) refl refl).steps
+    (short setup (first_config setup image.memory (heap_over image.heap_start image.heap_end) image.entry (plan_in s d.schedule files)) refl
+    refl).steps

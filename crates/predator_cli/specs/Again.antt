@@ -1,28 +1,31 @@
 -- What is promised of a run: the replay of the trace that it wrote, and the steps that it made.
-use Rattle.std.specs.Prelude.{◌≡◌, ◌≤◌, ◌^◌, ℕ, List, length, Option, Some, None}
+use Rattle.std.specs.Prelude.{◌≡◌, ℕ, List, Option, Some, None}
 use Rattle.command_line.specs.Run.{RunDemand}
-use Rattle.command_line.specs.Words.{Demand, replay, check, run}
+use Rattle.command_line.specs.Words.{Demand, replay, check, run, gen}
 use Rattle.outputs.specs.Files.{bytes_for}
-use Rattle.shelf.specs.Shelf.{Files, content}
+use Rattle.shelf.specs.Shelf.{Files}
 use Rattle.predator_cli.specs.Answer.{answer_of}
 use Rattle.predator_cli.specs.Run as run_command
 use Rattle.predator_cli.specs.SettingsFiles.{settings_in}
 use Rattle.predator_cli.specs.Statuses.{Kind, done, refusal, read_fault, write_fault, no_memory}
 use Rattle.predator_cli.specs.Works.{done_with}
 
--- Where files hold the trace that a run wrote under a name, of at most 2^26 bytes, and the same settings, its replay with no
--- layout named is done and prints what the run printed.
+-- Where files hold the trace that a run wrote under a name, and the same settings, its replay with
+-- no layout named is done and prints what the run printed.
 abbrev pub RunRepeats : RunDemand → Files → Type 0
 RunRepeats demand files =
     let answer = answer_of (Some (run demand)) files in
-    (name : List ℕ) (later : Files) → demand.trace ≡ Some name → later name ≡ bytes_for answer.outputs name → length (content later name) ≤ 2 ^ 26
+    (name : List ℕ) (later : Files) → demand.trace ≡ Some name
+    → later name ≡ bytes_for answer.outputs name
     → settings_in demand.settings later ≡ settings_in demand.settings files
-    → answer_of (Some (replay (record { trace = name; settings = demand.settings; layout = None }))) later ≡ done_with answer.text
+    → answer_of (Some (replay (record { trace = name; settings = demand.settings; layout = None })))
+    later ≡ done_with answer.text
 
 -- the same of what was asked for
 abbrev pub RepeatsReport : Demand → Files → Type 0
 RepeatsReport (replay demand) files = Unit {0}
 RepeatsReport (check demand) files = Unit {0}
+RepeatsReport (gen demand) files = Unit {0}
 RepeatsReport (run demand) files = RunRepeats demand files
 
 -- the run that is asked for makes at most as many steps as its budget has
@@ -30,6 +33,7 @@ abbrev pub StaysWithinBudget : Option Demand → Files → Type 0
 StaysWithinBudget None files = Unit {0}
 StaysWithinBudget (Some (replay demand)) files = Unit {0}
 StaysWithinBudget (Some (check demand)) files = Unit {0}
+StaysWithinBudget (Some (gen demand)) files = Unit {0}
 StaysWithinBudget (Some (run demand)) files = run_command.StaysWithinBudget demand files
 
 -- a fact about what was asked for, after a call whose work is done

@@ -1,5 +1,5 @@
--- What the words ask for, and what the program answers, for the contents of the names: a status, the text that it
--- prints, and the bytes of the files that it writes.
+-- What the words ask for, and what the program answers, for the contents of the names: a status,
+-- the text that it prints, and the bytes of the files that it writes.
 use Rattle.std.specs.Prelude.{List, [], ℕ, Option, Some, None}
 use Rattle.std.specs.Option.{option_map_or}
 use Rattle.shelf.specs.Shelf.{Files}
@@ -28,4 +28,5 @@ refusal_of s = record { status = s; text = fault_text s; outputs = [] }
 -- the first refusal, or the command's work
 abbrev pub answer_of : Option Demand → Files → Work
 answer_of None files = refusal_of status.Usage
-answer_of (Some demand) files = option_map_or refusal_of (first_refusal (readings_of demand) files) (work_of demand files)
+answer_of (Some demand) files = option_map_or refusal_of (first_refusal (readings_of demand) files)
+    (work_of demand files)

@@ -10,7 +10,8 @@ use Rattle.predator_cli.specs.ProgramFiles.{program_reading, space_of}
 use Rattle.predator_cli.specs.Works.{Work, done_with}
 
 abbrev pub check_readings : CheckDemand → List Reading
-check_readings demand = settings_readings demand.settings ++ program_reading demand.settings demand.program ∷ []
+check_readings demand = settings_readings demand.settings ++ program_reading demand.settings
+    demand.program ∷ []
 
 -- the summary of a program under settings
 abbrev pub checked : Settings → List ℕ → List ℕ

@@ -8,10 +8,12 @@ use Rattle.hart_scheduler.specs.declared.fault.ScheduleFault.TheVariants as sche
 use Rattle.settings.specs.declared.fault.SettingsFault.{SettingsFault}
 use Rattle.settings.specs.declared.fault.SettingsFault.TheVariants as settings
 use Rattle.settings.specs.Keys.{key_name}
-use Rattle.trace_file.specs.declared.fault.TraceFault.{TraceFault}
-use Rattle.trace_file.specs.declared.fault.TraceFault.TheVariants as trace
+use Rattle.trace_grammar.specs.declared.fault.TraceFault.{TraceFault}
+use Rattle.trace_grammar.specs.declared.fault.TraceFault.TheVariants as trace
 use Rattle.text_forms.specs.Names.{name_text}
 use Rattle.predator_cli.specs.Texts.{line}
+use Rattle.predator_cli.specs.declared.status.StateFault.{StateFault}
+use Rattle.predator_cli.specs.declared.status.StateFault.TheVariants as state
 use Rattle.predator_cli.specs.declared.status.Status.{Status}
 use Rattle.predator_cli.specs.declared.status.Status.TheVariants as status
 
@@ -52,10 +54,23 @@ settings_text (settings.UnknownKey name) = codes "UnknownKey " ++ name_text name
 settings_text (settings.OutOfRange key) = codes "OutOfRange " ++ key_name key
 settings_text settings.NoMemory = codes "NoMemory"
 
+-- a fault of a trace has its place, or its numbers
 abbrev pub trace_text : TraceFault → List ℕ
-trace_text trace.Unbuilt = codes "Unbuilt"
+trace_text trace.BadMagic = codes "BadMagic"
+trace_text trace.BadHarts = codes "BadHarts"
+trace_text (trace.BadTag place) = codes "BadTag " ++ decimal place
+trace_text (trace.BadField place) = codes "BadField " ++ decimal place
+trace_text (trace.Truncated size) = codes "Truncated " ++ decimal size
+trace_text (trace.CountMismatch told counted) = codes "CountMismatch " ++
+    (decimal told ++ (codes " " ++ decimal counted))
+trace_text (trace.AfterEnd place) = codes "AfterEnd " ++ decimal place
 trace_text trace.TooLong = codes "TooLong"
 trace_text trace.NoMemory = codes "NoMemory"
+
+abbrev pub state_text : StateFault → List ℕ
+state_text (state.WrongSettings place) = codes "WrongSettings " ++ decimal place
+state_text (state.WrongPosition saved first) = codes "WrongPosition " ++
+    (decimal saved ++ (codes " " ++ decimal first))
 
 -- a line for each command
 abbrev pub usage_text : List ℕ
@@ -63,6 +78,7 @@ usage_text =
     line (codes "usage: predator run PROGRAM [--settings F] [--schedule F] [--trace F] [--output F]")
     ++ line (codes "usage: predator replay TRACE [--settings F] [--size N] [--shift N]")
     ++ line (codes "usage: predator check PROGRAM [--settings F]")
+    ++ line (codes "usage: predator gen N FILE")
 
 abbrev pub fault_text : Status → List ℕ
 fault_text status.Done = []
@@ -71,6 +87,7 @@ fault_text (status.Elf fault) = line (codes "predator: elf " ++ elf_text fault)
 fault_text (status.Schedule fault) = line (codes "predator: schedule " ++ schedule_text fault)
 fault_text (status.Settings fault) = line (codes "predator: settings " ++ settings_text fault)
 fault_text (status.Trace fault) = line (codes "predator: trace " ++ trace_text fault)
+fault_text (status.State fault) = line (codes "predator: state " ++ state_text fault)
 fault_text status.ReadFault = line (codes "predator: read fault")
 fault_text status.WriteFault = line (codes "predator: write fault")
 fault_text status.NoMemory = line (codes "predator: no memory")

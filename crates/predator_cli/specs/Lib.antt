@@ -6,13 +6,13 @@ pub mod Texts
 pub mod Faults
 pub mod SettingsFiles
 pub mod ProgramFiles
-pub mod Seen
 pub mod Replay
 pub mod Check
 pub mod Run
+pub mod Gen
 pub mod Commands
 pub mod Answer
 pub mod Written
 pub mod Again
+pub mod Recounts
 pub mod Meets
-pub mod Disk

@@ -9,17 +9,19 @@ use Rattle.outputs.specs.Files.{AreWhole}
 use Rattle.predator_cli.specs.Written.{OnlyAt, Writes}
 use Rattle.predator_cli.specs.Answer.{answer_of, files_of, inputs, outputs}
 use Rattle.predator_cli.specs.Again.{RepeatsReport, WhereDone}
-use Rattle.predator_cli.specs.Statuses.{Kind, kind_of, done, refusal, read_fault, write_fault, no_memory, hides_no_memory}
+use Rattle.predator_cli.specs.Statuses.{Kind, kind_of, done, refusal, read_fault, write_fault}
+use Rattle.predator_cli.specs.Statuses.{no_memory, hides_no_memory}
 use Rattle.predator_cli.specs.Faults.{fault_text}
 use Rattle.predator_cli.specs.declared.status.Status.{Status}
 use Rattle.predator_cli.specs.declared.status.Status.TheVariants as status
 
--- It ends as the answer says, or by a fault of the outside: of reading, before which no file is refused, or of the
--- command's own work, before which none is refused at all.
+-- It ends as the answer says, or by a fault of the outside: of reading, before which no file is
+-- refused, or of the command's own work, before which none is refused at all.
 abbrev pub EndsAs : Option Demand → Files → Outside → Outside → Kind → Status → Type 0
 EndsAs asked files old new done s = (answer_of asked files).status ≡ s
 EndsAs asked files old new refusal s = (answer_of asked files).status ≡ s
-EndsAs asked files old new read_fault s = FailsInOrder (files_of asked) files old.read_faults new.read_faults
+EndsAs asked files old new read_fault s = FailsInOrder (files_of asked) files old.read_faults
+    new.read_faults
 EndsAs asked files old new write_fault s = first_refusal (files_of asked) files ≡ None
 EndsAs asked files old new no_memory s = Unit {0}
 
@@ -28,32 +30,41 @@ abbrev pub IsCaused : Option Demand → Outside → Outside → Kind → Type 0
 IsCaused asked old new done = Unit {0}
 IsCaused asked old new refusal = Unit {0}
 IsCaused asked old new read_fault = RoseAt (inputs asked) old.read_faults new.read_faults
-IsCaused asked old new write_fault = RoseAt (outputs asked) old.write_faults new.write_faults ⊎ Rose old.print_faults new.print_faults
+IsCaused asked old new write_fault = RoseAt (outputs asked) old.write_faults new.write_faults ⊎ Rose
+    old.print_faults new.print_faults
 IsCaused asked old new no_memory = Unit {0}
 
 -- the whole text was printed, or printing failed and a front of it was
 abbrev pub Printed : Outside → Outside → List ℕ → Type 0
-Printed old new text = Adds old.printed new.printed text ⊎ (Rose old.print_faults new.print_faults × AddsFront old.printed new.printed text)
+Printed old new text = Adds old.printed new.printed text ⊎ (Rose old.print_faults new.print_faults
+    × AddsFront old.printed new.printed text)
 
--- the texts of which a front may stand where memory ran out: the answer's, or that of a fault of the outside that came
+-- the texts of which a front may stand where memory ran out: the answer's, or that of a fault of
+-- the outside that came
 abbrev pub IsPrintable : Option Demand → Files → Outside → Outside → List ℕ → Type 0
 IsPrintable asked files old new text =
     (text ≡ (answer_of asked files).text) ⊎ (text ≡ fault_text status.NoMemory)
-    ⊎ ((text ≡ fault_text status.ReadFault) × FailsInOrder (files_of asked) files old.read_faults new.read_faults)
-    ⊎ ((text ≡ fault_text status.WriteFault) × RoseAt (outputs asked) old.write_faults new.write_faults)
+    ⊎ ((text ≡ fault_text status.ReadFault) × FailsInOrder (files_of asked) files old.read_faults
+    new.read_faults)
+    ⊎ ((text ≡ fault_text status.WriteFault)
+    × RoseAt (outputs asked) old.write_faults new.write_faults)
 
--- What was printed: the whole text where the work is done, the fault's line at a refusal and at a fault of reading, at a
--- fault of writing that line or what is left of the command's own text, and a front of one of them where memory ran out.
+-- What was printed: the whole text where the work is done, the fault's line at a refusal and at a
+-- fault of reading, at a fault of writing that line or what is left of the command's own text, and
+-- a front of one of them where memory ran out.
 abbrev pub Prints : Option Demand → Outside → Outside → Kind → Status → Type 0
-Prints asked old new done s = Told old.held (λ files. Adds old.printed new.printed (answer_of asked files).text)
+Prints asked old new done s =
+    Told old.held (λ files. Adds old.printed new.printed (answer_of asked files).text)
 Prints asked old new refusal s = Printed old new (fault_text s)
 Prints asked old new read_fault s = Printed old new (fault_text s)
 Prints asked old new write_fault s = Told old.held (λ files.
-    Printed old new (fault_text s) ⊎ (Rose old.print_faults new.print_faults × AddsFront old.printed new.printed (answer_of asked files).text))
+    Printed old new (fault_text s) ⊎ (Rose old.print_faults new.print_faults
+    × AddsFront old.printed new.printed (answer_of asked files).text))
 Prints asked old new no_memory s = Told old.held (λ files.
     (text : List ℕ) × IsPrintable asked files old new text × AddsFront old.printed new.printed text)
 
--- no number of faults of reading rose, but at a fault of reading, after whose line memory may run out
+-- no number of faults of reading rose, but at a fault of reading, after whose line memory may run
+-- out
 abbrev pub ReadsInPeace : Outside → Outside → Kind → Type 0
 ReadsInPeace old new done = new.read_faults ≡ old.read_faults
 ReadsInPeace old new refusal = new.read_faults ≡ old.read_faults
@@ -69,7 +80,8 @@ pub record NoFaults (asked : Option Demand) (old new : Outside) : Type 0 where
 
 -- without faults it ends as the answer says, unless memory ran out
 abbrev pub IsComplete : Option Demand → Files → Outside → Outside → Status → Type 0
-IsComplete asked files old new s = NoFaults asked old new → (s ≡ (answer_of asked files).status) ⊎ (s ≡ status.NoMemory)
+IsComplete asked files old new s = NoFaults asked old new → (s ≡ (answer_of asked files).status) ⊎
+    (s ≡ status.NoMemory)
 
 -- all that is said of a call
 pub record Meets (asked : Option Demand) (old new : Outside) (s : Status) : Type 0 where
@@ -101,18 +113,21 @@ pub record IsFaulty (asked : Option Demand) (old now : Outside) (s : Status) : T
   pub printed : now.printed ≡ old.printed
   pub print_faults : now.print_faults ≡ old.print_faults
 
--- what was done from old to now, before the command's own text is printed, and what it is to end with
-pub record IsWorked (demand : Demand) (old now : Outside) (s : Status) (text : List ℕ) : Type 0 where
-  pub accepts : Told old.held (λ files. first_refusal (readings_of demand) files ≡ None)
-  pub ends : Told old.held (λ files. (work_of demand files).status ≡ s)
-  pub same_text : Told old.held (λ files. (work_of demand files).text ≡ text)
-  pub whole : Told old.held (λ files. Goes old.written now.written (AreWhole (work_of demand files).outputs))
-  pub only : OnlyAt (outputs_of demand) old now
-  pub again : Told old.held (RepeatsReport demand)
-  pub held : now.held ≡ old.held
-  pub reads : now.read_faults ≡ old.read_faults
-  pub printed : now.printed ≡ old.printed
-  pub print_faults : now.print_faults ≡ old.print_faults
+-- what was done from old to now, before the command's own text is printed, and what it is to end
+-- with
+pub record IsWorked (demand : Demand) (old now : Outside) (s : Status) (text : List ℕ) : Type 0
+  where
+    pub accepts : Told old.held (λ files. first_refusal (readings_of demand) files ≡ None)
+    pub ends : Told old.held (λ files. (work_of demand files).status ≡ s)
+    pub same_text : Told old.held (λ files. (work_of demand files).text ≡ text)
+    pub whole : Told old.held
+        (λ files. Goes old.written now.written (AreWhole (work_of demand files).outputs))
+    pub only : OnlyAt (outputs_of demand) old now
+    pub again : Told old.held (RepeatsReport demand)
+    pub held : now.held ≡ old.held
+    pub reads : now.read_faults ≡ old.read_faults
+    pub printed : now.printed ≡ old.printed
+    pub print_faults : now.print_faults ≡ old.print_faults
 
 -- the same of a command that writes nothing
 pub record IsAnswered (demand : Demand) (old now : Outside) (text : List ℕ) : Type 0 where

@@ -1,5 +1,6 @@
 -- The program that a command loads and places under its settings.
-use Rattle.std.specs.Prelude.{◌≡◌, ◌≤◌, ◌+◌, ◌*◌, ◌%◌, ℕ, ◌^◌, nat_lt, List, length, Option, Some, None, if◌then◌else◌}
+use Rattle.std.specs.Prelude.{◌≡◌, ◌≤◌, ◌+◌, ◌*◌, ◌%◌, ℕ, ◌^◌, nat_lt, List, length, Option, Some}
+use Rattle.std.specs.Prelude.{if◌then◌else◌}
 use Rattle.std.specs.Option.{option_or, option_map}
 use Rattle.shelf.specs.Shelf.{content}
 use Rattle.settings.specs.declared.values.Settings.{Settings}
@@ -15,11 +16,17 @@ use Rattle.predator_cli.specs.declared.status.Status.{Status}
 use Rattle.predator_cli.specs.declared.status.Status.TheVariants as status
 
 abbrev pub space_of : Settings → Space
-space_of settings = record { memory = settings.memory; stack = settings.stack; harts = settings.harts }
+space_of settings = record {
+  memory = settings.memory;
+  stack = settings.stack;
+  harts =
+      settings.harts;
+}
 
 -- the first fault of a program file: as it is viewed, as it is placed, and then of its symbols
 abbrev pub program_fault : Space → List ℕ → Option ElfFault
-program_fault space file = option_or (read_fault file) (option_or (place_fault space file) (symbols_fault file))
+program_fault space file = option_or (read_fault file)
+    (option_or (place_fault space file) (symbols_fault file))
 
 -- a program file has at most 16 MiB
 abbrev pub program_refusal : Settings → List ℕ → Option Status
@@ -27,7 +34,8 @@ program_refusal settings file =
     if nat_lt (2 ^ 24) (length file) then Some (status.Elf elf.TooLong)
     else option_map status.Elf (program_fault (space_of settings) file)
 
--- a guest can start in an image: at a whole instruction, with a heap of whole blocks below the stacks
+-- a guest can start in an image: at a whole instruction, with a heap of whole blocks below the
+-- stacks
 pub record IsStartable (image : Image) : Type 0 where
   pub entry : image.entry % 4 ≡ 0
   pub heap_start : image.heap_start % 16 ≡ 0
@@ -37,4 +45,5 @@ pub record IsStartable (image : Image) : Type 0 where
 
 -- the program of a name, under the settings of another
 abbrev pub program_reading : Option (List ℕ) → List ℕ → Reading
-program_reading settings name = reading name (λ files. program_refusal (chosen_settings settings files) (content files name))
+program_reading settings name =
+    reading name (λ files. program_refusal (chosen_settings settings files) (content files name))

@@ -1,12 +1,15 @@
--- Files that a command reads in an order, each of which may be refused, and how that order decides an end.
+-- Files that a command reads in an order, each of which may be refused, and how that order decides
+-- an end.
 use Rattle.std.specs.Prelude.{◌≡◌, ◌≢◌, ◌⊎◌, ℕ, false, List, [], ◌∷◌, map, Option, Some, None}
 use Rattle.std.specs.Option.{option_or}
 use Rattle.shelf.specs.Shelf.{Files, Outside, Told, Rose, OnlyReads, content}
-use Rattle.predator_cli.specs.Statuses.{Kind, kind_of, done, refusal, read_fault, write_fault, no_memory, hides_no_memory}
+use Rattle.predator_cli.specs.Statuses.{Kind, kind_of, done, refusal, read_fault, write_fault}
+use Rattle.predator_cli.specs.Statuses.{no_memory, hides_no_memory}
 use Rattle.predator_cli.specs.declared.status.Status.{Status}
 use Rattle.predator_cli.specs.declared.status.Status.TheVariants as status
 
--- a file that is read, by its name, and how it is refused, if it is, beside the contents of all files
+-- a file that is read, by its name, and how it is refused, if it is, beside the contents of all
+-- files
 pub record Reading : Type 0 where
   pub name : List ℕ
   pub refusal : Files → Option Status
@@ -31,14 +34,16 @@ RoseAt (name ∷ names) before now = Rose (before name) (now name) ⊎ RoseAt na
 abbrev pub FailsInOrder : List Reading → Files → (List ℕ → ℕ) → (List ℕ → ℕ) → Type 0
 FailsInOrder [] files before now = ⊥
 FailsInOrder (r ∷ later) files before now =
-    Rose (before r.name) (now r.name) ⊎ ((r.refusal files ≡ None) × FailsInOrder later files before now)
+    Rose (before r.name) (now r.name) ⊎ ((r.refusal files ≡ None)
+    × FailsInOrder later files before now)
 
--- why a command stopped while it read its files: the first refusal, at which no number of faults of reading has risen,
--- or a fault of reading before any
+-- why a command stopped while it read its files: the first refusal, at which no number of faults of
+-- reading has risen, or a fault of reading before any
 abbrev pub StopsBy : List Reading → Outside → Outside → Kind → Status → Type 0
 StopsBy readings old now done s = ⊥
 StopsBy readings old now refusal s =
-    Told old.held (λ files. first_refusal readings files ≡ Some s) × (now.read_faults ≡ old.read_faults)
+    Told old.held (λ files. first_refusal readings files ≡ Some s)
+    × (now.read_faults ≡ old.read_faults)
 StopsBy readings old now read_fault s =
     RoseAt (names_of readings) old.read_faults now.read_faults
     × Told old.held (λ files. FailsInOrder readings files old.read_faults now.read_faults)

@@ -1,45 +1,44 @@
 -- The command `replay`: what it reads, and the report that it gives of a trace.
-use Rattle.std.specs.Prelude.{ℕ, ◌^◌, nat_lt, List, [], ◌∷◌, ◌++◌, length, Option, Some, None, unwrap_or, if◌then◌else◌}
-use Rattle.std.specs.Option.{option_map_or}
+use Rattle.std.specs.Prelude.{ℕ, List, [], ◌∷◌, ◌++◌, ◌≡◌, Some, None}
+use Rattle.std.specs.Option.{option_map, option_map_or}
 use Rattle.command_line.specs.Replay.{ReplayDemand}
 use Rattle.predator_base.specs.Lines.{Grid}
 use Rattle.predator_base.specs.Levels.{Levels}
-use Rattle.run_recorder.specs.Recorded.{plain_grid}
-use Rattle.predator_cli.specs.Seen.{seen_report}
 use Rattle.shelf.specs.Shelf.{Files, content}
-use Rattle.trace_file.specs.Spelling.{Trace}
-use Rattle.trace_file.specs.Reading.{trace_from, trace_of}
-use Rattle.trace_file.specs.declared.fault.TraceFault.TheVariants as trace
+use Rattle.sightings.specs.Seen.{report_of_records}
+use Rattle.trace_passes.specs.Passes.{Trace, all_records, refusal_of, trace_of}
+use Rattle.trace_passes.specs.declared.wanted.Wanted.{Wanted}
 use Rattle.predator_cli.specs.Readings.{Reading, reading}
-use Rattle.predator_cli.specs.SettingsFiles.{chosen_settings, levels_of, settings_readings}
+use Rattle.predator_cli.specs.SettingsFiles.{chosen_settings, layout_of, levels_of}
+use Rattle.predator_cli.specs.SettingsFiles.{settings_readings}
+use Rattle.predator_cli.specs.Statuses.{status_of_refusal}
 use Rattle.predator_cli.specs.Works.{Work, done_with}
-use Rattle.predator_cli.specs.declared.replay.TraceParts.{TraceParts}
-use Rattle.predator_cli.specs.declared.status.Status.{Status}
-use Rattle.predator_cli.specs.declared.status.Status.TheVariants as status
 
--- a trace has at most 2^26 bytes
-abbrev pub trace_refusal : List ℕ → Option Status
-trace_refusal bytes =
-    if nat_lt (2 ^ 26) (length bytes) then Some (status.Trace trace.TooLong)
-    else option_map_or (λ t. None) (trace_of bytes) (Some (status.Trace trace.Unbuilt))
+-- a whole trace is wanted: one of any number of harts, whose first access has position 0
+abbrev pub whole : Wanted
+whole = record { harts = None; first = Some 0 }
 
 abbrev pub trace_reading : List ℕ → Reading
-trace_reading name = reading name (λ files. trace_refusal (content files name))
+trace_reading name =
+    reading name (λ files. option_map status_of_refusal (refusal_of whole (content files name)))
 
 abbrev pub replay_readings : ReplayDemand → List Reading
 replay_readings demand = settings_readings demand.settings ++ trace_reading demand.trace ∷ []
 
 -- the report of a trace under thresholds and a layout
 abbrev pub report_of : Levels → Grid → Trace → List ℕ
-report_of levels layout t = seen_report t.ending layout levels t.accesses
+report_of levels layout t = report_of_records t.ending layout levels (all_records t)
+
+-- a text is the report of the trace that the bytes are
+abbrev pub IsReported : Levels → Grid → List ℕ → List ℕ → Type 0
+IsReported levels layout bytes text = (t : Trace) × (trace_of bytes ≡ Some t)
+    × (text ≡ report_of levels layout t)
 
 abbrev pub replayed : ReplayDemand → Files → Trace → List ℕ
 replayed demand files t =
-    report_of (levels_of demand.layout (chosen_settings demand.settings files)) (unwrap_or demand.layout plain_grid) t
+    let settings = chosen_settings demand.settings files in
+    report_of (levels_of demand.layout settings) (layout_of demand.layout settings) t
 
 abbrev pub replay_work : ReplayDemand → Files → Work
-replay_work demand files = done_with (option_map_or (replayed demand files) (trace_of (content files demand.trace)) [])
-
--- the trace that its parts are
-abbrev pub trace_in : TraceParts → Trace
-trace_in parts = trace_from parts.header parts.records.items parts.ending
+replay_work demand files =
+    done_with (option_map_or (replayed demand files) (trace_of (content files demand.trace)) [])

@@ -1,5 +1,7 @@
 -- The command `run`: what it reads, and the report and the files that it gives of a run.
-use Rattle.std.specs.Prelude.{◌≡◌, ◌≤◌, ℕ, List, [], ◌∷◌, ◌++◌, Option, Some, None, Result, Ok, Err}
+use Rattle.std.specs.Prelude.{◌≡◌, ◌≢◌, ◌≤◌, ℕ, List, [], ◌∷◌, ◌++◌, ◌^◌, length, map, Option, Some}
+use Rattle.std.specs.Prelude.{None, Result, Ok, Err}
+use Rattle.std.specs.List.{All}
 use Rattle.std.specs.Option.{option_map_or}
 use Rattle.command_line.specs.Run.{RunDemand}
 use Rattle.elf_loader.specs.declared.image.Image.{Image}
@@ -12,20 +14,28 @@ use Rattle.hart_scheduler.specs.Choices.{Plan}
 use Rattle.hart_scheduler.specs.Texts.{plan_of, schedule_of}
 use Rattle.hart_scheduler.specs.declared.fault.ScheduleFault.{ScheduleFault}
 use Rattle.predator_base.specs.declared.ending.Outcome.{Outcome}
-use Rattle.predator_base.specs.declared.ending.Outcome.TheVariants.{Exit, Budget, Deadlock, Trap, Part}
+use Rattle.predator_base.specs.declared.ending.Outcome.TheVariants.{Exit, Budget, Deadlock, Trap}
+use Rattle.predator_base.specs.declared.ending.Outcome.TheVariants.{Part}
 use Rattle.outputs.specs.Files.{Output}
-use Rattle.run_recorder.specs.Recorded.{plain_grid, trace_for}
+use Rattle.elf_loader.specs.Symbols.{symbols_of}
+use Rattle.heap_objects.specs.Names.{name_of}
+use Rattle.heap_objects.specs.Symbols.{Symbol}
+use Rattle.run_recorder.specs.Recorded.{IsSymbolRecord, spell_trace, trace_for}
+use Rattle.trace_grammar.specs.declared.record.TraceRecord.{TraceRecord}
+use Rattle.trace_grammar.specs.declared.record.TraceRecord.TheVariants as records
+use Rattle.trace_passes.specs.Passes.{Trace}
 use Rattle.run_recorder.specs.declared.file.Content.{Content}
 use Rattle.run_recorder.specs.declared.file.RunFile.{RunFile}
 use Rattle.std.specs.Borrow.{Bor}
-use Rattle.trace_file.specs.Spelling.{spell}
 use Rattle.settings.specs.declared.values.Settings.{Settings}
 use Rattle.shelf.specs.Shelf.{Files, Outside, Told, content}
 use Rattle.predator_cli.specs.Readings.{IsAccepted, Reading, reading}
-use Rattle.predator_cli.specs.SettingsFiles.{chosen_settings, levels_of, settings_in, settings_readings}
-use Rattle.predator_cli.specs.ProgramFiles.{program_reading, space_of}
+use Rattle.predator_cli.specs.SettingsFiles.{chosen_settings, levels_of, native_of, settings_in}
+use Rattle.predator_cli.specs.SettingsFiles.{settings_readings}
+use Rattle.predator_cli.specs.ProgramFiles.{IsStartable, program_reading, space_of}
 use Rattle.predator_cli.specs.Replay.{report_of}
 use Rattle.predator_cli.specs.Works.{Work}
+use Rattle.predator_cli.specs.declared.run.Loading.{Loading}
 use Rattle.predator_cli.specs.declared.status.Status.{Status}
 use Rattle.predator_cli.specs.declared.status.Status.TheVariants as status
 
@@ -42,7 +52,8 @@ schedule_refusal (Err fault) = Some (status.Schedule fault)
 
 abbrev pub schedule_reading : Option (List ℕ) → List ℕ → Reading
 schedule_reading settings name =
-    reading name (λ files. schedule_refusal (schedule_in (chosen_settings settings files) (Some name) files))
+    reading name
+    (λ files. schedule_refusal (schedule_in (chosen_settings settings files) (Some name) files))
 
 abbrev pub schedule_readings : Option (List ℕ) → Option (List ℕ) → List Reading
 schedule_readings settings name = option_map_or (λ n. schedule_reading settings n ∷ []) name []
@@ -59,19 +70,27 @@ plan_in settings name files = plan_unless_refused settings (schedule_in settings
 abbrev pub run_readings : RunDemand → List Reading
 run_readings demand =
     settings_readings demand.settings
-    ++ program_reading demand.settings demand.program ∷ schedule_readings demand.settings demand.schedule
+    ++ program_reading demand.settings demand.program ∷ schedule_readings demand.settings
+    demand.schedule
 
 -- ---- the run
 
 -- what the run of a program never changes
 abbrev pub setup_of : Settings → Image → Setup
-setup_of settings image = record { harts = settings.harts; budget = settings.budget; top = image.top; stack = image.stack }
+setup_of settings image = record {
+  harts = settings.harts;
+  budget = settings.budget;
+  top =
+      image.top;
+  stack = image.stack;
+}
 
 -- the run of an image under settings and a plan
 abbrev pub whole_run : Settings → Image → Plan → Run
 whole_run settings image plan =
     let setup = setup_of settings image in
-    run_of setup (first_config setup image.memory (heap_over image.heap_start image.heap_end) image.entry plan)
+    run_of setup (first_config setup image.memory (heap_over image.heap_start image.heap_end)
+    image.entry plan)
 
 -- the run of a program file
 abbrev pub run_in : Settings → List ℕ → Plan → Run
@@ -90,27 +109,56 @@ abbrev pub output_for : Option (List ℕ) → List ℕ → List Output
 output_for None bytes = []
 output_for (Some name) bytes = record { name = name; bytes = bytes } ∷ []
 
--- the files that a run leaves: its trace, and what it puts out, each where it is named
-abbrev pub outputs_of_run : RunDemand → ℕ → Run → List Output
-outputs_of_run demand harts r = output_for demand.trace (spell (trace_for harts r)) ++ output_for demand.output (output_of r)
+-- a symbol has bytes, and no zero byte in its name
+pub record HasNameAndSize (s : Symbol) : Type 0 where
+  pub some : 1 ≤ s.size
+  pub no_zero : All (λ b. b ≢ 0) s.name
 
--- what a run gives: a report, and its trace and its output where they are named
-abbrev pub work_of_run : RunDemand → Settings → Run → Work
-work_of_run demand settings r = record {
+-- a symbol as a trace tells it: its name is cut
+abbrev pub symbol_record : Symbol → TraceRecord
+symbol_record s = records.Symbol s.kind s.addr s.size (name_of s.name)
+
+-- the kept symbols of a program file, in the order of its table
+abbrev pub symbol_records : List ℕ → List TraceRecord
+symbol_records file = map symbol_record (symbols_of file)
+
+-- what a program file gives under settings: its image, in which a guest can start, and its symbols
+pub record IsLoading (settings : Settings) (bytes : List ℕ) (loading : Loading) : Type 0 where
+  pub image : loading.image ≡ image_of (space_of settings) bytes
+  pub starts : IsStartable loading.image
+  pub harts : loading.image.harts ≡ settings.harts
+  pub symbols : loading.symbols.items ≡ symbol_records bytes
+  pub told : All IsSymbolRecord loading.symbols.items
+  pub few : length loading.symbols.items ≤ 2 ^ 20
+
+-- the files that a run leaves: its trace, and what it puts out, each where it is named
+abbrev pub outputs_of_run : RunDemand → Trace → Run → List Output
+outputs_of_run demand t r = output_for demand.trace (spell_trace t) ++ output_for demand.output
+    (output_of r)
+
+-- what a run with this trace gives: a report, and its trace and its output where they are named
+abbrev pub work_of_run : RunDemand → Settings → Trace → Run → Work
+work_of_run demand settings t r = record {
   status = status_for r.ending.outcome;
-  text = report_of (levels_of None settings) plain_grid (trace_for settings.harts r);
-  outputs = outputs_of_run demand settings.harts r;
+  text = report_of (levels_of None settings) (native_of settings) t;
+  outputs = outputs_of_run demand t r;
 }
 
--- the run of the demand under settings
+-- the run of the demand under settings, and its trace
 abbrev pub run_for_demand : RunDemand → Settings → Files → Run
 run_for_demand demand settings files =
     run_in settings (content files demand.program) (plan_in settings demand.schedule files)
 
+abbrev pub trace_for_demand : RunDemand → Settings → Files → Trace
+trace_for_demand demand settings files =
+    trace_for settings.harts (symbol_records (content files demand.program))
+    (run_for_demand demand settings files)
+
 abbrev pub run_work : RunDemand → Files → Work
 run_work demand files =
     let settings = chosen_settings demand.settings files in
-    work_of_run demand settings (run_for_demand demand settings files)
+    work_of_run demand settings (trace_for_demand demand settings files)
+    (run_for_demand demand settings files)
 
 -- a file to be written, if its name is given
 abbrev pub file_for : Option (Bor (List ℕ)) → Content → List RunFile
@@ -125,8 +173,11 @@ StaysWithinBudget demand files =
     let settings = chosen_settings demand.settings files in
     (run_for_demand demand settings files).ending.steps ≤ settings.budget
 
--- what was read for a run of this demand: the run of these settings is what the files ask for, and nothing was changed
-pub record IsReady (demand : RunDemand) (settings : Settings) (r : Run) (old now : Outside) : Type 0 where
+-- what was read for a run of this demand: the run of these settings and its trace are what the
+-- files ask for, and nothing was changed
+pub record IsReady (demand : RunDemand) (settings : Settings) (t : Trace) (r : Run)
+    (old now : Outside) : Type 0 where
   pub read : Told old.held (λ files. settings_in demand.settings files ≡ Ok settings)
   pub runs : Told old.held (λ files. r ≡ run_for_demand demand settings files)
+  pub traced : Told old.held (λ files. t ≡ trace_for_demand demand settings files)
   pub accepted : IsAccepted (run_readings demand) old now

@@ -1,5 +1,5 @@
 -- The settings that a command has.
-use Rattle.std.specs.Prelude.{ℕ, List, [], ◌∷◌, Option, Some, None, Result, Ok, Err}
+use Rattle.std.specs.Prelude.{ℕ, List, [], ◌∷◌, Option, Some, None, Result, Ok, Err, unwrap_or}
 use Rattle.std.specs.Option.{option_map_or}
 use Rattle.toml.specs.Data.{no_members}
 use Rattle.predator_base.specs.Levels.{Levels}
@@ -39,7 +39,25 @@ accepted (Err fault) = usual_settings
 abbrev pub chosen_settings : Option (List ℕ) → Files → Settings
 chosen_settings name files = accepted (settings_in name files)
 
+-- the native layout of the settings, under which alone something is predicted
+abbrev pub native_of : Settings → Grid
+native_of settings = record { size = settings.line; offset = 0 }
+
+-- the layout that is named, or the native one
+abbrev pub layout_of : Option Grid → Settings → Grid
+layout_of named settings = unwrap_or named (native_of settings)
+
 -- the thresholds of the settings; something is predicted where no layout is named
 abbrev pub levels_of : Option Grid → Settings → Levels
-levels_of None settings = record { tracking = settings.tracking; prediction = Some settings.prediction; report = settings.report }
-levels_of (Some layout) settings = record { tracking = settings.tracking; prediction = None; report = settings.report }
+levels_of None settings =
+    record {
+      tracking = settings.tracking;
+      prediction = Some settings.prediction;
+      report =
+          settings.report;
+    }
+levels_of (Some layout) settings = record {
+  tracking = settings.tracking;
+  prediction = None;
+  report = settings.report;
+}

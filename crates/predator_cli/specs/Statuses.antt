@@ -1,8 +1,8 @@
--- How a call ends, by the kinds of status that its clauses tell apart, and the status that each lower fault has.
+-- How a call ends, by the kinds of status that its clauses tell apart, and the status that each
+-- lower fault has.
 use Rattle.std.specs.Prelude.{Bool, true, false}
 use Rattle.command_line.specs.declared.demand.WordsFault.{WordsFault}
 use Rattle.command_line.specs.declared.demand.WordsFault.TheVariants as words
-use Rattle.elf_loader.specs.declared.fault.ElfFault.{ElfFault}
 use Rattle.elf_loader.specs.declared.image.PlaceFault.{PlaceFault}
 use Rattle.elf_loader.specs.declared.image.PlaceFault.TheVariants as place
 use Rattle.hart_scheduler.specs.declared.fault.ScheduleFault.{ScheduleFault}
@@ -11,8 +11,13 @@ use Rattle.settings.specs.declared.fault.SettingsFault.{SettingsFault}
 use Rattle.settings.specs.declared.fault.SettingsFault.TheVariants as settings
 use Rattle.shelf.specs.declared.shelf.ShelfError.{ShelfError}
 use Rattle.shelf.specs.declared.shelf.ShelfError.TheVariants as shelf
-use Rattle.trace_file.specs.declared.fault.TraceFault.{TraceFault}
-use Rattle.trace_file.specs.declared.fault.TraceFault.TheVariants as trace
+use Rattle.trace_grammar.specs.declared.fault.TraceFault.{TraceFault}
+use Rattle.trace_grammar.specs.declared.fault.TraceFault.TheVariants as trace
+use Rattle.trace_passes.specs.declared.passes.PassFault.{PassFault}
+use Rattle.trace_passes.specs.declared.passes.PassFault.TheVariants as passes
+use Rattle.trace_passes.specs.declared.wanted.Refusal.{Refusal}
+use Rattle.trace_passes.specs.declared.wanted.Refusal.TheVariants as refusals
+use Rattle.predator_cli.specs.declared.status.StateFault.TheVariants as state
 use Rattle.predator_cli.specs.declared.status.Status.{Status}
 use Rattle.predator_cli.specs.declared.status.Status.TheVariants as status
 
@@ -33,6 +38,7 @@ kind_of (status.Elf fault) = refusal
 kind_of (status.Schedule fault) = refusal
 kind_of (status.Settings fault) = refusal
 kind_of (status.Trace fault) = refusal
+kind_of (status.State fault) = refusal
 kind_of status.ReadFault = read_fault
 kind_of status.WriteFault = write_fault
 kind_of status.NoMemory = no_memory
@@ -65,9 +71,26 @@ status_of_settings (settings.OutOfRange key) = status.Settings (settings.OutOfRa
 status_of_settings settings.NoMemory = status.NoMemory
 
 abbrev pub status_of_trace : TraceFault → Status
-status_of_trace trace.Unbuilt = status.Trace trace.Unbuilt
+status_of_trace trace.BadMagic = status.Trace trace.BadMagic
+status_of_trace trace.BadHarts = status.Trace trace.BadHarts
+status_of_trace (trace.BadTag place) = status.Trace (trace.BadTag place)
+status_of_trace (trace.BadField place) = status.Trace (trace.BadField place)
+status_of_trace (trace.Truncated size) = status.Trace (trace.Truncated size)
+status_of_trace (trace.CountMismatch told counted) = status.Trace (trace.CountMismatch told counted)
+status_of_trace (trace.AfterEnd place) = status.Trace (trace.AfterEnd place)
 status_of_trace trace.TooLong = status.Trace trace.TooLong
 status_of_trace trace.NoMemory = status.NoMemory
+
+-- a header of another number of harts differs from the field of a saved state at place 32
+abbrev pub status_of_refusal : Refusal → Status
+status_of_refusal (refusals.Trace fault) = status_of_trace fault
+status_of_refusal refusals.Harts = status.State (state.WrongSettings 32)
+status_of_refusal (refusals.Position saved first) = status.State (state.WrongPosition saved first)
+
+abbrev pub status_of_pass : PassFault → Status
+status_of_pass (passes.Refused r) = status_of_refusal r
+status_of_pass passes.ReadFault = status.ReadFault
+status_of_pass passes.NoMemory = status.NoMemory
 
 -- a fault of writing or printing
 abbrev pub status_of_writing : ShelfError → Status

@@ -2,16 +2,19 @@
 ghost use Rattle.std.specs.Prelude.{◌≡◌, ◌⊎◌, false, None};
 ghost use Rattle.command_line.specs.Demands.{texts};
 ghost use Rattle.command_line.specs.Words.{demand_of};
-ghost use Rattle.predator_cli.specs.Meets.{EndsAs, IsCaused, IsComplete, Meets, Prints, ReadsInPeace};
+ghost use Rattle.predator_cli.specs.Meets.{EndsAs, IsCaused, IsComplete, Meets, Prints};
+ghost use Rattle.predator_cli.specs.Meets.{ReadsInPeace};
 ghost use Rattle.predator_cli.specs.Statuses.{hides_no_memory, kind_of};
 ghost use Rattle.predator_cli.specs.Again.{RepeatsReport, StaysWithinBudget, WhereDone};
 ghost use Rattle.predator_cli.specs.Answer.{outputs};
+ghost use Rattle.predator_cli.specs.Recounts.{ReportIsRecounted};
 ghost use Rattle.predator_cli.specs.Written.{OnlyAt, Writes};
 ghost use Rattle.shelf.specs.Shelf.{Told};
 
 use crate::Status;
 use crate::check::check;
 use crate::endings::{refuse, refuse_words};
+use crate::generate::generate;
 use crate::replay::replay;
 use crate::run::run;
 use command_line::{Demand, WordsFault, read_words};
@@ -28,6 +31,7 @@ fn obey<S: Shelf>(alloc: Global, words: &[String], shelf: &mut S) -> Status
         Ok(Demand::Replay(options)) => replay(alloc, &options, shelf),
         Ok(Demand::Check(options)) => check(alloc, &options, shelf),
         Ok(Demand::Run(options)) => run(alloc, &options, shelf),
+        Ok(Demand::Gen(options)) => generate(alloc, &options, shelf),
         Err(WordsFault::Usage) => refuse_words(shelf),
         Err(WordsFault::NoMemory) => refuse(alloc, shelf, Status::NoMemory),
     }
@@ -35,20 +39,23 @@ fn obey<S: Shelf>(alloc: Global, words: &[String], shelf: &mut S) -> Status
 
 /// All that the program does, by the words after its name.
 ///
-/// The words are judged first, and then the files in the order in which the command reads them: the settings, then the
-/// trace or the program, then the schedule. The status is `Usage` exactly where the words are refused, and else the
-/// first refusal of a file, if there is one. `ReadFault` comes only where reading a named file failed in this call and
-/// no file before it is refused, `WriteFault` only where printing or writing a named file failed and none is refused,
-/// and `NoMemory` where memory ran out.
+/// The words are judged first, and then the files in the order in which the command reads them: the
+/// settings, then the trace or the program, then the schedule. The status is `Usage` exactly where
+/// the words are refused, and else the first refusal of a file, if there is one. `ReadFault` comes
+/// only where reading a named file failed in this call and no file before it is refused,
+/// `WriteFault` only where printing or writing a named file failed and none is refused, and
+/// `NoMemory` where memory ran out.
 ///
-/// `replay` reads a trace of at most 2^26 bytes, counts its accesses in one pass under the settings and the layout, and
-/// prints the short report. `check` loads and places a program file of at most 16 MiB under the settings, and prints
-/// its summary. `run` runs a program file under the settings and a schedule of at most 1 MiB, counts its accesses as
-/// they are made, writes its trace and its output where they are named, and prints the short report; its status is
-/// `Done`, `Budget`, `Deadlock` or `Trapped`, as the run ended.
+/// `replay` reads a trace of at most 2^44 bytes, counts its accesses in one pass under the settings
+/// and the layout, and prints the report. `check` loads and places a program file of at most
+/// 16 MiB under the settings, and prints its summary. `run` runs a program file under the settings
+/// and a schedule of at most 1 MiB, counts its accesses as they are made, writes its trace and its
+/// output where they are named, and prints the report; its status is `Done`, `Budget`,
+/// `Deadlock` or `Trapped`, as the run ended. `gen` makes a trace of so many accesses under a name,
+/// counts them as they are made under the usual settings, and prints what their lines come to.
 pub fn predator<S: Shelf>(alloc: Global, words: &[String], shelf: &mut S) -> Status
-    // Where the held files are told, it ends as the words and the files ask, or by a fault of the outside before
-    // which nothing is refused.
+    // Where the held files are told, it ends as the words and the files ask, or by a fault of the
+    // outside before which nothing is refused.
     ensures ends { Told (S.outside shelf.old).held
         (λ files. EndsAs (demand_of (texts words.now)) files
         (S.outside shelf.old) (S.outside shelf.new) (kind_of result) result) }
@@ -59,7 +66,8 @@ pub fn predator<S: Shelf>(alloc: Global, words: &[String], shelf: &mut S) -> Sta
     // A fault of the outside has its cause.
     ensures caused { IsCaused (demand_of (texts words.now))
         (S.outside shelf.old) (S.outside shelf.new) (kind_of result) }
-    // Want of memory is a status of its own, whoever wanted it: no file's fault is said to be want of memory.
+    // Want of memory is a status of its own, whoever wanted it: no file's fault is said to be want
+    // of memory.
     ensures memory { hides_no_memory result ≡ false }
     // No number of faults of reading has risen, but at a fault of reading.
     ensures peace { ReadsInPeace (S.outside shelf.old) (S.outside shelf.new) (kind_of result) }
@@ -68,17 +76,23 @@ pub fn predator<S: Shelf>(alloc: Global, words: &[String], shelf: &mut S) -> Sta
         (S.outside shelf.old) (S.outside shelf.new) (kind_of result) result }
     // No file that is read changes.
     ensures held { (S.outside shelf.new).held ≡ (S.outside shelf.old).held }
-    // What stands in the files that are written: every output is whole where the work is done, each is as it was or a
-    // front of its bytes at a fault of writing and at want of memory, and all are as they were at each other end.
+    // What stands in the files that are written: every output is whole where the work is done, each
+    // is as it was or a front of its bytes at a fault of writing and at want of memory, and all are
+    // as they were at each other end.
     ensures writes { Writes (demand_of (texts words.now))
         (S.outside shelf.old) (S.outside shelf.new) (kind_of result) }
-    // Where a run is done, the replay of the trace that it wrote, under the same settings and with no layout named, is
-    // done and prints the same text.
+    // Where a run is done, the replay of the trace that it wrote, under the same settings and with
+    // no layout named, is done and prints the same text.
     ensures again { Told (S.outside shelf.old).held
         (λ files. WhereDone RepeatsReport (demand_of (texts words.now)) files (kind_of result)) }
     // The run that is asked for makes at most as many steps as its budget has.
     ensures within { Told (S.outside shelf.old).held
         (StaysWithinBudget (demand_of (texts words.now))) }
+    // Each count that a report lists is at most a plain recount of the same line over the same
+    // accesses, under the line's own layout with tracking threshold 1, and after the line's start
+    // both count alike.
+    ensures recounts { Told (S.outside shelf.old).held
+        (ReportIsRecounted (demand_of (texts words.now))) }
     // No other name's file changes.
     ensures only { OnlyAt (outputs (demand_of (texts words.now)))
         (S.outside shelf.old) (S.outside shelf.new) }

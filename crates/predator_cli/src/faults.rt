@@ -1,21 +1,22 @@
 // The lines of refusals and of faults of the outside.
 ghost use Rattle.std.specs.Prelude.{◌≡◌, IfOk, string_bytes};
-ghost use Rattle.predator_cli.specs.Faults.{elf_text, fault_text, schedule_text, settings_text, trace_text, usage_text};
+ghost use Rattle.predator_cli.specs.Faults.{elf_text, fault_text, schedule_text, settings_text};
+ghost use Rattle.predator_cli.specs.Faults.{state_text, trace_text, usage_text};
 
-use crate::Status;
+use crate::status::{StateFault, Status};
 use elf_loader::ElfFault;
 use hart_scheduler::ScheduleFault;
 use settings::SettingsFault;
 use std::alloc::{AllocError, Global};
 use text_forms::printed_name;
-use trace_file::TraceFault;
+use trace_grammar::TraceFault;
 
 /// The line of want of memory, which takes none.
 pub const NO_MEMORY_LINE: &str = "predator: no memory\n";
 
 /// A line for each command.
 pub const USAGE: &str =
-    "usage: predator run PROGRAM [--settings F] [--schedule F] [--trace F] [--output F]\nusage: predator replay TRACE [--settings F] [--size N] [--shift N]\nusage: predator check PROGRAM [--settings F]\n";
+    "usage: predator run PROGRAM [--settings F] [--schedule F] [--trace F] [--output F]\nusage: predator replay TRACE [--settings F] [--size N] [--shift N]\nusage: predator check PROGRAM [--settings F]\nusage: predator gen N FILE\n";
 
 fn elf_name(fault: ElfFault) -> &'static str
     ensures { result.now ≡ elf_text fault }
@@ -76,13 +77,34 @@ fn settings_name(alloc: Global, fault: &SettingsFault) -> Result<String, AllocEr
     }
 }
 
-fn trace_name(fault: TraceFault) -> &'static str
-    ensures { result.now ≡ trace_text fault }
+// What a fault of a trace is called, with its numbers.
+fn trace_name(alloc: Global, fault: TraceFault) -> Result<String, AllocError>
+    ensures { IfOk result (λ text. string_bytes text ≡ trace_text fault) }
 {
     match fault {
-        TraceFault::Unbuilt => "Unbuilt",
-        TraceFault::TooLong => "TooLong",
-        TraceFault::NoMemory => "NoMemory",
+        TraceFault::BadMagic => String::from_str(alloc, "BadMagic"),
+        TraceFault::BadHarts => String::from_str(alloc, "BadHarts"),
+        TraceFault::BadTag(place) => format!(in alloc; "BadTag {place}"),
+        TraceFault::BadField(place) => format!(in alloc; "BadField {place}"),
+        TraceFault::Truncated(size) => format!(in alloc; "Truncated {size}"),
+        TraceFault::CountMismatch { told, counted } => {
+            format!(in alloc; "CountMismatch {told} {counted}")
+        }
+        TraceFault::AfterEnd(place) => format!(in alloc; "AfterEnd {place}"),
+        TraceFault::TooLong => String::from_str(alloc, "TooLong"),
+        TraceFault::NoMemory => String::from_str(alloc, "NoMemory"),
+    }
+}
+
+// What it is called that a trace doesn't go on.
+fn state_name(alloc: Global, fault: StateFault) -> Result<String, AllocError>
+    ensures { IfOk result (λ text. string_bytes text ≡ state_text fault) }
+{
+    match fault {
+        StateFault::WrongSettings(place) => format!(in alloc; "WrongSettings {place}"),
+        StateFault::WrongPosition { saved, first } => {
+            format!(in alloc; "WrongPosition {saved} {first}")
+        }
     }
 }
 
@@ -108,8 +130,12 @@ pub fn fault_line(alloc: Global, status: &Status) -> Result<String, AllocError>
             format!(in alloc; "predator: settings {name}\n")
         }
         Status::Trace(fault) => {
-            let name = trace_name(*fault);
+            let name = trace_name(alloc, *fault)?;
             format!(in alloc; "predator: trace {name}\n")
+        }
+        Status::State(fault) => {
+            let name = state_name(alloc, *fault)?;
+            format!(in alloc; "predator: state {name}\n")
         }
         Status::ReadFault => String::from_str(alloc, "predator: read fault\n"),
         Status::WriteFault => String::from_str(alloc, "predator: write fault\n"),

@@ -1,7 +1,9 @@
 // How a command reads its files, one after another.
-ghost use Rattle.std.specs.Prelude.{◌≡◌, ◌<◌, ◌≤◌, ◌^◌, ℕ, List, [], ◌∷◌, Option, None, Some, IfOk, IfErr, OnOk, length};
+ghost use Rattle.std.specs.Prelude.{◌≡◌, ◌<◌, ◌≤◌, ◌^◌, ℕ, List, [], ◌∷◌, Option, None, Some, IfOk};
+ghost use Rattle.std.specs.Prelude.{IfErr, OnOk, length};
 ghost use Rattle.shelf.specs.Shelf.{content};
-ghost use Rattle.predator_cli.specs.Readings.{IsAccepted, IsJudged, IsReadFrom, IsRefusal, IsStopped, reading};
+ghost use Rattle.predator_cli.specs.Readings.{IsAccepted, IsJudged, IsReadFrom, IsRefusal};
+ghost use Rattle.predator_cli.specs.Readings.{IsStopped, reading};
 ghost use Rattle.predator_cli.specs.declared.status.Status.{Status as End};
 
 use crate::Status;
@@ -47,7 +49,8 @@ pub trait Judge {
 
 /// Reads and judges the file of a name.
 ///
-/// A fault of reading comes before any refusal of the file, and want of memory may come before both.
+/// A fault of reading comes before any refusal of the file, and want of memory may come before
+/// both.
 pub fn read_judged<S: Shelf, J: Judge>(
     alloc: Global,
     shelf: &mut S,

@@ -1,17 +1,19 @@
-//! The program `predator`, as one call over a shelf of files: `run` runs a program and `replay` reads a recorded trace,
-//! and both print the cache lines that harts took from each other; `check` tells of a program file.
+//! The program `predator`, as one call over a shelf of files: `run` runs a program and `replay`
+//! reads a recorded trace, and both print the cache lines that harts took from each other; `check`
+//! tells of a program file, and `gen` makes a trace.
 //!
-//! The call says what it answers by `answer_of` (specs/Answer.antt), over the definitions of `sharing_rules` and of
-//! `guest_run`; what it prints, writes and excuses at each end is `Meets` (specs/Meets.antt).
+//! The call says what it answers by `answer_of` (specs/Answer.antt), over the definitions of
+//! `sharing_rules` and of `guest_run`; what it prints, writes and excuses at each end is `Meets`
+//! (specs/Meets.antt).
 #![tactic(auto)]
 
 mod check;
 mod command;
-mod disk;
 mod endings;
 mod faults;
 mod files;
-mod findings;
+mod generate;
+mod messages;
 mod program_file;
 mod replay;
 mod run;
@@ -19,9 +21,12 @@ mod settings_file;
 mod start;
 mod status;
 mod steady;
+mod symbols;
+mod wrong_words;
 
 pub use command::predator;
-pub use disk::DiskShelf;
+pub use messages::{advice_on, advise};
 pub use start::{exit_code, give_up, words_of};
-pub use status::Status;
+pub use status::{StateFault, Status};
 pub use steady::predator_steady;
+pub use wrong_words::{WrongWord, wrong_word};

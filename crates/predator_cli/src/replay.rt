@@ -1,126 +1,55 @@
 // The command `replay`.
-ghost use Rattle.std.specs.Prelude.{◌≡◌, ◌<◌, ◌^◌, IfErr, IfOk, IsTrue, Some, length};
+ghost use Rattle.std.specs.Prelude.{IfErr, IfOk, OnOk, Some, IsTrue, [], ◌∷◌};
 ghost use Rattle.command_line.specs.Replay.{replay_meaning};
 ghost use Rattle.command_line.specs.Words.{replay as asks};
-ghost use Rattle.detector.specs.Standing.{StandsFor};
-ghost use Rattle.run_recorder.specs.Recorded.{plain_grid};
 ghost use Rattle.sharing_rules.specs.Listed.{may_predict};
-ghost use Rattle.trace_file.specs.Reading.{touches_in};
 ghost use Rattle.predator_cli.specs.Meets.{IsAnswered, Meets};
-ghost use Rattle.predator_cli.specs.Readings.{IsStopped};
-ghost use Rattle.predator_cli.specs.Replay.{replay_readings, report_of, trace_in};
+ghost use Rattle.predator_cli.specs.Readings.{IsAccepted, IsReadFrom, IsStopped};
+ghost use Rattle.predator_cli.specs.Replay.{IsReported, replay_readings, trace_reading};
 
 use crate::Status;
 use crate::endings::{answer, stop};
-use crate::files::{Judge, read_judged};
-use crate::findings::report_seen;
-use crate::settings_file::{read_settings, thresholds_of};
+use crate::settings_file::{native_layout, read_settings, thresholds_of};
 use command_line::ReplayOptions;
-use detector::{Detector, see};
-use line_counters::PagedIndex;
-use predator_base::{Ending, Layout, NoMemory, Thresholds};
+use predator_base::{Layout, NoMemory, Thresholds};
 use shelf::Shelf;
+use sightings::Sightings;
 use std::alloc::Global;
-use trace_file::{Header, TraceFault, TraceRecord, parse_whole};
+use trace_passes::{Wanted, pass};
 
-/// The parts of a trace.
-#[derive(Drop)]
-pub struct TraceParts {
-    /// Its beginning.
-    pub header: Header,
-    /// Its accesses.
-    pub records: Vec<TraceRecord>,
-    /// Its end.
-    pub ending: Ending,
-}
+// A whole trace: of any number of harts, from position 0 on.
+const WHOLE: Wanted = Wanted {
+    harts: None,
+    first: Some(0),
+};
 
-/// A trace, of at most 64 MiB.
-struct TraceFile;
-
-impl Judge for TraceFile {
-    ghost use Rattle.std.specs.Prelude.{◌≤◌, OnOk};
-    ghost use Rattle.trace_file.specs.Reading.{trace_of};
-    ghost use Rattle.predator_cli.specs.Replay.{trace_refusal};
-
-    type Given = TraceParts;
-
-    ghost most = { λ _. 2 ^ 26 };
-
-    ghost refusal = { λ _ bytes. trace_refusal bytes };
-
-    ghost gives = { λ _ bytes parts. (trace_of bytes ≡ Some (trace_in parts)) × (length parts.records.items < 2 ^ 40) };
-
-    fn limit(&self) -> u64 {
-        1 << 26
-    }
-
-    fn too_long(&self) -> Status {
-        Status::Trace(TraceFault::TooLong)
-    }
-
-    fn judge(&self, alloc: Global, bytes: &[u8]) -> Result<TraceParts, Status> {
-        let mut records = Vec::new(alloc);
-        match parse_whole(bytes, &mut records) {
-            Ok((header, ending)) => Ok(TraceParts {
-                header,
-                records,
-                ending,
-            }),
-            Err(fault) => Err(Status::from(fault)),
-        }
-    }
-}
-
-/// Lines of 64 bytes that begin at multiples of 64.
-pub fn plain_layout() -> Layout
-    ensures { result ≡ plain_grid }
-{
-    match Layout::new(64, 0) {
-        Some(layout) => layout,
-        None => unreachable!(),
-    }
-}
-
-// A detector that has seen the accesses among these records, under a layout and thresholds.
-fn watch(
+// The report of the trace of a name under a layout and thresholds, or why there is none.
+fn report_trace<S: Shelf>(
     alloc: Global,
-    records: &[TraceRecord],
+    shelf: &mut S,
+    name: &str,
     layout: Layout,
     thresholds: Thresholds,
-) -> Result<Detector<PagedIndex>, NoMemory>
-    requires few { length records.now < 2 ^ 40 }
-    requires native { IsTrue (may_predict layout thresholds) }
-    ensures stands { IfOk result (λ detector. StandsFor (touches_in records.now) detector) }
-    ensures layout { IfOk result (λ detector. detector.grid ≡ layout) }
-    ensures thresholds { IfOk result (λ detector. detector.levels ≡ thresholds) }
+) -> Result<Vec<u8>, Status>
+    requires { IsTrue (may_predict layout thresholds) }
+    ensures text { IfOk result (λ text. IsReadFrom (S.outside shelf.old).held name.now
+        (λ bytes. IsReported thresholds layout bytes text.items)) }
+    ensures accepted { OnOk result (IsAccepted (trace_reading name.now ∷ [])
+        (S.outside shelf.old) (S.outside shelf.new)) }
+    ensures stopped { IfErr result (IsStopped (trace_reading name.now ∷ [])
+        (S.outside shelf.old) (S.outside shelf.new)) }
 {
-    let mut detector = Detector::new(alloc, PagedIndex::new(alloc), layout, thresholds);
-    for record in records {
-        match record {
-            TraceRecord::Touch(access) => see(&mut detector, *access)?,
-            TraceRecord::End(_) => {}
-        }
+    let mut sightings = Sightings::new(alloc, layout, thresholds);
+    match pass(alloc, shelf, name, &WHOLE, &mut sightings) {
+        Ok(passed) => match sightings.report(alloc, &passed.ending) {
+            Ok(text) => Ok(text),
+            Err(NoMemory) => Err(Status::NoMemory),
+        },
+        Err(fault) => Err(Status::from(fault)),
     }
-    Ok(detector)
 }
 
-// The report of a trace.
-fn report_trace(
-    alloc: Global,
-    parts: &TraceParts,
-    layout: Layout,
-    thresholds: Thresholds,
-) -> Result<Vec<u8>, NoMemory>
-    requires few { length parts.now.records.items < 2 ^ 40 }
-    requires native { IsTrue (may_predict layout thresholds) }
-    ensures { IfOk result (λ text. text.items
-        ≡ report_of thresholds layout (trace_in parts.now)) }
-{
-    let detector = watch(alloc, &parts.records, layout, thresholds)?;
-    report_seen(alloc, &detector, &parts.ending)
-}
-
-// The report of a trace, or why there is none.
+// The report of a trace under the settings, or why there is none.
 fn replay_text<S: Shelf>(
     alloc: Global,
     options: &ReplayOptions<'_>,
@@ -135,19 +64,16 @@ fn replay_text<S: Shelf>(
         Ok(settings) => settings,
         Err(status) => return Err(status),
     };
-    let parts = match read_judged(alloc, shelf, options.trace, &TraceFile) {
-        Ok(parts) => parts,
-        Err(status) => return Err(status),
-    };
+    let layout = options.layout.unwrap_or(native_layout(&settings));
     let thresholds = thresholds_of(&settings, options.layout);
-    let layout = options.layout.unwrap_or(plain_layout());
-    match report_trace(alloc, &parts, layout, thresholds) {
+    match report_trace(alloc, shelf, options.trace, layout, thresholds) {
         Ok(text) => Ok(text),
-        Err(NoMemory) => Err(Status::NoMemory),
+        Err(status) => Err(status),
     }
 }
 
-/// Replays the trace of a name: counts its accesses under the settings and the layout, and prints the report.
+/// Replays the trace of a name: counts its accesses under the settings and the layout, and prints
+/// the report.
 pub fn replay<S: Shelf>(alloc: Global, options: &ReplayOptions<'_>, shelf: &mut S) -> Status
     ensures { Meets (Some (asks (replay_meaning options.now)))
         (S.outside shelf.old) (S.outside shelf.new) result }

@@ -1,45 +1,44 @@
 // The command `run`.
-ghost use Rattle.std.specs.Prelude.{◌≡◌, ℕ, ◌≤◌, ◌%◌, ◌^◌, ◌++◌, IfErr, IfOk, List, [], Ok, OnOk, Option, Some, length, IsTrue, None};
+ghost use Rattle.std.specs.Prelude.{◌≡◌, ℕ, ◌≤◌, ◌%◌, ◌^◌, ◌++◌, IfErr, IfOk, List, [], Ok, OnOk};
+ghost use Rattle.std.specs.Prelude.{Option, Some, length, IsTrue, None};
 ghost use Rattle.command_line.specs.Demands.{text_of};
 ghost use Rattle.command_line.specs.Run.{run_meaning, run_outputs};
 ghost use Rattle.command_line.specs.Words.{run as asks};
 ghost use Rattle.guest_run.specs.Runs.{IsShort, rest_of};
 ghost use Rattle.outputs.specs.Files.{AreCut, AreWritten};
 ghost use Rattle.outputs.specs.OnTheirWay.{AreApart};
-ghost use Rattle.detector.specs.Standing.{StandsFor};
-ghost use Rattle.run_recorder.specs.Recorded.{names_of, outputs_for, plain_grid, trace_for};
-ghost use Rattle.sharing_rules.specs.AccessLists.{AccessList};
-ghost use Rattle.predator_cli.specs.Seen.{seen_report};
-ghost use Rattle.sharing_rules.specs.Listed.{may_predict};
+ghost use Rattle.run_recorder.specs.Recorded.{IsKept, IsSymbolRecord, names_of, outputs_for};
+ghost use Rattle.run_recorder.specs.Recorded.{trace_for};
+ghost use Rattle.std.specs.List.{All};
 ghost use Rattle.predator_cli.specs.ProgramFiles.{IsStartable};
 ghost use Rattle.settings.specs.Allowed.{IsAllowed};
-ghost use Rattle.trace_file.specs.Spelling.{IsGoodTrace};
-ghost use Rattle.shelf.specs.Shelf.{Outside, Told};
+ghost use Rattle.shelf.specs.Shelf.{Outside, Told, content};
 ghost use Rattle.predator_cli.specs.Meets.{Meets};
 ghost use Rattle.predator_cli.specs.Readings.{IsAccepted, IsJudged, IsReadFrom, IsStopped};
 ghost use Rattle.predator_cli.specs.Replay.{report_of};
-ghost use Rattle.predator_cli.specs.Run.{IsReady, file_for, run_for_demand, run_readings, schedule_in, schedule_readings, status_for, whole_run};
-ghost use Rattle.predator_cli.specs.SettingsFiles.{levels_of, settings_in};
+ghost use Rattle.predator_cli.specs.Run.{IsReady, file_for, run_for_demand, run_readings};
+ghost use Rattle.predator_cli.specs.Run.{schedule_in, schedule_readings, status_for};
+ghost use Rattle.predator_cli.specs.Run.{symbol_records, whole_run};
+ghost use Rattle.predator_cli.specs.SettingsFiles.{levels_of, native_of, settings_in};
 ghost use Rattle.predator_cli.specs.Statuses.{kind_of, done};
 
 use crate::Status;
 use crate::endings::{finish, refuse, stop};
 use crate::files::{Judge, read_judged};
-use crate::findings::report_seen;
-use crate::program_file::{PROGRAM_LIMIT, judge_program};
-use crate::replay::plain_layout;
-use crate::settings_file::{read_settings, thresholds_of};
+use crate::program_file::{PROGRAM_LIMIT, Program, judge_program};
+use crate::settings_file::{native_layout, read_settings, thresholds_of};
+use crate::symbols::records_of;
 use command_line::RunOptions;
-use detector::Detector;
 use elf_loader::{ElfFault, Image};
 use guest_run::{Guest, RunSettings};
 use hart_scheduler::{Schedule, ScheduleFault};
-use line_counters::PagedIndex;
 use predator_base::{NoMemory, Outcome};
-use run_recorder::{Content, Recorded, RunFile, record_run};
+use run_recorder::{Content, RunFile, record_run};
 use settings::Settings;
 use shelf::{Shelf, ShelfError};
+use sightings::Sightings;
 use std::alloc::Global;
+use trace_grammar::TraceRecord;
 
 // How the program ends after a run with this outcome.
 fn status_of(outcome: Outcome) -> Status
@@ -54,18 +53,27 @@ fn status_of(outcome: Outcome) -> Status
     }
 }
 
-/// A program file that gives its image, under settings.
+/// A program in memory, and its symbols as its trace tells them.
+#[derive(Drop)]
+pub struct Loading {
+    /// Its image.
+    pub image: Image,
+    /// Its symbols.
+    pub symbols: Vec<TraceRecord>,
+}
+
+/// A program file that gives its image and its symbols, under settings.
 #[derive(Clone, Copy)]
-struct ImageOf {
+struct ProgramUnder {
     settings: Settings,
 }
 
-impl Judge for ImageOf {
+impl Judge for ProgramUnder {
     ghost use Rattle.std.specs.Prelude.{◌<◌};
-    ghost use Rattle.elf_loader.specs.PlacedImages.{image_of};
-    ghost use Rattle.predator_cli.specs.ProgramFiles.{program_refusal, space_of};
+    ghost use Rattle.predator_cli.specs.ProgramFiles.{program_refusal};
+    ghost use Rattle.predator_cli.specs.Run.{IsLoading};
 
-    type Given = Image;
+    type Given = Loading;
 
     ghost ready = { λ j. IsAllowed j.settings };
 
@@ -73,7 +81,7 @@ impl Judge for ImageOf {
 
     ghost refusal = { λ j bytes. program_refusal j.settings bytes };
 
-    ghost gives = { λ j bytes image. (image ≡ image_of (space_of j.settings) bytes) × IsStartable image × (image.harts ≡ j.settings.harts) };
+    ghost gives = { λ j bytes loading. IsLoading j.settings bytes loading };
 
     fn limit(&self) -> u64 {
         PROGRAM_LIMIT
@@ -83,10 +91,15 @@ impl Judge for ImageOf {
         Status::Elf(ElfFault::TooLong)
     }
 
-    fn judge(&self, alloc: Global, bytes: &[u8]) -> Result<Image, Status> {
-        match judge_program(alloc, bytes, &self.settings) {
-            Ok(program) => Ok(program.image),
-            Err(status) => Err(status),
+    fn judge(&self, alloc: Global, bytes: &[u8]) -> Result<Loading, Status> {
+        let program = match judge_program(alloc, bytes, &self.settings) {
+            Ok(program) => program,
+            Err(status) => return Err(status),
+        };
+        let Program { image, symbols, .. } = program;
+        match records_of(alloc, symbols) {
+            Ok(symbols) => Ok(Loading { image, symbols }),
+            Err(NoMemory) => Err(Status::NoMemory),
         }
     }
 }
@@ -110,7 +123,8 @@ impl Judge for ScheduleUnder {
 
     ghost refusal = { λ j bytes. schedule_refusal (schedule_of j.settings.harts j.settings.quantum bytes) };
 
-    ghost gives = { λ j bytes plan. (schedule_of j.settings.harts j.settings.quantum bytes ≡ Ok plan) × (plan.harts ≡ j.settings.harts) × (plan.quantum ≡ j.settings.quantum) };
+    ghost gives = { λ j bytes plan. (schedule_of j.settings.harts j.settings.quantum bytes
+        ≡ Ok plan) × (plan.harts ≡ j.settings.harts) × (plan.quantum ≡ j.settings.quantum) };
 
     fn limit(&self) -> u64 {
         1 << 20
@@ -126,8 +140,8 @@ impl Judge for ScheduleUnder {
     }
 }
 
-// The schedule of a name, or one of an empty list where none is named; or why the command stops. The settings are those
-// of a file that was read before.
+// The schedule of a name, or one of an empty list where none is named; or why the command stops.
+// The settings are those of a file that was read before.
 fn read_schedule<S: Shelf>(
     alloc: Global,
     shelf: &mut S,
@@ -141,10 +155,12 @@ fn read_schedule<S: Shelf>(
     ensures quantum { IfOk result (λ plan. plan.quantum ≡ settings.now.quantum) }
     ensures accepted { OnOk result ((named : Option (List ℕ)) → Told (S.outside shelf.old).held
         (λ files. settings_in named files ≡ Ok settings.now)
-        → IsAccepted (schedule_readings named (text_of name.entry)) (S.outside shelf.old) (S.outside shelf.new)) }
+        → IsAccepted (schedule_readings named (text_of name.entry)) (S.outside shelf.old)
+        (S.outside shelf.new)) }
     ensures stopped { IfErr result (λ status. (named : Option (List ℕ))
         → Told (S.outside shelf.old).held (λ files. settings_in named files ≡ Ok settings.now)
-        → IsStopped (schedule_readings named (text_of name.entry)) (S.outside shelf.old) (S.outside shelf.new) status) }
+        → IsStopped (schedule_readings named (text_of name.entry)) (S.outside shelf.old)
+        (S.outside shelf.new) status) }
 {
     let judge = ScheduleUnder {
         settings: *settings,
@@ -161,41 +177,50 @@ fn read_schedule<S: Shelf>(
     }
 }
 
-// A guest before its first step, and the settings that it has.
+// A guest before its first step, the symbols of its program, and the settings that it has.
 #[derive(Drop)]
 struct Loaded {
     guest: Guest,
+    symbols: Vec<TraceRecord>,
     settings: Settings,
 }
 
-// The guest of an image and a schedule under settings.
+// The guest of a program and a schedule under settings.
 fn make_guest(
     alloc: Global,
-    image: Image,
+    loading: Loading,
     schedule: Schedule,
     settings: Settings,
 ) -> Result<Loaded, NoMemory>
     requires allowed { IsAllowed settings }
-    requires starts { IsStartable image }
-    requires image { image.harts ≡ settings.harts }
+    requires starts { IsStartable loading.image }
+    requires image { loading.image.harts ≡ settings.harts }
     requires schedule { schedule.harts ≡ settings.harts }
     requires quantum { schedule.quantum ≡ settings.quantum }
-    ensures run { IfOk result (λ loaded. rest_of loaded.guest ≡ whole_run settings image schedule) }
+    ensures run { IfOk result
+        (λ loaded. rest_of loaded.guest ≡ whole_run settings loading.image schedule) }
     ensures short { IfOk result (λ loaded. IsShort loaded.guest.setup (rest_of loaded.guest)) }
     ensures harts { IfOk result (λ loaded. loaded.guest.setup.harts ≡ settings.harts) }
     ensures budget { IfOk result (λ loaded. loaded.guest.setup.budget ≡ settings.budget) }
     ensures settings { IfOk result (λ loaded. loaded.settings ≡ settings) }
+    ensures symbols { IfOk result (λ loaded. loaded.symbols ≡ loading.symbols) }
 {
+    let Loading { image, symbols } = loading;
     let chosen = RunSettings {
         harts: settings.harts,
         quantum: settings.quantum,
         budget: settings.budget,
     };
     let guest = Guest::new(alloc, image, schedule, chosen)?;
-    Ok(Loaded { guest, settings })
+    Ok(Loaded {
+        guest,
+        symbols,
+        settings,
+    })
 }
 
-// The guest of a program under the settings and the schedule of their names, or why the command stops.
+// The guest of a program under the settings and the schedule of their names, or why the command
+// stops.
 fn load_guest<S: Shelf>(
     alloc: Global,
     shelf: &mut S,
@@ -206,6 +231,10 @@ fn load_guest<S: Shelf>(
         (λ files. settings_in (text_of options.now.settings) files ≡ Ok loaded.settings)) }
     ensures run { IfOk result (λ loaded. Told (S.outside shelf.old).held (λ files.
         rest_of loaded.guest ≡ run_for_demand (run_meaning options.now) loaded.settings files)) }
+    ensures symbols { IfOk result (λ loaded. Told (S.outside shelf.old).held (λ files.
+        loaded.symbols.items ≡ symbol_records (content files options.now.program.now))) }
+    ensures told { IfOk result (λ loaded. All IsSymbolRecord loaded.symbols.items) }
+    ensures few { IfOk result (λ loaded. length loaded.symbols.items ≤ 2 ^ 20) }
     ensures short { IfOk result (λ loaded. IsShort loaded.guest.setup (rest_of loaded.guest)) }
     ensures harts { IfOk result (λ loaded. loaded.guest.setup.harts ≡ loaded.settings.harts) }
     ensures budget { IfOk result (λ loaded. loaded.guest.setup.budget ≡ loaded.settings.budget) }
@@ -218,15 +247,15 @@ fn load_guest<S: Shelf>(
         Ok(settings) => settings,
         Err(status) => return Err(status),
     };
-    let image = match read_judged(alloc, shelf, options.program, &ImageOf { settings }) {
-        Ok(image) => image,
+    let loading = match read_judged(alloc, shelf, options.program, &ProgramUnder { settings }) {
+        Ok(loading) => loading,
         Err(status) => return Err(status),
     };
     let schedule = match read_schedule(alloc, shelf, options.schedule, &settings) {
         Ok(schedule) => schedule,
         Err(status) => return Err(status),
     };
-    match make_guest(alloc, image, schedule, settings) {
+    match make_guest(alloc, loading, schedule, settings) {
         Ok(loaded) => Ok(loaded),
         Err(NoMemory) => Err(Status::NoMemory),
     }
@@ -267,23 +296,6 @@ struct Shown {
     text: Vec<u8>,
 }
 
-// What a run that was recorded shows.
-fn show(alloc: Global, recorded: &Recorded) -> Result<Shown, NoMemory>
-    requires { IsTrue (may_predict recorded.now.detector.grid recorded.now.detector.levels) }
-    ensures status { IfOk result (λ shown. shown.status
-        ≡ status_for recorded.now.ending.outcome) }
-    ensures done { IfOk result (λ shown. kind_of shown.status ≡ done) }
-    ensures text { IfOk result (λ shown. (t : AccessList) → StandsFor t recorded.now.detector
-        → shown.text.items ≡ seen_report recorded.now.ending recorded.now.detector.grid
-        recorded.now.detector.levels t) }
-{
-    let text = report_seen(alloc, &recorded.detector, &recorded.ending)?;
-    Ok(Shown {
-        status: status_of(recorded.ending.outcome),
-        text,
-    })
-}
-
 // The run of a guest, recorded, and its report.
 fn run_guest<S: Shelf>(
     alloc: Global,
@@ -293,6 +305,8 @@ fn run_guest<S: Shelf>(
 ) -> Result<Shown, ShelfError>
     requires apart { AreApart (names_of files.now) }
     requires allowed { IsAllowed loaded.settings }
+    requires told { All IsSymbolRecord loaded.symbols.items }
+    requires few { length loaded.symbols.items ≤ 2 ^ 20 }
     requires short { IsShort loaded.guest.setup (rest_of loaded.guest) }
     requires harts { loaded.guest.setup.harts ≡ loaded.settings.harts }
     requires budget { loaded.guest.setup.budget ≡ loaded.settings.budget }
@@ -300,23 +314,30 @@ fn run_guest<S: Shelf>(
         ≡ status_for (rest_of loaded.guest).ending.outcome) }
     ensures done { IfOk result (λ shown. kind_of shown.status ≡ done) }
     ensures text { IfOk result (λ shown. shown.text.items
-        ≡ report_of (levels_of None loaded.settings) plain_grid
-        (trace_for loaded.settings.harts (rest_of loaded.guest))) }
-    ensures good { OnOk result (IsGoodTrace
-        (trace_for loaded.settings.harts (rest_of loaded.guest))) }
+        ≡ report_of (levels_of None loaded.settings) (native_of loaded.settings)
+        (trace_for loaded.settings.harts loaded.symbols.items (rest_of loaded.guest))) }
+    ensures good { OnOk result (IsKept
+        (trace_for loaded.settings.harts loaded.symbols.items (rest_of loaded.guest))) }
     ensures written { OnOk result (AreWritten
-        (outputs_for loaded.settings.harts (rest_of loaded.guest) files.now)
+        (outputs_for loaded.settings.harts loaded.symbols.items (rest_of loaded.guest) files.now)
         (S.outside shelf.old) (S.outside shelf.new)) }
     ensures cut { IfErr result (AreCut
-        (outputs_for loaded.settings.harts (rest_of loaded.guest) files.now)
+        (outputs_for loaded.settings.harts loaded.symbols.items (rest_of loaded.guest) files.now)
         (S.outside shelf.old) (S.outside shelf.new)) }
 {
-    let Loaded { guest, settings } = loaded;
+    let Loaded {
+        guest,
+        symbols,
+        settings,
+    } = loaded;
     let thresholds = thresholds_of(&settings, None);
-    let detector = Detector::new(alloc, PagedIndex::new(alloc), plain_layout(), thresholds);
-    match record_run(alloc, shelf, guest, detector, files) {
-        Ok(recorded) => match show(alloc, &recorded) {
-            Ok(shown) => Ok(shown),
+    let mut sightings = Sightings::new(alloc, native_layout(&settings), thresholds);
+    match record_run(alloc, shelf, guest, &mut sightings, &symbols, files) {
+        Ok(ending) => match sightings.report(alloc, &ending) {
+            Ok(text) => Ok(Shown {
+                status: status_of(ending.outcome),
+                text,
+            }),
             Err(NoMemory) => Err(ShelfError::NoMemory),
         },
         Err(error) => Err(error),
@@ -332,11 +353,15 @@ fn run_loaded<S: Shelf>(
 ) -> Status
     requires apart { AreApart (run_outputs (run_meaning options.now)) }
     requires allowed { IsAllowed loaded.settings }
+    requires told { All IsSymbolRecord loaded.symbols.items }
+    requires few { length loaded.symbols.items ≤ 2 ^ 20 }
     requires short { IsShort loaded.guest.setup (rest_of loaded.guest) }
     requires harts { loaded.guest.setup.harts ≡ loaded.settings.harts }
     requires budget { loaded.guest.setup.budget ≡ loaded.settings.budget }
     ensures { (old : Outside)
-        → IsReady (run_meaning options.now) loaded.settings (rest_of loaded.guest) old (S.outside shelf.old)
+        → IsReady (run_meaning options.now) loaded.settings
+        (trace_for loaded.settings.harts loaded.symbols.items (rest_of loaded.guest))
+        (rest_of loaded.guest) old (S.outside shelf.old)
         → Meets (Some (asks (run_meaning options.now))) old (S.outside shelf.new) result }
 {
     let files = match files_of(alloc, options) {
@@ -349,8 +374,8 @@ fn run_loaded<S: Shelf>(
     }
 }
 
-/// Runs the program of a name under settings and a schedule, writes its trace and its output where they are named, and
-/// prints the report.
+/// Runs the program of a name under settings and a schedule, writes its trace and its output where
+/// they are named, and prints the report.
 pub fn run<S: Shelf>(alloc: Global, options: &RunOptions<'_>, shelf: &mut S) -> Status
     requires { AreApart (run_outputs (run_meaning options.now)) }
     ensures { Meets (Some (asks (run_meaning options.now)))

@@ -1,13 +1,13 @@
 // The settings of a command.
-ghost use Rattle.std.specs.Prelude.{◌≡◌, Ok, None, IfOk, IfErr, IsOk, IsTrue, OnOk, length, unwrap_or};
+ghost use Rattle.std.specs.Prelude.{◌≡◌, Ok, None, IfOk, IfErr, IsOk, IsTrue, OnOk, length};
 ghost use Rattle.std.specs.Option.{ForSome};
-ghost use Rattle.run_recorder.specs.Recorded.{plain_grid};
 ghost use Rattle.sharing_rules.specs.Listed.{may_predict};
 ghost use Rattle.command_line.specs.Demands.{text_of};
 ghost use Rattle.settings.specs.Allowed.{IsAllowed};
 ghost use Rattle.shelf.specs.Shelf.{Told};
 ghost use Rattle.predator_cli.specs.Readings.{IsAccepted, IsStopped};
-ghost use Rattle.predator_cli.specs.SettingsFiles.{levels_of, settings_in, settings_readings};
+ghost use Rattle.predator_cli.specs.SettingsFiles.{layout_of, levels_of, native_of, settings_in};
+ghost use Rattle.predator_cli.specs.SettingsFiles.{settings_readings};
 
 use crate::Status;
 use crate::files::{Judge, read_judged};
@@ -67,6 +67,17 @@ pub fn read_settings<S: Shelf>(
     }
 }
 
+/// The native layout of settings: the one of a command where no layout is named.
+pub fn native_layout(settings: &Settings) -> Layout
+    requires { IsAllowed settings.now }
+    ensures { result ≡ native_of settings.now }
+{
+    match Layout::new(settings.line(), 0) {
+        Some(layout) => layout,
+        None => unreachable!(),
+    }
+}
+
 // The thresholds that settings give, with a threshold of prediction or without.
 fn thresholds_with(settings: &Settings, prediction: Option<u64>) -> Thresholds
     requires allowed { IsAllowed settings.now }
@@ -87,7 +98,7 @@ fn thresholds_with(settings: &Settings, prediction: Option<u64>) -> Thresholds
 pub fn thresholds_of(settings: &Settings, layout: Option<Layout>) -> Thresholds
     requires { IsAllowed settings.now }
     ensures value { result ≡ levels_of layout settings.now }
-    ensures native { IsTrue (may_predict (unwrap_or layout plain_grid) result) }
+    ensures native { IsTrue (may_predict (layout_of layout settings.now) result) }
 {
     match layout {
         Some(_) => thresholds_with(settings, None),

@@ -13,8 +13,8 @@ use std::env::Args;
 use std::io::{self, ErrorKind};
 use std::process::ExitCode;
 
-/// The words after the program's name, of the arguments of the process. Arguments that are no text are no words, and so
-/// ask for nothing that the program does.
+/// The words after the program's name, of the arguments of the process. Arguments that are no text
+/// are no words, and so ask for nothing that the program does.
 pub fn words_of(
     alloc: Global,
     arguments: io::Result<Args<Global>>,
@@ -32,7 +32,8 @@ pub fn words_of(
     Ok(words)
 }
 
-/// Ends where memory ran out before there were words: prints the line of want of memory, which takes none.
+/// Ends where memory ran out before there were words: prints the line of want of memory, which
+/// takes none.
 pub fn give_up<S: Shelf>(shelf: &mut S) -> Status
     ensures status { result ≡ Status.NoMemory }
     ensures only { OnlyPrints (S.outside shelf.old) (S.outside shelf.new) }

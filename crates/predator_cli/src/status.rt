@@ -8,7 +8,26 @@ use hart_scheduler::ScheduleFault;
 use predator_base::NoMemory;
 use settings::SettingsFault;
 use shelf::ShelfError;
-use trace_file::TraceFault;
+use trace_grammar::TraceFault;
+use trace_passes::{PassFault, Refusal};
+
+// Where a saved state tells how many harts there are.
+const HARTS_PLACE: u64 = 32;
+
+/// Why a trace doesn't go on from where the count of it stands.
+#[derive(Clone, Copy, Debug, PartialEq, Eq)]
+pub enum StateFault {
+    /// The trace's header differs from what was counted before, in the field that stands at this
+    /// place of a saved state.
+    WrongSettings(u64),
+    /// The trace's first access has another position than the next one to count.
+    WrongPosition {
+        /// The position of the next access to count: 0 where nothing was counted before.
+        saved: u64,
+        /// The position of the trace's first access.
+        first: u64,
+    },
+}
 
 /// How the program ends.
 #[derive(Debug, PartialEq, Eq, Drop)]
@@ -25,6 +44,8 @@ pub enum Status {
     Settings(SettingsFault),
     /// The trace has this fault, which is never want of memory.
     Trace(TraceFault),
+    /// The trace doesn't go on from where the count of it stands.
+    State(StateFault),
     /// A file could not be read.
     ReadFault,
     /// A text could not be printed, or a file not be written.
@@ -51,6 +72,7 @@ impl Status {
             Status::Schedule(_) => 3,
             Status::Settings(_) => 4,
             Status::Trace(_) => 5,
+            Status::State(_) => 6,
             Status::ReadFault => 7,
             Status::WriteFault => 8,
             Status::NoMemory => 9,
@@ -142,6 +164,36 @@ impl From<TraceFault> for Status {
         match fault {
             TraceFault::NoMemory => Status::NoMemory,
             fault => Status::Trace(fault),
+        }
+    }
+}
+
+impl From<Refusal> for Status {
+    ghost use Rattle.predator_cli.specs.Statuses.{status_of_refusal};
+
+    ghost from_gives = { λ refusal s. s ≡ status_of_refusal refusal };
+
+    fn from(refusal: Refusal) -> Self {
+        match refusal {
+            Refusal::Trace(fault) => Status::from(fault),
+            Refusal::Harts => Status::State(StateFault::WrongSettings(HARTS_PLACE)),
+            Refusal::Position { saved, first } => {
+                Status::State(StateFault::WrongPosition { saved, first })
+            }
+        }
+    }
+}
+
+impl From<PassFault> for Status {
+    ghost use Rattle.predator_cli.specs.Statuses.{status_of_pass};
+
+    ghost from_gives = { λ fault s. s ≡ status_of_pass fault };
+
+    fn from(fault: PassFault) -> Self {
+        match fault {
+            PassFault::Refused(refusal) => Status::from(refusal),
+            PassFault::ReadFault => Status::ReadFault,
+            PassFault::NoMemory => Status::NoMemory,
         }
     }
 }

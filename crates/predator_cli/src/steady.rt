@@ -10,7 +10,8 @@ use crate::{Status, predator};
 use shelf::NeverFails;
 use std::alloc::Global;
 
-/// The program over a shelf that never fails: it ends as the words and the files ask, unless memory runs out.
+/// The program over a shelf that never fails: it ends as the words and the files ask, unless memory
+/// runs out.
 pub fn predator_steady(alloc: Global, words: &[String], shelf: &mut NeverFails) -> Status
     ensures read { result ≢ Status.ReadFault }
     ensures write { result ≢ Status.WriteFault }

@@ -12,7 +12,8 @@ use Rattle.heap_objects.specs.Symbols.{Symbol}
 no_symbol : Symbol
 no_symbol = record { kind = Object; addr = 0; size = 0; name = [] }
 
-found : (p : Symbol → Bool) (xs : List Symbol) (i : ℕ) (d : Symbol) → i < length xs → option_map_or p (slice_get xs i) false ≡ p (get_or xs i d)
+found : (p : Symbol → Bool) (xs : List Symbol) (i : ℕ) (d : Symbol) → i < length xs → option_map_or p (slice_get xs i) false ≡ p
+    (get_or xs i d)
 found p xs i d inside = ap (λ (o : Option Symbol). option_map_or p o false) (slice_get-get_or xs i d inside)
 
 pub counted : (p : Symbol → Bool) (xs : List Symbol) (i : ℕ) → i < length xs → option_map_or p (slice_get xs i) false ≡ true

@@ -31,10 +31,13 @@ summary_joined file heap_start heap_end top symbols entry segments counts heap s
     let functions = count_text (codes "functions ") (count_of Function symbols) in
     let h = range_text (codes "heap ") heap_start heap_end in
     ap₂ (λ x y. joined x y counts heap stacks) entry_is segments_are ∙ ap₂ (λ x y. joined e s x y stacks) counts_are heap_is
-    ∙ ap (joined e s (objects ++ functions) h) stacks_are ∙ summary_pieces e s objects functions h (range_text (codes "stacks ") heap_end top)
+    ∙ ap (joined e s (objects ++ functions) h) stacks_are ∙ summary_pieces e s objects functions h
+    (range_text (codes "stacks ") heap_end top)
 
-pub placed : (space : Space) (file : List ℕ) (image : Image) (symbols : List Symbol) → IsImageOf file space image → symbols ≡ noted (symbols_of file)
+pub placed : (space : Space) (file : List ℕ) (image : Image) (symbols : List Symbol) → IsImageOf file space image
+    → symbols ≡ noted (symbols_of file)
     → summary_text file image.heap_start image.heap_end image.top symbols ≡ placed_text space file
 placed space file image symbols is noted_is =
-    ap₂ (λ start end. summary_text file start end image.top symbols) is.heap_start (is.heap_end ∙ ap (λ top. top - space.harts * space.stack) is.top)
+    ap₂ (λ start end. summary_text file start end image.top symbols) is.heap_start
+    (is.heap_end ∙ ap (λ top. top - space.harts * space.stack) is.top)
     ∙ ap₂ (λ top ss. summary_text file (heap_start_of (segments_of file)) (stacks_of space file) top ss) is.top noted_is

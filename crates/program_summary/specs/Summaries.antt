@@ -1,5 +1,6 @@
 -- The text that tells of a program. Every line ends with a line feed.
-use Rattle.std.specs.Prelude.{ℕ, pos, ◌-◌, ◌*◌, ◌/◌, ◌%◌, ◌==◌, Bool, if◌then◌else◌, List, [], ◌∷◌, ◌++◌, codes}
+use Rattle.std.specs.Prelude.{ℕ, pos, ◌-◌, ◌*◌, ◌/◌, ◌%◌, ◌==◌, Bool, if◌then◌else◌, List, [], ◌∷◌}
+use Rattle.std.specs.Prelude.{◌++◌, codes}
 use Rattle.std.specs.Fmt.{decimal}
 use Rattle.std.specs.List.{flat_map}
 use Rattle.text_forms.specs.Addresses.{address_text}
@@ -27,11 +28,14 @@ abbrev pub right_text : Bool → List ℕ → List ℕ
 right_text given letter = if given then letter else codes "-"
 
 abbrev pub rights_text : Loaded → List ℕ
-rights_text s = right_text (may_read s) (codes "r") ++ right_text (may_write s) (codes "w") ++ right_text (may_run s) (codes "x")
+rights_text s = right_text (may_read s) (codes "r") ++ right_text (may_write s) (codes "w")
+    ++ right_text (may_run s) (codes "x")
 
 -- a segment: where it begins, how many bytes it has in memory, and its rights
 abbrev pub segment_text : Loaded → List ℕ
-segment_text s = line (codes "segment " ++ address s.addr ++ codes " " ++ decimal s.size ++ codes " " ++ rights_text s)
+segment_text s =
+    line (codes "segment " ++ address s.addr ++ codes " " ++ decimal s.size ++ codes " "
+    ++ rights_text s)
 
 -- how many things of a name there are
 abbrev pub count_text : List ℕ → ℕ → List ℕ
@@ -59,4 +63,5 @@ stacks_of space file = top_of space.memory (segments_of file) - space.harts * sp
 -- the summary of a program file that is placed in a space
 abbrev pub placed_text : Space → List ℕ → List ℕ
 placed_text space file =
-    summary_text file (heap_start_of (segments_of file)) (stacks_of space file) (top_of space.memory (segments_of file)) (noted (symbols_of file))
+    summary_text file (heap_start_of (segments_of file)) (stacks_of space file)
+    (top_of space.memory (segments_of file)) (noted (symbols_of file))

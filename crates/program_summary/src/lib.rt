@@ -1,4 +1,5 @@
-//! The text that tells of a program: its entry, its segments, its symbols, and where its heap and stacks lie.
+//! The text that tells of a program: its entry, its segments, its symbols, and where its heap and
+//! stacks lie.
 //!
 //! For a program of 12 bytes of code it is:
 //!

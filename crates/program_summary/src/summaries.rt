@@ -1,5 +1,6 @@
 // The text that tells of a program.
-ghost use Rattle.std.specs.Prelude.{◌≡◌, ◌/◌, ◌%◌, ◌==◌, ◌++◌, if◌then◌else◌, codes, IfOk, OnOk, string_bytes, length, List, ℕ};
+ghost use Rattle.std.specs.Prelude.{◌≡◌, ◌/◌, ◌%◌, ◌==◌, ◌++◌, if◌then◌else◌, codes, IfOk, OnOk};
+ghost use Rattle.std.specs.Prelude.{string_bytes, length, List, ℕ};
 ghost use Rattle.std.specs.List.{flat_map};
 ghost use Rattle.heap_objects.specs.declared.symbol.SymbolKind.TheVariants.{Object, Function};
 ghost use Rattle.elf_loader.specs.Segments.{segment_shown};
@@ -7,7 +8,9 @@ ghost use Rattle.elf_loader.specs.Symbols.{symbols_of};
 ghost use Rattle.elf_loader.specs.PlacedImages.{IsImageOf};
 ghost use Rattle.elf_loader.specs.declared.image.Space.{Space};
 ghost use Rattle.program_summary.specs.Noted.{noted};
-ghost use Rattle.program_summary.specs.Summaries.{address as address_is, count_text, line, placed_text, range_text, right_text, segment_text, summary_text};
+ghost use Rattle.program_summary.specs.Summaries.{address as address_is, count_text, line};
+ghost use Rattle.program_summary.specs.Summaries.{placed_text, range_text, right_text};
+ghost use Rattle.program_summary.specs.Summaries.{segment_text, summary_text};
 
 use crate::symbols::count_of;
 use elf_loader::{ElfView, Image, Segment, Segments};
@@ -71,7 +74,11 @@ fn range_line(alloc: Global, name: &str, first: u32, end: u32) -> Result<String,
 
 // The lines of how many symbols there are.
 fn count_lines(alloc: Global, symbols: &ObjectTable) -> Result<String, AllocError>
-    ensures { IfOk result (λ text. string_bytes text ≡ count_text (codes "objects ") (Rattle.program_summary.specs.Noted.count_of Object symbols.now.symbols) ++ count_text (codes "functions ") (Rattle.program_summary.specs.Noted.count_of Function symbols.now.symbols)) }
+    ensures { IfOk result
+        (λ text. string_bytes text ≡ count_text (codes "objects ")
+        (Rattle.program_summary.specs.Noted.count_of Object symbols.now.symbols) ++ count_text
+        (codes "functions ")
+        (Rattle.program_summary.specs.Noted.count_of Function symbols.now.symbols)) }
 {
     let objects = count_of(symbols, SymbolKind::Object);
     let functions = count_of(symbols, SymbolKind::Function);
@@ -85,7 +92,8 @@ fn summary_of(
     image: &Image,
     symbols: &ObjectTable,
 ) -> Result<String, AllocError>
-    ensures { IfOk result (λ text. string_bytes text ≡ summary_text view.now image.now.heap_start image.now.heap_end image.now.top symbols.now.symbols) }
+    ensures { IfOk result (λ text. string_bytes text ≡ summary_text view.now image.now.heap_start
+        image.now.heap_end image.now.top symbols.now.symbols) }
 {
     let entry = guest_address(alloc, view.entry())?;
     let segments = segment_lines(alloc, view.segments())?;
@@ -95,19 +103,23 @@ fn summary_of(
     format!(in alloc; "entry {entry}\n{segments}{counts}{heap}{stacks}end\n")
 }
 
-/// The text that tells of a program file: the address of its first instruction, the segments in the order
-/// of their headers, how many symbols of data and of code a table of them has, and where the heap and the
-/// stacks of its image lie. It takes memory for the text.
+/// The text that tells of a program file: the address of its first instruction, the segments in the
+/// order of their headers, how many symbols of data and of code a table of them has, and where the
+/// heap and the stacks of its image lie. It takes memory for the text.
 pub fn summary(
     alloc: Global,
     view: &ElfView<'_>,
     image: &Image,
     symbols: &ObjectTable,
 ) -> Result<String, NoMemory>
-    ensures text { IfOk result (λ text. string_bytes text ≡ summary_text view.now image.now.heap_start image.now.heap_end image.now.top symbols.now.symbols) }
+    ensures text { IfOk result
+        (λ text. string_bytes text ≡ summary_text view.now image.now.heap_start image.now.heap_end
+        image.now.top symbols.now.symbols) }
 
     // Of the file's own image and symbols it is a text of the file and the space alone.
-    ensures placed { IfOk result (λ text. (space : Space) → IsImageOf view.now space image.now → symbols.now.symbols ≡ noted (symbols_of view.now) → string_bytes text ≡ placed_text space view.now) }
+    ensures placed { IfOk result (λ text. (space : Space) → IsImageOf view.now space image.now
+        → symbols.now.symbols ≡ noted (symbols_of view.now)
+        → string_bytes text ≡ placed_text space view.now) }
 {
     match summary_of(alloc, view, image, symbols) {
         Ok(text) => Ok(text),

@@ -9,8 +9,9 @@ use heap_objects::{ObjectTable, SymbolKind};
 use predator_base::NoMemory;
 use std::alloc::Global;
 
-/// A table of symbols, in their order: one with the kind, address and size of an earlier one is dropped,
-/// and of a name of more than 1024 bytes the first 1024 are kept. It takes memory for what is kept.
+/// A table of symbols, in their order: one with the kind, address and size of an earlier one is
+/// dropped, and of a name of more than 1024 bytes the first 1024 are kept. It takes memory for what
+/// is kept.
 pub fn note_symbols(alloc: Global, mut symbols: Symbols<'_>) -> Result<ObjectTable, NoMemory>
     ensures symbols { IfOk result (λ table. table.symbols ≡ noted symbols.entry) }
     ensures blocks { IfOk result (λ table. table.blocks ≡ []) }
@@ -33,7 +34,8 @@ fn is_same_kind(a: SymbolKind, b: SymbolKind) -> bool
 
 // Whether a table has a symbol of a number, and it is of a kind.
 fn is_of_kind(symbols: &ObjectTable, i: usize, kind: SymbolKind) -> bool
-    ensures { result ≡ option_map_or (λ s. is_same_kind s.kind kind) (slice_get symbols.now.symbols i) false }
+    ensures { result ≡ option_map_or (λ s. is_same_kind s.kind kind)
+        (slice_get symbols.now.symbols i) false }
 {
     match symbols.symbol(i) {
         Some(symbol) => is_same_kind(symbol.kind, kind),

@@ -1,5 +1,6 @@
 -- Bounds of blocks, and chunks that are passed over.
-use Rattle.std.proofs.Common.{◌≡◌, ℕ, ◌+◌, ◌<◌, ◌≤◌, true, false, ◌&&◌, List, [], ◌∷◌, get_or, length, filter, take, leb, refl, ap, ◌∙◌, arith}
+use Rattle.std.proofs.Common.{◌≡◌, ℕ, ◌+◌, ◌<◌, ◌≤◌, true, false, ◌&&◌, List, [], ◌∷◌, get_or, length, filter, take, leb, refl, ap, ◌∙◌}
+use Rattle.std.proofs.Common.{arith}
 use Rattle.std.proofs.lemmas.Bool.{and_parts, and_from}
 use Rattle.std.proofs.lemmas.Bool.Decides.{nat_tests}
 use Rattle.std.proofs.lemmas.Int.{ints}
@@ -24,7 +25,8 @@ wider l h m k low high (b ∷ bs) e =
     and_from (lies_in m k b) (list_all (lies_in m k) bs) (wider_one l h m k b low high p.0) (wider l h m k low high bs p.1)
 
 -- bounds with one block more
-pub bounds_more : (bs : List Block) (i l h m k : ℕ) (d : Block) → i < length bs → m ≤ l → m ≤ (get_or bs i d).addr → h ≤ k → (get_or bs i d).addr + (get_or bs i d).size ≤ k
+pub bounds_more : (bs : List Block) (i l h m k : ℕ) (d : Block) → i < length bs → m ≤ l → m ≤ (get_or bs i d).addr → h ≤ k
+    → (get_or bs i d).addr + (get_or bs i d).size ≤ k
     → list_all (lies_in l h) (take i bs) ≡ true → list_all (lies_in m k) (take (i + 1) bs) ≡ true
 bounds_more bs i l h m k d within low here high there known =
     let b : Block = get_or bs i d in
@@ -39,7 +41,8 @@ symbol_passed : (r : Range) (l h a n : ℕ) → leb l a ≡ true → leb (a + n)
 symbol_passed r l h a n low high far = grind (arith, ints, nat_tests)
 
 -- where a range doesn't meet the bounds no block stands on it
-pub passed_over : (r : Range) (start end l h : ℕ) → bounds_meet r l h ≡ false → (bs : List Block) → list_all (lies_in l h) bs ≡ true → filter (block_stands r start end) bs ≡ []
+pub passed_over : (r : Range) (start end l h : ℕ) → bounds_meet r l h ≡ false → (bs : List Block) → list_all (lies_in l h) bs ≡ true
+    → filter (block_stands r start end) bs ≡ []
 passed_over r start end l h far [] e = refl
 passed_over r start end l h far (b ∷ bs) e =
     let p = and_parts (lies_in l h b) (list_all (lies_in l h) bs) e in

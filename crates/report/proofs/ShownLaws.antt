@@ -9,12 +9,15 @@ one_of : {Y : Type 0} (o : Option Y) → cons_option o [] ≡ option_to_list o
 one_of None = refl
 one_of (Some y) = refl
 
-filter_map-one : {X Y : Type 0} (f : X → Option Y) (xs : List X) (x : X) → filter_map f (xs ++ x ∷ []) ≡ filter_map f xs ++ option_to_list (f x)
+filter_map-one : {X Y : Type 0} (f : X → Option Y) (xs : List X) (x : X) → filter_map f (xs ++ x ∷ []) ≡ filter_map f xs ++ option_to_list
+    (f x)
 filter_map-one f xs x = filter_map-append f xs (x ∷ []) ∙ ap (λ zs. filter_map f xs ++ zs) (one_of (f x))
 
 -- one element more
-pub reported_more : {X Y : Type 0} (f : X → Option Y) (p : Y → Bool) (xs : List X) (i : ℕ) (x : X) (before after : List Y) → i < length xs → x ≡ get_or xs i x
-    → before ≡ filter p (filter_map f (take i xs)) → after ≡ before ++ filter p (option_to_list (f x)) → after ≡ filter p (filter_map f (take (i + 1) xs))
+pub reported_more : {X Y : Type 0} (f : X → Option Y) (p : Y → Bool) (xs : List X) (i : ℕ) (x : X) (before after : List Y) → i < length xs
+    → x ≡ get_or xs i x
+    → before ≡ filter p (filter_map f (take i xs)) → after ≡ before ++ filter p (option_to_list (f x))
+    → after ≡ filter p (filter_map f (take (i + 1) xs))
 reported_more f p xs i x before after within at_i known pushed =
     pushed ∙ ap (λ t. t ++ filter p (option_to_list (f x))) known
     ∙ sym (ap (λ ys. filter p (filter_map f ys)) (take_more xs i x within ∙ ap (λ y. take i xs ++ y ∷ []) (sym at_i))

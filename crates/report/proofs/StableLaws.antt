@@ -1,5 +1,6 @@
 -- What a stable sort leaves is the list in order, also where elements tie.
-use Rattle.std.proofs.Common.{◌≡◌, suc, ◌+◌, Bool, true, false, List, [], ◌∷◌, get_or, filter, refl, sym, ap, ◌∙◌, subst, arith, inl, inr, add-one}
+use Rattle.std.proofs.Common.{◌≡◌, suc, ◌+◌, Bool, true, false, List, [], ◌∷◌, get_or, filter, refl, sym, ap, ◌∙◌, subst, arith, inl, inr}
+use Rattle.std.proofs.Common.{add-one}
 use Rattle.std.proofs.lemmas.List.Sorted.{sorted_far}
 use Rattle.std.proofs.lemmas.List.Elements.{All-from_get_or, recursion_from_All}
 use Rattle.std.proofs.lemmas.Bool.{cases_Bool, false≢true}
@@ -26,7 +27,8 @@ up_from_sorted lt o (x ∷ xs) up = (
   up_from_sorted lt o xs (sorted_tail lt x xs up),
 )
 
-put_in_order-all : {X : Type 0} (P : X → Type 0) (lt : X → X → Bool) (x : X) (ys : List X) → P x → AllByRecursion P ys → AllByRecursion P (put_in_order lt x ys)
+put_in_order-all : {X : Type 0} (P : X → Type 0) (lt : X → X → Bool) (x : X) (ys : List X) → P x → AllByRecursion P ys
+    → AllByRecursion P (put_in_order lt x ys)
 put_in_order-all P lt x [] one all = (one, tt)
 put_in_order-all P lt x (y ∷ ys) one all =
     elim (cases_Bool (lt y x)) [
@@ -38,7 +40,8 @@ weaker : {X : Type 0} (P Q : X → Type 0) → ((x : X) → P x → Q x) → (xs
 weaker P Q f [] all = tt
 weaker P Q f (x ∷ xs) all = (f x all.0, weaker P Q f xs all.1)
 
-put_in_order-up : {X : Type 0} (lt : X → X → Bool) → IsStrictWeakOrder lt → (x : X) (ys : List X) → IsUp lt ys → IsUp lt (put_in_order lt x ys)
+put_in_order-up : {X : Type 0} (lt : X → X → Bool) → IsStrictWeakOrder lt → (x : X) (ys : List X) → IsUp lt ys
+    → IsUp lt (put_in_order lt x ys)
 put_in_order-up lt o x [] up = (tt, tt)
 put_in_order-up lt o x (y ∷ ys) up =
     elim (cases_Bool (lt y x)) [
@@ -64,7 +67,8 @@ tied_both lt o w x y tied_y tied_x =
       ]
     ]
 
-put_in_order-stable : {X : Type 0} (lt : X → X → Bool) → IsStrictWeakOrder lt → (w x : X) (ys : List X) → filter (ties lt w) (put_in_order lt x ys) ≡ filter (ties lt w) (x ∷ ys)
+put_in_order-stable : {X : Type 0} (lt : X → X → Bool) → IsStrictWeakOrder lt → (w x : X) (ys : List X)
+    → filter (ties lt w) (put_in_order lt x ys) ≡ filter (ties lt w) (x ∷ ys)
 put_in_order-stable lt o w x [] = refl
 put_in_order-stable lt o w x (y ∷ ys) =
     elim (cases_Bool (lt y x)) [
@@ -82,9 +86,11 @@ put_in_order-stable lt o w x (y ∷ ys) =
 filter-cons : {X : Type 0} (p : X → Bool) (x : X) (xs ys : List X) → filter p xs ≡ filter p ys → filter p (x ∷ xs) ≡ filter p (x ∷ ys)
 filter-cons p x xs ys e = elim (cases_Bool (p x)) [ inl keeps ↦ rw keeps (ap (λ zs. x ∷ zs) e) | inr drops ↦ rw drops e ]
 
-in_order-stable : {X : Type 0} (lt : X → X → Bool) → IsStrictWeakOrder lt → (w : X) (xs : List X) → filter (ties lt w) (in_order lt xs) ≡ filter (ties lt w) xs
+in_order-stable : {X : Type 0} (lt : X → X → Bool) → IsStrictWeakOrder lt → (w : X) (xs : List X) → filter (ties lt w) (in_order lt xs)
+    ≡ filter (ties lt w) xs
 in_order-stable lt o w [] = refl
-in_order-stable lt o w (x ∷ xs) = put_in_order-stable lt o w x (in_order lt xs) ∙ filter-cons (ties lt w) x (in_order lt xs) xs (in_order-stable lt o w xs)
+in_order-stable lt o w (x ∷ xs) = put_in_order-stable lt o w x (in_order lt xs) ∙ filter-cons (ties lt w) x (in_order lt xs) xs
+    (in_order-stable lt o w xs)
 
 irreflexive : {X : Type 0} (lt : X → X → Bool) → IsStrictWeakOrder lt → (x : X) → lt x x ≡ false
 irreflexive lt o x = elim (cases_Bool (lt x x)) [ inl e ↦ o.one_way x x e | inr e ↦ e ]
@@ -115,7 +121,8 @@ tail_same p x xs ys e =
       | inr drops ↦ rw drops at e
     ]
 
-same_up : {X : Type 0} (lt : X → X → Bool) → IsStrictWeakOrder lt → (xs ys : List X) → IsUp lt xs → IsUp lt ys → ((w : X) → filter (ties lt w) xs ≡ filter (ties lt w) ys) → xs ≡ ys
+same_up : {X : Type 0} (lt : X → X → Bool) → IsStrictWeakOrder lt → (xs ys : List X) → IsUp lt xs → IsUp lt ys
+    → ((w : X) → filter (ties lt w) xs ≡ filter (ties lt w) ys) → xs ≡ ys
 same_up lt o [] [] up us same = refl
 same_up lt o [] (y ∷ ys) up us same = let k : [] ≡ y ∷ filter (ties lt y) ys = rw (ties_self lt o y) at (same y) in cc
 same_up lt o (x ∷ xs) [] up us same = let k : x ∷ filter (ties lt x) xs ≡ [] = rw (ties_self lt o x) at (same x) in cc
@@ -129,6 +136,7 @@ same_up lt o (x ∷ xs) (y ∷ ys) up us same =
     (λ w. tail_same (ties lt w) y xs ys (subst (λ z. filter (ties lt w) (z ∷ xs) ≡ filter (ties lt w) (y ∷ ys)) head (same w))))
 
 -- a stable sort's result is the list in order
-pub in_order-from_stable : {X : Type 0} (lt : X → X → Bool) → IsStrictWeakOrder lt → (xs ys : List X) → IsSortedBy lt ys → IsStableBy lt xs ys → ys ≡ in_order lt xs
+pub in_order-from_stable : {X : Type 0} (lt : X → X → Bool) → IsStrictWeakOrder lt → (xs ys : List X) → IsSortedBy lt ys
+    → IsStableBy lt xs ys → ys ≡ in_order lt xs
 in_order-from_stable lt o xs ys sorted stable =
     same_up lt o ys (in_order lt xs) (up_from_sorted lt o ys sorted) (in_order-up lt o xs) (λ w. stable w ∙ sym (in_order-stable lt o w xs))

@@ -1,5 +1,7 @@
 -- Texts of lines of words, put together piece by piece.
-use Rattle.std.proofs.Common.{◌≡◌, ℕ, suc, ◌+◌, ◌<◌, List, [], ◌∷◌, ◌++◌, Bool, nat_lt, get_or, length, take, Option, Some, slice_get, refl, sym, ap, ◌∙◌, inl, inr, arith, append_assoc, append-nil, add-zero, map, filter, length-take, option_to_list, codes, pos, ◌+ℤ◌, ◌*◌}
+use Rattle.std.proofs.Common.{◌≡◌, ℕ, suc, ◌+◌, ◌<◌, List, [], ◌∷◌, ◌++◌, Bool, nat_lt, get_or, length, take, Option, Some, slice_get, refl}
+use Rattle.std.proofs.Common.{sym, ap, ◌∙◌, inl, inr, arith, append_assoc, append-nil, add-zero, map, filter, length-take, option_to_list}
+use Rattle.std.proofs.Common.{codes, pos, ◌+ℤ◌, ◌*◌}
 use Rattle.std.specs.Fmt.{decimal}
 use Rattle.text_forms.specs.Addresses.{address_text}
 use Rattle.std.specs.Prelude.{if◌then◌else◌}
@@ -34,11 +36,14 @@ numbered before a d e ws = simp append_assoc
 
 -- the line of a word: its numbers, and its harts
 pub word_pieces : (r : Range) (i : ℕ) (w : Word) (before : List ℕ)
-    → before ++ (codes "word " ++ address_text (r.base +ℤ pos (4 * i)) ++ codes " reads " ++ decimal w.reads ++ codes " writes " ++ decimal w.writes) ++ rest_of_line (owner_words w.owner)
+    → before ++ (codes "word " ++ address_text (r.base +ℤ pos (4 * i)) ++ codes " reads " ++ decimal w.reads ++ codes " writes "
+    ++ decimal w.writes) ++ rest_of_line (owner_words w.owner)
     ≡ before ++ line_text (word_line r (i, w))
 word_pieces r i w before =
     numbered before (address_text (r.base +ℤ pos (4 * i))) (decimal w.reads) (decimal w.writes) (owner_words w.owner)
-    ∙ ap (λ t. before ++ t) (sym (line_text-cons (codes "word") (address_text (r.base +ℤ pos (4 * i)) ∷ codes "reads" ∷ decimal w.reads ∷ codes "writes" ∷ decimal w.writes ∷ owner_words w.owner)))
+    ∙ ap (λ t. before ++ t)
+    (sym (line_text-cons (codes "word") (address_text (r.base +ℤ pos (4 * i)) ∷ codes "reads" ∷ decimal w.reads ∷ codes "writes"
+    ∷ decimal w.writes ∷ owner_words w.owner)))
 
 -- the line of a word, where it was accessed
 abbrev pub accessed_text : Range → ℕ × Word → List ℕ
@@ -47,14 +52,16 @@ accessed_text r p = text_of (if nat_lt 0 (accesses p.1) then word_line r p ∷ [
 abbrev words_text : Range → ℕ → List Word → List ℕ
 words_text r n ws = text_of (map (word_line r) (filter (λ p. nat_lt 0 (accesses p.1)) (enumerate_from n ws)))
 
-words_text-cons : (r : Range) (n : ℕ) (w : Word) (ws : List Word) → words_text r n (w ∷ ws) ≡ accessed_text r (n, w) ++ words_text r (n + 1) ws
+words_text-cons : (r : Range) (n : ℕ) (w : Word) (ws : List Word) → words_text r n (w ∷ ws) ≡ accessed_text r (n, w) ++ words_text r
+    (n + 1) ws
 words_text-cons r n w ws =
     elim (cases_Bool (nat_lt 0 (accesses w))) [
       | inl yes_some ↦ rw yes_some (ap (λ t. t ++ words_text r (n + 1) ws) (sym (append-nil (line_text (word_line r (n, w))))))
       | inr no_some ↦ rw no_some
     ]
 
-words_text-push : (r : Range) (n : ℕ) (ws : List Word) (w : Word) → words_text r n (ws ++ w ∷ []) ≡ words_text r n ws ++ accessed_text r (n + length ws, w)
+words_text-push : (r : Range) (n : ℕ) (ws : List Word) (w : Word) → words_text r n (ws ++ w ∷ []) ≡ words_text r n ws ++ accessed_text r
+    (n + length ws, w)
 words_text-push r n [] w =
     words_text-cons r n w [] ∙ append-nil (accessed_text r (n, w)) ∙ ap (λ k. accessed_text r (k, w)) (sym (add-zero n))
 words_text-push r n (v ∷ ws) w =
@@ -70,21 +77,28 @@ pub word_lines-more : (r : Range) (ws : List Word) (i : ℕ) (w : Word) (whole b
     → after ≡ whole ++ text_of (word_lines r (take (i + 1) ws))
 word_lines-more r ws i w whole before after at_i known pushed =
     let within : i < length ws = slice_get_within ws i w at_i in
-    let longer : take (i + 1) ws ≡ take i ws ++ w ∷ [] = take_more ws i w within ∙ ap (λ x. take i ws ++ x ∷ []) (get_or_from_slice_get ws i w w at_i) in
+    let longer : take (i + 1) ws ≡ take i ws ++ w ∷ [] = take_more ws i w within
+    ∙ ap (λ x. take i ws ++ x ∷ []) (get_or_from_slice_get ws i w w at_i) in
     let count : 0 + length (take i ws) ≡ i = omega (arith, length-take i ws) in
     pushed ∙ ap (λ t. t ++ accessed_text r (i, w)) known ∙ append_assoc whole (words_text r 0 (take i ws)) (accessed_text r (i, w))
-    ∙ ap (λ t. whole ++ t) (sym (ap (words_text r 0) longer ∙ words_text-push r 0 (take i ws) w ∙ ap (λ k. words_text r 0 (take i ws) ++ accessed_text r (k, w)) count))
+    ∙ ap (λ t. whole ++ t)
+    (sym (ap (words_text r 0) longer ∙ words_text-push r 0 (take i ws) w
+    ∙ ap (λ k. words_text r 0 (take i ws) ++ accessed_text r (k, w)) count))
 
 -- of a text that takes the elements of a list one after another: one element more
-pub text_more : {X : Type 0} (h : List X → List ℕ) → ((xs ys : List X) → h (xs ++ ys) ≡ h xs ++ h ys) → (xs : List X) (i : ℕ) (x : X) (whole before after : List ℕ)
-    → i < length xs → x ≡ get_or xs i x → before ≡ whole ++ h (take i xs) → after ≡ before ++ h (x ∷ []) → after ≡ whole ++ h (take (i + 1) xs)
+pub text_more : {X : Type 0} (h : List X → List ℕ) → ((xs ys : List X) → h (xs ++ ys) ≡ h xs ++ h ys)
+    → (xs : List X) (i : ℕ) (x : X) (whole before after : List ℕ)
+    → i < length xs → x ≡ get_or xs i x → before ≡ whole ++ h (take i xs) → after ≡ before ++ h (x ∷ [])
+    → after ≡ whole ++ h (take (i + 1) xs)
 text_more h joins xs i x whole before after within at_i known pushed =
     pushed ∙ ap (λ t. t ++ h (x ∷ [])) known ∙ append_assoc whole (h (take i xs)) (h (x ∷ []))
     ∙ ap (λ t. whole ++ t) (sym (ap h (take_more xs i x within ∙ ap (λ y. take i xs ++ y ∷ []) (sym at_i)) ∙ joins (take i xs) (x ∷ [])))
 
 -- the same, of the element at a place
-pub text_more_at : {X : Type 0} (h : List X → List ℕ) → ((xs ys : List X) → h (xs ++ ys) ≡ h xs ++ h ys) → (xs : List X) (i : ℕ) (o : Option X) (whole before after : List ℕ)
-    → i < length xs → o ≡ slice_get xs i → before ≡ whole ++ h (take i xs) → after ≡ before ++ h (option_to_list o) → after ≡ whole ++ h (take (i + 1) xs)
+pub text_more_at : {X : Type 0} (h : List X → List ℕ) → ((xs ys : List X) → h (xs ++ ys) ≡ h xs ++ h ys)
+    → (xs : List X) (i : ℕ) (o : Option X) (whole before after : List ℕ)
+    → i < length xs → o ≡ slice_get xs i → before ≡ whole ++ h (take i xs) → after ≡ before ++ h (option_to_list o)
+    → after ≡ whole ++ h (take (i + 1) xs)
 text_more_at h joins xs i o whole before after within at_i known pushed =
     elim (slice_get_cases xs i).1 [
       | inl (x, lt, got, read) ↦ text_more h joins xs i x whole before after within (sym read) known (rw (at_i, got) at pushed)
@@ -92,27 +106,38 @@ text_more_at h joins xs i o whole before after within at_i known pushed =
     ]
 
 -- lines of the elements that pass a test
-pub text_of-joins : {X : Type 0} (f : X → TextLine) (p : X → Bool) (xs ys : List X) → text_of (map f (filter p (xs ++ ys))) ≡ text_of (map f (filter p xs)) ++ text_of (map f (filter p ys))
+pub text_of-joins : {X : Type 0} (f : X → TextLine) (p : X → Bool) (xs ys : List X) → text_of (map f (filter p (xs ++ ys))) ≡ text_of
+    (map f (filter p xs)) ++ text_of (map f (filter p ys))
 text_of-joins f p xs ys =
-    ap (λ zs. text_of (map f zs)) (filter-append p xs ys) ∙ ap text_of (map-append f (filter p xs) (filter p ys)) ∙ flat_map-append line_text (map f (filter p xs)) (map f (filter p ys))
+    ap (λ zs. text_of (map f zs)) (filter-append p xs ys) ∙ ap text_of (map-append f (filter p xs) (filter p ys))
+    ∙ flat_map-append line_text (map f (filter p xs)) (map f (filter p ys))
 
 -- several lines of each
 pub text_of-joins_all : {X : Type 0} (f : X → List TextLine) (p : X → Bool) (xs ys : List X)
     → text_of (flat_map f (filter p (xs ++ ys))) ≡ text_of (flat_map f (filter p xs)) ++ text_of (flat_map f (filter p ys))
 text_of-joins_all f p xs ys =
-    ap (λ zs. text_of (flat_map f zs)) (filter-append p xs ys) ∙ ap text_of (flat_map-append f (filter p xs) (filter p ys)) ∙ flat_map-append line_text (flat_map f (filter p xs)) (flat_map f (filter p ys))
+    ap (λ zs. text_of (flat_map f zs)) (filter-append p xs ys) ∙ ap text_of (flat_map-append f (filter p xs) (filter p ys))
+    ∙ flat_map-append line_text (flat_map f (filter p xs)) (flat_map f (filter p ys))
 
-four : (whole : List ℕ) (a b c d : List TextLine) → whole ++ text_of a ++ text_of b ++ text_of c ++ text_of d ≡ whole ++ text_of (a ++ b ++ c ++ d)
+four : (whole : List ℕ) (a b c d : List TextLine) → whole ++ text_of a ++ text_of b ++ text_of c ++ text_of d ≡ whole ++ text_of
+    (a ++ b ++ c ++ d)
 four whole a b c d =
-    ap (λ t. t ++ text_of c ++ text_of d) (append_assoc whole (text_of a) (text_of b) ∙ ap (λ t. whole ++ t) (sym (flat_map-append line_text a b)))
-    ∙ ap (λ t. t ++ text_of d) (append_assoc whole (text_of (a ++ b)) (text_of c) ∙ ap (λ t. whole ++ t) (sym (flat_map-append line_text (a ++ b) c)))
+    ap (λ t. t ++ text_of c ++ text_of d) (append_assoc whole (text_of a) (text_of b)
+    ∙ ap (λ t. whole ++ t) (sym (flat_map-append line_text a b)))
+    ∙ ap (λ t. t ++ text_of d) (append_assoc whole (text_of (a ++ b)) (text_of c)
+    ∙ ap (λ t. whole ++ t) (sym (flat_map-append line_text (a ++ b) c)))
     ∙ append_assoc whole (text_of (a ++ b ++ c)) (text_of d) ∙ ap (λ t. whole ++ t) (sym (flat_map-append line_text (a ++ b ++ c) d))
 
 -- the parts of a report
-pub report_pieces : (n : ℕ) (m : ℕ) (whole : List ℕ) (ending : Ending) (g : Grid) (v : Levels) (objects : Objects) (listed : List ShownLine) → n ≡ length listed → m ≡ ending.accesses
-    → whole ++ text_of (ending_lines ending) ++ text_of (setting_lines g v n) ++ text_of (flat_map (lines_of objects m) listed) ++ codes "end\n"
+pub report_pieces : (n : ℕ) (m : ℕ) (whole : List ℕ) (ending : Ending) (g : Grid) (v : Levels) (objects : Objects) (listed : List ShownLine)
+    → n ≡ length listed → m ≡ ending.accesses
+    → whole ++ text_of (ending_lines ending) ++ text_of (setting_lines g v n) ++ text_of (flat_map (lines_of objects m) listed)
+    ++ codes "end\n"
     ≡ whole ++ text_of (report_lines ending g v objects listed)
 report_pieces n m whole ending g v objects listed counted ended =
-    ap (λ k. whole ++ text_of (ending_lines ending) ++ text_of (setting_lines g v k) ++ text_of (flat_map (lines_of objects m) listed) ++ codes "end\n") counted
-    ∙ ap (λ k. whole ++ text_of (ending_lines ending) ++ text_of (setting_lines g v (length listed)) ++ text_of (flat_map (lines_of objects k) listed) ++ codes "end\n") ended
-    ∙ four whole (ending_lines ending) (setting_lines g v (length listed)) (flat_map (lines_of objects ending.accesses) listed) ((codes "end" ∷ []) ∷ [])
+    ap (λ k. whole ++ text_of (ending_lines ending) ++ text_of (setting_lines g v k) ++ text_of (flat_map (lines_of objects m) listed)
+    ++ codes "end\n") counted
+    ∙ ap (λ k. whole ++ text_of (ending_lines ending) ++ text_of (setting_lines g v (length listed)) ++ text_of
+    (flat_map (lines_of objects k) listed) ++ codes "end\n") ended
+    ∙ four whole (ending_lines ending) (setting_lines g v (length listed)) (flat_map (lines_of objects ending.accesses) listed)
+    ((codes "end" ∷ []) ∷ [])

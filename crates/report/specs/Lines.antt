@@ -1,14 +1,19 @@
 -- The lines of a report, each as a list of its words.
-use Rattle.std.specs.Prelude.{ℕ, pos, ◌+ℤ◌, ◌*◌, nat_lt, ◌&&◌, List, [], ◌∷◌, ◌++◌, codes, filter, flat_map, map, Option, None, Some}
+use Rattle.std.specs.Prelude.{ℕ, pos, ◌+ℤ◌, ◌*◌, nat_lt, ◌&&◌, List, [], ◌∷◌, ◌++◌, codes, filter}
+use Rattle.std.specs.Prelude.{flat_map, map, Option, None, Some}
 use Rattle.std.specs.Fmt.{decimal}
 use Rattle.std.specs.List.{enumerate_from}
 use Rattle.text_forms.specs.Addresses.{address_text}
 use Rattle.text_forms.specs.Names.{name_text}
 use Rattle.predator_base.specs.declared.layout.Range.{Range}
 use Rattle.predator_base.specs.declared.ending.Cause.{Cause}
-use Rattle.predator_base.specs.declared.ending.Cause.TheVariants.{Illegal, Breakpoint, FetchMisaligned, FetchOutside, LoadMisaligned, LoadOutside, StoreMisaligned, StoreOutside}
+use Rattle.predator_base.specs.declared.ending.Cause.TheVariants.{Illegal, Breakpoint}
+use Rattle.predator_base.specs.declared.ending.Cause.TheVariants.{FetchMisaligned, FetchOutside}
+use Rattle.predator_base.specs.declared.ending.Cause.TheVariants.{LoadMisaligned, LoadOutside}
+use Rattle.predator_base.specs.declared.ending.Cause.TheVariants.{StoreMisaligned, StoreOutside}
 use Rattle.predator_base.specs.declared.ending.Outcome.{Outcome}
-use Rattle.predator_base.specs.declared.ending.Outcome.TheVariants.{Exit, Budget, Deadlock, Trap, Part}
+use Rattle.predator_base.specs.declared.ending.Outcome.TheVariants.{Exit, Budget, Deadlock, Trap}
+use Rattle.predator_base.specs.declared.ending.Outcome.TheVariants.{Part}
 use Rattle.sharing_rules.specs.Words.{accesses}
 use Rattle.sharing_rules.specs.Verdicts.{verdict_of}
 use Rattle.sharing_rules.specs.declared.word.Word.{Word}
@@ -17,7 +22,8 @@ use Rattle.sharing_rules.specs.declared.word.Owner.TheVariants as owner
 use Rattle.sharing_rules.specs.declared.line_kind.LineKind.{LineKind}
 use Rattle.sharing_rules.specs.declared.line_kind.LineKind.TheVariants.{Observed, Shifted, Doubled}
 use Rattle.sharing_rules.specs.declared.line_kind.Verdict.{Verdict}
-use Rattle.sharing_rules.specs.declared.line_kind.Verdict.TheVariants.{FalseSharing, TrueSharing, Mixed}
+use Rattle.sharing_rules.specs.declared.line_kind.Verdict.TheVariants.{FalseSharing, TrueSharing}
+use Rattle.sharing_rules.specs.declared.line_kind.Verdict.TheVariants.{Mixed}
 use Rattle.heap_objects.specs.Symbols.{Symbol, function_at, is_same_kind}
 use Rattle.heap_objects.specs.Objects.{Objects}
 use Rattle.heap_objects.specs.declared.symbol.SymbolKind.TheVariants.{Object}

@@ -7,7 +7,8 @@ use Rattle.predator_base.specs.Lines.{Grid}
 use Rattle.predator_base.specs.declared.ending.Ending.{Ending}
 use Rattle.heap_objects.specs.Objects.{Objects}
 use Rattle.report.specs.Shown.{ShownLine, listed_tracks}
-use Rattle.report.specs.Lines.{TextLine, head_line, object_lines, outcome_words, threshold_word, word_lines}
+use Rattle.report.specs.Lines.{TextLine, head_line, object_lines, outcome_words, threshold_word}
+use Rattle.report.specs.Lines.{word_lines}
 use Rattle.report.specs.declared.findings.Findings.{Findings}
 
 -- how it ended, after how many steps and accesses

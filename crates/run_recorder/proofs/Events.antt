@@ -1,59 +1,28 @@
--- One event more of a run.
-use Rattle.std.proofs.Common.{◌≡◌, ℕ, ◌<◌, List, [], ◌∷◌, ◌++◌, refl, sym, ap, ◌∙◌, append_assoc, subst}
-use Rattle.std.specs.List.{All, flat_map}
-use Rattle.std.proofs.lemmas.Grind.{flat_map-append}
+-- What the files get of each moment of a run.
+use Rattle.std.proofs.Common.{◌≡◌, ℕ, List, [], ◌∷◌, ◌++◌, refl, sym, ap, ◌∙◌, append_assoc, subst}
 use Rattle.std.proofs.lemmas.List.{append-nil}
-use Rattle.std.proofs.lemmas.List.Elements.{All-append, All-nil, All-cons}
-use Rattle.predator_base.specs.Touch.{Touch as ATouch, IsAllowed}
 use Rattle.shelf.specs.Shelf.{Outside}
 use Rattle.shelf.specs.declared.shelf.ShelfError.{ShelfError}
 use Rattle.outputs.specs.Files.{Output as AnOutput, AreCut, GoOn}
 use Rattle.outputs.specs.OneFile.{Waiting}
-use Rattle.outputs.specs.OnTheirWay.{IsOutputs}
 use Rattle.outputs.specs.Laws.{AreCut-longer}
-use Rattle.trace_file.specs.Spelling.{spell, spell_header, spell_touch, spell_ending, IsGoodTouch}
-use Rattle.detector.specs.Standing.{StandsFor}
-use Rattle.detector.specs.Watch.{Watch}
-use Rattle.guest_run.specs.Calls.{RunEvent, quiet, touch, output}
-use Rattle.guest_run.specs.Runs.{Run, touch_in, touches_in, bytes_in, output_in}
+use Rattle.trace_grammar.specs.declared.record.TraceRecord.{TraceRecord}
+use Rattle.trace_grammar.specs.declared.record.TraceRecord.TheVariants as records
+use Rattle.trace_grammar.specs.declared.record.Version.TheVariants.{One}
+use Rattle.trace_grammar.specs.Spelling.{spell, spell_header, spell_record, spell_ending}
+use Rattle.guest_run.specs.Runs.{Run, output_of}
 use Rattle.run_recorder.specs.declared.file.Content.{Content}
 use Rattle.run_recorder.specs.declared.file.Content.TheVariants.{Trace, Output}
 use Rattle.run_recorder.specs.declared.file.RunFile.{RunFile}
 use Rattle.run_recorder.specs.declared.moment.Moment.{Moment}
-use Rattle.run_recorder.specs.Recorded.{bytes_of, outputs_for, outputs_of, trace_for}
-use Rattle.run_recorder.specs.Recording.{IsNoted, bytes_ended, bytes_so_far, no_bytes, spelled, trace_so_far}
+use Rattle.run_recorder.specs.Recorded.{bytes_of, outputs_for, outputs_of, records_of}
+use Rattle.run_recorder.specs.Recording.{AreCutAfter, AreNoted, bytes_so_far, no_bytes, spelled, traced}
 use Rattle.run_recorder.proofs.Putting.{longer, more_on}
+use Rattle.run_recorder.proofs.Records.{spelled-all, traced-append, traced-one}
 
-pub touches-append : (xs ys : List RunEvent) → touches_in (xs ++ ys) ≡ touches_in xs ++ touches_in ys
-touches-append [] ys = refl
-touches-append (x ∷ xs) ys =
-    ap (λ (l : List ATouch). touch_in x ++ l) (touches-append xs ys) ∙ sym (append_assoc (touch_in x) (touches_in xs) (touches_in ys))
-
-pub output-append : (xs ys : List RunEvent) → output_in (xs ++ ys) ≡ output_in xs ++ output_in ys
-output-append [] ys = refl
-output-append (x ∷ xs) ys =
-    ap (λ (l : List ℕ). bytes_in x ++ l) (output-append xs ys) ∙ sym (append_assoc (bytes_in x) (output_in xs) (output_in ys))
-
--- the bytes that events add to the trace
-abbrev pub traced : List RunEvent → List ℕ
-traced events = flat_map spell_touch (touches_in events)
-
-trace-append : (harts : ℕ) (xs ys : List RunEvent) → trace_so_far harts (xs ++ ys) ≡ trace_so_far harts xs ++ traced ys
-trace-append harts xs ys =
-    let h : List ℕ = spell_header (record { first = 0; harts = harts }) in
-    ap (λ (l : List ATouch). h ++ flat_map spell_touch l) (touches-append xs ys)
-    ∙ ap (λ (l : List ℕ). h ++ l) (flat_map-append spell_touch (touches_in xs) (touches_in ys))
-    ∙ sym (append_assoc h (traced xs) (traced ys))
-
--- the bytes that events add to a file
-abbrev pub added : List RunEvent → Content → List ℕ
-added events Trace = traced events
-added events Output = output_in events
-
-pub bytes-append : (harts : ℕ) (xs ys : List RunEvent) (content : Content)
-    → bytes_so_far harts (xs ++ ys) content ≡ bytes_so_far harts xs content ++ added ys content
-bytes-append harts xs ys Trace = trace-append harts xs ys
-bytes-append harts xs ys Output = output-append xs ys
+-- the bytes before the first record
+abbrev head : ℕ → List ℕ
+head harts = spell_header One (record { first = 0; harts = harts })
 
 -- files whose bytes are the same are the same
 pub outputs_as : (files : List RunFile) (g h : Content → List ℕ) → ((content : Content) → g content ≡ h content)
@@ -64,100 +33,133 @@ outputs_as (f ∷ files) g h same =
     ∙ ap (λ (l : List AnOutput). let o : AnOutput = record { name = f.name.now; bytes = h f.content } in o ∷ l)
     (outputs_as files g h same)
 
--- a moment that adds what an event adds
-pub event_put : (harts : ℕ) (files : List RunFile) (earlier : List RunEvent) (e : RunEvent) (m : Moment)
-    → ((content : Content) → spelled m content ≡ added (e ∷ []) content)
-    → outputs_of files (longer (bytes_so_far harts earlier) (spelled m)) ≡ outputs_of files (bytes_so_far harts (earlier ++ e ∷ []))
-event_put harts files earlier e m same =
-    outputs_as files (longer (bytes_so_far harts earlier) (spelled m)) (bytes_so_far harts (earlier ++ e ∷ []))
-    (λ content. ap (λ (l : List ℕ). bytes_so_far harts earlier content ++ l) (same content) ∙ sym
-    (bytes-append harts earlier (e ∷ []) content))
+traced-more : (harts : ℕ) (items more : List TraceRecord) → head harts ++ traced (items ++ more) ≡ (head harts ++ traced items)
+    ++ traced more
+traced-more harts items more =
+    ap (λ (l : List ℕ). head harts ++ l) (traced-append items more) ∙ sym (append_assoc (head harts) (traced items) (traced more))
 
-start_bytes : (harts : ℕ) (m : Moment) → spelled m Trace ≡ spell_header (record { first = 0; harts = harts }) → spelled m Output ≡ []
-    → (content : Content)
-    → longer no_bytes (spelled m) content ≡ bytes_so_far harts [] content
-start_bytes harts m head none Trace = head ∙ sym (append-nil (spell_header (record { first = 0; harts = harts })))
-start_bytes harts m head none Output = none
+record_bytes : (harts : ℕ) (items : List TraceRecord) (put : List ℕ) (item : TraceRecord) (m : Moment)
+    → spelled m Trace ≡ spell_record One 0 item → spelled m Output ≡ [] → (content : Content)
+    → longer (bytes_so_far harts items put) (spelled m) content ≡ bytes_so_far harts (items ++ item ∷ []) put content
+record_bytes harts items put item m one none Trace =
+    ap (λ (l : List ℕ). (head harts ++ traced items) ++ l) (one ∙ sym (traced-one item)) ∙ sym (traced-more harts items (item ∷ []))
+record_bytes harts items put item m one none Output = ap (λ (l : List ℕ). put ++ l) none ∙ append-nil put
 
--- what the files get of the start
-pub start_put : (harts : ℕ) (files : List RunFile) (m : Moment) → spelled m Trace ≡ spell_header (record { first = 0; harts = harts })
-    → spelled m Output ≡ []
-    → outputs_of files (longer no_bytes (spelled m)) ≡ outputs_of files (bytes_so_far harts [])
-start_put harts files m head none = outputs_as files (longer no_bytes (spelled m)) (bytes_so_far harts [])
-    (start_bytes harts m head none)
+-- a record more
+pub record_put : (harts : ℕ) (files : List RunFile) (items : List TraceRecord) (put : List ℕ) (item : TraceRecord) (m : Moment)
+    → spelled m Trace ≡ spell_record One 0 item → spelled m Output ≡ []
+    → outputs_of files (longer (bytes_so_far harts items put) (spelled m))
+    ≡ outputs_of files (bytes_so_far harts (items ++ item ∷ []) put)
+record_put harts files items put item m one none =
+    outputs_as files (longer (bytes_so_far harts items put) (spelled m)) (bytes_so_far harts (items ++ item ∷ []) put)
+    (record_bytes harts items put item m one none)
 
--- the fronts of what was seen are fronts of what comes
-pub seen_on : (harts : ℕ) (files : List RunFile) (earlier more : List RunEvent)
-    → GoOn (outputs_of files (bytes_so_far harts earlier)) (outputs_of files (bytes_so_far harts (earlier ++ more)))
-seen_on harts files earlier more = more_on files (bytes_so_far harts earlier) (bytes_so_far harts (earlier ++ more))
-    (λ content. (added more content, bytes-append harts earlier more content))
+output_bytes : (harts : ℕ) (items : List TraceRecord) (put bytes : List ℕ) (m : Moment)
+    → spelled m Trace ≡ [] → spelled m Output ≡ bytes → (content : Content)
+    → longer (bytes_so_far harts items put) (spelled m) content ≡ bytes_so_far harts items (put ++ bytes) content
+output_bytes harts items put bytes m none all Trace =
+    ap (λ (l : List ℕ). (head harts ++ traced items) ++ l) none ∙ append-nil (head harts ++ traced items)
+output_bytes harts items put bytes m none all Output = ap (λ (l : List ℕ). put ++ l) all
 
--- and all that was seen, and then the end, is what a run leaves
-whole_bytes : (harts : ℕ) (r : Run) (content : Content) → bytes_ended harts r.events r.ending content ≡ bytes_of harts r content
+-- bytes that are put out
+pub output_put : (harts : ℕ) (files : List RunFile) (items : List TraceRecord) (put bytes : List ℕ) (m : Moment)
+    → spelled m Trace ≡ [] → spelled m Output ≡ bytes
+    → outputs_of files (longer (bytes_so_far harts items put) (spelled m))
+    ≡ outputs_of files (bytes_so_far harts items (put ++ bytes))
+output_put harts files items put bytes m none all =
+    outputs_as files (longer (bytes_so_far harts items put) (spelled m)) (bytes_so_far harts items (put ++ bytes))
+    (output_bytes harts items put bytes m none all)
+
+start_bytes : (harts : ℕ) (m : Moment) → spelled m Trace ≡ head harts → spelled m Output ≡ [] → (content : Content)
+    → longer no_bytes (spelled m) content ≡ bytes_so_far harts [] [] content
+start_bytes harts m first none Trace = first ∙ sym (append-nil (head harts))
+start_bytes harts m first none Output = none
+
+-- the start
+pub start_put : (harts : ℕ) (files : List RunFile) (m : Moment) → spelled m Trace ≡ head harts → spelled m Output ≡ []
+    → outputs_of files (longer no_bytes (spelled m)) ≡ outputs_of files (bytes_so_far harts [] [])
+start_put harts files m first none = outputs_as files (longer no_bytes (spelled m)) (bytes_so_far harts [] [])
+    (start_bytes harts m first none)
+
+goes_on : (harts : ℕ) (items more : List TraceRecord) (put out : List ℕ) (content : Content)
+    → (rest : List ℕ) × (bytes_so_far harts (items ++ more) (put ++ out) content ≡ bytes_so_far harts items put content ++ rest)
+goes_on harts items more put out Trace = (traced more, traced-more harts items more)
+goes_on harts items more put out Output = (out, refl)
+
+-- the fronts of what was noted are fronts of what comes
+pub noted_on : (harts : ℕ) (files : List RunFile) (items more : List TraceRecord) (put out : List ℕ)
+    → GoOn (outputs_of files (bytes_so_far harts items put)) (outputs_of files (bytes_so_far harts (items ++ more) (put ++ out)))
+noted_on harts files items more put out =
+    more_on files (bytes_so_far harts items put) (bytes_so_far harts (items ++ more) (put ++ out)) (goes_on harts items more put out)
+
+more_records : (harts : ℕ) (items more : List TraceRecord) (put : List ℕ) (content : Content)
+    → (rest : List ℕ) × (bytes_so_far harts (items ++ more) put content ≡ bytes_so_far harts items put content ++ rest)
+more_records harts items more put Trace = (traced more, traced-more harts items more)
+more_records harts items more put Output = ([], sym (append-nil put))
+
+-- the same where nothing more is put out
+pub records_on : (harts : ℕ) (files : List RunFile) (items more : List TraceRecord) (put : List ℕ)
+    → GoOn (outputs_of files (bytes_so_far harts items put)) (outputs_of files (bytes_so_far harts (items ++ more) put))
+records_on harts files items more put =
+    more_on files (bytes_so_far harts items put) (bytes_so_far harts (items ++ more) put) (more_records harts items more put)
+
+-- what is cut is cut of what comes
+pub cut_on : (harts : ℕ) (files : List RunFile) (items more : List TraceRecord) (put out : List ℕ) (before now : Outside)
+    (e : ShelfError) → AreCutAfter harts items put files before now e
+    → AreCutAfter harts (items ++ more) (put ++ out) files before now e
+cut_on harts files items more put out before now e cut =
+    AreCut-longer (outputs_of files (bytes_so_far harts items put)) (outputs_of files (bytes_so_far harts (items ++ more) (put ++ out)))
+    before now e (noted_on harts files items more put out) cut
+
+-- all that a run leaves, its end last
+whole_bytes : (harts : ℕ) (symbols : List TraceRecord) (r : Run) (content : Content)
+    → bytes_so_far harts (records_of symbols r ++ records.End r.ending ∷ []) (output_of r) content ≡ bytes_of harts symbols r content
 unfolding spell
-whole_bytes harts r Trace = append_assoc (spell_header (record { first = 0; harts = harts })) (traced r.events) (spell_ending r.ending)
-whole_bytes harts r Output = append-nil (output_in r.events)
+whole_bytes harts symbols r Trace =
+    ap (λ (l : List ℕ). head harts ++ l)
+    (traced-append (records_of symbols r) (records.End r.ending ∷ [])
+    ∙ ap (λ (l : List ℕ). traced (records_of symbols r) ++ l) (traced-one (records.End r.ending))
+    ∙ ap (λ (l : List ℕ). l ++ spell_ending r.ending) (sym (spelled-all 0 (records_of symbols r))))
+whole_bytes harts symbols r Output = refl
 
-pub whole_put : (harts : ℕ) (files : List RunFile) (r : Run)
-    → outputs_of files (bytes_ended harts r.events r.ending) ≡ outputs_for harts r files
-whole_put harts files r = outputs_as files (bytes_ended harts r.events r.ending) (bytes_of harts r) (whole_bytes harts r)
+pub whole_put : (harts : ℕ) (symbols : List TraceRecord) (files : List RunFile) (r : Run)
+    → outputs_of files (bytes_so_far harts (records_of symbols r ++ records.End r.ending ∷ []) (output_of r))
+    ≡ outputs_for harts symbols r files
+whole_put harts symbols files r =
+    outputs_as files (bytes_so_far harts (records_of symbols r ++ records.End r.ending ∷ []) (output_of r)) (bytes_of harts symbols r)
+    (whole_bytes harts symbols r)
 
-pub seen_cut : (harts : ℕ) (files : List RunFile) (r : Run) (before now : Outside) (e : ShelfError)
-    → AreCut (outputs_of files (bytes_so_far harts r.events)) before now e → AreCut (outputs_for harts r files) before now e
-seen_cut harts files r before now e cut =
-    subst (λ (l : List AnOutput). AreCut l before now e) (whole_put harts files r)
-    (AreCut-longer (outputs_of files (bytes_so_far harts r.events)) (outputs_of files (bytes_ended harts r.events r.ending)) before now
-    e
-    (more_on files (bytes_so_far harts r.events) (bytes_ended harts r.events r.ending) (λ content. (_, refl))) cut)
+-- what is cut after some of its records and bytes is cut of a whole run
+pub cut_whole : (harts : ℕ) (symbols : List TraceRecord) (files : List RunFile) (r : Run) (items more : List TraceRecord)
+    (put out : List ℕ) (before now : Outside) (e : ShelfError)
+    → items ++ more ≡ records_of symbols r ++ records.End r.ending ∷ [] → put ++ out ≡ output_of r
+    → AreCutAfter harts items put files before now e → AreCut (outputs_for harts symbols r files) before now e
+cut_whole harts symbols files r items more put out before now e all outs cut =
+    subst (λ (l : List AnOutput). AreCut l before now e)
+    (ap (λ (l : List TraceRecord). outputs_of files (bytes_so_far harts l (put ++ out))) all
+    ∙ ap (λ (l : List ℕ). outputs_of files (bytes_so_far harts (records_of symbols r ++ records.End r.ending ∷ []) l)) outs
+    ∙ whole_put harts symbols files r)
+    (cut_on harts files items more put out before now e cut)
 
--- an access more that the detector has seen
-pub access_noted : (harts : ℕ) (earlier : List RunEvent) (a : ATouch) (old new : Watch) → a.hart < harts → IsAllowed a
-    → ((t : List ATouch) → StandsFor t old → StandsFor (t ++ a ∷ []) new)
-    → IsNoted harts earlier old → IsNoted harts (earlier ++ touch a ∷ []) new
-access_noted harts earlier a old new below allowed stands noted =
-    let list : touches_in earlier ++ a ∷ [] ≡ touches_in (earlier ++ touch a ∷ []) = sym (touches-append earlier (touch a ∷ [])) in
-    let good : All (IsGoodTouch harts) (touches_in earlier ++ a ∷ []) =
-    All-append (IsGoodTouch harts) (touches_in earlier) (a ∷ []) noted.good
-    (All-cons (IsGoodTouch harts) a [] (record { hart = below; allowed = allowed }) (All-nil (IsGoodTouch harts))) in
-    record {
-      stands = subst (λ (l : List ATouch). StandsFor l new) list (stands (touches_in earlier) noted.stands);
-      good = subst (All (IsGoodTouch harts)) list good;
-    }
+-- a record beside which nothing is put out
+pub noted_silent : (harts : ℕ) (items : List TraceRecord) (item other : TraceRecord) (put : List ℕ) (files : List RunFile)
+    (waiting : List Waiting) (before now : Outside) → item ≡ other
+    → AreNoted harts (items ++ item ∷ []) put files waiting before now
+    → AreNoted harts (items ++ other ∷ []) (put ++ []) files waiting before now
+noted_silent harts items item other put files waiting before now same on =
+    subst (λ (x : TraceRecord). AreNoted harts (items ++ x ∷ []) (put ++ []) files waiting before now) same
+    (subst (λ (l : List ℕ). AreNoted harts (items ++ item ∷ []) l files waiting before now) (sym (append-nil put)) on)
 
--- an event without an access
-pub other_noted : (harts : ℕ) (earlier : List RunEvent) (e : RunEvent) (w : Watch) → touch_in e ≡ [] → IsNoted harts earlier w
-    → IsNoted harts (earlier ++ e ∷ []) w
-other_noted harts earlier e w none noted =
-    let one : touches_in (e ∷ []) ≡ [] = append-nil (touch_in e) ∙ none in
-    let list : touches_in earlier ≡ touches_in (earlier ++ e ∷ []) = sym
-    (touches-append earlier (e ∷ []) ∙ ap (λ (l : List ATouch). touches_in earlier ++ l) one ∙ append-nil (touches_in earlier)) in
-    record {
-      stands = subst (λ (l : List ATouch). StandsFor l w) list noted.stands;
-      good = subst (All (IsGoodTouch harts)) list
-          noted.good;
-    }
+pub cut_silent : (harts : ℕ) (items : List TraceRecord) (item other : TraceRecord) (put : List ℕ) (files : List RunFile)
+    (before now : Outside) (e : ShelfError) → item ≡ other → AreCutAfter harts (items ++ item ∷ []) put files before now e
+    → AreCutAfter harts (items ++ other ∷ []) (put ++ []) files before now e
+cut_silent harts items item other put files before now e same cut =
+    subst (λ (x : TraceRecord). AreCutAfter harts (items ++ x ∷ []) (put ++ []) files before now e) same
+    (subst (λ (l : List ℕ). AreCutAfter harts (items ++ item ∷ []) l files before now e) (sym (append-nil put)) cut)
 
--- an event that puts nothing
-pub nothing_put : (harts : ℕ) (files : List RunFile) (earlier : List RunEvent) (e : RunEvent)
-    → ((content : Content) → added (e ∷ []) content ≡ [])
-    → outputs_of files (bytes_so_far harts earlier) ≡ outputs_of files (bytes_so_far harts (earlier ++ e ∷ []))
-nothing_put harts files earlier e none =
-    outputs_as files (bytes_so_far harts earlier) (bytes_so_far harts (earlier ++ e ∷ []))
-    (λ content. sym (bytes-append harts earlier (e ∷ []) content ∙ ap (λ (l : List ℕ). bytes_so_far harts earlier content ++ l)
-    (none content) ∙ append-nil (bytes_so_far harts earlier content)))
-
--- what each event adds
-pub touch_added : (a : ATouch) (m : Moment) → spelled m Trace ≡ spell_touch a → spelled m Output ≡ [] → (content : Content)
-    → spelled m content ≡ added (touch a ∷ []) content
-touch_added a m head none Trace = head ∙ sym (append-nil (spell_touch a))
-touch_added a m head none Output = none
-
-pub output_added : (at : ℕ) (bytes : List ℕ) (m : Moment) → spelled m Trace ≡ [] → spelled m Output ≡ bytes → (content : Content)
-    → spelled m content ≡ added (output at bytes ∷ []) content
-output_added at bytes m none all Trace = none
-output_added at bytes m none all Output = all ∙ sym (append-nil bytes)
-
--- an event of which no file gets anything
-pub unseen_added : (e : RunEvent) → touch_in e ≡ [] → bytes_in e ≡ [] → (content : Content) → added (e ∷ []) content ≡ []
-unseen_added e untouched unsaid Trace = ap (λ (l : List ATouch). flat_map spell_touch (l ++ [])) untouched
-unseen_added e untouched unsaid Output = ap (λ (l : List ℕ). l ++ []) unsaid
+-- what is cut is cut of more records
+pub cut_records : (harts : ℕ) (files : List RunFile) (items more : List TraceRecord) (put : List ℕ) (before now : Outside)
+    (e : ShelfError) → AreCutAfter harts items put files before now e → AreCutAfter harts (items ++ more) put files before now e
+cut_records harts files items more put before now e cut =
+    AreCut-longer (outputs_of files (bytes_so_far harts items put)) (outputs_of files (bytes_so_far harts (items ++ more) put))
+    before now e (records_on harts files items more put) cut

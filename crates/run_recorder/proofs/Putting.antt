@@ -1,11 +1,12 @@
 -- A moment that is put into each of the files, one after another.
-use Rattle.std.proofs.Common.{◌≡◌, ℕ, ◌<◌, ◌≤◌, zero, suc, List, [], ◌∷◌, ◌++◌, length, get_or, refl, sym, ap, ◌∙◌, subst, arith, map, Result, Ok, Err, OnOk, IfErr}
+use Rattle.std.proofs.Common.{◌≡◌, ℕ, ◌<◌, ◌≤◌, zero, suc, List, [], ◌∷◌, ◌++◌, length, get_or, refl, sym, ap, ◌∙◌, subst, arith, Result}
+use Rattle.std.proofs.Common.{Ok, Err, OnOk, IfErr}
 use Rattle.std.proofs.lemmas.List.{append-nil}
 use Rattle.shelf.specs.Shelf.{Outside}
 use Rattle.shelf.specs.declared.shelf.ShelfError.{ShelfError}
 use Rattle.outputs.specs.Files.{Output as AnOutput, AreCut, GoOn}
 use Rattle.outputs.specs.OneFile.{Waiting}
-use Rattle.outputs.specs.OnTheirWay.{AreBegun, AreSunk, IsOutputs, changed_at, outputs_with, names_of as waiting_names}
+use Rattle.outputs.specs.OnTheirWay.{AreBegun, AreSunk, IsOutputs, outputs_with, names_of as waiting_names}
 use Rattle.outputs.specs.Laws.{AreCut-longer}
 use Rattle.run_recorder.specs.declared.file.Content.{Content}
 use Rattle.run_recorder.specs.declared.file.RunFile.{RunFile}

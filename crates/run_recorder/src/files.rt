@@ -2,7 +2,8 @@
 ghost use Rattle.std.specs.Prelude.{◌≡◌, ◌<◌, ◌++◌, List, ℕ, [], length, map, IfOk, IfErr, OnOk};
 ghost use Rattle.shelf.specs.Shelf.{Outside};
 ghost use Rattle.outputs.specs.Files.{Output, AreCut, AreWritten};
-ghost use Rattle.outputs.specs.OnTheirWay.{AreApart, AreBegun, IsOutputs, outputs_with, names_of as waiting_names};
+ghost use Rattle.outputs.specs.OnTheirWay.{AreApart, AreBegun, IsOutputs, outputs_with};
+ghost use Rattle.outputs.specs.OnTheirWay.{names_of as waiting_names};
 ghost use Rattle.run_recorder.specs.declared.file.Content.{Content as AContent};
 ghost use Rattle.run_recorder.specs.Recorded.{names_of, outputs_of};
 ghost use Rattle.run_recorder.specs.Recording.{IsAllowedMoment, no_bytes, spelled};
@@ -14,7 +15,8 @@ use shelf::{Shelf, ShelfError};
 use std::alloc::Global;
 use std::marker::Model;
 
-/// The files of a run on their way, and the bytes of one record. Contracts see what waits for the files.
+/// The files of a run on their way, and the bytes of one record. Contracts see what waits for the
+/// files.
 #[derive(Drop)]
 pub(crate) struct RunOutputs<'a> {
     outputs: Outputs<'a>,
@@ -62,7 +64,8 @@ impl<'a> RunOutputs<'a> {
         requires { AreApart (names_of files.now) }
         ensures outputs { IfOk result (λ outputs. IsOutputs outputs (outputs_of files.now no_bytes)
             (S.outside shelf.old) (S.outside shelf.new)) }
-        ensures begun { IfOk result (λ outputs. AreBegun (waiting_names outputs) (S.outside shelf.new)) }
+        ensures begun { IfOk result
+            (λ outputs. AreBegun (waiting_names outputs) (S.outside shelf.new)) }
         ensures count { IfOk result (λ outputs. length outputs ≡ length files.now) }
         ensures cut { IfErr result (λ error. AreCut (outputs_of files.now no_bytes)
             (S.outside shelf.old) (S.outside shelf.new) error) }
@@ -91,10 +94,12 @@ impl<'a> RunOutputs<'a> {
         ensures begun { AreBegun (waiting_names self.new) (S.outside shelf.new) }
         ensures outputs { OnOk result ((outputs : List Output) (before : Outside)
             → IsOutputs self.old outputs before (S.outside shelf.old)
-            → IsOutputs self.new (outputs_with outputs place (spelled moment.now AContent.Trace)) before (S.outside shelf.new)) }
+            → IsOutputs self.new (outputs_with outputs place (spelled moment.now AContent.Trace))
+            before (S.outside shelf.new)) }
         ensures cut { IfErr result (λ error. (outputs : List Output) (before : Outside)
             → IsOutputs self.old outputs before (S.outside shelf.old)
-            → AreCut (outputs_with outputs place (spelled moment.now AContent.Trace)) before (S.outside shelf.new) error) }
+            → AreCut (outputs_with outputs place (spelled moment.now AContent.Trace)) before
+            (S.outside shelf.new) error) }
     {
         match fill_piece(&mut self.piece, moment) {
             Ok(()) => self.outputs.put(shelf, place, &self.piece),
@@ -118,16 +123,18 @@ impl<'a> RunOutputs<'a> {
         ensures begun { AreBegun (waiting_names self.new) (S.outside shelf.new) }
         ensures outputs { OnOk result ((outputs : List Output) (before : Outside)
             → IsOutputs self.old outputs before (S.outside shelf.old)
-            → IsOutputs self.new (outputs_with outputs place (spelled moment.now content)) before (S.outside shelf.new)) }
+            → IsOutputs self.new (outputs_with outputs place (spelled moment.now content)) before
+            (S.outside shelf.new)) }
         ensures cut { IfErr result (λ error. (outputs : List Output) (before : Outside)
             → IsOutputs self.old outputs before (S.outside shelf.old)
-            → AreCut (outputs_with outputs place (spelled moment.now content)) before (S.outside shelf.new) error) }
+            → AreCut (outputs_with outputs place (spelled moment.now content)) before
+            (S.outside shelf.new) error) }
     {
         match content {
             Content::Trace => self.put_record(shelf, place, moment),
             Content::Output => match moment {
                 Moment::Output(bytes) => self.outputs.put(shelf, place, bytes),
-                Moment::Start(_) | Moment::Touch(_) | Moment::End(_) => Ok(()),
+                Moment::Start(_) | Moment::Record(_) => Ok(()),
             },
         }
     }
@@ -147,7 +154,8 @@ impl<'a> RunOutputs<'a> {
         ensures begun { OnOk result (AreBegun (waiting_names self.new) (S.outside shelf.new)) }
         ensures outputs { OnOk result ((bytes : AContent → List ℕ) (before : Outside)
             → IsOutputs self.old (outputs_of files.now bytes) before (S.outside shelf.old)
-            → IsOutputs self.new (outputs_of files.now (λ content. bytes content ++ spelled moment.now content))
+            → IsOutputs self.new
+            (outputs_of files.now (λ content. bytes content ++ spelled moment.now content))
             before (S.outside shelf.new)) }
         ensures cut { IfErr result (λ error. (bytes : AContent → List ℕ) (before : Outside)
             → IsOutputs self.old (outputs_of files.now bytes) before (S.outside shelf.old)

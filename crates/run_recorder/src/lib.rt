@@ -1,8 +1,9 @@
-//! A run, recorded while it goes on: a detector sees each access, and each file that is named gets what its content says.
+//! A run, recorded while it goes on: an observer sees each record, and each file that is named gets
+//! what its content says.
 //!
-//! [`record_run`] runs a guest to its end. Nothing of the run is kept but what the detector knows, and the bytes that
-//! wait for their file. What a file gets of a moment of the run is said in one place, [`moment`]: a record more of the
-//! trace is a variant more there.
+//! [`record_run`] runs a guest to its end. Nothing of the run is kept but what the observer keeps,
+//! and the bytes that wait for their file. What a file gets of a moment of the run is said in one
+//! place, [`moment`]: a record more of the trace is a variant more there.
 #![tactic(auto)]
 
 mod file;
@@ -14,4 +15,4 @@ mod recorder;
 mod tests;
 
 pub use file::{Content, RunFile};
-pub use record::{Recorded, record_run};
+pub use record::record_run;

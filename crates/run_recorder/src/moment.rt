@@ -1,21 +1,20 @@
 // What a file gets of each moment of a run.
-ghost use Rattle.std.specs.Prelude.{◌≡◌, IfOk, IfErr, OnOk};
+ghost use Rattle.std.specs.Prelude.{◌≡◌, OnOk};
 ghost use Rattle.run_recorder.specs.Recording.{IsAllowedMoment, trace_bytes};
 
-use predator_base::{Access, Ending, NoMemory};
-use trace_file::{Header, TraceRecord, header_bytes, record_bytes};
+use predator_base::NoMemory;
+use trace_grammar::{Header, TraceRecord};
+use trace_writer::{header_bytes, record_bytes};
 
 /// A moment of a run.
 #[derive(Clone, Copy)]
 pub enum Moment<'m> {
     /// Its start, with so many harts.
     Start(u16),
-    /// An access.
-    Touch(Access),
+    /// A record of its trace.
+    Record(&'m TraceRecord),
     /// Bytes that the guest puts out.
     Output(&'m [u8]),
-    /// Its end.
-    End(Ending),
 }
 
 // Fills the piece with what the trace gets of a moment.
@@ -33,8 +32,7 @@ pub(crate) fn fill_piece(piece: &mut Vec<u8>, moment: &Moment<'_>) -> Result<(),
             },
             piece,
         ),
-        Moment::Touch(access) => record_bytes(&TraceRecord::Touch(*access), piece),
+        Moment::Record(item) => record_bytes(item, piece),
         Moment::Output(_) => Ok(()),
-        Moment::End(ending) => record_bytes(&TraceRecord::End(*ending), piece),
     }
 }

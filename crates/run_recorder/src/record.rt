@@ -1,61 +1,130 @@
 // A whole run, recorded.
-ghost use Rattle.std.specs.Prelude.{◌≡◌, ◌≤◌, ◌^◌, [], List, ℕ, IfOk, IfErr, OnOk, length};
+ghost use Rattle.std.specs.Prelude.{◌≡◌, ◌≤◌, ◌^◌, ◌++◌, ◌∷◌, [], List, ℕ, IfOk, IfErr, OnOk};
+ghost use Rattle.std.specs.Prelude.{length};
+ghost use Rattle.std.specs.List.{All};
 ghost use Rattle.shelf.specs.Shelf.{Outside};
 ghost use Rattle.outputs.specs.Files.{AreCut, AreWritten};
 ghost use Rattle.outputs.specs.OnTheirWay.{AreApart, AreBegun, names_of as waiting_names};
-ghost use Rattle.detector.specs.Standing.{StandsFor};
-ghost use Rattle.trace_file.specs.Spelling.{IsGoodTrace};
+ghost use Rattle.trace_grammar.specs.Rules.{IsAllowedEnd, IsGoodRecord};
+ghost use Rattle.trace_grammar.specs.declared.record.TraceRecord.{TraceRecord as ARecord};
+ghost use Rattle.trace_grammar.specs.declared.record.TraceRecord.TheVariants as records;
+ghost use Rattle.trace_passes.specs.Passes.{all_records};
+ghost use Rattle.trace_passes.specs.Rooms.{HasRoom};
 ghost use Rattle.guest_run.specs.Facts.{IsEndOf};
-ghost use Rattle.guest_run.specs.Runs.{IsShort, rest_of, touches_of};
-ghost use Rattle.run_recorder.specs.Recorded.{IsSameWatch, names_of, outputs_for, outputs_of, trace_for};
-ghost use Rattle.run_recorder.specs.Recording.{AreNoted, IsNoted};
+ghost use Rattle.guest_run.specs.Runs.{IsShort, output_of, rest_of};
+ghost use Rattle.run_recorder.specs.Recorded.{IsKept, IsSymbolRecord, names_of, outputs_for};
+ghost use Rattle.run_recorder.specs.Recorded.{outputs_of, records_in, trace_for};
+ghost use Rattle.run_recorder.specs.Recording.{AreCutAfter, AreNoted, HasStarted, bytes_so_far};
 
 use crate::file::RunFile;
-use crate::recorder::Recorder;
-use detector::{Detector, PagedIndex};
+use crate::files::RunOutputs;
+use crate::moment::Moment;
+use crate::recorder::{note_event, note_record};
 use guest_run::{Guest, Turn};
 use predator_base::Ending;
 use shelf::{Shelf, ShelfError};
 use std::alloc::Global;
+use trace_grammar::TraceRecord;
+use trace_passes::Observer;
 
-/// What a run shows.
-#[derive(Drop)]
-pub struct Recorded {
-    /// The detector, once it has seen each access of the run.
-    pub detector: Detector<PagedIndex>,
-    /// How the run ended.
-    pub ending: Ending,
+// Begins the files, and puts the beginning of the trace into those that hold it.
+fn begin<'a, S: Shelf>(
+    alloc: Global,
+    shelf: &mut S,
+    harts: u16,
+    files: &[RunFile<'a>],
+) -> Result<RunOutputs<'a>, ShelfError>
+    requires apart { AreApart (names_of files.now) }
+    requires some { 1 ≤ harts }
+    requires most { harts ≤ 256 }
+    ensures noted { IfOk result (λ outputs. AreNoted harts [] [] files.now outputs
+        (S.outside shelf.old) (S.outside shelf.new)) }
+    ensures begun { IfOk result (λ outputs. AreBegun (waiting_names outputs) (S.outside shelf.new)) }
+    ensures count { IfOk result (λ outputs. length outputs ≡ length files.now) }
+    ensures cut { IfErr result (λ error. AreCutAfter harts [] [] files.now
+        (S.outside shelf.old) (S.outside shelf.new) error) }
+{
+    match RunOutputs::begin(alloc, shelf, files) {
+        Ok(mut outputs) => match outputs.put(shelf, files, &Moment::Start(harts)) {
+            Ok(()) => Ok(outputs),
+            Err(error) => Err(error),
+        },
+        Err(error) => Err(error),
+    }
 }
 
-// Runs the guest to its end, and notes each step.
-fn follow<S: Shelf>(
+// Notes the symbols of the program, in their order.
+fn note_symbols<S: Shelf, O: Observer>(
+    shelf: &mut S,
+    files: &[RunFile<'_>],
+    outputs: &mut RunOutputs<'_>,
+    observer: &mut O,
+    symbols: &[TraceRecord],
+) -> Result<(), ShelfError>
+    requires paired { length outputs.old ≡ length files.now }
+    requires begun { AreBegun (waiting_names outputs.old) (S.outside shelf.old) }
+    requires symbols { All IsSymbolRecord symbols.now }
+    requires begins { O.begins observer.old 0 }
+    requires fresh { O.given observer.old observer.old [] }
+    ensures given { OnOk result (O.given observer.old observer.new symbols.now) }
+    ensures noted { OnOk result ((harts : ℕ) (before : Outside)
+        → AreNoted harts [] [] files.now outputs.old before (S.outside shelf.old)
+        → AreNoted harts symbols.now [] files.now outputs.new before (S.outside shelf.new)) }
+    ensures cut { IfErr result (λ error. (harts : ℕ) (before : Outside)
+        → AreNoted harts [] [] files.now outputs.old before (S.outside shelf.old)
+        → AreCutAfter harts symbols.now [] files.now before (S.outside shelf.new) error) }
+    ensures begun { OnOk result (AreBegun (waiting_names outputs.new) (S.outside shelf.new)) }
+    ensures count { length outputs.new ≡ length outputs.old }
+{
+    for place in 0..symbols.len() {
+        match note_record(shelf, files, outputs, observer, &symbols[place]) {
+            Ok(()) => {}
+            Err(error) => return Err(error),
+        }
+    }
+    Ok(())
+}
+
+// Runs the guest to its end, and notes each step after the records that were noted before, which
+// have no access.
+fn follow<S: Shelf, O: Observer>(
     shelf: &mut S,
     files: &[RunFile<'_>],
     guest: &mut Guest,
-    recorder: &mut Recorder<'_>,
+    outputs: &mut RunOutputs<'_>,
+    observer: &mut O,
 ) -> Result<Ending, ShelfError>
-    requires paired { length recorder.old.outputs ≡ length files.now }
+    requires paired { length outputs.old ≡ length files.now }
     requires budget { guest.old.setup.budget ≤ 2 ^ 36 }
-    requires begun { AreBegun (waiting_names recorder.old.outputs) (S.outside shelf.old) }
-    requires blank { StandsFor [] recorder.old.detector }
+    requires begun { AreBegun (waiting_names outputs.old) (S.outside shelf.old) }
+    requires started { HasStarted O.begins O.given observer.old }
     ensures ending { IfOk result (λ ending. ending ≡ (rest_of guest.old).ending) }
     ensures end { IfOk result (λ ending. IsEndOf guest.old.setup.harts ending.outcome) }
     ensures accesses { IfOk result (λ ending. ending.accesses ≤ ending.steps) }
     ensures steps { IfOk result (λ ending. ending.steps ≤ 2 ^ 36) }
-    ensures noted { OnOk result (IsNoted guest.old.setup.harts (rest_of guest.old).events recorder.new.detector) }
-    ensures outputs { OnOk result ((before : Outside)
-        → AreNoted guest.old.setup.harts [] files.now recorder.old.outputs before (S.outside shelf.old)
-        → AreNoted guest.old.setup.harts (rest_of guest.old).events files.now recorder.new.outputs before (S.outside shelf.new)) }
-    ensures cut { IfErr result (λ error. (before : Outside)
-        → AreNoted guest.old.setup.harts [] files.now recorder.old.outputs before (S.outside shelf.old)
-        → AreCut (outputs_for guest.old.setup.harts (rest_of guest.old) files.now) before (S.outside shelf.new) error) }
-    ensures begun { OnOk result (AreBegun (waiting_names recorder.new.outputs) (S.outside shelf.new)) }
-    ensures same { IsSameWatch recorder.old.detector recorder.new.detector }
-    ensures count { length recorder.new.outputs ≡ length recorder.old.outputs }
+    ensures given { OnOk result ((begun : O) (earlier : List ARecord)
+        → O.given begun observer.old earlier
+        → O.given begun observer.new (earlier ++ records_in (rest_of guest.old).events)) }
+    ensures good { OnOk result
+        (All (IsGoodRecord guest.old.setup.harts) (records_in (rest_of guest.old).events)) }
+    ensures noted { OnOk result ((earlier : List ARecord) (before : Outside)
+        → AreNoted guest.old.setup.harts earlier [] files.now outputs.old before
+        (S.outside shelf.old)
+        → AreNoted guest.old.setup.harts (earlier ++ records_in (rest_of guest.old).events)
+        (output_of (rest_of guest.old)) files.now outputs.new before (S.outside shelf.new)) }
+    ensures cut { IfErr result (λ error. (earlier : List ARecord) (before : Outside)
+        → AreNoted guest.old.setup.harts earlier [] files.now outputs.old before
+        (S.outside shelf.old)
+        → AreCut (outputs_for guest.old.setup.harts earlier (rest_of guest.old) files.now)
+        before (S.outside shelf.new) error) }
+    ensures begun { OnOk result (AreBegun (waiting_names outputs.new) (S.outside shelf.new)) }
+    ensures count { length outputs.new ≡ length outputs.old }
 {
     'turns: loop {
         match guest.step() {
-            Ok(Turn::Ran(event)) => match recorder.note(shelf, files, guest, event) {
+            Ok(Turn::Ran(event)) => match note_event(
+                shelf, files, outputs, observer, guest, event,
+            ) {
                 Ok(()) => {}
                 Err(error) => return Err(error),
             },
@@ -71,50 +140,95 @@ fn follow<S: Shelf>(
     }
 }
 
-/// Runs a guest to its end. The detector sees each access, and the files are written while the run goes on, each with
+// Notes the end, and appends what still waits to the files.
+fn end<S: Shelf, O: Observer>(
+    shelf: &mut S,
+    files: &[RunFile<'_>],
+    outputs: &mut RunOutputs<'_>,
+    observer: &mut O,
+    ending: &Ending,
+) -> Result<(), ShelfError>
+    requires paired { length outputs.old ≡ length files.now }
+    requires begun { AreBegun (waiting_names outputs.old) (S.outside shelf.old) }
+    requires allowed { IsAllowedEnd ending.now.steps ending.now.outcome }
+    requires room { HasRoom O.begins O.given observer.old (records.End ending.now ∷ []) }
+    ensures given { OnOk result ((begun : O) (earlier : List ARecord)
+        → O.given begun observer.old earlier
+        → O.given begun observer.new (earlier ++ records.End ending.now ∷ [])) }
+    ensures written { OnOk result
+        ((harts : ℕ) (items : List ARecord) (put : List ℕ) (before : Outside)
+        → AreNoted harts items put files.now outputs.old before (S.outside shelf.old)
+        → AreWritten
+        (outputs_of files.now (bytes_so_far harts (items ++ records.End ending.now ∷ []) put))
+        before (S.outside shelf.new)) }
+    ensures cut { IfErr result (λ error. (harts : ℕ) (items : List ARecord) (put : List ℕ)
+        (before : Outside)
+        → AreNoted harts items put files.now outputs.old before (S.outside shelf.old)
+        → AreCutAfter harts (items ++ records.End ending.now ∷ []) put files.now before
+        (S.outside shelf.new) error) }
+{
+    match note_record(shelf, files, outputs, observer, &TraceRecord::End(*ending)) {
+        Ok(()) => outputs.finish(shelf),
+        Err(error) => Err(error),
+    }
+}
+
+/// Runs a guest to its end. The observer sees each record of the run's trace, the end last: the
+/// symbols, and then what each step tells. The files are written while the run goes on, each with
 /// what its content says.
 ///
-/// The guest is one that has made no step, of 1 to 256 harts, as `Guest::new` gives it, with a budget of at most 2^36.
-/// The detector has seen nothing. No two files have one name.
+/// The guest is one that has made no step, of 1 to 256 harts, as `Guest::new` gives it, with a
+/// budget of at most 2^36. There are at most 2^20 symbols. The observer was given nothing. No two
+/// files have one name.
 ///
-/// At an error each of the files is as it was, or a front of what it would be. `Failed` comes only where the faults of
-/// writing one of the names rose, `NoMemory` for want of memory.
-pub fn record_run<S: Shelf>(
+/// At an error each of the files is as it was, or a front of what it would be. `Failed` comes only
+/// where the faults of writing one of the names rose, `NoMemory` for want of memory.
+pub fn record_run<S: Shelf, O: Observer>(
     alloc: Global,
     shelf: &mut S,
     guest: Guest,
-    detector: Detector<PagedIndex>,
+    observer: &mut O,
+    symbols: &[TraceRecord],
     files: &[RunFile<'_>],
-) -> Result<Recorded, ShelfError>
+) -> Result<Ending, ShelfError>
     requires apart { AreApart (names_of files.now) }
-    requires blank { StandsFor [] detector }
+    requires begins { O.begins observer.old 0 }
+    requires fresh { O.given observer.old observer.old [] }
+    requires symbols { All IsSymbolRecord symbols.now }
+    requires few { length symbols.now ≤ 2 ^ 20 }
     requires short { IsShort guest.setup (rest_of guest) }
     requires budget { guest.setup.budget ≤ 2 ^ 36 }
     requires some { 1 ≤ guest.setup.harts }
     requires most { guest.setup.harts ≤ 256 }
-    // the detector has seen the accesses of the run, and the end is that of the run
-    ensures stands { IfOk result (λ shown. StandsFor (touches_of (rest_of guest)) shown.detector) }
-    ensures same { IfOk result (λ shown. IsSameWatch detector shown.detector) }
-    ensures ending { IfOk result (λ shown. shown.ending ≡ (rest_of guest).ending) }
+    // the end is that of the run, and the observer has seen each record of its trace
+    ensures ending { IfOk result (λ ending. ending ≡ (rest_of guest).ending) }
+    ensures given { OnOk result (O.given observer.old observer.new
+        (all_records (trace_for guest.setup.harts symbols.now (rest_of guest)))) }
     // the trace keeps the rules of the format
-    ensures good { OnOk result (IsGoodTrace (trace_for guest.setup.harts (rest_of guest))) }
+    ensures good { OnOk result (IsKept (trace_for guest.setup.harts symbols.now (rest_of guest))) }
     // what is written, at an error too
-    ensures written { OnOk result (AreWritten (outputs_for guest.setup.harts (rest_of guest) files.now)
+    ensures written { OnOk result
+        (AreWritten (outputs_for guest.setup.harts symbols.now (rest_of guest) files.now)
         (S.outside shelf.old) (S.outside shelf.new)) }
-    ensures cut { IfErr result (λ error. AreCut (outputs_for guest.setup.harts (rest_of guest) files.now)
+    ensures cut { IfErr result
+        (λ error. AreCut (outputs_for guest.setup.harts symbols.now (rest_of guest) files.now)
         (S.outside shelf.old) (S.outside shelf.new) error) }
 {
     let mut guest = guest;
-    let mut recorder = match Recorder::begin(alloc, shelf, guest.harts(), detector, files) {
-        Ok(recorder) => recorder,
+    let mut outputs = match begin(alloc, shelf, guest.harts(), files) {
+        Ok(outputs) => outputs,
         Err(error) => return Err(error),
     };
-    let ending = match follow(shelf, files, &mut guest, &mut recorder) {
+    match note_symbols(shelf, files, &mut outputs, observer, symbols) {
+        Ok(()) => {}
+        Err(error) => return Err(error),
+    }
+    let ending = match follow(shelf, files, &mut guest, &mut outputs, observer) {
         Ok(ending) => ending,
         Err(error) => return Err(error),
     };
-    match recorder.end(shelf, files, &ending) {
-        Ok(()) => Ok(recorder.shown(ending)),
+    match end(shelf, files, &mut outputs, observer, &ending) {
+        Ok(()) => Ok(ending),
         Err(error) => Err(error),
     }
 }

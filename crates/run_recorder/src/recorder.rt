@@ -1,180 +1,163 @@
-// What is kept while a run goes on.
-ghost use Rattle.std.specs.Prelude.{◌≡◌, ◌<◌, ◌≤◌, ◌+◌, ◌^◌, ◌++◌, ◌∷◌, [], List, ℕ, IfOk, IfErr, OnOk, length};
+// What is noted while a run goes on: an observer sees each record, and each file gets what its
+// content says.
+ghost use Rattle.std.specs.Prelude.{◌≡◌, ◌<◌, ◌++◌, ◌∷◌, [], List, ℕ, IfErr, OnOk, length};
+ghost use Rattle.std.specs.List.{All};
 ghost use Rattle.shelf.specs.Shelf.{Outside};
-ghost use Rattle.outputs.specs.Files.{AreCut, AreWritten};
-ghost use Rattle.outputs.specs.OnTheirWay.{AreApart, AreBegun, names_of as waiting_names};
-ghost use Rattle.sharing_rules.specs.AccessLists.{AccessList};
-ghost use Rattle.detector.specs.Standing.{StandsFor};
-ghost use Rattle.trace_file.specs.Spelling.{IsAllowedEnd};
-ghost use Rattle.guest_run.specs.Calls as events;
-ghost use Rattle.guest_run.specs.Calls.{RunEvent};
+ghost use Rattle.outputs.specs.OnTheirWay.{AreBegun, names_of as waiting_names};
+ghost use Rattle.trace_grammar.specs.Rules.{IsGoodRecord, IsWritable};
+ghost use Rattle.trace_grammar.specs.declared.record.TraceRecord.{TraceRecord as ARecord};
+ghost use Rattle.trace_grammar.specs.declared.record.TraceRecord.TheVariants as records;
 ghost use Rattle.guest_run.specs.Facts.{IsSeen, seen};
-ghost use Rattle.run_recorder.specs.Recorded.{IsSameWatch, names_of, outputs_of};
-ghost use Rattle.run_recorder.specs.Recording.{AreCutAfter, AreNoted, IsNoted, bytes_ended};
+ghost use Rattle.guest_run.specs.Runs.{bytes_in};
+ghost use Rattle.trace_passes.specs.Rooms.{HasRoom};
+ghost use Rattle.run_recorder.specs.Recorded.{record_in};
+ghost use Rattle.run_recorder.specs.Recording.{AreCutAfter, AreNoted};
 
 use crate::file::RunFile;
 use crate::files::RunOutputs;
 use crate::moment::Moment;
-use crate::record::Recorded;
-use detector::{Detector, PagedIndex};
 use guest_run::{Event, Guest, Turn};
-use predator_base::{Access, Ending, NoMemory};
+use predator_base::Access;
 use shelf::{Shelf, ShelfError};
-use std::alloc::Global;
+use trace_grammar::TraceRecord;
+use trace_passes::Observer;
 
-/// What is known of the run so far, and what waits for its files.
-#[derive(Drop)]
-pub(crate) struct Recorder<'a> {
-    /// What the accesses show.
-    pub(crate) detector: Detector<PagedIndex>,
-    /// The files of the run.
-    pub(crate) outputs: RunOutputs<'a>,
-}
-
-// The detector sees one access more.
+// A record: the observer sees it, and the files get it.
 #[inline]
-fn see(detector: &mut Detector<PagedIndex>, access: Access) -> Result<(), NoMemory>
-    requires { detector.old.position < 2 ^ 40 }
-    ensures stands { OnOk result ((t : AccessList)
-        → StandsFor t detector.old → StandsFor (t ++ access ∷ []) detector.new) }
-    ensures same { IsSameWatch detector.old detector.new }
+pub(crate) fn note_record<S: Shelf, O: Observer>(
+    shelf: &mut S,
+    files: &[RunFile<'_>],
+    outputs: &mut RunOutputs<'_>,
+    observer: &mut O,
+    item: &TraceRecord,
+) -> Result<(), ShelfError>
+    requires paired { length outputs.old ≡ length files.now }
+    requires begun { AreBegun (waiting_names outputs.old) (S.outside shelf.old) }
+    requires writable { IsWritable item.now }
+    requires room { HasRoom O.begins O.given observer.old (item.now ∷ []) }
+    ensures given { OnOk result ((begun : O) (earlier : List ARecord)
+        → O.given begun observer.old earlier → O.given begun observer.new
+        (earlier ++ item.now ∷ [])) }
+    ensures noted { OnOk result
+        ((harts : ℕ) (items : List ARecord) (put : List ℕ) (before : Outside)
+        → AreNoted harts items put files.now outputs.old before (S.outside shelf.old)
+        → AreNoted harts (items ++ item.now ∷ []) put files.now outputs.new before
+        (S.outside shelf.new)) }
+    ensures cut { IfErr result (λ error. (harts : ℕ) (items : List ARecord) (put : List ℕ)
+        (before : Outside)
+        → AreNoted harts items put files.now outputs.old before (S.outside shelf.old)
+        → AreCutAfter harts (items ++ item.now ∷ []) put files.now before (S.outside shelf.new)
+        error) }
+    ensures begun { OnOk result (AreBegun (waiting_names outputs.new) (S.outside shelf.new)) }
+    ensures count { length outputs.new ≡ length outputs.old }
 {
-    detector::see(detector, access)
+    match observer.note(item) {
+        Ok(()) => outputs.put(shelf, files, &Moment::Record(item)),
+        Err(_) => Err(ShelfError::NoMemory),
+    }
 }
 
-impl<'a> Recorder<'a> {
-    /// Begins the files, and puts the beginning of the trace into those that hold it.
-    pub(crate) fn begin<S: Shelf>(
-        alloc: Global,
-        shelf: &mut S,
-        harts: u16,
-        detector: Detector<PagedIndex>,
-        files: &[RunFile<'a>],
-    ) -> Result<Recorder<'a>, ShelfError>
-        requires apart { AreApart (names_of files.now) }
-        requires some { 1 ≤ harts }
-        requires most { harts ≤ 256 }
-        ensures outputs { IfOk result (λ recorder. AreNoted harts [] files.now recorder.outputs
-            (S.outside shelf.old) (S.outside shelf.new)) }
-        ensures same { IfOk result (λ recorder. recorder.detector ≡ detector) }
-        ensures begun { IfOk result (λ recorder. AreBegun (waiting_names recorder.outputs) (S.outside shelf.new)) }
-        ensures count { IfOk result (λ recorder. length recorder.outputs ≡ length files.now) }
-        ensures cut { IfErr result (λ error. AreCutAfter harts [] files.now
-            (S.outside shelf.old) (S.outside shelf.new) error) }
-    {
-        match RunOutputs::begin(alloc, shelf, files) {
-            Ok(mut outputs) => match outputs.put(shelf, files, &Moment::Start(harts)) {
-                Ok(()) => Ok(Recorder { detector, outputs }),
-                Err(error) => Err(error),
-            },
-            Err(error) => Err(error),
-        }
-    }
+// The record of an access, which is of an allowed size and place, as its hart says.
+fn touch_record(access: Access) -> TraceRecord
+    ensures value { result ≡ records.Touch access }
+    ensures good { (harts : ℕ) → access.hart < harts → IsGoodRecord harts result }
+{
+    let _hart = access.hart();
+    TraceRecord::Touch(access)
+}
 
-    // An access: the detector sees it, and the files get it.
-    #[inline]
-    fn note_access<S: Shelf>(
-        &mut self,
-        shelf: &mut S,
-        files: &[RunFile<'_>],
-        access: Access,
-    ) -> Result<(), ShelfError>
-        requires paired { length self.old.outputs ≡ length files.now }
-        requires begun { AreBegun (waiting_names self.old.outputs) (S.outside shelf.old) }
-        requires early { self.old.detector.position < 2 ^ 40 }
-        ensures noted { OnOk result ((harts : ℕ) (earlier : List RunEvent) → access.hart < harts
-            → IsNoted harts earlier self.old.detector
-            → IsNoted harts (earlier ++ events.touch access ∷ []) self.new.detector) }
-        ensures outputs { OnOk result ((harts : ℕ) (earlier : List RunEvent) (before : Outside)
-            → AreNoted harts earlier files.now self.old.outputs before (S.outside shelf.old)
-            → AreNoted harts (earlier ++ events.touch access ∷ []) files.now self.new.outputs before (S.outside shelf.new)) }
-        ensures cut { IfErr result (λ error. (harts : ℕ) (earlier : List RunEvent) (before : Outside)
-            → AreNoted harts earlier files.now self.old.outputs before (S.outside shelf.old)
-            → AreCutAfter harts (earlier ++ events.touch access ∷ []) files.now before (S.outside shelf.new) error) }
-        ensures begun { OnOk result (AreBegun (waiting_names self.new.outputs) (S.outside shelf.new)) }
-        ensures same { IsSameWatch self.old.detector self.new.detector }
-        ensures count { length self.new.outputs ≡ length self.old.outputs }
-    {
-        // An access is of an allowed size and place, as its hart says.
-        let _hart = access.hart();
-        match see(&mut self.detector, access) {
-            Ok(()) => self.outputs.put(shelf, files, &Moment::Touch(access)),
-            Err(_) => Err(ShelfError::NoMemory),
-        }
-    }
+// The record of a block.
+fn alloc_record(addr: u32, size: u32, sites: [u32; 4]) -> TraceRecord
+    ensures value { result ≡ records.Alloc addr size sites }
+    ensures good { (harts : ℕ) → IsGoodRecord harts result }
+{
+    TraceRecord::Alloc { addr, size, sites }
+}
 
-    /// What is seen of a step of the guest.
-    #[inline]
-    pub(crate) fn note<S: Shelf>(
-        &mut self,
-        shelf: &mut S,
-        files: &[RunFile<'_>],
-        guest: &Guest,
-        event: Event,
-    ) -> Result<(), ShelfError>
-        requires paired { length self.old.outputs ≡ length files.now }
-        requires begun { AreBegun (waiting_names self.old.outputs) (S.outside shelf.old) }
-        requires early { self.old.detector.position < 2 ^ 40 }
-        requires seen { IsSeen guest.now.setup.harts (Turn.Ran event) guest.now.config }
-        ensures noted { OnOk result ((earlier : List RunEvent)
-            → IsNoted guest.now.setup.harts earlier self.old.detector
-            → IsNoted guest.now.setup.harts (earlier ++ seen guest.now.config.memory event ∷ []) self.new.detector) }
-        ensures outputs { OnOk result ((harts : ℕ) (earlier : List RunEvent) (before : Outside)
-            → AreNoted harts earlier files.now self.old.outputs before (S.outside shelf.old)
-            → AreNoted harts (earlier ++ seen guest.now.config.memory event ∷ []) files.now self.new.outputs
-            before (S.outside shelf.new)) }
-        ensures cut { IfErr result (λ error. (harts : ℕ) (earlier : List RunEvent) (before : Outside)
-            → AreNoted harts earlier files.now self.old.outputs before (S.outside shelf.old)
-            → AreCutAfter harts (earlier ++ seen guest.now.config.memory event ∷ []) files.now
-            before (S.outside shelf.new) error) }
-        ensures begun { OnOk result (AreBegun (waiting_names self.new.outputs) (S.outside shelf.new)) }
-        ensures same { IsSameWatch self.old.detector self.new.detector }
-        ensures count { length self.new.outputs ≡ length self.old.outputs }
-    {
-        match event {
-            Event::Quiet => Ok(()),
-            Event::Alloc { .. } => Ok(()),
-            Event::Free { .. } => Ok(()),
-            Event::Touch(access) => self.note_access(shelf, files, access),
-            Event::Output { addr, len } => match guest.bytes(addr, len) {
-                Some(bytes) => self.outputs.put(shelf, files, &Moment::Output(bytes)),
-                None => unreachable!(),
-            },
-        }
-    }
+fn free_record(addr: u32) -> TraceRecord
+    ensures value { result ≡ records.Free addr }
+    ensures good { (harts : ℕ) → IsGoodRecord harts result }
+{
+    TraceRecord::Free { addr }
+}
 
-    /// Puts the end into the files that hold the trace, and then all that still waits into the files.
-    pub(crate) fn end<S: Shelf>(
-        &mut self,
-        shelf: &mut S,
-        files: &[RunFile<'_>],
-        ending: &Ending,
-    ) -> Result<(), ShelfError>
-        requires paired { length self.old.outputs ≡ length files.now }
-        requires begun { AreBegun (waiting_names self.old.outputs) (S.outside shelf.old) }
-        requires allowed { IsAllowedEnd ending.now.steps ending.now.outcome }
-        ensures written { OnOk result ((harts : ℕ) (earlier : List RunEvent) (before : Outside)
-            → AreNoted harts earlier files.now self.old.outputs before (S.outside shelf.old)
-            → AreWritten (outputs_of files.now (bytes_ended harts earlier ending.now)) before (S.outside shelf.new)) }
-        ensures cut { IfErr result (λ error. (harts : ℕ) (earlier : List RunEvent) (before : Outside)
-            → AreNoted harts earlier files.now self.old.outputs before (S.outside shelf.old)
-            → AreCut (outputs_of files.now (bytes_ended harts earlier ending.now)) before (S.outside shelf.new) error) }
-        ensures detector { self.new.detector ≡ self.old.detector }
-    {
-        match self.outputs.put(shelf, files, &Moment::End(*ending)) {
-            Ok(()) => self.outputs.finish(shelf),
-            Err(error) => Err(error),
-        }
-    }
+// Bytes that the guest puts out: the files get them.
+fn note_output<S: Shelf>(
+    shelf: &mut S,
+    files: &[RunFile<'_>],
+    outputs: &mut RunOutputs<'_>,
+    bytes: &[u8],
+) -> Result<(), ShelfError>
+    requires paired { length outputs.old ≡ length files.now }
+    requires begun { AreBegun (waiting_names outputs.old) (S.outside shelf.old) }
+    ensures noted { OnOk result
+        ((harts : ℕ) (items : List ARecord) (put : List ℕ) (before : Outside)
+        → AreNoted harts items put files.now outputs.old before (S.outside shelf.old)
+        → AreNoted harts items (put ++ bytes.now) files.now outputs.new before
+        (S.outside shelf.new)) }
+    ensures cut { IfErr result (λ error. (harts : ℕ) (items : List ARecord) (put : List ℕ)
+        (before : Outside)
+        → AreNoted harts items put files.now outputs.old before (S.outside shelf.old)
+        → AreCutAfter harts items (put ++ bytes.now) files.now before (S.outside shelf.new) error) }
+    ensures begun { OnOk result (AreBegun (waiting_names outputs.new) (S.outside shelf.new)) }
+    ensures count { length outputs.new ≡ length outputs.old }
+{
+    outputs.put(shelf, files, &Moment::Output(bytes))
+}
 
-    /// What it shows once the run has ended.
-    pub(crate) fn shown(self, ending: Ending) -> Recorded
-        ensures detector { result.detector ≡ self.entry.detector }
-        ensures ending { result.ending ≡ ending }
-    {
-        Recorded {
-            detector: self.detector,
-            ending,
+// What is seen of a step of the guest.
+#[inline]
+pub(crate) fn note_event<S: Shelf, O: Observer>(
+    shelf: &mut S,
+    files: &[RunFile<'_>],
+    outputs: &mut RunOutputs<'_>,
+    observer: &mut O,
+    guest: &Guest,
+    event: Event,
+) -> Result<(), ShelfError>
+    requires paired { length outputs.old ≡ length files.now }
+    requires begun { AreBegun (waiting_names outputs.old) (S.outside shelf.old) }
+    requires seen { IsSeen guest.now.setup.harts (Turn.Ran event) guest.now.config }
+    requires room { HasRoom O.begins O.given observer.old
+        (record_in (seen guest.now.config.memory event)) }
+    ensures given { OnOk result ((begun : O) (earlier : List ARecord)
+        → O.given begun observer.old earlier
+        → O.given begun observer.new (earlier ++ record_in (seen guest.now.config.memory event))) }
+    ensures good { All (IsGoodRecord guest.now.setup.harts)
+        (record_in (seen guest.now.config.memory event)) }
+    ensures noted { OnOk result
+        ((harts : ℕ) (items : List ARecord) (put : List ℕ) (before : Outside)
+        → AreNoted harts items put files.now outputs.old before (S.outside shelf.old)
+        → AreNoted harts (items ++ record_in (seen guest.now.config.memory event))
+        (put ++ bytes_in (seen guest.now.config.memory event)) files.now outputs.new before
+        (S.outside shelf.new)) }
+    ensures cut { IfErr result (λ error. (harts : ℕ) (items : List ARecord) (put : List ℕ)
+        (before : Outside)
+        → AreNoted harts items put files.now outputs.old before (S.outside shelf.old)
+        → AreCutAfter harts (items ++ record_in (seen guest.now.config.memory event))
+        (put ++ bytes_in (seen guest.now.config.memory event)) files.now before
+        (S.outside shelf.new) error) }
+    ensures begun { OnOk result (AreBegun (waiting_names outputs.new) (S.outside shelf.new)) }
+    ensures count { length outputs.new ≡ length outputs.old }
+{
+    match event {
+        Event::Quiet => Ok(()),
+        Event::Touch(access) => {
+            note_record(shelf, files, outputs, observer, &touch_record(access))
         }
+        Event::Alloc { addr, size, sites } => {
+            note_record(
+                shelf,
+                files,
+                outputs,
+                observer,
+                &alloc_record(addr, size, sites),
+            )
+        }
+        Event::Free { addr } => { note_record(shelf, files, outputs, observer, &free_record(addr)) }
+        Event::Output { addr, len } => match guest.bytes(addr, len) {
+            Some(bytes) => note_output(shelf, files, outputs, bytes),
+            None => unreachable!(),
+        },
     }
 }

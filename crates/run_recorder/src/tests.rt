@@ -1,19 +1,20 @@
 // A small program, recorded.
-ghost use Rattle.std.specs.Prelude.{◌≡◌, ◌≤◌, ◌^◌, [], length, None, IfOk};
-ghost use Rattle.detector.specs.Standing.{StandsFor};
+ghost use Rattle.std.specs.Prelude.{◌≡◌, ◌≤◌, ◌^◌, IfOk};
 ghost use Rattle.outputs.specs.OnTheirWay.{AreApart};
 ghost use Rattle.run_recorder.specs.Recorded.{names_of};
 ghost use Rattle.guest_run.specs.Runs.{IsShort, rest_of};
 
-use crate::{Content, Recorded, RunFile, record_run};
-use detector::{Detector, PagedIndex};
+use crate::{Content, RunFile, record_run};
 use elf_loader::{ElfView, Space, place};
 use guest_run::{Guest, RunSettings};
 use hart_scheduler::Schedule;
-use predator_base::{Ending, Layout, Outcome, Thresholds};
+use predator_base::{Ending, NoMemory, Outcome};
+use rv32_decode::{ImmOp, Instr, Reg, encode};
 use shelf::{Failing, MemoryShelf, ShelfError};
-use std::alloc::{AllocError, Global};
+use std::alloc::Global;
 use std::test::Fail;
+use trace_grammar::TraceRecord;
+use trace_passes::Observer;
 
 // The head of a file with one loadable segment, at 0x10000, which is the entry; its sizes follow.
 const HEAD: [u32; 17] = [
@@ -36,40 +37,69 @@ const HEAD: [u32; 17] = [
     0,
 ];
 
-// A hart puts out its first instruction, and ends.
-const WRITER: [u32; 7] = [
-    0x0400_0893, // li a7, 64
-    0x0010_0513, // li a0, 1
-    0x0001_05b7, // lui a1, 0x10
-    0x0040_0613, // li a2, 4
-    0x0000_0073, // ecall
-    0x05d0_0893, // li a7, 93
-    0x0000_0073, // ecall
-];
+const ECALL: Option<Instr> = Some(Instr::Ecall);
 
-// The program file of some words.
-fn file_of(alloc: Global, words: &[u32; 7]) -> Result<Vec<u8>, AllocError> {
-    let size = words.len() as u32 * 4;
+// A register, by its number, becomes a value.
+fn li(rd: u8, value: i32) -> Option<Instr> {
+    Some(Instr::Imm {
+        op: ImmOp::Addi,
+        rd: Reg::new(rd)?,
+        rs1: Reg::new(0)?,
+        value,
+    })
+}
+
+fn lui(rd: u8, imm: u32) -> Option<Instr> {
+    Some(Instr::Lui {
+        rd: Reg::new(rd)?,
+        imm,
+    })
+}
+
+// A hart puts out its first instruction, and ends.
+fn writer() -> [Option<Instr>; 7] {
+    let (a0, a1, a2, a7) = (10, 11, 12, 17);
+    [
+        li(a7, 64),
+        li(a0, 1),
+        lui(a1, 0x10000),
+        li(a2, 4),
+        ECALL,
+        li(a7, 93),
+        ECALL,
+    ]
+}
+
+// The word of an instruction.
+fn word_of(line: Option<Instr>) -> Result<u32, Fail> {
+    match line {
+        Some(instr) if instr.is_valid() => Ok(encode(instr)),
+        _ => Err("no instruction".into()),
+    }
+}
+
+// The program file of some instructions.
+fn file_of(alloc: Global, program: [Option<Instr>; 7]) -> Result<Vec<u8>, Fail> {
+    let size = program.len() as u32 * 4;
     let mut file = Vec::new(alloc);
-    for part in [
-        HEAD.as_slice(),
-        [size, size, 7, 0].as_slice(),
-        words.as_slice(),
-    ] {
+    for part in [HEAD.as_slice(), [size, size, 7, 0].as_slice()] {
         for word in part {
             file.extend_from_slice(&word.to_le_bytes())?;
         }
+    }
+    for line in program {
+        file.extend_from_slice(&word_of(line)?.to_le_bytes())?;
     }
     Ok(file)
 }
 
 // The guest of a program, of 8 harts.
-fn guest_of(alloc: Global, words: &[u32; 7]) -> Result<Guest, Fail>
+fn guest_of(alloc: Global, program: [Option<Instr>; 7]) -> Result<Guest, Fail>
     ensures short { IfOk result (λ guest. IsShort guest.setup (rest_of guest)) }
     ensures budget { IfOk result (λ guest. guest.setup.budget ≤ 2 ^ 36) }
     ensures harts { IfOk result (λ guest. guest.setup.harts ≡ 8) }
 {
-    let file = file_of(alloc, words)?;
+    let file = file_of(alloc, program)?;
     let view = ElfView::read(&file)?;
     let space = Space {
         memory: 0x1_0000,
@@ -94,17 +124,19 @@ fn guest_of(alloc: Global, words: &[u32; 7]) -> Result<Guest, Fail>
     }
 }
 
-// Each line is tracked from its first write on, and listed from its first invalidation on.
-fn blank_detector(alloc: Global) -> Detector<PagedIndex>
-    ensures { StandsFor [] result }
-{
-    let Some(layout) = Layout::new(64, 0) else {
-        unreachable!()
-    };
-    let Some(thresholds) = Thresholds::new(1, None, 1) else {
-        unreachable!()
-    };
-    Detector::new(alloc, PagedIndex::new(alloc), layout, thresholds)
+// Counts the records that it sees.
+#[derive(Drop)]
+struct Counter {
+    seen: usize,
+}
+
+impl Observer for Counter {
+    ghost given = { λ _ _ _. Unit {0} };
+
+    fn note(&mut self, _item: &TraceRecord) -> Result<(), NoMemory> {
+        self.seen = self.seen.saturating_add(1);
+        Ok(())
+    }
 }
 
 // A shelf of whose calls these fail.
@@ -112,16 +144,26 @@ fn shelf_with(alloc: Global, failing: &[Failing]) -> Result<MemoryShelf, Fail> {
     Ok(MemoryShelf::new(alloc, Vec::new(alloc), failing.to_vec(alloc)?)?)
 }
 
-// The program, recorded in these files.
+// The program, recorded in these files; it has no symbols. Whether it ended as it should, or why
+// not all was written.
 fn record(
     alloc: Global,
     shelf: &mut MemoryShelf,
+    counter: &mut Counter,
     files: &[RunFile<'_>],
-) -> Result<Result<Recorded, ShelfError>, Fail>
+) -> Result<Result<bool, ShelfError>, Fail>
     requires { AreApart (names_of files.now) }
 {
-    let guest = guest_of(alloc, &WRITER)?;
-    Ok(record_run(alloc, shelf, guest, blank_detector(alloc), files))
+    let guest = guest_of(alloc, writer())?;
+    let wanted = Ending {
+        outcome: Outcome::Exit(4),
+        steps: 7,
+        accesses: 0,
+    };
+    match record_run(alloc, shelf, guest, counter, &[], files) {
+        Ok(ending) => Ok(Ok(ending == wanted)),
+        Err(error) => Ok(Err(error)),
+    }
 }
 
 // The file that a content is written to.
@@ -136,14 +178,9 @@ fn what_is_put_out_is_written(rt: HostRuntime) -> Result<(), Fail> {
     let alloc = rt.alloc();
     let mut shelf = shelf_with(alloc, &[])?;
     let files = file_for("o", Content::Output);
-    let shown = record(alloc, &mut shelf, &files)??;
-    let ending = Ending {
-        outcome: Outcome::Exit(4),
-        steps: 7,
-        accesses: 0,
-    };
-    assert_eq!(rt; shown.ending, ending);
-    assert_eq!(rt; shown.detector.position(), 0);
+    let mut counter = Counter { seen: 0 };
+    assert!(rt; record(alloc, &mut shelf, &mut counter, &files)??);
+    assert_eq!(rt; counter.seen, 1);
     assert_eq!(rt;
         shelf.written("o"),
         Some([0x93, 0x08, 0x00, 0x04].as_slice())
@@ -156,7 +193,7 @@ fn a_trace_has_a_beginning_and_an_end(rt: HostRuntime) -> Result<(), Fail> {
     let alloc = rt.alloc();
     let mut shelf = shelf_with(alloc, &[])?;
     let files = file_for("t", Content::Trace);
-    record(alloc, &mut shelf, &files)??;
+    assert!(rt; record(alloc, &mut shelf, &mut Counter { seen: 0 }, &files)??);
     assert_eq!(rt; shelf.written("t").map(|bytes| bytes.len()), Some(45));
     Ok(())
 }
@@ -167,7 +204,7 @@ fn a_failing_call_leaves_a_front(rt: HostRuntime) -> Result<(), Fail> {
     let alloc = rt.alloc();
     let mut shelf = shelf_with(alloc, &[Failing { call: 2, keep: 8 }])?;
     let files = file_for("t", Content::Trace);
-    let refused = record(alloc, &mut shelf, &files)?.err();
+    let refused = record(alloc, &mut shelf, &mut Counter { seen: 0 }, &files)?.err();
     assert_eq!(rt; refused, Some(ShelfError::Failed));
     assert_eq!(rt; shelf.written("t"), Some(b"PRDTRC01".as_slice()));
     Ok(())
@@ -177,6 +214,6 @@ fn a_failing_call_leaves_a_front(rt: HostRuntime) -> Result<(), Fail> {
 fn a_run_without_files_calls_no_shelf(rt: HostRuntime) -> Result<(), Fail> {
     let alloc = rt.alloc();
     let mut shelf = shelf_with(alloc, &[Failing { call: 1, keep: 0 }])?;
-    record(alloc, &mut shelf, &[])??;
+    assert!(rt; record(alloc, &mut shelf, &mut Counter { seen: 0 }, &[])??);
     Ok(())
 }

@@ -7,7 +7,8 @@ use Rattle.rv32_decode.specs.Table.{decoded}
 use Rattle.rv32_decode.specs.Spelling.{word_of}
 use Rattle.rv32_decode.specs.Validity.{IsValid, IsHeld, IsWithin}
 use Rattle.rv32_decode.specs.declared.instruction.Instr.{Instr}
-use Rattle.rv32_decode.specs.declared.instruction.Instr.TheVariants.{Lui, Auipc, Jal, Jalr, Branch, Load, Store, Imm, Op, Fence, Ecall, Ebreak, Lr, Sc, Amo}
+use Rattle.rv32_decode.specs.declared.instruction.Instr.TheVariants.{Lui, Auipc, Jal, Jalr, Branch, Load, Store, Imm, Op, Fence, Ecall}
+use Rattle.rv32_decode.specs.declared.instruction.Instr.TheVariants.{Ebreak, Lr, Sc, Amo}
 use Rattle.rv32_decode.specs.declared.instruction.Test.{Test}
 use Rattle.rv32_decode.specs.declared.instruction.Test.TheVariants.{Eq}
 use Rattle.rv32_decode.specs.declared.instruction.LoadKind.{LoadKind}
@@ -21,9 +22,11 @@ use Rattle.rv32_decode.specs.declared.instruction.AluOp.TheVariants as alu
 use Rattle.rv32_decode.specs.declared.instruction.AmoOp.{AmoOp}
 use Rattle.rv32_decode.specs.declared.instruction.AmoOp.TheVariants as amo
 use Rattle.rv32_decode.proofs.Signs.{signed-low_bits, low_bits-below, low_bits-even}
-use Rattle.rv32_decode.proofs.Forms.{HasFields, HasImmediate, HasOffset, HasLong, r_fields, i_fields, s_fields, b_fields, u_fields, j_fields}
+use Rattle.rv32_decode.proofs.Forms.{HasFields, HasImmediate, HasOffset, HasLong, r_fields, i_fields, s_fields, b_fields, u_fields}
+use Rattle.rv32_decode.proofs.Forms.{j_fields}
 use Rattle.rv32_decode.proofs.Spelled.{IsPlain}
-use Rattle.rv32_decode.proofs.Found.{lui_row, auipc_row, jal_row, jalr_row, branch_row, load_row, store_row, imm_row, slli_row, srli_row, srai_row, op_row, fence_row, ecall_row, ebreak_row, lr_row, sc_row, amo_row}
+use Rattle.rv32_decode.proofs.Found.{lui_row, auipc_row, jal_row, jalr_row, branch_row, load_row, store_row, imm_row, slli_row, srli_row}
+use Rattle.rv32_decode.proofs.Found.{srai_row, op_row, fence_row, ecall_row, ebreak_row, lr_row, sc_row, amo_row}
 
 -- the codes fit their fields
 pub test_small : (t : Test) → test_code t < 8

@@ -3,7 +3,8 @@ use Rattle.std.proofs.Common.{◌≡◌, ℕ, ℤ, pos, Some, refl, arith, lit<}
 use Rattle.rv32_decode.specs.Fields.{bits, opcode, rd, funct3, rs1, rs2, funct5, funct7, order, imm_i, imm_s, imm_b, imm_u, imm_j}
 use Rattle.rv32_decode.specs.Codes.{test_code, load_code, store_code, imm_code, alu_code, alu_high, amo_code}
 use Rattle.rv32_decode.specs.Table.{table, decoded}
-use Rattle.rv32_decode.specs.declared.instruction.Instr.TheVariants.{Lui, Auipc, Jal, Jalr, Branch, Load, Store, Imm, Op, Fence, Ecall, Ebreak, Lr, Sc, Amo}
+use Rattle.rv32_decode.specs.declared.instruction.Instr.TheVariants.{Lui, Auipc, Jal, Jalr, Branch, Load, Store, Imm, Op, Fence, Ecall}
+use Rattle.rv32_decode.specs.declared.instruction.Instr.TheVariants.{Ebreak, Lr, Sc, Amo}
 use Rattle.rv32_decode.specs.declared.instruction.Test.{Test}
 use Rattle.rv32_decode.specs.declared.instruction.Test.TheVariants.{Eq, Ne, Lt, Ge, Ltu, Geu}
 use Rattle.rv32_decode.specs.declared.instruction.LoadKind.{LoadKind}

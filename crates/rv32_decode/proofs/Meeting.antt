@@ -1,5 +1,6 @@
 -- Which row a word meets, and that it meets no other.
-use Rattle.std.proofs.Common.{◌≡◌, ℕ, suc, zero, ◌<◌, Bool, true, false, not, Some, List, [], ◌∷◌, take, get_or, ap, sym, ◌∙◌, arith, bit_and, find, eq-eqb, nat_eq, length, refl}
+use Rattle.std.proofs.Common.{◌≡◌, ℕ, suc, zero, ◌<◌, Bool, true, false, not, Some, List, [], ◌∷◌, take, get_or, ap, sym, ◌∙◌, arith}
+use Rattle.std.proofs.Common.{bit_and, find, eq-eqb, nat_eq, length, refl}
 use Rattle.std.specs.Option.{option_map}
 use Rattle.std.specs.List.{list_all}
 use Rattle.std.proofs.lemmas.Bool.{eqb-true, ne_eqb, and_parts}

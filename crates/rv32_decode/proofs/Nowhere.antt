@@ -5,7 +5,8 @@ use Rattle.rv32_decode.specs.Fields.{opcode, funct3, rs2, funct5, funct7}
 use Rattle.rv32_decode.specs.Codes.{test_code, load_code, store_code, alu_code, alu_high, amo_code}
 use Rattle.rv32_decode.specs.Table.{decoded}
 use Rattle.rv32_decode.specs.declared.instruction.Instr.{Instr}
-use Rattle.rv32_decode.specs.declared.instruction.Instr.TheVariants.{Lui, Auipc, Jal, Jalr, Branch, Load, Store, Imm, Op, Fence, Ecall, Ebreak, Lr, Sc, Amo}
+use Rattle.rv32_decode.specs.declared.instruction.Instr.TheVariants.{Lui, Auipc, Jal, Jalr, Branch, Load, Store, Imm, Op, Fence, Ecall}
+use Rattle.rv32_decode.specs.declared.instruction.Instr.TheVariants.{Ebreak, Lr, Sc, Amo}
 use Rattle.rv32_decode.specs.declared.instruction.Test.{Test}
 use Rattle.rv32_decode.specs.declared.instruction.LoadKind.{LoadKind}
 use Rattle.rv32_decode.specs.declared.instruction.StoreKind.{StoreKind}

@@ -7,7 +7,8 @@ use Rattle.rv32_decode.specs.declared.instruction.LoadKind.TheVariants.{Lb, Lh, 
 use Rattle.rv32_decode.specs.declared.instruction.StoreKind.{StoreKind}
 use Rattle.rv32_decode.specs.declared.instruction.StoreKind.TheVariants.{Sb, Sh, Sw}
 use Rattle.rv32_decode.specs.declared.instruction.ImmOp.{ImmOp}
-use Rattle.rv32_decode.specs.declared.instruction.ImmOp.TheVariants.{Addi, Slti, Sltiu, Xori, Ori, Andi, Slli, Srli, Srai}
+use Rattle.rv32_decode.specs.declared.instruction.ImmOp.TheVariants.{Addi, Slti, Sltiu, Xori, Ori}
+use Rattle.rv32_decode.specs.declared.instruction.ImmOp.TheVariants.{Andi, Slli, Srli, Srai}
 use Rattle.rv32_decode.specs.declared.instruction.AluOp.{AluOp}
 use Rattle.rv32_decode.specs.declared.instruction.AluOp.TheVariants as alu
 use Rattle.rv32_decode.specs.declared.instruction.AmoOp.{AmoOp}

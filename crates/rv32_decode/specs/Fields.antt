@@ -1,6 +1,7 @@
 -- The fields of a word of 32 bits, as the RISC-V unprivileged specification numbers their bits,
 -- and the immediates that they make up.
-use Rattle.std.specs.Prelude.{ℕ, ℤ, pos, negsuc, ◌+◌, ◌-◌, ◌*◌, ◌/◌, ◌%◌, ◌^◌, nat_lt, if◌then◌else◌, ◌-ℤ◌}
+use Rattle.std.specs.Prelude.{ℕ, ℤ, pos, negsuc, ◌+◌, ◌-◌, ◌*◌, ◌/◌, ◌%◌, ◌^◌, nat_lt}
+use Rattle.std.specs.Prelude.{if◌then◌else◌, ◌-ℤ◌}
 
 -- the bits from `high` down to `low`, as a number
 abbrev pub bits : ℕ → ℕ → ℕ → ℕ

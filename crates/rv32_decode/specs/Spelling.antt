@@ -1,9 +1,12 @@
 -- The word of an instruction, by the forms of the RISC-V unprivileged specification.
 use Rattle.std.specs.Prelude.{ℕ, ℤ, ◌+◌, ◌*◌, ◌^◌}
 use Rattle.rv32_decode.specs.Fields.{bits, low_bits}
-use Rattle.rv32_decode.specs.Codes.{test_code, load_code, store_code, imm_code, alu_code, alu_high, amo_code}
+use Rattle.rv32_decode.specs.Codes.{test_code, load_code, store_code, imm_code, alu_code, alu_high}
+use Rattle.rv32_decode.specs.Codes.{amo_code}
 use Rattle.rv32_decode.specs.declared.instruction.Instr.{Instr}
-use Rattle.rv32_decode.specs.declared.instruction.Instr.TheVariants.{Lui, Auipc, Jal, Jalr, Branch, Load, Store, Imm, Op, Fence, Ecall, Ebreak, Lr, Sc, Amo}
+use Rattle.rv32_decode.specs.declared.instruction.Instr.TheVariants.{Lui, Auipc, Jal, Jalr, Branch}
+use Rattle.rv32_decode.specs.declared.instruction.Instr.TheVariants.{Load, Store, Imm, Op, Fence}
+use Rattle.rv32_decode.specs.declared.instruction.Instr.TheVariants.{Ecall, Ebreak, Lr, Sc, Amo}
 use Rattle.rv32_decode.specs.declared.instruction.ImmOp.{ImmOp}
 use Rattle.rv32_decode.specs.declared.instruction.ImmOp.TheVariants.{Srai}
 

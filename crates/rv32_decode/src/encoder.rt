@@ -2,7 +2,8 @@
 ghost use Rattle.std.specs.Prelude.{◌≡◌, ◌<◌, ◌≤◌, ◌*◌, ◌^◌, ◌%◌, Some};
 ghost use Rattle.rv32_decode.specs.Fields.{low_bits};
 ghost use Rattle.rv32_decode.specs.Table.{decoded};
-ghost use Rattle.rv32_decode.specs.Spelling.{word_of, r_word, i_word, u_word, j_word, atomic_word, imm_bits};
+ghost use Rattle.rv32_decode.specs.Spelling.{word_of, r_word, i_word, u_word, j_word, atomic_word};
+ghost use Rattle.rv32_decode.specs.Spelling.{imm_bits};
 ghost use Rattle.rv32_decode.specs.declared.instruction.Instr.{Instr};
 ghost use Rattle.rv32_decode.specs.Validity.{IsValid, IsWithin, IsImmediate, IsHeld};
 
@@ -33,24 +34,12 @@ fn spelled(instr: Instr) -> u32
         Instr::Auipc { rd, imm } => u_form(0x17, rd, imm),
         Instr::Jal { rd, offset } => j_form(0x6f, rd, low_bits_of(1048576, offset)),
         Instr::Jalr { rd, rs1, offset } => i_form(0x67, rd, 0, rs1, low_bits_of(2048, offset)),
-        Instr::Branch {
-            test,
-            rs1,
-            rs2,
-            offset,
-        } => branch_word(test, rs1, rs2, offset),
         Instr::Load {
             kind,
             rd,
             rs1,
             offset,
         } => i_form(0x03, rd, load_code_of(kind), rs1, low_bits_of(2048, offset)),
-        Instr::Store {
-            kind,
-            rs1,
-            rs2,
-            offset,
-        } => store_word(kind, rs1, rs2, offset),
         Instr::Imm { op, rd, rs1, value } => i_form(
             0x13,
             rd,
@@ -58,6 +47,19 @@ fn spelled(instr: Instr) -> u32
             rs1,
             imm_bits_of(op, value),
         ),
+        Instr::Fence { rd, rs1, bits } => i_form(0x0f, rd, 0, rs1, bits),
+        Instr::Store {
+            kind,
+            rs1,
+            rs2,
+            offset,
+        } => store_word(kind, rs1, rs2, offset),
+        Instr::Branch {
+            test,
+            rs1,
+            rs2,
+            offset,
+        } => branch_word(test, rs1, rs2, offset),
         Instr::Op { op, rd, rs1, rs2 } => r_form(
             0x33,
             rd,
@@ -66,7 +68,6 @@ fn spelled(instr: Instr) -> u32
             rs2,
             alu_high_of(op),
         ),
-        Instr::Fence { rd, rs1, bits } => i_form(0x0f, rd, 0, rs1, bits),
         Instr::Ecall => 0x0000_0073,
         Instr::Ebreak => 0x0010_0073,
         Instr::Lr { rd, rs1, order } => lr_word(rd, rs1, order),

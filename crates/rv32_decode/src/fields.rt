@@ -1,6 +1,7 @@
 //! The fields of a word.
 ghost use Rattle.std.specs.Prelude.{◌≡◌, ◌<◌, ◌≤◌, ◌*◌};
-ghost use Rattle.rv32_decode.specs.Fields.{opcode, rd, rs1, rs2, funct3, funct5, funct7, order, imm_i, imm_s, imm_b, imm_u, imm_j, signed};
+ghost use Rattle.rv32_decode.specs.Fields.{opcode, rd, rs1, rs2, funct3, funct5, funct7, order};
+ghost use Rattle.rv32_decode.specs.Fields.{imm_i, imm_s, imm_b, imm_u, imm_j, signed};
 
 use crate::register::Reg;
 

@@ -1,5 +1,6 @@
 -- What a step keeps: all, unless it is to the next instruction, and always the number of harts and the memory's pages.
-use Rattle.std.specs.Prelude.{◌≡◌, ℕ, zero, suc, ◌+◌, ◌-◌, ◌/◌, ◌%◌, Bool, false, List, Option, Some, None, Result, Ok, Err, length, nat_eq, if◌then◌else◌, slice_set, map}
+use Rattle.std.specs.Prelude.{◌≡◌, ℕ, zero, suc, ◌+◌, ◌-◌, ◌/◌, ◌%◌, Bool, false, List, Option, Some, None, Result, Ok, Err, length, nat_eq}
+use Rattle.std.specs.Prelude.{if◌then◌else◌, slice_set, map}
 use Rattle.std.proofs.Common.{refl, subst, sym, ap, true, set, ◌∙◌}
 use Rattle.std.proofs.lemmas.List.{length-set, length-map}
 use Rattle.guest_memory.specs.Bytes.{with_number}
@@ -9,11 +10,13 @@ use Rattle.guest_memory.specs.Changes.{stored}
 use Rattle.guest_memory.specs.declared.page.MemFault.{MemFault}
 use Rattle.rv32_decode.specs.Table.{decoded}
 use Rattle.rv32_decode.specs.declared.instruction.Instr.{Instr}
-use Rattle.rv32_decode.specs.declared.instruction.Instr.TheVariants.{Lui, Auipc, Jal, Jalr, Branch, Load, Store, Imm, Op, Fence, Ecall, Ebreak, Lr, Sc, Amo}
+use Rattle.rv32_decode.specs.declared.instruction.Instr.TheVariants.{Lui, Auipc, Jal, Jalr, Branch, Load, Store, Imm, Op, Fence, Ecall}
+use Rattle.rv32_decode.specs.declared.instruction.Instr.TheVariants.{Ebreak, Lr, Sc, Amo}
 use Rattle.rv32_machine.specs.Registers.{Registers, reg, moved}
 use Rattle.rv32_machine.specs.Reserved.{is_of, held_by, released, without, word_at}
 use Rattle.rv32_machine.specs.declared.step_end.StepEnd.{StepEnd}
-use Rattle.rv32_machine.specs.Effect.{Machine, Outcome, outcome, jumps, branches, holds, after_load, after_store, after_lr, after_sc, effect, after_decode, after_fetch, stepped, extended, LeavesUnlessNext, KeepsPages}
+use Rattle.rv32_machine.specs.Effect.{Machine, Outcome, outcome, jumps, branches, holds, after_load, after_store, after_lr, after_sc}
+use Rattle.rv32_machine.specs.Effect.{effect, after_decode, after_fetch, stepped, extended, LeavesUnlessNext, KeepsPages}
 
 pub record Kept (x : Machine) (o : Outcome) : Type 0 where
   pub left : LeavesUnlessNext x o.end o.machine

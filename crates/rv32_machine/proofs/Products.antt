@@ -1,5 +1,6 @@
 -- The product of two signed words, in twice the bits.
-use Rattle.std.proofs.Common.{arith, ℕ, ℤ, pos, negsuc, ◌≤◌, ◌/◌, ◌^◌, w32, w64, to_z, of_z, ◌*ℤ◌, ◌≡◌, ◌∙◌, SFits, lit<, unsigned_abs, refl}
+use Rattle.std.proofs.Common.{arith, ℕ, ℤ, pos, negsuc, ◌≤◌, ◌/◌, ◌^◌, w32, w64, to_z, of_z, ◌*ℤ◌, ◌≡◌, ◌∙◌, SFits, lit<, unsigned_abs}
+use Rattle.std.proofs.Common.{refl}
 use Rattle.std.proofs.lemmas.Int.{to_z-of_z, fits_signed_mul}
 use Rattle.rv32_machine.specs.Arithmetic.{high}
 

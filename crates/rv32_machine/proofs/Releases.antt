@@ -1,5 +1,6 @@
 -- The reservations after a write, hart by hart.
-use Rattle.std.proofs.Common.{◌≡◌, ℕ, zero, suc, ◌<◌, ◌∙◌, Bool, true, false, cond, List, [], ◌∷◌, length, map, get_or, refl, sym, arith, inl, inr, nat_eq, Option, None, Some, get_or-set_same, get_or-set_other, is_some, sum_by}
+use Rattle.std.proofs.Common.{◌≡◌, ℕ, zero, suc, ◌<◌, ◌∙◌, Bool, true, false, cond, List, [], ◌∷◌, length, map, get_or, refl, sym, arith}
+use Rattle.std.proofs.Common.{inl, inr, nat_eq, Option, None, Some, get_or-set_same, get_or-set_other, is_some, sum_by}
 use Rattle.std.proofs.lemmas.Bool.{eqb-true, eqb-false, cases_Bool}
 use Rattle.std.proofs.lemmas.List.{length-set, length-map, ext_get_or, get_or-map}
 use Rattle.std.proofs.lemmas.List.Sums.{sum_by-cons}

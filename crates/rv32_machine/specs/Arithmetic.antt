@@ -1,10 +1,15 @@
 -- What the operations on registers give, as numbers of 32 bits.
-use Rattle.std.specs.Prelude.{ℕ, ℤ, pos, ◌+◌, ◌-◌, ◌*◌, ◌/◌, ◌%◌, ◌^◌, ◌*ℤ◌, if◌then◌else◌, nat_lt, nat_eq, int_lt, int_div, int_rem, bit_and, bit_or, bit_xor}
+use Rattle.std.specs.Prelude.{ℕ, ℤ, pos, ◌+◌, ◌-◌, ◌*◌, ◌/◌, ◌%◌, ◌^◌, ◌*ℤ◌, if◌then◌else◌, nat_lt}
+use Rattle.std.specs.Prelude.{nat_eq, int_lt, int_div, int_rem, bit_and, bit_or, bit_xor}
 use Rattle.std.specs.Int.{w32, w64, cast_signed, cast_unsigned, int_shr}
 use Rattle.rv32_decode.specs.declared.instruction.AluOp.{AluOp}
-use Rattle.rv32_decode.specs.declared.instruction.AluOp.TheVariants.{Add, Sub, Sll, Slt, Sltu, Xor, Srl, Sra, Or, And, Mul, Mulh, Mulhsu, Mulhu, Div, Divu, Rem, Remu}
+use Rattle.rv32_decode.specs.declared.instruction.AluOp.TheVariants.{Add, Sub, Sll, Slt, Sltu, Xor}
+use Rattle.rv32_decode.specs.declared.instruction.AluOp.TheVariants.{Srl, Sra, Or, And, Mul, Mulh}
+use Rattle.rv32_decode.specs.declared.instruction.AluOp.TheVariants.{Mulhsu, Mulhu, Div, Divu, Rem}
+use Rattle.rv32_decode.specs.declared.instruction.AluOp.TheVariants.{Remu}
 use Rattle.rv32_decode.specs.declared.instruction.ImmOp.{ImmOp}
-use Rattle.rv32_decode.specs.declared.instruction.ImmOp.TheVariants.{Addi, Slti, Sltiu, Xori, Ori, Andi, Slli, Srli, Srai}
+use Rattle.rv32_decode.specs.declared.instruction.ImmOp.TheVariants.{Addi, Slti, Sltiu, Xori, Ori}
+use Rattle.rv32_decode.specs.declared.instruction.ImmOp.TheVariants.{Andi, Slli, Srli, Srai}
 use Rattle.rv32_decode.specs.declared.instruction.AmoOp.{AmoOp}
 use Rattle.rv32_decode.specs.declared.instruction.AmoOp.TheVariants as amo_ops
 

@@ -1,12 +1,17 @@
 -- The effect of each instruction on a hart's registers, the memory and the reservations: the
 -- RISC-V unprivileged specification's RV32I, with its extensions M and A.
-use Rattle.std.specs.Prelude.{◌≡◌, ℕ, ℤ, ◌+◌, ◌*◌, ◌/◌, ◌%◌, ◌^◌, Bool, not, List, Option, Some, None, Result, Ok, Err, nat_eq, nat_lt, int_lt, if◌then◌else◌, slice_set}
+use Rattle.std.specs.Prelude.{◌≡◌, ℕ, ℤ, ◌+◌, ◌*◌, ◌/◌, ◌%◌, ◌^◌, Bool, not, List, Option, Some}
+use Rattle.std.specs.Prelude.{None, Result, Ok, Err, nat_eq, nat_lt, int_lt, if◌then◌else◌}
+use Rattle.std.specs.Prelude.{slice_set}
 use Rattle.std.specs.Int.{w32, cast_unsigned}
 use Rattle.predator_base.specs.Touch.{Touch}
 use Rattle.predator_base.specs.declared.access.Kind.{Kind}
 use Rattle.predator_base.specs.declared.access.Kind.TheVariants.{Read, Write}
 use Rattle.predator_base.specs.declared.ending.Cause.{Cause}
-use Rattle.predator_base.specs.declared.ending.Cause.TheVariants.{Illegal, Breakpoint, FetchMisaligned, FetchOutside, LoadMisaligned, LoadOutside, StoreMisaligned, StoreOutside}
+use Rattle.predator_base.specs.declared.ending.Cause.TheVariants.{Illegal, Breakpoint}
+use Rattle.predator_base.specs.declared.ending.Cause.TheVariants.{FetchMisaligned, FetchOutside}
+use Rattle.predator_base.specs.declared.ending.Cause.TheVariants.{LoadMisaligned, LoadOutside}
+use Rattle.predator_base.specs.declared.ending.Cause.TheVariants.{StoreMisaligned, StoreOutside}
 use Rattle.guest_memory.specs.Space.{Space, size_of}
 use Rattle.guest_memory.specs.Faults.{loaded, fetched, store_fault}
 use Rattle.guest_memory.specs.Changes.{stored}
@@ -14,7 +19,9 @@ use Rattle.guest_memory.specs.declared.page.MemFault.{MemFault}
 use Rattle.guest_memory.specs.declared.page.MemFault.TheVariants.{Misaligned}
 use Rattle.rv32_decode.specs.Table.{decoded}
 use Rattle.rv32_decode.specs.declared.instruction.Instr.{Instr}
-use Rattle.rv32_decode.specs.declared.instruction.Instr.TheVariants.{Lui, Auipc, Jal, Jalr, Branch, Load, Store, Imm, Op, Fence, Ecall, Ebreak, Lr, Sc, Amo}
+use Rattle.rv32_decode.specs.declared.instruction.Instr.TheVariants.{Lui, Auipc, Jal, Jalr, Branch}
+use Rattle.rv32_decode.specs.declared.instruction.Instr.TheVariants.{Load, Store, Imm, Op, Fence}
+use Rattle.rv32_decode.specs.declared.instruction.Instr.TheVariants.{Ecall, Ebreak, Lr, Sc, Amo}
 use Rattle.rv32_decode.specs.declared.instruction.Test.{Test}
 use Rattle.rv32_decode.specs.declared.instruction.Test.TheVariants.{Eq, Ne, Lt, Ge, Ltu, Geu}
 use Rattle.rv32_decode.specs.declared.instruction.LoadKind.{LoadKind}

@@ -1,5 +1,6 @@
 -- What each hart has reserved: the address of a word, or nothing.
-use Rattle.std.specs.Prelude.{ℕ, ◌-◌, ◌%◌, Bool, false, List, map, Option, Some, None, nat_eq, is_some, count_by, if◌then◌else◌, slice_index_or, slice_set}
+use Rattle.std.specs.Prelude.{ℕ, ◌-◌, ◌%◌, Bool, false, List, map, Option, Some, None, nat_eq}
+use Rattle.std.specs.Prelude.{is_some, count_by, if◌then◌else◌, slice_index_or, slice_set}
 
 -- how many harts have reserved a word
 abbrev pub count_held : List (Option ℕ) → ℕ

@@ -4,7 +4,10 @@ ghost use Rattle.guest_memory.specs.Bytes.{IsSize};
 ghost use Rattle.guest_memory.specs.Space.{Space};
 ghost use Rattle.rv32_machine.specs.Registers.{moved, advanced, with_reg};
 ghost use Rattle.rv32_machine.specs.Reserved.{is_of};
-ghost use Rattle.rv32_machine.specs.Effect.{amo_effect, lr_effect, sc_effect, machine, outcome, branch_effect, jumps, holds, load_size, extended, store_size, load_cause, store_cause, store_effect, load_effect, access};
+ghost use Rattle.rv32_machine.specs.Effect.{amo_effect, lr_effect, sc_effect, machine, outcome};
+ghost use Rattle.rv32_machine.specs.Effect.{branch_effect, jumps, holds, load_size, extended};
+ghost use Rattle.rv32_machine.specs.Effect.{store_size, load_cause, store_cause, store_effect};
+ghost use Rattle.rv32_machine.specs.Effect.{load_effect, access};
 
 use crate::arithmetic::amo_of;
 use crate::reservations::Reservations;

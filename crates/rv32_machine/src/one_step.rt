@@ -1,6 +1,7 @@
 // One step of a hart.
 ghost use Rattle.std.specs.Prelude.{◌≡◌, ◌<◌, length};
-ghost use Rattle.rv32_machine.specs.Effect.{KeepsPages, LeavesUnlessNext, effect, machine, outcome, stepped};
+ghost use Rattle.rv32_machine.specs.Effect.{KeepsPages, LeavesUnlessNext, effect, machine, outcome};
+ghost use Rattle.rv32_machine.specs.Effect.{stepped};
 
 use crate::arithmetic::{alu_of, plain_op};
 use crate::effects::{

@@ -16,7 +16,8 @@ use Rattle.settings.specs.Answers.{longest_content, settings_of, judged_table}
 short : (content : List ℕ) → length content ≤ longest_content → nat_lt longest_content (length content) ≡ false
 short content h = grind (arith, nat_tests)
 
-pub settings_of-table : (content : List ℕ) (table : Members) → length content ≤ longest_content → IsUtf8 content → parse_document content ≡ Some table
+pub settings_of-table : (content : List ℕ) (table : Members) → length content ≤ longest_content → IsUtf8 content
+    → parse_document content ≡ Some table
     → settings_of content ≡ judged_table table
 settings_of-table content table fits text parsed = rw (short content fits, is_utf8-from_IsUtf8 content text, parsed)
 
@@ -33,7 +34,8 @@ pub parse_document-blank : (content : List ℕ) → IsBlank content → parse_do
 unfolding parse_document lines
 parse_document-blank content blank = rw blank
 
-pub no_unknown-blank : (content : List ℕ) (table : Members) → IsBlank content → parse_document content ≡ Some table → least_unknown table ≡ None
+pub no_unknown-blank : (content : List ℕ) (table : Members) → IsBlank content → parse_document content ≡ Some table
+    → least_unknown table ≡ None
 unfolding least_unknown
 no_unknown-blank content table blank parsed =
     let empty : no_members ≡ table = same_Some _ _ (sym (parse_document-blank content blank) ∙ parsed) in

@@ -3,7 +3,7 @@ use Rattle.std.proofs.Common.{◌≡◌, ◌≢◌, ℕ, Some, refl, ap, sym}
 use Rattle.std.specs.Prelude.{unwrap_or}
 use Rattle.toml.specs.Data.{Members}
 use Rattle.settings.specs.declared.key.Key.{Key}
-use Rattle.settings.specs.declared.key.Key.TheVariants.{Harts, Memory, Stack, Tracking, Prediction, Report, Quantum, Budget}
+use Rattle.settings.specs.declared.key.Key.TheVariants.{Harts, Memory, Stack, Tracking, Prediction, Report, Quantum, Budget, Line}
 use Rattle.settings.specs.Tables.{number_beside, number_of}
 
 -- but for prediction, the tracking threshold makes no difference
@@ -17,8 +17,10 @@ number_of-alone table Prediction h = absurd (h refl)
 number_of-alone table Report h = refl
 number_of-alone table Quantum h = refl
 number_of-alone table Budget h = refl
+number_of-alone table Line h = refl
 
-pub number_of-prediction : (table : Members) (tracking : ℕ) → number_of table Tracking ≡ Some tracking → number_beside tracking table Prediction ≡ number_of table Prediction
+pub number_of-prediction : (table : Members) (tracking : ℕ) → number_of table Tracking ≡ Some tracking
+    → number_beside tracking table Prediction ≡ number_of table Prediction
 unfolding number_of
 number_of-prediction table tracking own =
     let alone : number_beside 0 table Tracking ≡ Some tracking = own in

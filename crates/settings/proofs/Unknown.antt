@@ -1,5 +1,6 @@
 -- The first unknown name of an ordered table is the least.
-use Rattle.std.proofs.Common.{◌≡◌, ℕ, Bool, List, [], ◌∷◌, Option, Some, None, option_map, String, Global, Less, string_bytes, find, filter, Bor, refl, ◌∙◌, ap, inl, inr}
+use Rattle.std.proofs.Common.{◌≡◌, ℕ, Bool, List, [], ◌∷◌, Option, Some, None, option_map, String, Global, Less, string_bytes, find, filter}
+use Rattle.std.proofs.Common.{Bor, refl, ◌∙◌, ap, inl, inr}
 use Rattle.std.proofs.lemmas.Bool.{cases_Bool}
 use Rattle.std.specs.List.{AllByRecursion}
 use Rattle.std.specs.List.Sorted.{IsStrictlySortedBy}
@@ -27,7 +28,8 @@ module _ (test : List ℕ → Bool) where
         | inr fails ↦ rw fails (lesser-first k es h.1)
       ]
 
-  first-least : (es : List Entry) → IsStrictlySortedBy string_cmp (keys_of es) → first_name es ≡ least (filter test (names_of (members_view es)))
+  first-least : (es : List Entry) → IsStrictlySortedBy string_cmp (keys_of es)
+      → first_name es ≡ least (filter test (names_of (members_view es)))
   unfolding IsStrictlySortedBy
   first-least [] h = refl
   first-least (e ∷ es) h =
@@ -36,7 +38,8 @@ module _ (test : List ℕ → Bool) where
         | inr fails ↦ rw fails (first-least es h.1)
       ]
 
-copied : (found : Option (Bor (String Global))) → option_map (λ name. string_bytes name.now) found ≡ option_map string_bytes (option_copied found)
+copied : (found : Option (Bor (String Global))) → option_map (λ name. string_bytes name.now) found ≡ option_map string_bytes
+    (option_copied found)
 copied None = refl
 copied (Some name) = refl
 

@@ -7,7 +7,8 @@ use Rattle.toml.specs.Parse.{parse_document}
 use Rattle.heap_objects.specs.Names.{name_of}
 use Rattle.settings.specs.declared.values.Settings.{Settings}
 use Rattle.settings.specs.declared.fault.SettingsFault.{SettingsFault}
-use Rattle.settings.specs.declared.fault.SettingsFault.TheVariants.{TooLong, BadToml, UnknownKey, OutOfRange, NoMemory}
+use Rattle.settings.specs.declared.fault.SettingsFault.TheVariants.{TooLong, BadToml, UnknownKey}
+use Rattle.settings.specs.declared.fault.SettingsFault.TheVariants.{OutOfRange, NoMemory}
 use Rattle.settings.specs.Tables.{first_out_of_range, values_of, least_unknown}
 
 -- how many bytes a settings file may have
@@ -20,11 +21,13 @@ table_of content = if is_utf8 content then parse_document content else None
 
 -- the values of a table, unless one is out of range
 abbrev pub judged_values : Members → Result Settings SettingsFault
-judged_values table = option_map_or (λ key. Err (OutOfRange key)) (first_out_of_range table) (Ok (values_of table))
+judged_values table = option_map_or (λ key. Err (OutOfRange key)) (first_out_of_range table)
+    (Ok (values_of table))
 
 -- the same, unless a key is unknown
 abbrev pub judged_table : Members → Result Settings SettingsFault
-judged_table table = option_map_or (λ name. Err (UnknownKey (name_of name))) (least_unknown table) (judged_values table)
+judged_table table = option_map_or (λ name. Err (UnknownKey (name_of name))) (least_unknown table)
+    (judged_values table)
 
 -- the same of a content, unless it is too long or no table
 abbrev pub settings_of : List ℕ → Result Settings SettingsFault

@@ -1,5 +1,6 @@
 -- The settings that a table of keys and values gives, or its first fault.
-use Rattle.std.specs.Prelude.{ℕ, ℤ, pos, negsuc, Bool, not, if◌then◌else◌, List, [], ◌∷◌, Option, Some, None, is_none, unwrap_or, option_and_then, find, filter}
+use Rattle.std.specs.Prelude.{ℕ, ℤ, pos, negsuc, Bool, not, if◌then◌else◌, List, [], ◌∷◌, Option}
+use Rattle.std.specs.Prelude.{Some, None, is_none, unwrap_or, option_and_then, find, filter}
 use Rattle.std.specs.List.{list_any}
 use Rattle.std.specs.Str.{bytes_eq}
 use Rattle.std.specs.Option.{option_map_or}
@@ -7,26 +8,32 @@ use Rattle.std.specs.Ordering.{nat_cmp, match_ordering}
 use Rattle.std.specs.Cmp.Lexicographic.{slice_cmp}
 use Rattle.toml.specs.Data.{Data, Members, no_members, member, get_member, as_integer}
 use Rattle.settings.specs.declared.key.Key.{Key}
-use Rattle.settings.specs.declared.key.Key.TheVariants.{Harts, Memory, Stack, Tracking, Prediction, Report, Quantum, Budget}
-use Rattle.settings.specs.declared.key.Limits.{Limits}
+use Rattle.settings.specs.declared.key.Key.TheVariants.{Harts, Memory, Stack, Tracking, Prediction}
+use Rattle.settings.specs.declared.key.Key.TheVariants.{Report, Quantum, Budget, Line}
+use Rattle.settings.specs.declared.key.Form.{Form}
+use Rattle.settings.specs.declared.key.Rule.{Rule}
 use Rattle.settings.specs.declared.values.Settings.{Settings}
-use Rattle.settings.specs.Keys.{keys_in_order, key_name, limits_of, is_within}
+use Rattle.settings.specs.Keys.{keys_in_order, key_name, has_form, rule_of}
 
--- the integer, where it lies within the limits
-abbrev pub whole_within : Limits → ℤ → Option ℕ
-whole_within limits (pos n) = if is_within limits n then Some n else None
-whole_within limits (negsuc n) = None
+-- the integer, where it has the form
+abbrev pub whole_of_form : Form → ℤ → Option ℕ
+whole_of_form form (pos n) = if has_form form n then Some n else None
+whole_of_form form (negsuc n) = None
 
--- the whole number that a value is, where it lies within the limits
-abbrev pub number_within : Limits → Data → Option ℕ
-number_within limits value = option_and_then (whole_within limits) (as_integer value)
+-- the whole number that a value is, where it has the form
+abbrev pub number_of_form : Form → Data → Option ℕ
+number_of_form form value = option_and_then (whole_of_form form) (as_integer value)
 
--- what a table gives for a key beside a tracking threshold: an absent key has its usual value
+-- what a table gives for a key under a rule: an absent key has its usual value
+abbrev pub number_under : Rule → Members → Key → Option ℕ
+number_under r table key = option_map_or (number_of_form r.form) (get_member (key_name key) table)
+    (Some r.usual)
+
+-- the same beside a tracking threshold
 abbrev pub number_beside : ℕ → Members → Key → Option ℕ
-number_beside tracking table key =
-    option_map_or (number_within (limits_of tracking key)) (get_member (key_name key) table) (Some (limits_of tracking key).usual)
+number_beside tracking table key = number_under (rule_of tracking key) table key
 
--- the tracking threshold of a table, whose limits rest on none; 0 where it is out of range
+-- the tracking threshold of a table, whose form rests on none; 0 where it is out of range
 abbrev pub tracking_of : Members → ℕ
 tracking_of table = unwrap_or (number_beside 0 table Tracking) 0
 
@@ -34,7 +41,7 @@ tracking_of table = unwrap_or (number_beside 0 table Tracking) 0
 unfoldable pub number_of : Members → Key → Option ℕ
 number_of table key = number_beside (tracking_of table) table key
 
--- the first key whose value is no whole number within its limits
+-- the first key whose value is no whole number of its form
 abbrev pub first_out_of_range : Members → Option Key
 first_out_of_range table = find (λ key. is_none (number_of table key)) keys_in_order
 
@@ -52,6 +59,7 @@ values_of table =
       report = value_of table Report;
       quantum = value_of table Quantum;
       budget = value_of table Budget;
+      line = value_of table Line;
     }
 
 -- the names of a table

@@ -10,9 +10,9 @@ pub enum SettingsFault {
     TooLong,
     /// It is no TOML, or no UTF-8.
     BadToml,
-    /// The least key in byte order that is none of the eight.
+    /// The least key in byte order that is none of the nine.
     UnknownKey(Name),
-    /// The first key, in the order of `Key`, whose value is no whole number in its range.
+    /// The first key, in the order of `Key`, whose value is no whole number that it may have.
     OutOfRange(Key),
     /// Memory ran out.
     NoMemory,

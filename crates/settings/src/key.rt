@@ -1,5 +1,5 @@
 // The keys of a settings file, and the values that each may have.
-ghost use Rattle.std.specs.Prelude.{◌≡◌, ◌<◌, ◌≤◌, ◌^◌, bytes_eq};
+ghost use Rattle.std.specs.Prelude.{◌≡◌, ◌≤◌, ◌^◌, bytes_eq, IsTrue};
 
 /// A key of a settings file.
 #[derive(Clone, Copy, PartialEq, Eq, Debug)]
@@ -20,45 +20,59 @@ pub enum Key {
     Quantum,
     /// How many steps a run may take, from 1 to 2^36.
     Budget,
+    /// How many bytes a line has where no layout is named: 32, 64, 128 or 256.
+    Line,
 }
 
-// The whole numbers from `low` to `high` that `unit` divides, and the one that an absent key has.
+// What a value may be.
 #[derive(Clone, Copy)]
-pub(crate) struct Limits {
-    pub(crate) low: u64,
-    pub(crate) high: u64,
-    pub(crate) unit: u64,
+pub(crate) enum Form {
+    // A number from a least to a greatest.
+    FromTo(u64, u64),
+    // Such a number of bytes that is a multiple of 4096.
+    Pages(u64, u64),
+    // A native line size.
+    LineSize,
+}
+
+impl Form {
+    ghost use Rattle.settings.specs.Keys.{has_form, HasForm};
+
+    // Whether a number has the form.
+    pub(crate) fn holds(self, n: u64) -> bool
+        ensures value { result ≡ has_form self n }
+        ensures fact { IsTrue result → HasForm self n }
+    {
+        match self {
+            Form::FromTo(low, high) => low <= n && n <= high,
+            Form::Pages(low, high) => low <= n && n <= high && n % 4096 == 0,
+            Form::LineSize => matches!(n, 32 | 64 | 128 | 256),
+        }
+    }
+}
+
+// What the value of a key may be, and what an absent key has.
+#[derive(Clone, Copy)]
+pub(crate) struct Rule {
+    pub(crate) form: Form,
     pub(crate) usual: u64,
 }
 
-impl Limits {
-    ghost use Rattle.settings.specs.Keys.{limits, is_within};
+impl Rule {
+    ghost use Rattle.settings.specs.Keys.{rule};
 
-    const fn new(low: u64, high: u64, unit: u64, usual: u64) -> Limits
-        ensures { result ≡ limits low high unit usual }
+    const fn new(form: Form, usual: u64) -> Rule
+        ensures { result ≡ rule form usual }
     {
-        Limits {
-            low,
-            high,
-            unit,
-            usual,
-        }
-    }
-
-    // Whether a number lies within them.
-    pub(crate) fn hold(self, n: u64) -> bool
-        requires { 0 < self.unit }
-        ensures { result ≡ is_within self n }
-    {
-        self.low <= n && n <= self.high && n % self.unit == 0
+        Rule { form, usual }
     }
 }
 
 impl Key {
-    ghost use Rattle.settings.specs.Keys.{keys_in_order, key_name, limits_of, IsWithin};
+    ghost use Rattle.settings.specs.Keys.{keys_in_order, key_name, rule_of, HasForm};
 
     // The keys in the order in which they are judged.
-    pub(crate) fn all() -> [Key; 8]
+    pub(crate) fn all() -> [Key; 9]
         ensures { result ≡ keys_in_order }
     {
         [
@@ -70,6 +84,7 @@ impl Key {
             Key::Report,
             Key::Quantum,
             Key::Budget,
+            Key::Line,
         ]
     }
 
@@ -86,6 +101,7 @@ impl Key {
             Key::Report => "report",
             Key::Quantum => "quantum",
             Key::Budget => "budget",
+            Key::Line => "line",
         }
     }
 
@@ -96,22 +112,22 @@ impl Key {
         self.name() == name
     }
 
-    // What its value may be beside a tracking threshold.
-    pub(crate) fn limits(self, tracking: u64) -> Limits
+    // What its value may be beside a tracking threshold, and its usual value.
+    pub(crate) fn rule(self, tracking: u64) -> Rule
         requires { tracking ≤ 2 ^ 32 }
-        ensures value { result ≡ limits_of tracking self }
-        ensures divides { 0 < result.unit }
-        ensures usual { IsWithin result result.usual }
+        ensures value { result ≡ rule_of tracking self }
+        ensures usual { HasForm result.form result.usual }
     {
         match self {
-            Key::Harts => Limits::new(1, 256, 1, 8),
-            Key::Memory => Limits::new(1 << 16, 1 << 26, 4096, 1 << 24),
-            Key::Stack => Limits::new(1 << 12, 1 << 20, 4096, 1 << 16),
-            Key::Tracking => Limits::new(1, 1 << 32, 1, 16),
-            Key::Prediction => Limits::new(tracking, 1 << 32, 1, tracking.max(64)),
-            Key::Report => Limits::new(1, 1 << 40, 1, 100),
-            Key::Quantum => Limits::new(1, 1 << 20, 1, 100),
-            Key::Budget => Limits::new(1, 1 << 36, 1, 100_000_000),
+            Key::Harts => Rule::new(Form::FromTo(1, 256), 8),
+            Key::Memory => Rule::new(Form::Pages(1 << 16, 1 << 26), 1 << 24),
+            Key::Stack => Rule::new(Form::Pages(1 << 12, 1 << 20), 1 << 16),
+            Key::Tracking => Rule::new(Form::FromTo(1, 1 << 32), 16),
+            Key::Prediction => Rule::new(Form::FromTo(tracking, 1 << 32), tracking.max(64)),
+            Key::Report => Rule::new(Form::FromTo(1, 1 << 40), 100),
+            Key::Quantum => Rule::new(Form::FromTo(1, 1 << 20), 100),
+            Key::Budget => Rule::new(Form::FromTo(1, 1 << 36), 100_000_000),
+            Key::Line => Rule::new(Form::LineSize, 64),
         }
     }
 }

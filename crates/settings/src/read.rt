@@ -1,16 +1,19 @@
 // How a settings file is read.
-ghost use Rattle.std.specs.Prelude.{◌≡◌, ◌≢◌, ◌≤◌, ◌<◌, ◌^◌, ◌↔◌, Err, IfSome, IfOk, IfErr, length, string_bytes, option_map, bytes_eq, Some, None, Ok};
+ghost use Rattle.std.specs.Prelude.{◌≡◌, ◌≢◌, ◌≤◌, ◌<◌, ◌^◌, ◌↔◌, Err, IfSome, IfOk, IfErr, length};
+ghost use Rattle.std.specs.Prelude.{string_bytes, option_map, bytes_eq, Some, None, Ok};
 ghost use Rattle.std.specs.List.{list_any};
 ghost use Rattle.toml.specs.View.{view, table_view};
 ghost use Rattle.toml.specs.Data.{no_members, get_member};
 ghost use Rattle.toml.specs.Errors.{IsBlank};
-ghost use Rattle.settings.specs.Keys.{key_name, limits_of, IsWithin};
-ghost use Rattle.settings.specs.Tables.{number_within, number_beside, number_of, least_unknown, is_unknown, values_of};
-ghost use Rattle.settings.specs.Answers.{longest_content, judged_values, judged_table, settings_of, UnlessMemory};
+ghost use Rattle.settings.specs.Keys.{key_name, form_of, HasForm};
+ghost use Rattle.settings.specs.Tables.{number_of_form, number_beside, number_of, least_unknown};
+ghost use Rattle.settings.specs.Tables.{is_unknown, values_of};
+ghost use Rattle.settings.specs.Answers.{longest_content, judged_values, judged_table, settings_of};
+ghost use Rattle.settings.specs.Answers.{UnlessMemory};
 ghost use Rattle.settings.specs.Allowed.{IsAllowed};
 
 use crate::fault::SettingsFault;
-use crate::key::{Key, Limits};
+use crate::key::{Form, Key};
 use crate::values::Settings;
 use heap_objects::Name;
 use predator_base::NoMemory;
@@ -27,38 +30,37 @@ fn value_at<'a>(table: &'a Table, key: Key) -> Option<&'a Value>
     table.get(key.name())
 }
 
-// The whole number that a value is, where it lies within the limits.
-fn whole_number(value: &Value, limits: Limits) -> Option<u64>
-    requires { 0 < limits.unit }
-    ensures value { result ≡ number_within limits (view value.now) }
-    ensures within { IfSome result (IsWithin limits) }
+// The whole number that a value is, where it has the form.
+fn whole_number(value: &Value, form: Form) -> Option<u64>
+    ensures value { result ≡ number_of_form form (view value.now) }
+    ensures form { IfSome result (HasForm form) }
 {
     let whole = value.as_integer()?;
-    if whole < 0 || !limits.hold(whole.cast_unsigned()) {
+    if whole < 0 || !form.holds(whole.cast_unsigned()) {
         return None;
     }
     Some(whole.cast_unsigned())
 }
 
 // What a table gives for a key beside a tracking threshold: None where its value is no whole number
-// in the key's range.
+// of the key's form.
 fn number(table: &Table, key: Key, tracking: u64) -> Option<u64>
     requires { tracking ≤ 2 ^ 32 }
     ensures value { result ≡ number_beside tracking (table_view table.now) key }
-    ensures within { IfSome result (IsWithin (limits_of tracking key)) }
+    ensures form { IfSome result (HasForm (form_of tracking key)) }
 {
-    let limits = key.limits(tracking);
+    let rule = key.rule(tracking);
     match value_at(table, key) {
-        Some(value) => whole_number(value, limits),
-        None => Some(limits.usual),
+        Some(value) => whole_number(value, rule.form),
+        None => Some(rule.usual),
     }
 }
 
-// The same beside the table's own tracking threshold, of a key whose range does not rest on it.
+// The same beside the table's own tracking threshold, of a key whose form does not rest on it.
 fn number_alone(table: &Table, key: Key) -> Option<u64>
     requires { key ≢ Key.Prediction }
     ensures value { result ≡ number_of (table_view table.now) key }
-    ensures within { IfSome result (IsWithin (limits_of 0 key)) }
+    ensures form { IfSome result (HasForm (form_of 0 key)) }
 {
     number(table, key, 0)
 }
@@ -68,7 +70,7 @@ fn prediction_beside(table: &Table, tracking: u64) -> Option<u64>
     requires own { number_of (table_view table.now) Key.Tracking ≡ Some tracking }
     requires small { tracking ≤ 2 ^ 32 }
     ensures value { result ≡ number_of (table_view table.now) Key.Prediction }
-    ensures within { IfSome result (IsWithin (limits_of tracking Key.Prediction)) }
+    ensures form { IfSome result (HasForm (form_of tracking Key.Prediction)) }
 {
     number(table, Key::Prediction, tracking)
 }
@@ -102,6 +104,9 @@ fn judge_values(table: &Table) -> Result<Settings, SettingsFault>
     let Some(budget) = number_alone(table, Key::Budget) else {
         return Err(SettingsFault::OutOfRange(Key::Budget));
     };
+    let Some(line) = number_alone(table, Key::Line) else {
+        return Err(SettingsFault::OutOfRange(Key::Line));
+    };
     Ok(Settings {
         harts: harts as u16,
         memory: memory as u32,
@@ -111,6 +116,7 @@ fn judge_values(table: &Table) -> Result<Settings, SettingsFault>
         report,
         quantum: quantum as u32,
         budget,
+        line: line as u32,
     })
 }
 
@@ -121,7 +127,7 @@ fn is_among(keys: &[Key], name: &str) -> bool
     keys.iter().any(|key| key.is_written(name))
 }
 
-// Whether a name is none of the eight keys.
+// Whether a name is none of the nine keys.
 fn is_unknown_name(name: &str) -> bool
     ensures { result ≡ is_unknown name.now }
 {
@@ -130,7 +136,8 @@ fn is_unknown_name(name: &str) -> bool
 
 // The least name of a table that is no key: its names ascend.
 fn first_unknown(table: &Table) -> Option<&String>
-    ensures { option_map (λ name. string_bytes name.now) result ≡ least_unknown (table_view table.now) }
+    ensures { option_map (λ name. string_bytes name.now) result ≡ least_unknown
+        (table_view table.now) }
 {
     table.keys().find(|name| is_unknown_name(name.as_str()))
 }
@@ -138,9 +145,11 @@ fn first_unknown(table: &Table) -> Option<&String>
 // The values of a table, or its first fault.
 fn judge_table(alloc: Global, table: &Table) -> Result<Settings, SettingsFault>
     ensures accepted { IfOk result (λ settings. judged_table (table_view table.now) ≡ Ok settings) }
-    ensures refused { IfErr result (λ fault. UnlessMemory fault (judged_table (table_view table.now) ≡ Err fault)) }
+    ensures refused { IfErr result
+        (λ fault. UnlessMemory fault (judged_table (table_view table.now) ≡ Err fault)) }
     ensures allowed { IfOk result IsAllowed }
-    ensures known { least_unknown (table_view table.now) ≡ None → result ≢ Err SettingsFault.NoMemory }
+    ensures known { least_unknown (table_view table.now) ≡ None
+        → result ≢ Err SettingsFault.NoMemory }
 {
     let Some(name) = first_unknown(table) else {
         return judge_values(table);
@@ -166,6 +175,7 @@ impl Settings {
             report: 100,
             quantum: 100,
             budget: 100_000_000,
+            line: 64,
         }
     }
 
@@ -173,8 +183,10 @@ impl Settings {
     /// `SettingsFault`. Want of memory may come before any of them but the first.
     pub fn read(alloc: Global, content: &[u8]) -> Result<Settings, SettingsFault>
         ensures accepted { IfOk result (λ settings. settings_of content.now ≡ Ok settings) }
-        ensures refused { IfErr result (λ fault. UnlessMemory fault (settings_of content.now ≡ Err fault)) }
-        ensures too_long { (result ≡ Err SettingsFault.TooLong) ↔ (longest_content < length content.now) }
+        ensures refused { IfErr result
+            (λ fault. UnlessMemory fault (settings_of content.now ≡ Err fault)) }
+        ensures too_long { (result ≡ Err SettingsFault.TooLong)
+            ↔ (longest_content < length content.now) }
         ensures allowed { IfOk result IsAllowed }
         // White space and comments alone take no memory.
         ensures blank { IsBlank content.now → result ≢ Err SettingsFault.NoMemory }

@@ -23,6 +23,7 @@ fn an_absent_key_has_its_usual_value(rt: HostRuntime) -> Result<(), Fail> {
         report: 100,
         quantum: 100,
         budget: 100_000_000,
+        line: 64,
     };
     assert_eq!(rt; Settings::usual(), usual);
     assert_eq!(rt; Settings::read(rt.alloc(), b"")?, usual);
@@ -34,8 +35,8 @@ fn an_absent_key_has_its_usual_value(rt: HostRuntime) -> Result<(), Fail> {
 
 #[test]
 fn a_whole_file_is_read(rt: HostRuntime) -> Result<(), Fail> {
-    let text = "# all keys\nbudget = 68_719_476_736\nquantum = 1\nreport = 0x1\nprediction = 2\n\
-        tracking = 2\nstack = 4096\nmemory = 65536\n\"harts\" = 256\n";
+    let text = "# all keys\nline = 128\nbudget = 68_719_476_736\nquantum = 1\nreport = 0x1\n\
+        prediction = 2\ntracking = 2\nstack = 4096\nmemory = 65536\n\"harts\" = 256\n";
     let settings = Settings::read(rt.alloc(), text.as_bytes())?;
     assert_eq!(rt; settings.harts, 256);
     assert_eq!(rt; settings.memory, 65_536);
@@ -43,6 +44,37 @@ fn a_whole_file_is_read(rt: HostRuntime) -> Result<(), Fail> {
     assert_eq!(rt; settings.prediction, 2);
     assert_eq!(rt; settings.report, 1);
     assert_eq!(rt; settings.budget, 68_719_476_736);
+    assert_eq!(rt; settings.line(), 128);
+    Ok(())
+}
+
+#[test]
+fn a_line_has_one_of_four_sizes(rt: HostRuntime) -> Result<(), Fail> {
+    for (text, size) in [
+        ("line = 32", 32),
+        ("line = 64", 64),
+        ("line = 128", 128),
+        ("line = 256", 256),
+        ("harts = 2", 64),
+    ] {
+        let settings = Settings::read(rt.alloc(), text.as_bytes())?;
+        assert_eq!(rt; settings.line(), size, "at {text}");
+    }
+    for text in [
+        "line = 96",
+        "line = 0",
+        "line = 512",
+        "line = \"64\"",
+        "line = 64.0",
+        "line = -64",
+    ] {
+        let found = Settings::read(rt.alloc(), text.as_bytes());
+        assert_eq!(rt;
+            found,
+            Err(SettingsFault::OutOfRange(Key::Line)),
+            "at {text}"
+        );
+    }
     Ok(())
 }
 
@@ -69,6 +101,7 @@ fn a_file_is_refused_with_its_first_fault(rt: HostRuntime) -> Result<(), Fail> {
         ("report = -1", Key::Report),
         ("quantum = 1048577", Key::Quantum),
         ("budget = [1]\nharts = 0", Key::Harts),
+        ("line = 48\nbudget = 0", Key::Budget),
     ] {
         let found = Settings::read(rt.alloc(), text.as_bytes());
         assert_eq!(rt; found, Err(SettingsFault::OutOfRange(key)), "at {text}");

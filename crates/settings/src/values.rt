@@ -1,6 +1,7 @@
 // The settings.
+ghost use Rattle.std.specs.Prelude.{◌≡◌};
 
-/// The settings of a run and of its report. Each value lies within the range of its `Key`.
+/// The settings of a run and of its report. Each value is one that its `Key` may have.
 #[derive(Clone, Copy, PartialEq, Eq, Debug)]
 pub struct Settings {
     /// How many harts the guest has.
@@ -19,4 +20,15 @@ pub struct Settings {
     pub quantum: u32,
     /// How many steps a run may take.
     pub budget: u64,
+    /// How many bytes a line has where no layout is named: the native line size.
+    pub line: u32,
+}
+
+impl Settings {
+    /// The native line size: how many bytes a line has where no layout is named.
+    pub fn line(&self) -> u32
+        ensures { result ≡ self.now.line }
+    {
+        self.line
+    }
 }

@@ -1,5 +1,6 @@
 -- The tests of what stands on a line, and what they say.
-use Rattle.std.proofs.Common.{◌≡◌, ℕ, ◌+◌, ◌<◌, ◌≤◌, ◌↔◌, ℤ, pos, negsuc, ◌+ℤ◌, Bool, true, false, ◌&&◌, Option, None, Some, refl, sym, inl, inr, arith, true≢false}
+use Rattle.std.proofs.Common.{◌≡◌, ℕ, ◌+◌, ◌<◌, ◌≤◌, ◌↔◌, ℤ, pos, negsuc, ◌+ℤ◌, Bool, true, false, ◌&&◌, Option, None, Some, refl, sym, inl}
+use Rattle.std.proofs.Common.{inr, arith, true≢false}
 use Rattle.std.specs.Prelude.{int_le, int_lt, max, nat_lt}
 use Rattle.std.proofs.lemmas.Int.{ints}
 use Rattle.std.proofs.lemmas.Bool.{cases_lt, ltb-true}
@@ -19,7 +20,8 @@ below_test : (a b : ℕ) → a < b → nat_lt a b ≡ true
 below_test a b h = grind (arith, nat_tests)
 
 -- an address that both have: the later of their beginnings
-shared : (base : ℤ) (bytes addr size : ℕ) → 0 < size → 0 < bytes → int_lt (pos addr) (base +ℤ pos bytes) ≡ true → int_lt base (pos addr +ℤ pos size) ≡ true
+shared : (base : ℤ) (bytes addr size : ℕ) → 0 < size → 0 < bytes → int_lt (pos addr) (base +ℤ pos bytes) ≡ true
+    → int_lt base (pos addr +ℤ pos size) ≡ true
     → SymbolStands (record { base = base; size = bytes }) addr size
 shared (negsuc n) bytes addr size a b c d = record {
   at = addr;
@@ -74,7 +76,8 @@ tested r addr size s =
     positive : (base : ℤ) (at bytes : ℕ) → int_le base (pos at) ≡ true → int_lt (pos at) (base +ℤ pos bytes) ≡ true → 0 < bytes
     positive base at bytes a b = grind (arith, ints)
 
-    first : (base : ℤ) (addr at bytes : ℕ) → addr ≤ at → int_lt (pos at) (base +ℤ pos bytes) ≡ true → int_lt (pos addr) (base +ℤ pos bytes) ≡ true
+    first : (base : ℤ) (addr at bytes : ℕ) → addr ≤ at → int_lt (pos at) (base +ℤ pos bytes) ≡ true → int_lt (pos addr) (base +ℤ pos bytes)
+        ≡ true
     first base addr at bytes a b = grind (arith, ints)
 
     last : (base : ℤ) (addr at size : ℕ) → int_le base (pos at) ≡ true → at < addr + size → int_lt base (pos addr +ℤ pos size) ≡ true
@@ -109,5 +112,6 @@ block_exact r start end b = (
     meets = found r b.addr b.size parts.0;
     lives = lives start end b b.died refl (ltb-true (max b.born start) (last_position b.died end) parts.1);
   }),
-  λ s. each _ _ (tested r b.addr b.size s.meets) (below_test (max b.born start) (last_position b.died end) (lived start end b b.died refl s.lives)),
+  λ s. each _ _ (tested r b.addr b.size s.meets) (below_test (max b.born start) (last_position b.died end)
+      (lived start end b b.died refl s.lives)),
 )

@@ -10,7 +10,9 @@ use Rattle.sharing_rules.specs.Holders.{is_invalidation}
 abbrev pub word_line : ℕ → ℕ
 word_line = line_number 4 0
 
--- From empty caches under lines of 4 bytes, no position of the list is an invalidation of a word of the line.
+-- From empty caches under lines of 4 bytes, no position of the list is an invalidation of a word of
+-- the line.
 abbrev pub HasQuietWords : Line → AccessList → Type 0
 HasQuietWords l t =
-    (addr : ℕ) → IsTrue (is_inside l addr) → (i : ℕ) → IsFalse (passes_at (is_invalidation word_line (word_line addr)) t i)
+    (addr : ℕ) → IsTrue (is_inside l addr) → (i : ℕ)
+    → IsFalse (passes_at (is_invalidation word_line (word_line addr)) t i)

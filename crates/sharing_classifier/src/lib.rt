@@ -1,5 +1,5 @@
-//! The verdict over the words of a line: whether its sharing is false, true or mixed, and what false means; and which
-//! symbols and heap blocks stand on a line.
+//! The verdict over the words of a line: whether its sharing is false, true or mixed, and what
+//! false means; and which symbols and heap blocks stand on a line.
 #![tactic(auto)]
 
 ghost use Rattle.std.specs.Prelude.{◌≡◌, ℕ, ◌||◌, ◌==◌, ◌/◌, drop, length, IsTrue, Some};
@@ -25,10 +25,11 @@ use word_shadow::Shadow;
 /// Where it is false, no word would be taken from a hart if each word had a line of its own.
 pub fn verdict(shadow: &Shadow) -> Verdict
     ensures value { result ≡ verdicts.verdict_of shadow.now.words }
-    // where the words are those of a line since a position, false means that the accesses from there on, as a list
-    // of their own, invalidate no word of the line
+    // where the words are those of a line since a position, false means that the accesses from
+    // there on, as a list of their own, invalidate no word of the line
     ensures quiet { (l : Line) (s : ℕ) (t : AccessList) → IsTrue (is_layout l.size l.offset)
-        → shadow.now.words ≡ words_since l s t → result ≡ FalseSharing → HasQuietWords l (drop s t) }
+        → shadow.now.words ≡ words_since l s t → result ≡ FalseSharing
+        → HasQuietWords l (drop s t) }
     // the same for the track of a line, from its start
     ensures tracked { (l : Line) (from s : ℕ) (t : AccessList) → IsTrue (is_layout l.size l.offset)
         → (track_of l from t).start ≡ Some s → shadow.now.words ≡ (track_of l from t).words
@@ -57,7 +58,8 @@ fn is_any_shared(shadow: &Shadow) -> bool
 
 // Whether every written word is truly shared.
 fn is_each_written_shared(shadow: &Shadow) -> bool
-    ensures { result ≡ list_all (λ w. verdicts.is_truly_shared w || (w.writes == 0)) shadow.now.words }
+    ensures { result ≡ list_all (λ w. verdicts.is_truly_shared w || (w.writes == 0))
+        shadow.now.words }
 {
     for i in 0..word_count(shadow) {
         if !is_shared_if_written(&shadow.word(i)) {

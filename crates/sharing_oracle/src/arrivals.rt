@@ -10,13 +10,15 @@ use predator_base::{Access, Hart, NoMemory};
 use sharing_rules::CacheLine;
 use std::alloc::Global;
 
-/// The harts that touched a line since its last write, in the order of their first such access; none without a write.
+/// The harts that touched a line since its last write, in the order of their first such access;
+/// none without a write.
 pub fn arrivals_of(
     alloc: Global,
     line: &CacheLine,
     accesses: &[Access],
 ) -> Result<Vec<Hart>, NoMemory>
-    ensures { IfOk result (λ harts. harts.items ≡ arrivals.arrivals (is_inside line.now) accesses.now) }
+    ensures { IfOk result
+        (λ harts. harts.items ≡ arrivals.arrivals (is_inside line.now) accesses.now) }
 {
     let mut harts = Vec::new(alloc);
     for access in accesses {
@@ -27,11 +29,15 @@ pub fn arrivals_of(
     Ok(harts)
 }
 
-// An access of the line: a write leaves its hart alone, and a read adds its own where there was a write.
+// An access of the line: a write leaves its hart alone, and a read adds its own where there was a
+// write.
 fn note(harts: &mut Vec<Hart>, access: &Access) -> Result<(), NoMemory>
-    ensures write { OnOk result (IsTrue (is_write access.now.kind) → harts.new.items ≡ access.now.hart ∷ []) }
-    ensures early { OnOk result (IsFalse (is_write access.now.kind) → harts.old.items ≡ [] → harts.new.items ≡ []) }
-    ensures read { OnOk result (IsFalse (is_write access.now.kind) → harts.old.items ≢ [] → harts.new.items ≡ note_arrival harts.old.items access.now.hart) }
+    ensures write { OnOk result (IsTrue (is_write access.now.kind)
+        → harts.new.items ≡ access.now.hart ∷ []) }
+    ensures early { OnOk result (IsFalse (is_write access.now.kind) → harts.old.items ≡ []
+        → harts.new.items ≡ []) }
+    ensures read { OnOk result (IsFalse (is_write access.now.kind) → harts.old.items ≢ []
+        → harts.new.items ≡ note_arrival harts.old.items access.now.hart) }
 {
     let hart = access.hart();
     if access.kind().is_write() {

@@ -2,7 +2,8 @@
 ghost use Rattle.std.specs.Prelude.{◌≡◌, ℕ, ◌≤◌, Bool, ◌&&◌, not, ◌==◌, nat_lt, length, take, IfOk};
 ghost use Rattle.std.specs.List.{list_any};
 ghost use Rattle.predator_base.specs.Lines.{line_number};
-ghost use Rattle.sharing_rules.specs.Holders.{holders, after_access, is_held_by_another, is_invalidation, line_count_since};
+ghost use Rattle.sharing_rules.specs.Holders.{holders, after_access, is_held_by_another};
+ghost use Rattle.sharing_rules.specs.Holders.{is_invalidation, line_count_since};
 ghost use Rattle.sharing_rules.specs.Lines.{is_inside};
 
 use crate::places::{Question, count_places};
@@ -11,7 +12,8 @@ use sharing_rules::CacheLine;
 
 /// Whether the cache of a hart has a line after these accesses.
 pub fn is_holder(line: &CacheLine, accesses: &[Access], hart: Hart) -> bool
-    ensures { result ≡ holders (line_number line.now.size line.now.offset) accesses.now hart line.now.number }
+    ensures { result ≡ holders (line_number line.now.size line.now.offset) accesses.now hart
+        line.now.number }
 {
     let mut is_held = false;
     for access in accesses {
@@ -25,7 +27,8 @@ pub fn is_holder(line: &CacheLine, accesses: &[Access], hart: Hart) -> bool
 
 /// Whether the cache of a hart other than this one has a line after these accesses.
 pub fn is_held_elsewhere(line: &CacheLine, accesses: &[Access], hart: Hart) -> bool
-    ensures { result ≡ is_held_by_another (line_number line.now.size line.now.offset) accesses.now hart line.now.number }
+    ensures { result ≡ is_held_by_another (line_number line.now.size line.now.offset) accesses.now
+        hart line.now.number }
 {
     for access in accesses {
         let other = access.hart();
@@ -50,7 +53,8 @@ impl Question for Invalidations {
     ghost use Rattle.predator_base.specs.Lines.{line_number};
     ghost use Rattle.sharing_rules.specs.Holders.{is_invalidation};
 
-    ghost asked = { λ q before a. nat_lt q.start (length before) && is_invalidation (line_number q.line.size q.line.offset) q.line.number before a };
+    ghost asked = { λ q before a. nat_lt q.start (length before) && is_invalidation
+        (line_number q.line.size q.line.offset) q.line.number before a };
 
     fn passes(&self, before: &[Access], access: &Access) -> bool {
         self.start < before.len()

@@ -1,7 +1,8 @@
-//! A plain slow program that computes the rules of sharing over whole access lists, each answer anew.
+//! A plain slow program that computes the rules of sharing over whole access lists, each answer
+//! anew.
 //!
-//! It is what the fast crates are compared to by tests, and no crate stands on it. Each function gives what the
-//! definition of its name in `sharing_rules` gives.
+//! It is what the fast crates are compared to by tests, and no crate stands on it. Each function
+//! gives what the definition of its name in `sharing_rules` gives.
 #![tactic(auto)]
 
 mod arrivals;

@@ -26,7 +26,8 @@ pub fn word_since(line: &CacheLine, start: usize, accesses: &[Access], place: us
 
 // Whether an access is of the word at a place.
 fn is_of_word(line: &CacheLine, access: &Access, place: usize) -> bool
-    ensures { result ≡ (is_inside line.now access.now.addr && (word_place line.now access.now.addr == place)) }
+    ensures { result ≡
+        (is_inside line.now access.now.addr && (word_place line.now access.now.addr == place)) }
 {
     line.contains(access.addr()) && line.word_place(access.addr()) == place
 }

@@ -1,5 +1,6 @@
 // The best hot pair of two neighbouring lines.
-ghost use Rattle.std.specs.Prelude.{◌≡◌, ℕ, ◌+◌, ◌*◌, ◌<◌, ◌≤◌, ◌^◌, length, sum_by, List, ◌++◌, filter, Some, IfSome};
+ghost use Rattle.std.specs.Prelude.{◌≡◌, ℕ, ◌+◌, ◌*◌, ◌<◌, ◌≤◌, ◌^◌, length, sum_by, List, ◌++◌};
+ghost use Rattle.std.specs.Prelude.{filter, Some, IfSome};
 ghost use Rattle.sharing_rules.specs.Words.{accesses};
 ghost use Rattle.sharing_rules.specs.Pairs.{score, first_best, best_pair_of};
 ghost use Rattle.sharing_rules.specs.Search as search_of;
@@ -14,7 +15,8 @@ pub struct Neighbours<'a> {
     pub lower: &'a [Word],
     /// The words of the upper line, at most 256.
     pub upper: &'a [Word],
-    /// The greatest distance from the beginning of the lower word to the end of the upper one, in bytes.
+    /// The greatest distance from the beginning of the lower word to the end of the upper one, in
+    /// bytes.
     pub within: usize,
 }
 
@@ -23,7 +25,8 @@ pub fn best_pair(lines: Neighbours) -> Option<(usize, usize)>
     requires lower { AreFew lines.lower.now }
     requires upper { AreFew lines.upper.now }
     requires near { lines.within ≤ 2 ^ 20 }
-    ensures value { result ≡ best_pair_of lines.entry.lower.now lines.entry.upper.now lines.entry.within }
+    ensures value { result ≡ best_pair_of lines.entry.lower.now lines.entry.upper.now
+        lines.entry.within }
     ensures small { IfSome result (λ p. (p.0 < 256) × (p.1 < 256)) }
 {
     let mut best = None;
@@ -41,7 +44,13 @@ fn best_in_row(lines: Neighbours, best: Option<(usize, usize)>, i: usize) -> Opt
     requires best { is_in lines.lower.now lines.upper.now best }
     requires i { i < length lines.lower.now }
     ensures is_in { is_in lines.entry.lower.now lines.entry.upper.now result }
-    ensures best { (ps : List (ℕ × ℕ)) → best ≡ first_best (score lines.entry.lower.now lines.entry.upper.now) (filter (search_of.is_passing lines.entry.lower.now lines.entry.upper.now lines.entry.within) ps) → result ≡ first_best (score lines.entry.lower.now lines.entry.upper.now) (filter (search_of.is_passing lines.entry.lower.now lines.entry.upper.now lines.entry.within) (ps ++ row_pairs i (length lines.entry.upper.now))) }
+    ensures best { (ps : List (ℕ × ℕ))
+        → best ≡ first_best (score lines.entry.lower.now lines.entry.upper.now)
+        (filter (search_of.is_passing lines.entry.lower.now lines.entry.upper.now
+        lines.entry.within) ps)
+        → result ≡ first_best (score lines.entry.lower.now lines.entry.upper.now)
+        (filter (search_of.is_passing lines.entry.lower.now lines.entry.upper.now
+        lines.entry.within) (ps ++ row_pairs i (length lines.entry.upper.now))) }
 {
     let mut best = best;
     for j in 0..lines.upper.len() {
@@ -59,7 +68,8 @@ fn is_passing(lines: Neighbours, i: usize, j: usize) -> bool
     requires near { lines.within ≤ 2 ^ 20 }
     requires i { i < length lines.lower.now }
     requires j { j < length lines.upper.now }
-    ensures { result ≡ search_of.is_passing lines.entry.lower.now lines.entry.upper.now lines.entry.within (i, j) }
+    ensures { result ≡ search_of.is_passing lines.entry.lower.now lines.entry.upper.now
+        lines.entry.within (i, j) }
 {
     let x = &lines.lower[i];
     let y = &lines.upper[j];

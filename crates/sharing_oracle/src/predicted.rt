@@ -1,5 +1,6 @@
 // Where the predicted lines of a pair of neighbours open, and which they are.
-ghost use Rattle.std.specs.Prelude.{◌≡◌, ℕ, ◌≤◌, ◌<◌, ◌*◌, ◌^◌, ◌+◌, ◌||◌, ◌↔◌, IfOk, IfSome, IsSome, IsTrue, length};
+ghost use Rattle.std.specs.Prelude.{◌≡◌, ℕ, ◌≤◌, ◌<◌, ◌*◌, ◌^◌, ◌+◌, ◌||◌, ◌↔◌, IfOk, IfSome};
+ghost use Rattle.std.specs.Prelude.{IsSome, IsTrue, length};
 ghost use Rattle.predator_base.specs.Lines.{is_layout};
 ghost use Rattle.sharing_rules.specs.Places as places;
 ghost use Rattle.sharing_rules.specs.Predicted as predicted;
@@ -12,8 +13,8 @@ use predator_base::{Access, Layout, NoMemory};
 use sharing_rules::{CacheLine, line_from, shifted_base, word_address};
 use std::alloc::Global;
 
-/// Two neighbouring lines of a native layout, by the number of the lower one, with the thresholds that they are
-/// watched by.
+/// Two neighbouring lines of a native layout, by the number of the lower one, with the thresholds
+/// that they are watched by.
 #[derive(Drop)]
 pub struct NativePair {
     /// The native layout.
@@ -33,10 +34,12 @@ pub struct NativePair {
 }
 
 impl NativePair {
-    /// A pair by the native line size, the number of its lower line and its thresholds: None exactly where the size is
-    /// no power of two from 4 to 1024, the number not below 2^32, or the prediction threshold 0.
+    /// A pair by the native line size, the number of its lower line and its thresholds: None
+    /// exactly where the size is no power of two from 4 to 1024, the number not below 2^32, or the
+    /// prediction threshold 0.
     pub fn new(size: u32, number: u64, tracking: u64, prediction: u64) -> Option<NativePair>
-        ensures allowed { IsSome result ↔ (IsTrue (is_layout size 0) × (number < 2 ^ 32) × (0 < prediction)) }
+        ensures allowed { IsSome result
+            ↔ (IsTrue (is_layout size 0) × (number < 2 ^ 32) × (0 < prediction)) }
         ensures layout { IfSome result (λ pair. pair.layout ≡ record { size = size; offset = 0 }) }
         ensures number { IfSome result (λ pair. pair.number ≡ number) }
         ensures tracking { IfSome result (λ pair. pair.tracking ≡ tracking) }
@@ -59,7 +62,8 @@ impl NativePair {
         }
     }
 
-    /// The best hot pair of at most `within` bytes, by the places of its words, if both lines are observed.
+    /// The best hot pair of at most `within` bytes, by the places of its words, if both lines are
+    /// observed.
     pub fn best_between(
         &self,
         alloc: Global,
@@ -68,7 +72,9 @@ impl NativePair {
     ) -> Result<Option<(usize, usize)>, NoMemory>
         requires within { within ≤ 2 ^ 20 }
         requires short { length accesses.now ≤ 2 ^ 40 }
-        ensures value { IfOk result (λ best. best ≡ predicted.best_between self.now.layout.size self.now.tracking within self.now.number accesses.now) }
+        ensures value { IfOk result
+            (λ best. best ≡ predicted.best_between self.now.layout.size self.now.tracking within
+            self.now.number accesses.now) }
         ensures small { IfOk result (λ best. IfSome best (λ p. (p.0 < 256) × (p.1 < 256))) }
     {
         let lower = CacheLine::numbered(self.layout, self.number);
@@ -88,10 +94,13 @@ impl NativePair {
         }))
     }
 
-    /// Whether an access is a write of one of the two lines that brings its writes to a multiple of the prediction
-    /// threshold.
+    /// Whether an access is a write of one of the two lines that brings its writes to a multiple of
+    /// the prediction threshold.
     pub fn is_candidate(&self, before: &[Access], access: &Access) -> bool
-        ensures { result ≡ (predicted.is_candidate self.now.layout.size self.now.prediction self.now.number before.now access.now || predicted.is_candidate self.now.layout.size self.now.prediction (self.now.number + 1) before.now access.now) }
+        ensures { result ≡
+            (predicted.is_candidate self.now.layout.size self.now.prediction self.now.number
+            before.now access.now || predicted.is_candidate self.now.layout.size self.now.prediction
+            (self.now.number + 1) before.now access.now) }
     {
         self.completes(self.number, before, access)
             || self.completes(self.number + 1, before, access)
@@ -100,13 +109,15 @@ impl NativePair {
     // The same for one line.
     fn completes(&self, number: u64, before: &[Access], access: &Access) -> bool
         requires { number ≤ 2 ^ 32 }
-        ensures { result ≡ predicted.is_candidate self.now.layout.size self.now.prediction number before.now access.now }
+        ensures { result ≡ predicted.is_candidate self.now.layout.size self.now.prediction number
+            before.now access.now }
     {
         let line = CacheLine::numbered(self.layout, number);
         is_write_to(&line, access) && (write_count(&line, before) as u64 + 1) % self.prediction == 0
     }
 
-    /// Whether a hot pair of at most `within` bytes is found at a place of the list that is a candidate.
+    /// Whether a hot pair of at most `within` bytes is found at a place of the list that is a
+    /// candidate.
     pub fn is_opening(
         &self,
         alloc: Global,
@@ -117,7 +128,10 @@ impl NativePair {
         requires within { within ≤ 2 ^ 20 }
         requires short { length accesses.now ≤ 2 ^ 40 }
         requires place { place < length accesses.now }
-        ensures { IfOk result (λ opens. opens ≡ places.passes_at (is_opening self.now.layout.size self.now.tracking self.now.prediction within self.now.number) accesses.now place) }
+        ensures { IfOk result
+            (λ opens. opens ≡ places.passes_at
+            (is_opening self.now.layout.size self.now.tracking self.now.prediction within
+            self.now.number) accesses.now place) }
     {
         if !self.is_candidate(&accesses[..place], &accesses[place]) {
             return Ok(false);
@@ -137,7 +151,10 @@ impl NativePair {
     ) -> Result<Option<usize>, NoMemory>
         requires within { within ≤ 2 ^ 20 }
         requires short { length accesses.now ≤ 2 ^ 40 }
-        ensures { IfOk result (λ place. place ≡ places.first_place (is_opening self.now.layout.size self.now.tracking self.now.prediction within self.now.number) accesses.now) }
+        ensures { IfOk result
+            (λ place. place ≡ places.first_place
+            (is_opening self.now.layout.size self.now.tracking self.now.prediction within
+            self.now.number) accesses.now) }
     {
         for place in 0..accesses.len() {
             if self.is_opening(alloc, within, accesses, place)? {
@@ -154,21 +171,25 @@ impl NativePair {
         accesses: &[Access],
     ) -> Result<Option<usize>, NoMemory>
         requires { length accesses.now ≤ 2 ^ 40 }
-        ensures { IfOk result (λ place. place ≡ predicted.shifted_opening self.now.layout.size self.now.tracking self.now.prediction self.now.number accesses.now) }
+        ensures { IfOk result
+            (λ place. place ≡ predicted.shifted_opening self.now.layout.size self.now.tracking
+            self.now.prediction self.now.number accesses.now) }
     {
         let within = self.bytes();
         self.opening(alloc, within, accesses)
     }
 
-    /// Where the pair's doubled line opens: at the least place with any hot pair, and only where its lower line begins
-    /// at a multiple of twice the size.
+    /// Where the pair's doubled line opens: at the least place with any hot pair, and only where
+    /// its lower line begins at a multiple of twice the size.
     pub fn doubled_opening(
         &self,
         alloc: Global,
         accesses: &[Access],
     ) -> Result<Option<usize>, NoMemory>
         requires { length accesses.now ≤ 2 ^ 40 }
-        ensures { IfOk result (λ place. place ≡ predicted.doubled_opening self.now.layout.size self.now.tracking self.now.prediction self.now.number accesses.now) }
+        ensures { IfOk result
+            (λ place. place ≡ predicted.doubled_opening self.now.layout.size self.now.tracking
+            self.now.prediction self.now.number accesses.now) }
     {
         if self.number % 2 != 1 {
             return Ok(None);
@@ -177,7 +198,8 @@ impl NativePair {
         self.opening(alloc, within, accesses)
     }
 
-    /// The pair's shifted line, if it opens: of the size of its lines, around the best hot pair at its opening.
+    /// The pair's shifted line, if it opens: of the size of its lines, around the best hot pair at
+    /// its opening.
     pub fn shifted_line(
         &self,
         alloc: Global,
@@ -186,7 +208,9 @@ impl NativePair {
         requires native { IsTrue (is_native_size self.now.layout.size) }
         requires number { self.now.number ≤ 2 ^ 30 }
         requires short { length accesses.now ≤ 2 ^ 40 }
-        ensures { IfOk result (λ line. line ≡ predicted.shifted_line self.now.layout.size self.now.tracking self.now.prediction self.now.number accesses.now) }
+        ensures { IfOk result
+            (λ line. line ≡ predicted.shifted_line self.now.layout.size self.now.tracking
+            self.now.prediction self.now.number accesses.now) }
     {
         match self.shifted_opening(alloc, accesses)? {
             Some(opening) => self.shifted_line_at(alloc, opening, accesses),
@@ -205,7 +229,9 @@ impl NativePair {
         requires number { self.now.number ≤ 2 ^ 30 }
         requires short { length accesses.now ≤ 2 ^ 40 }
         requires position { position < length accesses.now }
-        ensures { IfOk result (λ line. line ≡ predicted.shifted_line_at self.now.layout.size self.now.tracking self.now.number position accesses.now) }
+        ensures { IfOk result
+            (λ line. line ≡ predicted.shifted_line_at self.now.layout.size self.now.tracking
+            self.now.number position accesses.now) }
     {
         let within = self.bytes();
         match self.best_between(alloc, within, &accesses[..=position])? {
@@ -220,7 +246,8 @@ impl NativePair {
         requires number { self.now.number ≤ 2 ^ 30 }
         requires lower { lower < 256 }
         requires upper { upper < 256 }
-        ensures { result ≡ predicted.shifted_around self.now.layout.size self.now.number (lower, upper) }
+        ensures { result ≡ predicted.shifted_around self.now.layout.size self.now.number
+            (lower, upper) }
     {
         let size = self.layout.size();
         let x = word_address(size, self.number, lower);

@@ -35,7 +35,9 @@ pub fn tracked_shifted(
     requires native { IsTrue (is_native_size pair.now.layout.size) }
     requires number { pair.now.number ≤ 2 ^ 30 }
     requires short { length accesses.now ≤ 2 ^ 40 }
-    ensures { IfOk result (λ line. line ≡ listed.tracked_shifted pair.now.layout.size pair.now.tracking pair.now.prediction accesses.now pair.now.number) }
+    ensures { IfOk result
+        (λ line. line ≡ listed.tracked_shifted pair.now.layout.size pair.now.tracking
+        pair.now.prediction accesses.now pair.now.number) }
 {
     let Some(opening) = pair.shifted_opening(alloc, accesses)? else {
         return Ok(None);
@@ -55,7 +57,9 @@ pub fn tracked_doubled(
     requires native { IsTrue (is_native_size pair.now.layout.size) }
     requires number { pair.now.number ≤ 2 ^ 30 }
     requires short { length accesses.now ≤ 2 ^ 40 }
-    ensures { IfOk result (λ line. line ≡ listed.tracked_doubled pair.now.layout.size pair.now.tracking pair.now.prediction accesses.now pair.now.number) }
+    ensures { IfOk result
+        (λ line. line ≡ listed.tracked_doubled pair.now.layout.size pair.now.tracking
+        pair.now.prediction accesses.now pair.now.number) }
 {
     let Some(opening) = pair.doubled_opening(alloc, accesses)? else {
         return Ok(None);
@@ -94,7 +98,8 @@ pub fn shifted_lines(
     requires native { layout.offset ≡ 0 }
     requires some { 0 < prediction }
     requires short { length accesses.now ≤ 2 ^ 40 }
-    ensures { IfOk result (λ lines. lines.items ≡ listed.shifted_lines layout.size tracking prediction accesses.now) }
+    ensures { IfOk result
+        (λ lines. lines.items ≡ listed.shifted_lines layout.size tracking prediction accesses.now) }
 {
     let numbers = written_lines(alloc, layout, accesses)?;
     let mut lines = Vec::new(alloc);
@@ -118,7 +123,8 @@ pub fn doubled_lines(
     requires native { layout.offset ≡ 0 }
     requires some { 0 < prediction }
     requires short { length accesses.now ≤ 2 ^ 40 }
-    ensures { IfOk result (λ lines. lines.items ≡ listed.doubled_lines layout.size tracking prediction accesses.now) }
+    ensures { IfOk result
+        (λ lines. lines.items ≡ listed.doubled_lines layout.size tracking prediction accesses.now) }
 {
     let numbers = written_lines(alloc, layout, accesses)?;
     let mut lines = Vec::new(alloc);
@@ -139,7 +145,8 @@ pub fn predicted_lines(
 ) -> Result<Vec<TrackedLine>, NoMemory>
     requires native { IsTrue (listed.may_predict layout thresholds) }
     requires short { length accesses.now ≤ 2 ^ 40 }
-    ensures { IfOk result (λ lines. lines.items ≡ listed.predicted_lines layout thresholds accesses.now) }
+    ensures { IfOk result
+        (λ lines. lines.items ≡ listed.predicted_lines layout thresholds accesses.now) }
 {
     let Some(prediction) = thresholds.prediction() else {
         return Ok(Vec::new(alloc));

@@ -24,7 +24,8 @@ impl Question for NumberedWrite {
     ghost use Rattle.sharing_rules.specs.Lines.{is_inside};
     ghost use Rattle.sharing_rules.specs.Observed.{write_count};
 
-    ghost asked = { λ q before a. writes_to (is_inside q.line) a && (write_count (is_inside q.line) before + 1 == q.number) };
+    ghost asked = { λ q before a. writes_to (is_inside q.line) a &&
+        (write_count (is_inside q.line) before + 1 == q.number) };
 
     fn passes(&self, before: &[Access], access: &Access) -> bool {
         is_write_to(&self.line, access) && write_count(&self.line, before) as u64 + 1 == self.number

@@ -73,17 +73,6 @@ fn words_text(alloc: Global, words: &[Word]) -> Result<String, AllocError> {
     Ok(text)
 }
 
-// The words of an observed line since its start.
-fn words_of(
-    rt: &impl Abort,
-    alloc: Global,
-    line: &TrackedLine,
-    list: &[Access],
-) -> Result<Vec<Word>, Fail> {
-    assert!(rt; list.len() <= 1000);
-    Ok(words_since(alloc, &line.line, line.start, list)?)
-}
-
 // An observed line by its base, its start, its count and its verdict.
 fn observed_text(alloc: Global, line: &TrackedLine, words: &[Word]) -> Result<String, AllocError> {
     let base = line.line.range().base;
@@ -121,10 +110,11 @@ fn observed(
     tracking: u64,
 ) -> Result<(String, String), Fail> {
     let list = list_of(alloc, text)?;
+    assert!(rt; list.len() <= 1000);
     let mut lines = String::new(alloc);
     let mut first = String::new(alloc);
     for line in observed_lines(alloc, layout, tracking, &list)?.iter() {
-        let words = words_of(rt, alloc, line, &list)?;
+        let words = words_since(alloc, &line.line, line.start, &list)?;
         lines.push_str(&observed_text(alloc, line, &words)?)?;
         if first.is_empty() {
             first = words_text(alloc, &words)?;

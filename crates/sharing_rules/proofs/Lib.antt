@@ -1,2 +1,3 @@
 pub mod WorkedLists
 pub mod WorkedOpened
+pub mod WorkedRecounts

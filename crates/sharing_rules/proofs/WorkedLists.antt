@@ -15,24 +15,24 @@ use Rattle.sharing_rules.specs.Listed.{Finding, listed}
 use Rattle.sharing_rules.specs.declared.line_kind.LineKind.{LineKind}
 use Rattle.sharing_rules.specs.declared.line_kind.LineKind.TheVariants.{Observed, Shifted, Doubled}
 
-abbrev wr : ℕ → ℕ → Touch
+abbrev pub wr : ℕ → ℕ → Touch
 wr h a = record { hart = h; addr = a; kind = Write; size = 4 }
 
-abbrev rd : ℕ → ℕ → Touch
+abbrev pub rd : ℕ → ℕ → Touch
 rd h a = record { hart = h; addr = a; kind = Read; size = 4 }
 
-abbrev native : ℕ → Grid
+abbrev pub native : ℕ → Grid
 native n = record { size = n; offset = 0 }
 
 -- track from the first write on, predict at every P-th, list from one invalidation on
-abbrev predicting : ℕ → Levels
+abbrev pub predicting : ℕ → Levels
 predicting P = record { tracking = 1; prediction = Some P; report = 1 }
 
-abbrev finding : LineKind → Line → ℕ → ℕ → Finding
+abbrev pub finding : LineKind → Line → ℕ → ℕ → Finding
 finding kind l start count = record { kind = kind; line = l; start = start; count = count }
 
 -- two harts write at x and at y in turn
-abbrev turns : ℕ → ℕ → List Touch
+abbrev pub turns : ℕ → ℕ → List Touch
 turns x y = wr 0 x ∷ (wr 1 y ∷ (wr 0 x ∷ (wr 1 y ∷ (wr 0 x ∷ (wr 1 y ∷ [])))))
 
 -- one write counts once, however many harts lose the line
@@ -50,12 +50,14 @@ across_openings : (shifted_opening 64 1 2 65 (turns 0x103c 0x1040) ≡ Some 2) �
 unfolding first_place best_pair_of words_since
 across_openings = (refl, refl)
 
-across_lines : listed (native 64) (predicting 2) (turns 0x103c 0x1040) ≡ finding Shifted (line_from 64 0x1020) 3 2 ∷ (finding Doubled (line_from 128 0x1000) 3 2 ∷ [])
+across_lines : listed (native 64) (predicting 2) (turns 0x103c 0x1040) ≡ finding Shifted (line_from 64 0x1020) 3 2 ∷
+    (finding Doubled (line_from 128 0x1000) 3 2 ∷ [])
 unfolding first_place count_places best_pair_of words_since
 across_lines = refl
 
 -- with every third write a candidate both open at 4, and nothing is left to count
-across_thirds : (shifted_opening 64 1 3 65 (turns 0x103c 0x1040) ≡ Some 4) × (doubled_opening 64 1 3 65 (turns 0x103c 0x1040) ≡ Some 4) × (listed (native 64) (predicting 3) (turns 0x103c 0x1040) ≡ [])
+across_thirds : (shifted_opening 64 1 3 65 (turns 0x103c 0x1040) ≡ Some 4) × (doubled_opening 64 1 3 65 (turns 0x103c 0x1040) ≡ Some 4)
+    × (listed (native 64) (predicting 3) (turns 0x103c 0x1040) ≡ [])
 unfolding first_place count_places best_pair_of words_since
 across_thirds = (refl, refl, refl)
 
@@ -65,16 +67,19 @@ unfolding first_place count_places best_pair_of words_since
 opened_late = refl
 
 -- one hart alone makes no pair
-one_hart : listed (native 64) (predicting 2) (wr 0 0x103c ∷ (wr 0 0x1040 ∷ (wr 0 0x103c ∷ (wr 0 0x1040 ∷ (wr 0 0x103c ∷ (wr 0 0x1040 ∷ [])))))) ≡ []
+one_hart : listed (native 64) (predicting 2)
+    (wr 0 0x103c ∷ (wr 0 0x1040 ∷ (wr 0 0x103c ∷ (wr 0 0x1040 ∷ (wr 0 0x103c ∷ (wr 0 0x1040 ∷ [])))))) ≡ []
 unfolding first_place count_places best_pair_of words_since
 one_hart = refl
 
 -- words 68 bytes apart fit a doubled line alone, and words 64 bytes apart a shifted one too
-too_far : listed (native 64) (predicting 2) (wr 0 0x1000 ∷ (wr 1 0x1040 ∷ (wr 0 0x1000 ∷ (wr 1 0x1040 ∷ (wr 0 0x1000 ∷ []))))) ≡ finding Doubled (line_from 128 0x1000) 3 1 ∷ []
+too_far : listed (native 64) (predicting 2) (wr 0 0x1000 ∷ (wr 1 0x1040 ∷ (wr 0 0x1000 ∷ (wr 1 0x1040 ∷ (wr 0 0x1000 ∷ [])))))
+    ≡ finding Doubled (line_from 128 0x1000) 3 1 ∷ []
 unfolding first_place count_places best_pair_of words_since
 too_far = refl
 
-just_near : listed (native 64) (predicting 2) (wr 0 0x1004 ∷ (wr 1 0x1040 ∷ (wr 0 0x1004 ∷ (wr 1 0x1040 ∷ (wr 0 0x1004 ∷ []))))) ≡ finding Shifted (line_from 64 0x1004) 3 1 ∷ (finding Doubled (line_from 128 0x1000) 3 1 ∷ [])
+just_near : listed (native 64) (predicting 2) (wr 0 0x1004 ∷ (wr 1 0x1040 ∷ (wr 0 0x1004 ∷ (wr 1 0x1040 ∷ (wr 0 0x1004 ∷ [])))))
+    ≡ finding Shifted (line_from 64 0x1004) 3 1 ∷ (finding Doubled (line_from 128 0x1000) 3 1 ∷ [])
 unfolding first_place count_places best_pair_of words_since
 just_near = refl
 
@@ -84,7 +89,8 @@ unfolding first_place count_places best_pair_of words_since
 no_even_pair = refl
 
 -- native lines of 32 bytes, and of 256, where both words are in one line
-smaller_lines : listed (native 32) (predicting 2) (turns 0x101c 0x1020) ≡ finding Shifted (line_from 32 0x1010) 3 2 ∷ (finding Doubled (line_from 64 0x1000) 3 2 ∷ [])
+smaller_lines : listed (native 32) (predicting 2) (turns 0x101c 0x1020) ≡ finding Shifted (line_from 32 0x1010) 3 2 ∷
+    (finding Doubled (line_from 64 0x1000) 3 2 ∷ [])
 unfolding first_place count_places best_pair_of words_since
 smaller_lines = refl
 

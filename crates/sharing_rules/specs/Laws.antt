@@ -1,4 +1,5 @@
--- What follows from the definitions. A law stands here with its proof, so that other crates can cite it.
+-- What follows from the definitions. A law stands here with its proof, so that other crates can
+-- cite it.
 pub mod Lists
 pub mod Places
 pub mod Holders
@@ -20,3 +21,4 @@ pub mod Bases
 pub mod Kinds
 pub mod Kept
 pub mod Amounts
+pub mod Recounts

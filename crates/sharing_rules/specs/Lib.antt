@@ -13,4 +13,5 @@ pub mod Opened
 pub mod Verdicts
 pub mod Tracks
 pub mod Search
+pub mod Recounts
 pub mod Laws

@@ -1,13 +1,18 @@
 -- What is kept of an access list: its observed lines, and its predicted ones from their opening on.
-use Rattle.std.specs.Prelude.{Bool, ◌||◌, nat_lt, int_lt, ℕ, suc, ◌+◌, ◌-◌, ◌*◌, ◌%◌, ◌&&◌, ◌==◌, if◌then◌else◌, List, [], ◌∷◌, ◌++◌, Option, None, Some, length, filter_map, is_some, option_map, option_and_then, option_to_list}
+use Rattle.std.specs.Prelude.{Bool, ◌||◌, nat_lt, int_lt, ℕ, suc, ◌+◌, ◌-◌, ◌*◌, ◌%◌, ◌&&◌, ◌==◌}
+use Rattle.std.specs.Prelude.{if◌then◌else◌, List, [], ◌∷◌, ◌++◌, Option, None, Some, length}
+use Rattle.std.specs.Prelude.{filter_map, is_some, option_map, option_and_then, option_to_list}
 use Rattle.std.specs.Option.{option_map_or}
 use Rattle.predator_base.specs.Touch.{Touch}
 use Rattle.predator_base.specs.Lines.{Grid, line_number}
 use Rattle.predator_base.specs.Levels.{Levels}
 use Rattle.sharing_rules.specs.AccessLists.{AccessList, writes_to}
 use Rattle.sharing_rules.specs.Lines.{Line, is_inside, native_grid, grid_line, line_at, range_of}
-use Rattle.sharing_rules.specs.Observed.{write_count, observed_start, first_write_from, written_lines}
-use Rattle.sharing_rules.specs.Predicted.{is_candidate, best_between, shifted_opening, doubled_opening, shifted_around, shifted_line, doubled_line}
+use Rattle.sharing_rules.specs.Observed.{write_count, observed_start, first_write_from}
+use Rattle.sharing_rules.specs.Observed.{written_lines}
+use Rattle.sharing_rules.specs.Predicted.{is_candidate, best_between, shifted_opening}
+use Rattle.sharing_rules.specs.Predicted.{doubled_opening, shifted_around, shifted_line}
+use Rattle.sharing_rules.specs.Predicted.{doubled_line}
 use Rattle.sharing_rules.specs.Listed.{Finding, found, rank}
 use Rattle.sharing_rules.specs.declared.line_kind.LineKind.{LineKind}
 use Rattle.sharing_rules.specs.declared.line_kind.LineKind.TheVariants.{Observed, Shifted, Doubled}

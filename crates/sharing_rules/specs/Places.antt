@@ -1,5 +1,7 @@
--- Places in an access list. A question about a place is asked of what came before it and of the access there.
-use Rattle.std.specs.Prelude.{ℕ, zero, suc, ◌+◌, Bool, false, List, [], ◌∷◌, ◌++◌, Option, Some, None, if◌then◌else◌, length, take, slice_get}
+-- Places in an access list. A question about a place is asked of what came before it and of the
+-- access there.
+use Rattle.std.specs.Prelude.{ℕ, zero, suc, ◌+◌, Bool, false, List, [], ◌∷◌, ◌++◌, Option, Some}
+use Rattle.std.specs.Prelude.{None, if◌then◌else◌, length, take, slice_get}
 use Rattle.std.specs.Option.{option_map_or, option_or}
 use Rattle.predator_base.specs.Touch.{Touch}
 use Rattle.sharing_rules.specs.AccessLists.{AccessList}

@@ -1,5 +1,6 @@
 -- The search for the best pair, pair by pair.
-use Rattle.std.specs.Prelude.{ℕ, ◌<◌, ◌≤◌, ◌^◌, Bool, ◌&&◌, nat_lt, if◌then◌else◌, List, map, length, Option, Some, None}
+use Rattle.std.specs.Prelude.{ℕ, ◌<◌, ◌≤◌, ◌^◌, Bool, ◌&&◌, nat_lt, if◌then◌else◌, List, map}
+use Rattle.std.specs.Prelude.{length, Option, Some, None}
 use Rattle.std.specs.List.{All}
 use Rattle.sharing_rules.specs.declared.word.Word.{Word}
 use Rattle.sharing_rules.specs.Places.{below}

@@ -1,5 +1,6 @@
 -- What is kept of a range for an access list: its track.
-use Rattle.std.specs.Prelude.{ℕ, ◌+◌, ◌/◌, ◌==◌, ◌&&◌, not, if◌then◌else◌, List, [], ◌∷◌, map, take, Option, Some, None, slice_set, slice_index_or}
+use Rattle.std.specs.Prelude.{ℕ, ◌+◌, ◌/◌, ◌==◌, ◌&&◌, not, if◌then◌else◌, List, [], ◌∷◌, map, take}
+use Rattle.std.specs.Prelude.{Option, Some, None, slice_set, slice_index_or}
 use Rattle.std.specs.List.{list_any}
 use Rattle.predator_base.specs.Touch.{Touch, is_write}
 use Rattle.sharing_rules.specs.AccessLists.{AccessList}
@@ -31,8 +32,8 @@ track_since l t (Some s) = record {
   words = words_since l s t;
 }
 
--- The track of a line that may start from a position on: for an observed line its start, and for a predicted one the
--- position after its opening.
+-- The track of a line that may start from a position on: for an observed line its start, and for a
+-- predicted one the position after its opening.
 abbrev pub track_of : Line → ℕ → AccessList → Traced
 track_of l from t = track_since l t (first_write_from from (is_inside l) t)
 
@@ -50,6 +51,8 @@ abbrev pub note_track : Line → Traced → Touch → Traced
 note_track l x a = record {
   start = x.start;
   entries = if is_write a.kind then a.hart ∷ [] else take 2 (note_arrival x.entries a.hart);
-  count = if is_write a.kind && list_any (λ g. not (g == a.hart)) x.entries then x.count + 1 else x.count;
-  words = slice_set x.words (word_place l a.addr) (note_word (slice_index_or x.words (word_place l a.addr) (tally [])) a);
+  count = if is_write a.kind && list_any (λ g. not (g == a.hart)) x.entries then x.count + 1
+      else x.count;
+  words = slice_set x.words (word_place l a.addr)
+      (note_word (slice_index_or x.words (word_place l a.addr) (tally [])) a);
 }

@@ -5,7 +5,8 @@ use Rattle.sharing_rules.specs.declared.word.Word.{Word}
 use Rattle.sharing_rules.specs.declared.word.Owner.{Owner}
 use Rattle.sharing_rules.specs.declared.word.Owner.TheVariants as owner
 use Rattle.sharing_rules.specs.declared.line_kind.Verdict.{Verdict}
-use Rattle.sharing_rules.specs.declared.line_kind.Verdict.TheVariants.{FalseSharing, TrueSharing, Mixed}
+use Rattle.sharing_rules.specs.declared.line_kind.Verdict.TheVariants.{FalseSharing, TrueSharing}
+use Rattle.sharing_rules.specs.declared.line_kind.Verdict.TheVariants.{Mixed}
 
 abbrev pub is_many : Owner → Bool
 is_many owner.None = false

@@ -1,5 +1,6 @@
 -- The words of a line since a position: their reads, their writes and their harts.
-use Rattle.std.specs.Prelude.{ℕ, ◌+◌, ◌/◌, not, ◌&&◌, ◌==◌, if◌then◌else◌, List, [], ◌∷◌, map, filter, drop, count_by}
+use Rattle.std.specs.Prelude.{ℕ, ◌+◌, ◌/◌, not, ◌&&◌, ◌==◌, if◌then◌else◌, List, [], ◌∷◌, map}
+use Rattle.std.specs.Prelude.{filter, drop, count_by}
 use Rattle.predator_base.specs.Touch.{Touch, is_write}
 use Rattle.sharing_rules.specs.AccessLists.{AccessList}
 use Rattle.sharing_rules.specs.Places.{below}
@@ -28,7 +29,8 @@ accesses w = w.reads + w.writes
 
 -- word i of a line, over the positions from s on
 abbrev pub word_since : Line → ℕ → AccessList → ℕ → Word
-word_since l s t i = tally (filter (λ a. is_inside l a.addr && (word_place l a.addr == i)) (drop s t))
+word_since l s t i =
+    tally (filter (λ a. is_inside l a.addr && (word_place l a.addr == i)) (drop s t))
 
 -- all of its words in order
 unfoldable pub words_since : Line → ℕ → AccessList → List Word

@@ -18,8 +18,8 @@ pub fn word_address(size: u32, number: u64, word: usize) -> u64
     u64::from(size) * number.saturating_sub(1) + 4 * word as u64
 }
 
-/// The base of the shifted line for the words at two addresses: half of what they leave of it goes before the lower
-/// one.
+/// The base of the shifted line for the words at two addresses: half of what they leave of it goes
+/// before the lower one.
 pub fn shifted_base(size: u32, lower: u64, upper: u64) -> u64
     requires { upper ≤ 2 ^ 43 }
     ensures { result ≡ predicted.shifted_base size lower upper }

@@ -5,7 +5,8 @@ ghost use Rattle.sharing_rules.specs.Lines.{line_at, is_inside, range_of, word_p
 use predator_base::{Layout, Range};
 use std::marker::Model;
 
-/// A line, by its layout and its number in it. Contracts see its size in bytes, its offset and its number.
+/// A line, by its layout and its number in it. Contracts see its size in bytes, its offset and its
+/// number.
 #[derive(Clone, Copy, PartialEq, Eq, Debug)]
 pub struct CacheLine {
     layout: Layout,
@@ -22,7 +23,11 @@ impl Model for CacheLine {
 
     ghost invariant = { λ l. l.number ≤ 2 ^ 32 };
 
-    ghost inverse = { λ l. record { layout = record { size = l.size; offset = l.offset }; number = l.number } };
+    ghost inverse = { λ l. record {
+      layout = record { size = l.size; offset = l.offset };
+      number =
+          l.number;
+    } };
 }
 
 impl CacheLine {

@@ -1,5 +1,6 @@
 -- Lists of named files: the first file of a name, a write to it, and a new name behind all.
-use Rattle.std.proofs.Common.{◌≡◌, ◌≢◌, ◌≤◌, ℕ, List, [], ◌∷◌, ◌++◌, length, Option, Some, None, Bool, true, false, arith, sym, ◌∙◌, ap, get_or, set, string_bytes, slice_get, find, position, refl, IsSome, Result, Ok, Err, OnErr}
+use Rattle.std.proofs.Common.{◌≡◌, ◌≢◌, ◌≤◌, ℕ, List, [], ◌∷◌, ◌++◌, length, Option, Some, None, Bool, true, false, arith, sym, ◌∙◌, ap}
+use Rattle.std.proofs.Common.{get_or, set, string_bytes, slice_get, find, position, refl, IsSome, Result, Ok, Err, OnErr}
 use Rattle.std.proofs.lemmas.Grind.{common_steps}
 use Rattle.std.proofs.lemmas.List.Folds.{find_at, find-set, find_past, find-append}
 use Rattle.std.proofs.lemmas.List.Quantifiers.{position-Some}

@@ -10,9 +10,10 @@ abbrev pub fetch_error : ShelfError → FetchError
 fetch_error Failed = errors.ReadFault
 fetch_error NoMemory = errors.NoMemory
 
--- as of a call of the shelf: the faults of reading don't fall, rose at the name where the answer is `ReadFault`, and
--- are the same at each other answer
-pub record HasFetchCause {T : Type 0} (name : List ℕ) (old new : Outside) (result : Result T FetchError) : Type 0 where
+-- as of a call of the shelf: the faults of reading don't fall, rose at the name where the answer is
+-- `ReadFault`, and are the same at each other answer
+pub record HasFetchCause {T : Type 0} (name : List ℕ) (old new : Outside)
+    (result : Result T FetchError) : Type 0 where
   pub later : (n : List ℕ) → old.read_faults n ≤ new.read_faults n
   pub failed : IsErrOf result errors.ReadFault → Rose (old.read_faults name) (new.read_faults name)
   pub quiet : (IsErrOf result errors.ReadFault → ⊥) → new.read_faults ≡ old.read_faults

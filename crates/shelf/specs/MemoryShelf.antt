@@ -1,5 +1,6 @@
 -- What a shelf in memory means, and which of its calls fail.
-use Rattle.std.specs.Prelude.{◌≡◌, ℕ, ◌+◌, ◌-◌, ◌^◌, min, List, [], Option, Some, None, IsSome, Result, Ok, Err}
+use Rattle.std.specs.Prelude.{◌≡◌, ℕ, ◌+◌, ◌-◌, ◌^◌, min, List, [], Option, Some, None, IsSome}
+use Rattle.std.specs.Prelude.{Result, Ok, Err}
 use Rattle.shelf.specs.Shelf.{Outside}
 use Rattle.shelf.specs.HeldFile.{file_of}
 use Rattle.shelf.specs.Failing.{failing_at}

@@ -1,4 +1,5 @@
--- What a shelf that never fails means: it tells its files alone, and no number of faults ever rises.
+-- What a shelf that never fails means: it tells its files alone, and no number of faults ever
+-- rises.
 use Rattle.std.specs.Prelude.{List, Some, None}
 use Rattle.shelf.specs.Shelf.{Outside}
 use Rattle.shelf.specs.HeldFile.{file_of}

@@ -1,5 +1,7 @@
 -- What a shelf of named files and a printed text means, and what a call does to it.
-use Rattle.std.specs.Prelude.{◌≡◌, ◌≢◌, ◌⊎◌, ℕ, ◌+◌, ◌-◌, ◌^◌, ◌<◌, ◌≤◌, min, List, [], ◌++◌, length, take, drop, unwrap_or, MatchResult, IsErrOf, Option, Result, Some, None}
+use Rattle.std.specs.Prelude.{◌≡◌, ◌≢◌, ◌⊎◌, ℕ, ◌+◌, ◌-◌, ◌^◌, ◌<◌, ◌≤◌, min, List, [], ◌++◌}
+use Rattle.std.specs.Prelude.{length, take, drop, unwrap_or, MatchResult, IsErrOf, Option, Result}
+use Rattle.std.specs.Prelude.{Some, None}
 use Rattle.std.specs.Io.KnownBytes.{Appends}
 use Rattle.shelf.specs.declared.shelf.ShelfError.{ShelfError}
 use Rattle.shelf.specs.declared.shelf.ShelfError.TheVariants.{Failed}
@@ -40,7 +42,8 @@ Goes (Some x) None P = ⊥
 Goes (Some x) (Some y) P = P x y
 
 -- the file of one name changes so, and each other name keeps its own
-pub record ChangesAt (name : List ℕ) (P : Option (List ℕ) → Option (List ℕ) → Type 0) (old new : Files) : Type 0 where
+pub record ChangesAt (name : List ℕ) (P : Option (List ℕ) → Option (List ℕ) → Type 0)
+    (old new : Files) : Type 0 where
   pub here : P (old name) (new name)
   pub others : (n : List ℕ) → n ≢ name → new n ≡ old n
 
@@ -55,7 +58,8 @@ pub record HasCause {T : Type 0} (before now : ℕ) (result : Result T ShelfErro
   pub quiet : (IsErrOf result Failed → ⊥) → now ≡ before
 
 -- the same for a number of each name: it rose at the name of the call
-pub record HasCauseAt {T : Type 0} (name : List ℕ) (before now : List ℕ → ℕ) (result : Result T ShelfError) : Type 0 where
+pub record HasCauseAt {T : Type 0} (name : List ℕ) (before now : List ℕ → ℕ)
+    (result : Result T ShelfError) : Type 0 where
   pub later : (n : List ℕ) → before n ≤ now n
   pub failed : IsErrOf result Failed → Rose (before name) (now name)
   pub quiet : (IsErrOf result Failed → ⊥) → now ≡ before
@@ -82,7 +86,8 @@ pub record OnlyPrints (old new : Outside) : Type 0 where
   pub read_faults : new.read_faults ≡ old.read_faults
   pub write_faults : new.write_faults ≡ old.write_faults
 
--- the first n bytes of the buffer are those of the file from a place on; none only at its end or with no room
+-- the first n bytes of the buffer are those of the file from a place on; none only at its end or
+-- with no room
 pub record Reads (file : List ℕ) (at n : ℕ) (buffer : List ℕ) : Type 0 where
   pub within : n ≤ length file - at
   pub bytes : take n buffer ≡ take n (drop at file)
@@ -93,8 +98,10 @@ abbrev pub AppendsPrefix : Option (List ℕ) → Option (List ℕ) → List ℕ 
 AppendsPrefix old new bytes = (k : ℕ) × Appends old new (take k bytes)
 
 -- all at Ok, and a prefix at an error
-abbrev pub AppendsUnless : {T E : Type 0} → Option (List ℕ) → Option (List ℕ) → Result T E → List ℕ → Type 0
-AppendsUnless old new result bytes = MatchResult result (λ _. Appends old new bytes) (λ _. AppendsPrefix old new bytes)
+abbrev pub AppendsUnless : {T E : Type 0} → Option (List ℕ) → Option (List ℕ) → Result T E → List ℕ
+    → Type 0
+AppendsUnless old new result bytes = MatchResult result (λ _. Appends old new bytes)
+    (λ _. AppendsPrefix old new bytes)
 
 -- a begin: empty at Ok, and at an error as before or empty
 abbrev pub Begins : {T E : Type 0} → Result T E → Option (List ℕ) → Option (List ℕ) → Type 0
@@ -108,5 +115,7 @@ abbrev pub AddsFront : Option (List ℕ) → Option (List ℕ) → List ℕ → 
 AddsFront old new bytes = (k : ℕ) × Adds old new (take k bytes)
 
 -- all of them at Ok, and a front at an error
-abbrev pub AddsUnless : {T E : Type 0} → Option (List ℕ) → Option (List ℕ) → Result T E → List ℕ → Type 0
-AddsUnless old new result bytes = MatchResult result (λ _. Adds old new bytes) (λ _. AddsFront old new bytes)
+abbrev pub AddsUnless : {T E : Type 0} → Option (List ℕ) → Option (List ℕ) → Result T E → List ℕ
+    → Type 0
+AddsUnless old new result bytes = MatchResult result (λ _. Adds old new bytes)
+    (λ _. AddsFront old new bytes)

@@ -1,5 +1,6 @@
 // Files with names in a list: the first of a name counts.
-ghost use Rattle.std.specs.Prelude.{◌≡◌, ◌≤◌, ◌-◌, ◌↔◌, min, List, ℕ, [], Some, length, OnOk, OnErr, IsOkUnless, IfSome, IsSome, position};
+ghost use Rattle.std.specs.Prelude.{◌≡◌, ◌≤◌, ◌-◌, ◌↔◌, min, List, ℕ, [], Some, length, OnOk};
+ghost use Rattle.std.specs.Prelude.{OnErr, IsOkUnless, IfSome, IsSome, position};
 ghost use Rattle.std.specs.Option.{option_copied};
 ghost use Rattle.std.specs.Io.KnownBytes.{Appends};
 ghost use Rattle.shelf.specs.Shelf.{content, ChangesAt, Reads};
@@ -41,7 +42,8 @@ fn copy_from(content: &[u8], at: u64, into: &mut [u8]) -> usize
 pub(crate) fn read_file(files: &[HeldFile], name: &str, at: u64, into: &mut [u8]) -> Option<usize>
     ensures count { IfSome result (λ count. count
         ≡ min (length (content (file_of files.now) name.now) - at) (length into.new)) }
-    ensures reads { IfSome result (λ count. Reads (content (file_of files.now) name.now) at count into.new) }
+    ensures reads { IfSome result
+        (λ count. Reads (content (file_of files.now) name.now) at count into.new) }
     ensures found { IsSome result ↔ IsSome (file_of files.now name.now) }
 {
     match place_of(files, name) {
@@ -92,7 +94,8 @@ pub(crate) fn append_to(
     requires { IsSome (file_of files.old.items name.now) }
     ensures ok { OnOk result (ChangesAt name.now (λ old new. Appends old new piece.now)
         (file_of files.old.items) (file_of files.new.items)) }
-    ensures err { OnErr result ((n : List ℕ) → file_of files.new.items n ≡ file_of files.old.items n) }
+    ensures err { OnErr result
+        ((n : List ℕ) → file_of files.new.items n ≡ file_of files.old.items n) }
     ensures memory { IsOkUnless result ShelfError.NoMemory }
 {
     if let Some(place) = place_of(files, name) {

@@ -1,9 +1,12 @@
 // A shelf in memory, whose calls fail by a list.
-ghost use Rattle.std.specs.Prelude.{◌≡◌, ◌-◌, ◌↔◌, ◌⊎◌, min, List, ℕ, None, length, IfOk, OnErr, IsOkUnless, IsErrOf, IfSome, IsOk, IsSome};
+ghost use Rattle.std.specs.Prelude.{◌≡◌, ◌-◌, ◌↔◌, ◌⊎◌, min, List, ℕ, None, length, IfOk, OnErr};
+ghost use Rattle.std.specs.Prelude.{IsOkUnless, IsErrOf, IfSome, IsOk, IsSome};
 ghost use Rattle.std.specs.Option.{option_copied, ForSome};
 ghost use Rattle.std.specs.Io.KnownBytes.{Appends};
 ghost use Rattle.std.specs.Io.{ReadsAtMost};
-ghost use Rattle.shelf.specs.Shelf.{content, Told, Goes, ChangesAt, HasCause, HasCauseAt, OnlyReads, OnlyWrites, OnlyPrints, Reads, AddsUnless, AppendsUnless, Begins};
+ghost use Rattle.shelf.specs.Shelf.{content, Told, Goes, ChangesAt, HasCause, HasCauseAt};
+ghost use Rattle.shelf.specs.Shelf.{OnlyReads, OnlyWrites, OnlyPrints, Reads, AddsUnless};
+ghost use Rattle.shelf.specs.Shelf.{AppendsUnless, Begins};
 ghost use Rattle.shelf.specs.Failing.{failing_at, kept_of};
 
 use crate::files::{append_to, begin_file, bytes_of, read_file};
@@ -16,15 +19,16 @@ use std::alloc::Global;
 pub struct Failing {
     /// The call's number, counted from 1 over all calls.
     pub call: u64,
-    /// How many bytes an append or a print keeps first, at most its whole piece. No other call keeps any.
+    /// How many bytes an append or a print keeps first, at most its whole piece. No other call
+    /// keeps any.
     pub keep: u32,
 }
 
 /// Files and a printed text in memory. It tells everything.
 ///
-/// A call answers `Failed` exactly where its number is among those that are to fail, or where it reads
-/// a name that isn't held. It counts its faults by kind, for all names alike. A number of calls or faults
-/// that has reached 2^64 - 1 stays there.
+/// A call answers `Failed` exactly where its number is among those that are to fail, or where it
+/// reads a name that isn't held. It counts its faults by kind, for all names alike. A number of
+/// calls or faults that has reached 2^64 - 1 stays there.
 #[derive(Drop)]
 pub struct MemoryShelf {
     alloc: Global,
@@ -49,10 +53,11 @@ fn kept_by(failing: &[Failing], call: u64) -> Option<u32>
 }
 
 impl MemoryShelf {
-    ghost use Rattle.shelf.specs.MemoryShelf.{memory_outside, fresh_outside, failing_calls, calls_made, next_number, next_failure};
+    ghost use Rattle.shelf.specs.MemoryShelf.{memory_outside, fresh_outside, failing_calls};
+    ghost use Rattle.shelf.specs.MemoryShelf.{calls_made, next_number, next_failure};
 
-    /// A shelf that holds these files, with nothing written or printed, no faults and no calls yet. Of two
-    /// files of one name, and of two entries for one call, the first counts.
+    /// A shelf that holds these files, with nothing written or printed, no faults and no calls yet.
+    /// Of two files of one name, and of two entries for one call, the first counts.
     ///
     /// The error is want of memory.
     pub fn new(alloc: Global, files: Vec<HeldFile>, failing: Vec<Failing>) -> Result<Self, NoMemory>
@@ -82,7 +87,8 @@ impl MemoryShelf {
 
     /// What was written under a name: None exactly where no `begin` of it answered Ok.
     pub fn written(&self, name: &str) -> Option<&[u8]>
-        ensures { IfSome (memory_outside self.now).written (λ files. option_copied result ≡ files name.now) }
+        ensures { IfSome (memory_outside self.now).written
+            (λ files. option_copied result ≡ files name.now) }
     {
         bytes_of(&self.written, name)
     }
@@ -98,7 +104,8 @@ impl MemoryShelf {
 }
 
 impl Shelf for MemoryShelf {
-    ghost use Rattle.shelf.specs.MemoryShelf.{memory_outside, next_failure, faults_after, CountsCall, IsHeld};
+    ghost use Rattle.shelf.specs.MemoryShelf.{memory_outside, next_failure, faults_after};
+    ghost use Rattle.shelf.specs.MemoryShelf.{CountsCall, IsHeld};
 
     ghost outside = { memory_outside };
 
@@ -146,7 +153,8 @@ impl Shelf for MemoryShelf {
         // Beyond the trait's: when it fails, what it leaves, and what it counts.
         ensures failed { IsErrOf result ShelfError.Failed ↔ IsSome (next_failure self.old) }
         ensures ok { IsOk result → next_failure self.old ≡ None }
-        ensures err { OnErr result ((memory_outside self.new).written ≡ (memory_outside self.old).written) }
+        ensures err { OnErr result
+            ((memory_outside self.new).written ≡ (memory_outside self.old).written) }
         ensures faults { (n : List ℕ) → (memory_outside self.new).write_faults n
             ≡ faults_after result ((memory_outside self.old).write_faults n) }
         ensures call { CountsCall self.old self.new }
@@ -158,8 +166,8 @@ impl Shelf for MemoryShelf {
         begin_file(self.alloc, &mut self.written, name)
     }
 
-    /// Where it is to fail, it adds as many bytes as are listed first, or finds no memory for them. Without
-    /// memory nothing was added.
+    /// Where it is to fail, it adds as many bytes as are listed first, or finds no memory for them.
+    /// Without memory nothing was added.
     fn append(&mut self, name: &str, piece: &[u8]) -> Result<(), ShelfError>
         requires { ForSome (memory_outside self.old).written (λ files. IsSome (files name.now)) }
         ensures appends { Goes (memory_outside self.old).written (memory_outside self.new).written
@@ -172,7 +180,8 @@ impl Shelf for MemoryShelf {
         ensures failed { IsErrOf result ShelfError.Failed → IsSome (next_failure self.old) }
         ensures ok { IsOk result → next_failure self.old ≡ None }
         ensures kept { Goes (memory_outside self.old).written (memory_outside self.new).written
-            (ChangesAt name.now (λ old new. Appends old new (kept_of result (next_failure self.old) piece.now))) }
+            (ChangesAt name.now
+            (λ old new. Appends old new (kept_of result (next_failure self.old) piece.now))) }
         ensures faults { (n : List ℕ) → (memory_outside self.new).write_faults n
             ≡ faults_after result ((memory_outside self.old).write_faults n) }
         ensures call { CountsCall self.old self.new }
@@ -186,8 +195,8 @@ impl Shelf for MemoryShelf {
         append_to(&mut self.written, name, piece)
     }
 
-    /// Where it is to fail, it adds as many bytes as are listed first, or finds no memory for them. Without
-    /// memory nothing was added.
+    /// Where it is to fail, it adds as many bytes as are listed first, or finds no memory for them.
+    /// Without memory nothing was added.
     fn print(&mut self, piece: &[u8]) -> Result<(), ShelfError>
         ensures prints { AddsUnless
             (memory_outside self.old).printed (memory_outside self.new).printed result piece.now }

@@ -2,13 +2,15 @@
 ghost use Rattle.std.specs.Prelude.{◌≡◌, ◌-◌, min, length, IfOk, IsOk, IsSome};
 ghost use Rattle.std.specs.Option.{ForSome};
 ghost use Rattle.std.specs.Io.{ReadsAtMost};
-ghost use Rattle.shelf.specs.Shelf.{content, Told, Goes, ChangesAt, HasCause, HasCauseAt, OnlyReads, OnlyWrites, OnlyPrints, Reads, AddsUnless, AppendsUnless, Begins};
+ghost use Rattle.shelf.specs.Shelf.{content, Told, Goes, ChangesAt, HasCause, HasCauseAt};
+ghost use Rattle.shelf.specs.Shelf.{OnlyReads, OnlyWrites, OnlyPrints, Reads, AddsUnless};
+ghost use Rattle.shelf.specs.Shelf.{AppendsUnless, Begins};
 
 use crate::files::read_file;
 use crate::{HeldFile, Shelf, ShelfError};
 
-/// Files in memory that are read without a fault. It tells these files alone: what is written or printed
-/// is dropped. Its calls take no memory and always answer Ok.
+/// Files in memory that are read without a fault. It tells these files alone: what is written or
+/// printed is dropped. Its calls take no memory and always answer Ok.
 #[derive(Drop)]
 pub struct NeverFails {
     files: Vec<HeldFile>,
@@ -30,13 +32,15 @@ impl Shelf for NeverFails {
 
     ghost outside = { never_fails_outside };
 
-    /// Reads all bytes from `at` on for which there is room. A name that isn't held reads as an empty file.
+    /// Reads all bytes from `at` on for which there is room. A name that isn't held reads as an
+    /// empty file.
     fn read_at(&mut self, name: &str, at: u64, into: &mut [u8]) -> Result<usize, ShelfError>
         ensures bound { ReadsAtMost result into.new }
         ensures bytes { IfOk result (λ n. Told (never_fails_outside self.old).held
             (λ files. Reads (content files name.now) at n into.new)) }
         ensures cause { HasCauseAt name.now
-            (never_fails_outside self.old).read_faults (never_fails_outside self.new).read_faults result }
+            (never_fails_outside self.old).read_faults (never_fails_outside self.new).read_faults
+            result }
         ensures only { OnlyReads (never_fails_outside self.old) (never_fails_outside self.new) }
         ensures always { IsOk result }
         ensures count { IfOk result (λ n. Told (never_fails_outside self.old).held
@@ -50,10 +54,12 @@ impl Shelf for NeverFails {
 
     /// Does nothing.
     fn begin(&mut self, _name: &str) -> Result<(), ShelfError>
-        ensures begins { Goes (never_fails_outside self.old).written (never_fails_outside self.new).written
+        ensures begins { Goes (never_fails_outside self.old).written
+            (never_fails_outside self.new).written
             (ChangesAt _name.now (Begins result)) }
         ensures cause { HasCauseAt _name.now
-            (never_fails_outside self.old).write_faults (never_fails_outside self.new).write_faults result }
+            (never_fails_outside self.old).write_faults (never_fails_outside self.new).write_faults
+            result }
         ensures only { OnlyWrites (never_fails_outside self.old) (never_fails_outside self.new) }
         ensures always { IsOk result }
     {
@@ -62,11 +68,14 @@ impl Shelf for NeverFails {
 
     /// Does nothing.
     fn append(&mut self, _name: &str, _piece: &[u8]) -> Result<(), ShelfError>
-        requires { ForSome (never_fails_outside self.old).written (λ files. IsSome (files _name.now)) }
-        ensures appends { Goes (never_fails_outside self.old).written (never_fails_outside self.new).written
+        requires { ForSome (never_fails_outside self.old).written
+            (λ files. IsSome (files _name.now)) }
+        ensures appends { Goes (never_fails_outside self.old).written
+            (never_fails_outside self.new).written
             (ChangesAt _name.now (λ old new. AppendsUnless old new result _piece.now)) }
         ensures cause { HasCauseAt _name.now
-            (never_fails_outside self.old).write_faults (never_fails_outside self.new).write_faults result }
+            (never_fails_outside self.old).write_faults (never_fails_outside self.new).write_faults
+            result }
         ensures only { OnlyWrites (never_fails_outside self.old) (never_fails_outside self.new) }
         ensures always { IsOk result }
     {
@@ -76,9 +85,11 @@ impl Shelf for NeverFails {
     /// Does nothing.
     fn print(&mut self, _piece: &[u8]) -> Result<(), ShelfError>
         ensures prints { AddsUnless
-            (never_fails_outside self.old).printed (never_fails_outside self.new).printed result _piece.now }
+            (never_fails_outside self.old).printed (never_fails_outside self.new).printed result
+            _piece.now }
         ensures cause { HasCause
-            (never_fails_outside self.old).print_faults (never_fails_outside self.new).print_faults result }
+            (never_fails_outside self.old).print_faults (never_fails_outside self.new).print_faults
+            result }
         ensures only { OnlyPrints (never_fails_outside self.old) (never_fails_outside self.new) }
         ensures always { IsOk result }
     {

@@ -2,14 +2,17 @@
 ghost use Rattle.std.specs.Prelude.{◌≡◌, IfOk, IsSome};
 ghost use Rattle.std.specs.Option.{ForSome};
 ghost use Rattle.std.specs.Io.{ReadsAtMost};
-ghost use Rattle.shelf.specs.Shelf.{Outside, content, Told, Goes, ChangesAt, HasCause, HasCauseAt, OnlyReads, OnlyWrites, OnlyPrints, Reads, AddsUnless, AppendsUnless, Begins};
+ghost use Rattle.shelf.specs.Shelf.{Outside, content, Told, Goes, ChangesAt, HasCause, HasCauseAt};
+ghost use Rattle.shelf.specs.Shelf.{OnlyReads, OnlyWrites, OnlyPrints, Reads, AddsUnless};
+ghost use Rattle.shelf.specs.Shelf.{AppendsUnless, Begins};
 
 use std::alloc::{AllocError, AllocFailed};
 
 /// Why a call of a shelf gave up.
 #[derive(Clone, Copy, Debug, PartialEq, Eq)]
 pub enum ShelfError {
-    /// The outside failed. The shelf's number of faults for the call's kind and name rose in this call.
+    /// The outside failed. The shelf's number of faults for the call's kind and name rose in this
+    /// call.
     Failed,
     /// Memory ran out. No number of faults changed.
     NoMemory,
@@ -37,16 +40,16 @@ impl<T: Drop> From<AllocFailed<T>> for ShelfError {
 
 /// Files under names and a printed text, any of whose calls may fail.
 ///
-/// A file that is read and a file that is written under one name have nothing to do with each other.
-/// What is held never changes. A shelf need not tell what it holds, what was written or what was printed:
-/// what the clauses say of these holds where they are told.
+/// A file that is read and a file that is written under one name have nothing to do with each
+/// other. What is held never changes. A shelf need not tell what it holds, what was written or what
+/// was printed: what the clauses say of these holds where they are told.
 pub trait Shelf {
     /// What is held, was written and was printed, where told, and how often calls have failed.
     ghost outside: { Self → Outside };
 
-    /// Reads bytes of the held file of a name into the front of `into`, from the byte `at` on, and answers
-    /// how many. It answers 0 into a buffer that isn't empty only at or past the file's end. A name that
-    /// isn't held reads as an empty file, or fails.
+    /// Reads bytes of the held file of a name into the front of `into`, from the byte `at` on, and
+    /// answers how many. It answers 0 into a buffer that isn't empty only at or past the file's
+    /// end. A name that isn't held reads as an empty file, or fails.
     ///
     /// `Failed` comes only where the faults of reading this name rose.
     fn read_at(&mut self, name: &str, at: u64, into: &mut [u8]) -> Result<usize, ShelfError>
@@ -57,8 +60,8 @@ pub trait Shelf {
             (outside self.old).read_faults (outside self.new).read_faults result }
         ensures only { OnlyReads (outside self.old) (outside self.new) };
 
-    /// Makes the written file of a name empty, and makes one where there is none. At an error the name is
-    /// as it was, or its file is empty.
+    /// Makes the written file of a name empty, and makes one where there is none. At an error the
+    /// name is as it was, or its file is empty.
     ///
     /// `Failed` comes only where the faults of writing this name rose.
     fn begin(&mut self, name: &str) -> Result<(), ShelfError>
@@ -68,7 +71,8 @@ pub trait Shelf {
             (outside self.old).write_faults (outside self.new).write_faults result }
         ensures only { OnlyWrites (outside self.old) (outside self.new) };
 
-    /// Adds a piece to the written file of a name that was begun. At an error a prefix of it was added.
+    /// Adds a piece to the written file of a name that was begun. At an error a prefix of it was
+    /// added.
     ///
     /// `Failed` comes only where the faults of writing this name rose.
     fn append(&mut self, name: &str, piece: &[u8]) -> Result<(), ShelfError>
@@ -83,7 +87,9 @@ pub trait Shelf {
     ///
     /// `Failed` comes only where the faults of printing rose.
     fn print(&mut self, piece: &[u8]) -> Result<(), ShelfError>
-        ensures prints { AddsUnless (outside self.old).printed (outside self.new).printed result piece.now }
-        ensures cause { HasCause (outside self.old).print_faults (outside self.new).print_faults result }
+        ensures prints { AddsUnless (outside self.old).printed (outside self.new).printed result
+            piece.now }
+        ensures cause { HasCause (outside self.old).print_faults (outside self.new).print_faults
+            result }
         ensures only { OnlyPrints (outside self.old) (outside self.new) };
 }

@@ -1,5 +1,6 @@
 // A whole file, read in pieces.
-ghost use Rattle.std.specs.Prelude.{◌≡◌, ◌<◌, ◌≤◌, ◌+◌, ◌^◌, List, ℕ, true, false, length, IfOk, OnOk, IsErrOf};
+ghost use Rattle.std.specs.Prelude.{◌≡◌, ◌<◌, ◌≤◌, ◌+◌, ◌^◌, List, ℕ, true, false, length, IfOk};
+ghost use Rattle.std.specs.Prelude.{OnOk, IsErrOf};
 ghost use Rattle.shelf.specs.Shelf.{content, Told, HasCauseAt, OnlyReads};
 ghost use Rattle.shelf.specs.Fetch.{HasFetchCause, IsFront};
 
@@ -43,7 +44,8 @@ impl From<ShelfError> for FetchError {
     }
 }
 
-// A buffer of some bytes. (The length is a parameter, since a proof would write out a list of a known length.)
+// A buffer of some bytes. (The length is a parameter, since a proof would write out a list of a
+// known length.)
 fn buffer_of(alloc: Global, count: usize) -> Result<Vec<u8>, AllocError>
     ensures { IfOk result (λ buffer. length buffer.items ≡ count) }
 {
@@ -60,7 +62,8 @@ fn read_piece<S: Shelf>(
     requires room { 0 < length piece.old }
     requires front { Told (S.outside shelf.old).held
         (λ files. IsFront (content files name.now) bytes.old.items) }
-    ensures more { IfOk result (λ more. more ≡ true → length bytes.old.items < length bytes.new.items) }
+    ensures more { IfOk result (λ more. more ≡ true
+        → length bytes.old.items < length bytes.new.items) }
     ensures at_most { length bytes.new.items ≤ length bytes.old.items + length piece.old }
     ensures front { OnOk result (Told (S.outside shelf.old).held
         (λ files. IsFront (content files name.now) bytes.new.items)) }
@@ -79,13 +82,13 @@ fn read_piece<S: Shelf>(
     Ok(true)
 }
 
-/// The whole held file of a name, of at most `limit` bytes, read in pieces of at most 64 KiB. The condition
-/// is a limit below 2^63.
+/// The whole held file of a name, of at most `limit` bytes, read in pieces of at most 64 KiB. The
+/// condition is a limit below 2^63.
 ///
-/// `ReadFault` comes only where the shelf's faults of reading this name rose in this call; `TooLong` exactly
-/// where the shelf gave `limit + 1` bytes, which where the shelf tells its files are the bytes of a longer
-/// file; `NoMemory` for want of memory. Nothing of the shelf changes but its faults of reading, and they
-/// stay too at each other answer than `ReadFault`.
+/// `ReadFault` comes only where the shelf's faults of reading this name rose in this call;
+/// `TooLong` exactly where the shelf gave `limit + 1` bytes, which where the shelf tells its files
+/// are the bytes of a longer file; `NoMemory` for want of memory. Nothing of the shelf changes but
+/// its faults of reading, and they stay too at each other answer than `ReadFault`.
 pub fn fetch<S: Shelf>(
     alloc: Global,
     shelf: &mut S,

@@ -1,6 +1,6 @@
-//! How many steps a second the machine makes: `step_bench STEPS HARTS` runs a loop of ten arithmetic instructions, a load
-//! and a store on hart 0 for so many steps, beside reservations for so many harts, and prints what it did. Without words
-//! it makes 1,000 steps with one hart.
+//! How many steps a second the machine makes: `step_bench STEPS HARTS` runs a loop of ten
+//! arithmetic instructions, a load and a store on hart 0 for so many steps, beside reservations for
+//! so many harts, and prints what it did. Without words it makes 1,000 steps with one hart.
 #![tactic(auto)]
 
 ghost use Rattle.std.specs.Prelude.{◌<◌, ◌≡◌, ◌%◌, IfOk, length};

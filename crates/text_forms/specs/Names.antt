@@ -1,5 +1,6 @@
 -- How a name is printed.
-use Rattle.std.specs.Prelude.{ℕ, ◌+◌, ◌/◌, ◌%◌, ◌==◌, Bool, not, ◌&&◌, nat_lt, List, [], ◌∷◌, codes, flat_map, if◌then◌else◌}
+use Rattle.std.specs.Prelude.{ℕ, ◌+◌, ◌/◌, ◌%◌, ◌==◌, Bool, not, ◌&&◌, nat_lt, List, [], ◌∷◌, codes}
+use Rattle.std.specs.Prelude.{flat_map, if◌then◌else◌}
 
 -- a byte from 0x21 to 0x7e that is no backslash stands in a name as it is
 abbrev pub is_shown : ℕ → Bool
@@ -11,7 +12,8 @@ digit_code d = if nat_lt d 10 then d + 48 else d + 87
 
 -- any other byte is a backslash, an x and its two digits
 abbrev pub byte_text : ℕ → List ℕ
-byte_text byte = if is_shown byte then byte ∷ [] else (92 ∷ 120 ∷ digit_code (byte / 16) ∷ digit_code (byte % 16) ∷ [])
+byte_text byte = if is_shown byte then byte ∷ []
+    else (92 ∷ 120 ∷ digit_code (byte / 16) ∷ digit_code (byte % 16) ∷ [])
 
 -- a name; an empty one is `?`
 abbrev pub name_text : List ℕ → List ℕ

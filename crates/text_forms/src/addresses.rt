@@ -19,10 +19,12 @@ pub fn push_address(text: &mut String, at: u64) -> Result<(), AllocError>
     push_hexadecimal(text, at)
 }
 
-/// Adds the text of the address `offset` bytes past `base`, which may be below 0. It takes memory for the text.
+/// Adds the text of the address `offset` bytes past `base`, which may be below 0. It takes memory
+/// for the text.
 pub fn push_address_past(text: &mut String, base: i64, offset: u64) -> Result<(), AllocError>
     requires { offset < 2 ^ 63 }
-    ensures { OnOk result (string_bytes text.new ≡ string_bytes text.old ++ address_text (base +ℤ pos offset)) }
+    ensures { OnOk result (string_bytes text.new ≡ string_bytes text.old ++ address_text
+        (base +ℤ pos offset)) }
 {
     let below = base.unsigned_abs();
     if base >= 0 {
@@ -35,8 +37,8 @@ pub fn push_address_past(text: &mut String, base: i64, offset: u64) -> Result<()
     }
 }
 
-/// The text of an address: `0x` and at least eight lower-case hexadecimal digits, behind a `-` where it is
-/// below 0. It takes memory for the text.
+/// The text of an address: `0x` and at least eight lower-case hexadecimal digits, behind a `-`
+/// where it is below 0. It takes memory for the text.
 pub fn address(alloc: Global, at: i64) -> Result<String, AllocError>
     ensures { IfOk result (λ text. string_bytes text ≡ address_text at) }
 {

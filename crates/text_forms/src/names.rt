@@ -35,8 +35,9 @@ fn push_byte(text: &mut String, byte: u8) -> Result<(), AllocError>
     text.push(char::from(digit(byte % 16)))
 }
 
-/// Adds a name as it is printed: each byte from 0x21 to 0x7e other than the backslash as it is, every other byte as
-/// `\x` and two hexadecimal digits, and an empty name as `?`. It takes memory for the text.
+/// Adds a name as it is printed: each byte from 0x21 to 0x7e other than the backslash as it is,
+/// every other byte as `\x` and two hexadecimal digits, and an empty name as `?`. It takes memory
+/// for the text.
 pub fn push_name(text: &mut String, name: &[u8]) -> Result<(), AllocError>
     ensures { OnOk result (string_bytes text.new ≡ string_bytes text.old ++ name_text name.now) }
 {

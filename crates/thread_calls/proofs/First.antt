@@ -1,10 +1,14 @@
 -- The phases at the beginning, and when a hart can be joined.
-use Rattle.std.proofs.Common.{◌≡◌, ℕ, zero, suc, ◌≤◌, ◌∙◌, Bool, true, false, List, ◌∷◌, length, map, set, replicate, refl, ap, sym, arith}
-use Rattle.std.proofs.lemmas.Bool.{both_ways}
+use Rattle.std.proofs.Common.{◌≡◌, ℕ, zero, suc, ◌≤◌, ◌∙◌, Bool, true, false, cond, List, ◌∷◌, length, map, set, replicate, Some, refl, ap}
+use Rattle.std.proofs.Common.{sym, arith}
+use Rattle.std.specs.List.{count_by, position}
+use Rattle.std.proofs.lemmas.Bool.{both_ways, lt-ltb}
 use Rattle.std.proofs.lemmas.List.{length-set, length-replicate}
+use Rattle.std.proofs.lemmas.List.Sums.{sum_by-cons}
 use Rattle.thread_calls.specs.declared.phase.HartPhase.{HartPhase}
 use Rattle.thread_calls.specs.declared.phase.HartPhase.TheVariants.{Free, Runnable}
-use Rattle.thread_calls.specs.Phases.{phase_of, first_phases, is_free, is_joining, is_runnable}
+use Rattle.thread_calls.specs.Phases.{phase_of, first_phases, is_free, is_joining, is_runnable, lone_runnable}
+use Rattle.thread_calls.specs.Kept.{IsKept}
 use Rattle.thread_calls.specs.Sound.{IsSound}
 
 all_free : (n : ℕ) → map is_runnable (replicate n Free) ≡ replicate n false
@@ -43,9 +47,31 @@ first_sound n some most = record {
   once = λ j k hart joins _. absurd (both_ways _ (none_joins n j hart) joins);
 }
 
--- the fields of `Threads` at the beginning
-pub first_fields : (harts m n : ℕ) (marks : List Bool) (phases : List HartPhase) → marks ≡ replicate m false → phases ≡ replicate n Free
-    → m ≡ harts → n ≡ harts → 1 ≤ harts → harts ≤ 256 → (set marks 0 true ≡ map is_runnable (set phases 0 Runnable))
-    × IsSound (set phases 0 Runnable)
-first_fields harts m n marks phases unmarked free m_is n_is some most =
-    rw (unmarked, free, m_is, n_is) (first_marks harts, first_sound harts some most)
+none_counted : (n : ℕ) → count_by is_runnable (replicate n Free) ≡ 0
+none_counted zero = refl
+none_counted (suc n) = sum_by-cons (λ p. cond (is_runnable p) 1 0) Free (replicate n Free) ∙ omega (arith, none_counted n)
+
+one_counted : (n : ℕ) → 1 ≤ n → count_by is_runnable (first_phases n) ≡ 1
+one_counted zero some = absurd (omega arith)
+one_counted (suc n) some =
+    sum_by-cons (λ p. cond (is_runnable p) 1 0) Runnable (replicate n Free) ∙ omega (arith, none_counted n)
+
+first_found : (n : ℕ) → 1 ≤ n → position is_runnable (first_phases n) ≡ Some 0
+first_found zero some = absurd (omega arith)
+first_found (suc n) some = rw (lt-ltb 0 (length (first_phases (suc n))) (omega (arith, length-first_phases (suc n)))) refl
+
+first_lone : (n : ℕ) → 1 ≤ n → Some 0 ≡ lone_runnable (first_phases n)
+first_lone n some = rw (one_counted n some) (sym (first_found n some))
+
+-- what is kept at the beginning
+pub first_kept : (harts m n first : ℕ) (marks : List Bool) (phases : List HartPhase) → marks ≡ replicate m false → phases ≡ replicate n Free
+    → m ≡ harts → n ≡ harts → first ≡ 0 → 1 ≤ harts → harts ≤ 256
+    → IsKept (set phases 0 Runnable) (set marks 0 true) 1 (Some first)
+first_kept harts m n first marks phases unmarked free m_is n_is first_is some most =
+    rw (unmarked, free, m_is, n_is, first_is)
+    (record {
+      sound = first_sound harts some most;
+      marked = first_marks harts;
+      counted = sym (one_counted harts some);
+      known = first_lone harts some;
+    })

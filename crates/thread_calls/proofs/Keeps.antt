@@ -1,13 +1,16 @@
 -- Which changes of one hart's phase keep the phases sound.
-use Rattle.std.proofs.Common.{◌≡◌, ◌≢◌, ℕ, ◌<◌, ◌∙◌, Bool, true, false, List, length, set, refl, sym, subst, arith, inl, inr, map, None, Some, ap}
+use Rattle.std.proofs.Common.{◌≡◌, ◌≢◌, ℕ, ◌<◌, ◌∙◌, Bool, true, false, List, length, set, refl, sym, subst, arith, inl, inr, Option, None}
+use Rattle.std.proofs.Common.{Some, ap}
+use Rattle.std.specs.List.{count_by}
 use Rattle.std.proofs.lemmas.Bool.{eqb-true, eqb-false, ne_eqb, cases_Bool, cases_eq, both_ways, and_parts, ltb-true, not-true}
 use Rattle.std.proofs.lemmas.List.{length-set, map-set}
 use Rattle.std.proofs.lemmas.List.Quantifiers.{position-Some}
 use Rattle.thread_calls.specs.declared.phase.HartPhase.{HartPhase}
 use Rattle.thread_calls.specs.declared.phase.HartPhase.TheVariants.{Free, Runnable, Joining, Waiting, Ended}
-use Rattle.thread_calls.specs.Phases.{phase_of, is_free, is_joining, is_over, is_runnable, ended_code}
+use Rattle.thread_calls.specs.Phases.{phase_of, is_free, is_joining, is_over, is_runnable, ended_code, lone_runnable}
 use Rattle.thread_calls.specs.Calls.{can_join, joiner_of}
 use Rattle.thread_calls.specs.Facts.{CanJoin}
+use Rattle.thread_calls.specs.Kept.{IsKept}
 use Rattle.thread_calls.specs.Sound.{IsSound}
 use Rattle.thread_calls.proofs.Places.{same_at, other_at, none_passes}
 
@@ -183,13 +186,17 @@ goes_on_since (Joining hart) taken lasts = refl
 goes_on_since (Waiting addr) taken lasts = refl
 goes_on_since (Ended code) taken lasts = cc
 
--- the fields of `Threads` after one hart's phase was set in both lists
-pub set_in_both : (marks : List Bool) (phases now : List HartPhase) (place hart : ℕ) (runs : Bool) (phase : HartPhase)
-    → (marks ≡ map is_runnable phases) × IsSound phases → phases ≡ now → place ≡ hart → runs ≡ is_runnable phase
-    → (IsSound now → IsSound (set now hart phase)) → (set marks place runs ≡ map is_runnable (set phases place phase))
-    × IsSound (set phases place phase)
-set_in_both marks phases now place hart runs phase both view at is kept =
-    rw (both.0, is, at, view) (sym (map-set is_runnable now hart phase), kept (subst IsSound view both.1))
+-- what is kept after one hart's phase was set
+pub set_kept : (marks : List Bool) (phases now : List HartPhase) (running count place hart : ℕ) (only o : Option ℕ) (runs : Bool)
+    (phase : HartPhase) → IsKept phases marks running only → phases ≡ now → place ≡ hart → runs ≡ is_runnable phase
+    → (IsSound now → IsSound (set now hart phase)) → count ≡ count_by is_runnable (set phases place phase)
+    → o ≡ lone_runnable (set phases place phase) → IsKept (set phases place phase) (set marks place runs) count o
+set_kept marks phases now running count place hart only o runs phase old view at is kept counts found = record {
+  sound = rw (at, view) (kept (subst IsSound view old.sound));
+  marked = rw (old.marked, is) (sym (map-set is_runnable phases place phase));
+  counted = counts;
+  known = found;
+}
 
 -- where a hart joins this one, it is made runnable first, and then this one can become free
 pub keeps_freed : (phases new : List HartPhase) (place joiner hart : ℕ) → IsSound phases → hart < length phases

@@ -4,3 +4,4 @@ pub mod First
 pub mod Wakes
 pub mod Tells
 pub mod WorkedCalls
+pub mod Alone

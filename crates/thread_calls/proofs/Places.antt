@@ -1,5 +1,6 @@
 -- Phases by hart: what a changed list has at a hart, and what a search for a phase tells of each hart.
-use Rattle.std.proofs.Common.{◌≡◌, ◌≢◌, ℕ, zero, suc, ◌<◌, ◌≤◌, ◌∙◌, Bool, false, cond, List, [], ◌∷◌, length, set, refl, arith, inl, inr, nat_eq, nat_lt, None, Some, get_or-set_same, get_or-set_other}
+use Rattle.std.proofs.Common.{◌≡◌, ◌≢◌, ℕ, zero, suc, ◌<◌, ◌≤◌, ◌∙◌, Bool, false, cond, List, [], ◌∷◌, length, set, refl, arith, inl, inr}
+use Rattle.std.proofs.Common.{nat_eq, nat_lt, None, Some, get_or-set_same, get_or-set_other}
 use Rattle.std.proofs.lemmas.Bool.{eq-eqb, ne_eqb, cases_Bool, cases_eq, cases_lt, or_parts, ltb-false}
 use Rattle.std.proofs.lemmas.List.{get_or_past}
 use Rattle.std.proofs.lemmas.List.Sums.{fails_before_first}

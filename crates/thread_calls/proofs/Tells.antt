@@ -1,5 +1,6 @@
 -- What the phases after each call tell its caller.
-use Rattle.std.proofs.Common.{◌≡◌, ◌≢◌, ◌↔◌, ℕ, ◌<◌, ◌∙◌, Bool, true, false, List, length, map, get_or, set, refl, sym, ap, arith, None, Some}
+use Rattle.std.proofs.Common.{◌≡◌, ◌≢◌, ◌↔◌, ℕ, ◌<◌, ◌∙◌, Bool, true, false, List, length, map, get_or, set, refl, sym, ap, arith, None}
+use Rattle.std.proofs.Common.{Some}
 use Rattle.std.proofs.lemmas.Bool.{eqb-true, both_ways}
 use Rattle.std.proofs.lemmas.List.{length-set}
 use Rattle.std.proofs.Math.ListN.{get_or-map}
@@ -84,7 +85,7 @@ exits_joined old mid new place joiner caller within runs found is first second =
       others = λ k not_caller not_joiner. two.others k not_caller ∙ one.others k not_joiner;
     }
 
-runnable_since : (phase : HartPhase) → is_runnable phase ≡ true → phase ≡ Runnable
+pub runnable_since : (phase : HartPhase) → is_runnable phase ≡ true → phase ≡ Runnable
 runnable_since Free runs = absurd (both_ways _ refl runs)
 runnable_since Runnable runs = refl
 runnable_since (Joining hart) runs = absurd (both_ways _ refl runs)

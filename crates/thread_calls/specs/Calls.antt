@@ -1,11 +1,14 @@
 -- What each call of a guest does to the phases, and what it answers.
-use Rattle.std.specs.Prelude.{ℕ, Bool, ◌&&◌, not, if◌then◌else◌, nat_eq, nat_lt, List, length, map, take, count_by, min, position, Option, Some, None, slice_set}
+use Rattle.std.specs.Prelude.{ℕ, Bool, ◌&&◌, not, if◌then◌else◌, nat_eq, nat_lt, List, length, map}
+use Rattle.std.specs.Prelude.{take, count_by, min, position, Option, Some, None, slice_set}
 use Rattle.std.specs.List.{list_all, list_any, range_with_len}
 use Rattle.thread_calls.specs.declared.phase.HartPhase.{HartPhase}
-use Rattle.thread_calls.specs.declared.phase.HartPhase.TheVariants.{Free, Runnable, Joining, Waiting, Ended}
+use Rattle.thread_calls.specs.declared.phase.HartPhase.TheVariants.{Free, Runnable, Joining}
+use Rattle.thread_calls.specs.declared.phase.HartPhase.TheVariants.{Waiting, Ended}
 use Rattle.thread_calls.specs.declared.phase.JoinEnd.{JoinEnd}
 use Rattle.thread_calls.specs.declared.phase.JoinEnd.TheVariants.{Bad, Done, Waits}
-use Rattle.thread_calls.specs.Phases.{phase_of, is_free, is_joining, is_waiting_at, is_over, ended_code}
+use Rattle.thread_calls.specs.Phases.{phase_of, is_free, is_joining, is_waiting_at, is_over}
+use Rattle.thread_calls.specs.Phases.{ended_code}
 
 -- spawn: the lowest free hart becomes runnable
 abbrev pub lowest_free : List HartPhase → Option ℕ

@@ -5,13 +5,19 @@ use Rattle.thread_calls.specs.declared.phase.HartPhase.{HartPhase}
 use Rattle.thread_calls.specs.declared.phase.HartPhase.TheVariants.{Free, Runnable, Joining, Ended}
 use Rattle.thread_calls.specs.declared.phase.JoinEnd.{JoinEnd}
 use Rattle.thread_calls.specs.declared.phase.JoinEnd.TheVariants.{Bad, Done, Waits}
-use Rattle.thread_calls.specs.Phases.{phase_of, is_free, is_joining, is_over, is_waiting_at}
+use Rattle.thread_calls.specs.Phases.{phase_of, is_free, is_joining, is_over, is_runnable}
+use Rattle.thread_calls.specs.Phases.{is_waiting_at}
 use Rattle.thread_calls.specs.Calls.{waiters_below}
 
 -- no other hart than this one has another phase
 pub record ChangesOnly (hart : ℕ) (old new : List HartPhase) : Type 0 where
   pub harts : length new ≡ length old
   pub others : (k : ℕ) → k ≢ hart → phase_of new k ≡ phase_of old k
+
+-- this hart can run, and no other can
+pub record RunsAlone (phases : List HartPhase) (hart : ℕ) : Type 0 where
+  pub runs : phase_of phases hart ≡ Runnable
+  pub others : (k : ℕ) → k ≢ hart → is_runnable (phase_of phases k) ≡ false
 
 -- spawn: this hart was the lowest free one and now can run
 pub record Starts (old new : List HartPhase) (hart : ℕ) : Type 0 where

@@ -1,4 +1,5 @@
 pub mod Phases
 pub mod Calls
 pub mod Sound
+pub mod Kept
 pub mod Facts

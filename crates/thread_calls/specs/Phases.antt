@@ -1,7 +1,9 @@
 -- The phases of harts: a list, with one phase for each hart from hart 0 on.
-use Rattle.std.specs.Prelude.{ℕ, Bool, true, false, List, replicate, nat_eq, Option, Some, None, slice_index_or, slice_set}
+use Rattle.std.specs.Prelude.{ℕ, Bool, true, false, List, replicate, nat_eq, count_by, position}
+use Rattle.std.specs.Prelude.{Option, Some, None, slice_index_or, slice_set, if◌then◌else◌}
 use Rattle.thread_calls.specs.declared.phase.HartPhase.{HartPhase}
-use Rattle.thread_calls.specs.declared.phase.HartPhase.TheVariants.{Free, Runnable, Joining, Waiting, Ended}
+use Rattle.thread_calls.specs.declared.phase.HartPhase.TheVariants.{Free, Runnable, Joining}
+use Rattle.thread_calls.specs.declared.phase.HartPhase.TheVariants.{Waiting, Ended}
 
 -- whether a hart in this phase can be spawned
 abbrev pub is_free : HartPhase → Bool
@@ -58,3 +60,8 @@ phase_of phases hart = slice_index_or phases hart Free
 -- at the beginning hart 0 is runnable, and the others are free
 abbrev pub first_phases : ℕ → List HartPhase
 first_phases harts = slice_set (replicate harts Free) 0 Runnable
+
+-- the only hart that can run: None where none can, or more than one
+abbrev pub lone_runnable : List HartPhase → Option ℕ
+lone_runnable phases =
+    if nat_eq (count_by is_runnable phases) 1 then position is_runnable phases else None

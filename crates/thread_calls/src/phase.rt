@@ -1,6 +1,7 @@
 // What a hart is at, and what a join answers.
 ghost use Rattle.std.specs.Prelude.{◌≡◌};
-ghost use Rattle.thread_calls.specs.Phases.{ended_code, is_free, is_joining, is_over, is_runnable, is_waiting_at};
+ghost use Rattle.thread_calls.specs.Phases.{ended_code, is_free, is_joining, is_over, is_runnable};
+ghost use Rattle.thread_calls.specs.Phases.{is_waiting_at};
 
 use predator_base::Hart;
 

@@ -9,10 +9,13 @@ fn a_hart_is_joined_woken_and_ends(rt: HostRuntime) -> Result<(), Fail> {
     let main = Hart::new(0).ok_or("hart 0")?;
     let mut threads = Threads::new(rt.alloc(), 3)?;
     assert_eq!(rt; threads.runnable(), [true, false, false].as_slice());
+    assert_eq!(rt; threads.lone(), Some(main));
 
     let worker = threads.spawn().ok_or("a free hart")?;
     assert_eq!(rt; worker.number(), 1);
+    assert_eq!(rt; threads.lone(), None);
     assert_eq!(rt; threads.join(main, 1), JoinEnd::Waits);
+    assert_eq!(rt; threads.lone(), Some(worker));
     threads.wait(worker, 64);
     assert_eq!(rt; threads.runnable(), [false, false, false].as_slice());
     assert_eq!(rt; threads.wake(64, 5), 1);

@@ -1,10 +1,16 @@
 // The phases of all harts, and the calls that change them.
-ghost use Rattle.std.specs.Prelude.{◌≡◌, ℕ, ◌<◌, ◌≤◌, ◌↔◌, length, map, IsTrue, IfOk, IfSome, IsSome, MatchOption, false, slice_index_or, slice_set};
+ghost use Rattle.std.specs.Prelude.{◌≡◌, ℕ, ◌<◌, ◌≤◌, ◌↔◌, length, map, count_by, position};
+ghost use Rattle.std.specs.Prelude.{if◌then◌else◌, IsTrue, IfOk, IfSome, IsSome, MatchOption};
+ghost use Rattle.std.specs.Prelude.{false, slice_index_or, slice_set};
 ghost use Rattle.std.specs.List.{list_all, list_any};
 ghost use Rattle.std.specs.Option.{ForSome, SomeIff};
-ghost use Rattle.thread_calls.specs.Phases.{first_phases, is_joining, is_over, is_runnable, is_waiting_at, phase_of};
-ghost use Rattle.thread_calls.specs.Calls.{after_join, answer_of_join, can_join, exited, finished_code, join_end, joined, joiner_of, lowest_free, spawned, woken, woken_count};
-ghost use Rattle.thread_calls.specs.Facts.{ChangesOnly, ExitsAlone, ExitsJoined, Joins, Starts, StartsNone, WakesLowest};
+ghost use Rattle.thread_calls.specs.Phases.{first_phases, is_joining, is_over, is_runnable};
+ghost use Rattle.thread_calls.specs.Phases.{is_waiting_at, lone_runnable, phase_of};
+ghost use Rattle.thread_calls.specs.Calls.{after_join, answer_of_join, can_join, exited};
+ghost use Rattle.thread_calls.specs.Calls.{finished_code, join_end, joined, joiner_of, lowest_free};
+ghost use Rattle.thread_calls.specs.Calls.{spawned, woken, woken_count};
+ghost use Rattle.thread_calls.specs.Facts.{ChangesOnly, ExitsAlone, ExitsJoined, Joins, RunsAlone};
+ghost use Rattle.thread_calls.specs.Facts.{Starts, StartsNone, WakesLowest};
 ghost use Rattle.thread_calls.specs.Sound.{IsSound};
 
 use crate::phase::{HartPhase, JoinEnd};
@@ -17,20 +23,21 @@ use std::marker::Model;
 pub struct Threads {
     phases: Vec<HartPhase>,
     runnable: Vec<bool>,
+    // How many harts can run, and which one if it is the only one.
+    running: usize,
+    lone: Option<Hart>,
 }
 
 impl Model for Threads {
-    ghost use Rattle.std.specs.Prelude.{◌≡◌, List, map};
+    ghost use Rattle.std.specs.Prelude.{List};
     ghost use Rattle.thread_calls.specs.declared.phase.HartPhase.{HartPhase};
-    ghost use Rattle.thread_calls.specs.Phases.{is_runnable};
-    ghost use Rattle.thread_calls.specs.Sound.{IsSound};
+    ghost use Rattle.thread_calls.specs.Kept.{IsKept};
 
     ghost Value = { List HartPhase };
 
     ghost view = { λ t. t.phases.items };
 
-    ghost invariant = { λ t. (t.runnable.items ≡ map is_runnable t.phases.items)
-        × IsSound t.phases.items };
+    ghost invariant = { λ t. IsKept t.phases.items t.runnable.items t.running t.lone };
 }
 
 impl Threads {
@@ -45,7 +52,12 @@ impl Threads {
         let mut runnable = vec![in alloc; false; usize::from(harts)]?;
         phases[0] = HartPhase::Runnable;
         runnable[0] = true;
-        Ok(Threads { phases, runnable })
+        Ok(Threads {
+            phases,
+            runnable,
+            running: 1,
+            lone: Some(hart_at(0)),
+        })
     }
 
     /// The phase of a hart.
@@ -65,6 +77,15 @@ impl Threads {
         ensures sound { IsSound self.now }
     {
         self.runnable.as_slice()
+    }
+
+    /// The hart that can run, if it is the only one. None exactly where none can, or more than one.
+    #[inline]
+    pub fn lone(&self) -> Option<Hart>
+        ensures value { result ≡ lone_runnable self.now }
+        ensures alone { IfSome result (RunsAlone self.now) }
+    {
+        self.lone
     }
 
     /// The lowest free hart becomes runnable, and is the answer: None exactly where none is free.
@@ -253,10 +274,43 @@ impl Threads {
         ensures { self.new ≡ slice_set self.old hart phase }
     {
         let place = usize::from(hart.number());
+        let ran = running_in(self.phases[place]);
         let runs = phase.is_runnable();
         self.runnable[place] = runs;
         self.phases[place] = phase;
+        self.running = self.running - ran + running_in(phase);
+        self.lone = lone_in(self.phases.as_slice(), self.running);
     }
+}
+
+// How many harts can run of the one in this phase.
+fn running_in(phase: HartPhase) -> usize
+    ensures { result ≡ (if is_runnable phase then 1 else 0) }
+{
+    usize::from(phase.is_runnable())
+}
+
+// The only hart that can run, where so many can.
+fn lone_in(phases: &[HartPhase], running: usize) -> Option<Hart>
+    requires few { length phases.now ≤ 256 }
+    requires running { running ≡ count_by is_runnable phases.now }
+    ensures { result ≡ lone_runnable phases.now }
+{
+    if running != 1 {
+        return None;
+    }
+    match first_runnable(phases) {
+        Some(place) => Some(hart_at(place)),
+        None => None,
+    }
+}
+
+// The lowest hart that can run, if one can.
+fn first_runnable(phases: &[HartPhase]) -> Option<usize>
+    ensures answer { result ≡ position is_runnable phases.now }
+    ensures small { ForSome result (λ place. place < length phases.now) }
+{
+    phases.iter().position(|phase| phase.is_runnable())
 }
 
 // The hart at a place in the list of phases.

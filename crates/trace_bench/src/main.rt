@@ -1,5 +1,6 @@
-//! How fast traces are read: `trace_bench VERSION PIECES` reads so many pieces of 8192 accesses each, of version 1 or 2,
-//! and prints how many accesses it read. Each piece ends inside a record. Without words it reads two pieces of version 1.
+//! How fast traces are read: `trace_bench VERSION PIECES` reads so many pieces of 8192 accesses
+//! each, of version 1 or 2, and prints how many accesses it read. Each piece ends inside a record.
+//! Without words it reads two pieces of version 1.
 #![tactic(auto)]
 
 ghost use Rattle.std.specs.Prelude.{◌≡◌, ◌<◌, IfOk};

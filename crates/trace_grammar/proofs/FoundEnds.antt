@@ -1,5 +1,6 @@
 -- What is judged good is good, and the bytes are its spelling: the end and the header.
-use Rattle.std.proofs.Common.{◌≡◌, ℕ, ◌%◌, ◌^◌, ◌<◌, inl, inr, Bool, true, false, cond, ◌&&◌, eqb, eqb-true, ltb, leb, List, [], ◌∷◌, ◌++◌, length, get_or, drop, Option, Some, None, Ok, refl, sym, ap, subst, ◌∙◌, arith}
+use Rattle.std.proofs.Common.{◌≡◌, ℕ, ◌%◌, ◌^◌, ◌<◌, inl, inr, Bool, true, false, cond, ◌&&◌, eqb, eqb-true, ltb, leb, List, [], ◌∷◌, ◌++◌}
+use Rattle.std.proofs.Common.{length, get_or, drop, Option, Some, None, Ok, refl, sym, ap, subst, ◌∙◌, arith}
 use Rattle.std.specs.Prelude.{find}
 use Rattle.std.proofs.lemmas.Bool.{and_parts, leb-true}
 use Rattle.std.proofs.lemmas.Bool.Decides.{nat_tests, Decides-eqb}
@@ -10,7 +11,8 @@ use Rattle.std.specs.Int.{w16, w32, w64, to_le_bytes}
 use Rattle.std.specs.List.{starts_with}
 use Rattle.predator_base.specs.Levels.{is_from_to}
 use Rattle.predator_base.specs.declared.ending.Cause.{Cause}
-use Rattle.predator_base.specs.declared.ending.Cause.TheVariants.{Illegal, Breakpoint, FetchMisaligned, FetchOutside, LoadMisaligned, LoadOutside, StoreMisaligned, StoreOutside}
+use Rattle.predator_base.specs.declared.ending.Cause.TheVariants.{Illegal, Breakpoint, FetchMisaligned, FetchOutside, LoadMisaligned}
+use Rattle.predator_base.specs.declared.ending.Cause.TheVariants.{LoadOutside, StoreMisaligned, StoreOutside}
 use Rattle.predator_base.specs.declared.ending.Outcome.{Outcome}
 use Rattle.predator_base.specs.declared.ending.Outcome.TheVariants.{Exit, Budget, Deadlock, Trap, Part}
 use Rattle.trace_grammar.specs.declared.record.Version.{Version}
@@ -21,7 +23,8 @@ use Rattle.trace_grammar.specs.declared.progress.Progress.{Progress}
 use Rattle.trace_grammar.specs.Spelling.{cause_number, magic_of, outcome_fields, spell_ending, spell_header, spell_outcome}
 use Rattle.trace_grammar.specs.Tags.{number_of}
 use Rattle.trace_grammar.specs.Rules.{FitsFields, IsAllowedEnd, IsGoodEnding, IsGoodHeader, last_position}
-use Rattle.trace_grammar.specs.Judging.{begun, cause_of, end_with, fields_judged, header_judged, number_at, outcome_judged, plain_judged, plain_outcome_of, plain_with, trap_for, trap_judged, version_at}
+use Rattle.trace_grammar.specs.Judging.{begun, cause_of, end_with, fields_judged, header_judged, number_at, outcome_judged, plain_judged}
+use Rattle.trace_grammar.specs.Judging.{plain_outcome_of, plain_with, trap_for, trap_judged, version_at}
 use Rattle.trace_grammar.proofs.Bytes.{IsBytes, below_32, below_64, from_part, last_part, part, spelled_16, spelled_32, spelled_64}
 use Rattle.trace_grammar.proofs.FoundRecords.{chosen, granted, passed, same_Ok}
 

@@ -1,5 +1,6 @@
 -- What is judged good is a good record, and the bytes are its spelling.
-use Rattle.std.proofs.Common.{◌≡◌, ℕ, ◌+◌, ◌^◌, ◌≤◌, ◌<◌, true, eqb, eqb-true, ltb, List, length, get_or, Option, Some, None, Result, Ok, Err, refl, subst, arith}
+use Rattle.std.proofs.Common.{◌≡◌, ℕ, ◌+◌, ◌^◌, ◌≤◌, ◌<◌, true, eqb, eqb-true, ltb, List, length, get_or, Option, Some, None, Result, Ok}
+use Rattle.std.proofs.Common.{Err, refl, subst, arith}
 use Rattle.std.proofs.lemmas.Bool.Decides.{nat_tests}
 use Rattle.std.specs.Int.{w32, w64}
 use Rattle.predator_base.specs.Touch.{Touch, is_access_size}
@@ -16,9 +17,12 @@ use Rattle.trace_grammar.specs.Spelling.{spell_record, spell_touch}
 use Rattle.trace_grammar.specs.Tags.{tag_of}
 use Rattle.trace_grammar.specs.Rules.{IsGoodRecord, last_position}
 use Rattle.trace_grammar.specs.Found.{IsFound}
-use Rattle.trace_grammar.specs.Judging.{alloc_at, end_counted, end_with, extent_if, extent_of, number_at, outcome_judged, record_extent, record_judged, step_judged, symbol_judged, symbol_kind_of, tagged_if, tagged_judged, touch_counted, touch_judged}
+use Rattle.trace_grammar.specs.Judging.{alloc_at, end_counted, end_with, extent_if, extent_of, number_at, outcome_judged, record_extent}
+use Rattle.trace_grammar.specs.Judging.{record_judged, step_judged, symbol_judged, symbol_kind_of, tagged_if, tagged_judged, touch_counted}
+use Rattle.trace_grammar.specs.Judging.{touch_judged}
 use Rattle.trace_grammar.proofs.Bytes.{IsBytes}
-use Rattle.trace_grammar.proofs.FoundRecords.{IsTagAt, StepIn, TouchIn, alloc_found, free_found, granted, same_Ok, step_found, symbol_found, tag_found, touch_found}
+use Rattle.trace_grammar.proofs.FoundRecords.{IsTagAt, StepIn, TouchIn, alloc_found, free_found, granted, same_Ok, step_found, symbol_found}
+use Rattle.trace_grammar.proofs.FoundRecords.{tag_found, touch_found}
 use Rattle.trace_grammar.proofs.FoundEnds.{ending_found}
 
 touch_in_its : (v : Version) (last : ℕ) (bytes : List ℕ) (a : Touch) → TouchIn v → bytes ≡ spell_touch One last a

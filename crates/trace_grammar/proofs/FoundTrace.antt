@@ -1,5 +1,6 @@
 -- What is read with no fault up to an end is a trace.
-use Rattle.std.proofs.Common.{◌≡◌, ℕ, ◌+◌, ◌^◌, ◌≤◌, ◌<◌, inl, inr, Bool, true, false, cond, eqb, ltb, List, [], ◌∷◌, ◌++◌, length, take, All, Option, Some, None, Result, Ok, Err, refl, sym, ap, subst, ◌∙◌, append_assoc, arith}
+use Rattle.std.proofs.Common.{◌≡◌, ℕ, ◌+◌, ◌^◌, ◌≤◌, ◌<◌, inl, inr, Bool, true, false, cond, eqb, ltb, List, [], ◌∷◌, ◌++◌, length, take}
+use Rattle.std.proofs.Common.{All, Option, Some, None, Result, Ok, Err, refl, sym, ap, subst, ◌∙◌, append_assoc, arith}
 use Rattle.std.proofs.lemmas.Bool.Decides.{nat_tests}
 use Rattle.std.proofs.lemmas.Bool.{cases_lt}
 use Rattle.std.proofs.lemmas.List.{append-nil, length-append, take-append-le}
@@ -14,7 +15,8 @@ use Rattle.trace_grammar.specs.declared.progress.Progress.{Progress}
 use Rattle.trace_grammar.specs.Spelling.{last_after, spell, spell_ending, spell_header, spell_record, spell_records}
 use Rattle.trace_grammar.specs.Rules.{IsGoodHeader, IsGoodRecord, IsInner, last_position, longest_trace, touch_in, touches_in}
 use Rattle.trace_grammar.specs.Judging.{header_judged, record_extent, record_judged}
-use Rattle.trace_grammar.specs.Reading.{Reading, begin, byte_read, counted_after, ending_in, ending_of, extent_at, header_read, part_at, place_of, progress_after, read_on, reading_of, record_read, with_fault}
+use Rattle.trace_grammar.specs.Reading.{Reading, begin, byte_read, counted_after, ending_in, ending_of, extent_at, header_read, part_at}
+use Rattle.trace_grammar.specs.Reading.{place_of, progress_after, read_on, reading_of, record_read, with_fault}
 use Rattle.trace_grammar.specs.ReadingLaws.{waiting}
 use Rattle.trace_grammar.specs.ExtentLaws.{extent_is_some, fronts_wait_at}
 use Rattle.trace_grammar.specs.AgainLaws.{ComesAt}

@@ -9,7 +9,8 @@ use Rattle.trace_grammar.specs.declared.record.TraceRecord.{TraceRecord}
 use Rattle.trace_grammar.specs.declared.record.TraceRecord.TheVariants as records
 use Rattle.trace_grammar.specs.declared.record.Version.TheVariants.{One, Two}
 use Rattle.trace_grammar.specs.Spelling.{spell_header, spell_touch, spell_ending, spell}
-use Rattle.trace_grammar.specs.Judging.{header_judged, symbol_extent, record_extent, touch_judged, step_judged, symbol_judged, plain_judged, outcome_judged, record_judged}
+use Rattle.trace_grammar.specs.Judging.{header_judged, symbol_extent, record_extent, touch_judged, step_judged, symbol_judged, plain_judged}
+use Rattle.trace_grammar.specs.Judging.{outcome_judged, record_judged}
 use Rattle.trace_grammar.specs.Reading.{byte_read, read_on, reading_of, ending_of}
 
 -- PRDTRC01 or PRDTRC02, first position 0, so many harts, and zero

@@ -1,16 +1,23 @@
 -- What good records spell is read as those records.
-use Rattle.std.proofs.Common.{◌≡◌, ◌≢◌, ℕ, ◌+◌, ◌*◌, ◌%◌, ◌^◌, ◌≤◌, ◌<◌, true, false, eqb, eq-eqb, ltb, leb, List, [], ◌∷◌, length, get_or, All, Some, Ok, refl, ap, arith}
+use Rattle.std.proofs.Common.{◌≡◌, ◌≢◌, ℕ, ◌+◌, ◌*◌, ◌%◌, ◌^◌, ◌≤◌, ◌<◌, true, false, eqb, eq-eqb}
+use Rattle.std.proofs.Common.{ltb, leb, List, [], ◌∷◌, length, get_or, All, Some, Ok, refl, ap}
+use Rattle.std.proofs.Common.{arith}
 use Rattle.std.proofs.lemmas.Bool.Decides.{nat_tests}
 use Rattle.std.proofs.lemmas.List.Elements.{All-head, All-tail}
-use Rattle.std.proofs.lemmas.Nat.{from_le_bytes-to_le_bytes_2, from_le_bytes-to_le_bytes_4, from_le_bytes-to_le_bytes_8}
+use Rattle.std.proofs.lemmas.Nat.{from_le_bytes-to_le_bytes_2, from_le_bytes-to_le_bytes_4}
+use Rattle.std.proofs.lemmas.Nat.{from_le_bytes-to_le_bytes_8}
 use Rattle.std.specs.List.{list_any}
 use Rattle.heap_objects.specs.declared.symbol.SymbolKind.{SymbolKind}
 use Rattle.heap_objects.specs.declared.symbol.SymbolKind.TheVariants.{Object, Function}
 use Rattle.predator_base.specs.Touch.{Touch, is_access_size}
 use Rattle.predator_base.specs.declared.ending.Cause.{Cause}
-use Rattle.predator_base.specs.declared.ending.Cause.TheVariants.{Illegal, Breakpoint, FetchMisaligned, FetchOutside, LoadMisaligned, LoadOutside, StoreMisaligned, StoreOutside}
+use Rattle.predator_base.specs.declared.ending.Cause.TheVariants.{Illegal, Breakpoint}
+use Rattle.predator_base.specs.declared.ending.Cause.TheVariants.{FetchMisaligned, FetchOutside}
+use Rattle.predator_base.specs.declared.ending.Cause.TheVariants.{LoadMisaligned, LoadOutside}
+use Rattle.predator_base.specs.declared.ending.Cause.TheVariants.{StoreMisaligned, StoreOutside}
 use Rattle.predator_base.specs.declared.ending.Outcome.{Outcome}
-use Rattle.predator_base.specs.declared.ending.Outcome.TheVariants.{Exit, Budget, Deadlock, Trap, Part}
+use Rattle.predator_base.specs.declared.ending.Outcome.TheVariants.{Exit, Budget, Deadlock, Trap}
+use Rattle.predator_base.specs.declared.ending.Outcome.TheVariants.{Part}
 use Rattle.trace_grammar.specs.declared.record.Header.{Header}
 use Rattle.trace_grammar.specs.declared.record.Version.{Version}
 use Rattle.trace_grammar.specs.declared.record.Version.TheVariants.{One, Two}
@@ -18,12 +25,18 @@ use Rattle.trace_grammar.specs.declared.record.TraceRecord.{TraceRecord}
 use Rattle.trace_grammar.specs.declared.record.TraceRecord.TheVariants as records
 use Rattle.trace_grammar.specs.declared.progress.Progress.{Progress}
 use Rattle.trace_grammar.specs.Numbers.{distance}
-use Rattle.trace_grammar.specs.Spelling.{cause_number, kind_number, spell_alloc, spell_ending, spell_free, spell_header, spell_record, spell_symbol, spell_touch}
+use Rattle.trace_grammar.specs.Spelling.{cause_number, kind_number, spell_alloc, spell_ending}
+use Rattle.trace_grammar.specs.Spelling.{spell_free, spell_header, spell_record, spell_symbol}
+use Rattle.trace_grammar.specs.Spelling.{spell_touch}
 use Rattle.trace_grammar.specs.Tags.{half_of}
 use Rattle.std.specs.Int.{w32, w64}
-use Rattle.trace_grammar.specs.Rules.{FitsFields, IsAllowedEnd, IsGoodEnding, IsGoodHeader, IsGoodRecord, IsGoodSymbol, IsGoodTouch, last_position}
-use Rattle.trace_grammar.specs.Judging.{alloc_at, begun, cause_of, header_judged, number_at, outcome_judged, plain_judged, record_judged, step_judged, symbol_judged, symbol_kind_of, touch_judged, trap_judged}
-use Rattle.trace_grammar.specs.SpellingLaws.{address_again, distance_small, groups_good, number_again, step_tag, touch_tag}
+use Rattle.trace_grammar.specs.Rules.{FitsFields, IsAllowedEnd, IsGoodEnding, IsGoodHeader}
+use Rattle.trace_grammar.specs.Rules.{IsGoodRecord, IsGoodSymbol, IsGoodTouch, last_position}
+use Rattle.trace_grammar.specs.Judging.{alloc_at, begun, cause_of, header_judged, number_at}
+use Rattle.trace_grammar.specs.Judging.{outcome_judged, plain_judged, record_judged, step_judged}
+use Rattle.trace_grammar.specs.Judging.{symbol_judged, symbol_kind_of, touch_judged, trap_judged}
+use Rattle.trace_grammar.specs.SpellingLaws.{address_again, distance_small, groups_good}
+use Rattle.trace_grammar.specs.SpellingLaws.{number_again, step_tag, touch_tag}
 
 pub header_again : (v : Version) (h : Header) → IsGoodHeader h
     → header_judged (spell_header v h) ≡ Ok (begun v h)

@@ -1,8 +1,11 @@
 -- A beginning of a record never looks like a whole one.
-use Rattle.std.proofs.Common.{◌≡◌, ℕ, ◌+◌, ◌-◌, ◌≤◌, ◌<◌, inl, inr, true, false, cond, ltb, List, length, get_or, take, drop, Option, Some, None, refl, sym, ap, ◌∙◌, arith}
+use Rattle.std.proofs.Common.{◌≡◌, ℕ, ◌+◌, ◌-◌, ◌≤◌, ◌<◌, inl, inr, true, false, cond, ltb, List}
+use Rattle.std.proofs.Common.{length, get_or, take, drop, Option, Some, None, refl, sym, ap, ◌∙◌}
+use Rattle.std.proofs.Common.{arith}
 use Rattle.std.proofs.lemmas.Bool.{cases_lt}
 use Rattle.std.proofs.lemmas.Bool.Decides.{nat_tests}
-use Rattle.std.proofs.lemmas.List.{take-take, drop-take, length-take-le, get_or-take, get_or-drop, get_or_past}
+use Rattle.std.proofs.lemmas.List.{take-take, drop-take, length-take-le, get_or-take, get_or-drop}
+use Rattle.std.proofs.lemmas.List.{get_or_past}
 use Rattle.std.specs.Int.{w16, from_le_bytes}
 use Rattle.predator_base.specs.declared.ending.Ending.{Ending}
 use Rattle.trace_grammar.specs.declared.record.Version.{Version}
@@ -11,7 +14,8 @@ use Rattle.trace_grammar.specs.declared.tag.Tag.TheVariants as tags
 use Rattle.trace_grammar.specs.declared.progress.Progress.{Progress}
 use Rattle.trace_grammar.specs.Tags.{tag_of}
 use Rattle.trace_grammar.specs.Numbers.{group_count}
-use Rattle.trace_grammar.specs.Judging.{number_at, symbol_extent, extent_of, extent_if, record_extent}
+use Rattle.trace_grammar.specs.Judging.{number_at, symbol_extent, extent_of, extent_if}
+use Rattle.trace_grammar.specs.Judging.{record_extent}
 use Rattle.trace_grammar.specs.Reading.{extent_at}
 use Rattle.trace_grammar.specs.ReadingLaws.{FrontsWait}
 

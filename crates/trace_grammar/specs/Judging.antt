@@ -1,7 +1,9 @@
 -- What the bytes of one record say, or which of its fields is the first at fault. Fields stand at
 -- their places in the record,
 -- and are judged in the order written here, once all of them are there.
-use Rattle.std.specs.Prelude.{ℕ, ◌+◌, ◌%◌, ◌==◌, ◌&&◌, nat_eq, nat_lt, nat_le, List, [], ◌∷◌, length, take, drop, find, slice_index, Option, Some, None, Result, Ok, Err, if◌then◌else◌}
+use Rattle.std.specs.Prelude.{ℕ, ◌+◌, ◌%◌, ◌==◌, ◌&&◌, nat_eq, nat_lt, nat_le, List, [], ◌∷◌}
+use Rattle.std.specs.Prelude.{length, take, drop, find, slice_index, Option, Some, None, Result, Ok}
+use Rattle.std.specs.Prelude.{Err, if◌then◌else◌}
 use Rattle.std.specs.List.{starts_with, list_any}
 use Rattle.std.specs.Int.{Width, w16, w32, w64, byte_len, from_le_bytes}
 use Rattle.heap_objects.specs.Names.{longest_name}
@@ -11,9 +13,13 @@ use Rattle.predator_base.specs.Touch.{Touch, is_access_size}
 use Rattle.predator_base.specs.Levels.{is_from_to}
 use Rattle.predator_base.specs.declared.access.Kind.{Kind}
 use Rattle.predator_base.specs.declared.ending.Cause.{Cause}
-use Rattle.predator_base.specs.declared.ending.Cause.TheVariants.{Illegal, Breakpoint, FetchMisaligned, FetchOutside, LoadMisaligned, LoadOutside, StoreMisaligned, StoreOutside}
+use Rattle.predator_base.specs.declared.ending.Cause.TheVariants.{Illegal, Breakpoint}
+use Rattle.predator_base.specs.declared.ending.Cause.TheVariants.{FetchMisaligned, FetchOutside}
+use Rattle.predator_base.specs.declared.ending.Cause.TheVariants.{LoadMisaligned, LoadOutside}
+use Rattle.predator_base.specs.declared.ending.Cause.TheVariants.{StoreMisaligned, StoreOutside}
 use Rattle.predator_base.specs.declared.ending.Outcome.{Outcome}
-use Rattle.predator_base.specs.declared.ending.Outcome.TheVariants.{Exit, Budget, Deadlock, Trap, Part}
+use Rattle.predator_base.specs.declared.ending.Outcome.TheVariants.{Exit, Budget, Deadlock, Trap}
+use Rattle.predator_base.specs.declared.ending.Outcome.TheVariants.{Part}
 use Rattle.predator_base.specs.declared.ending.Ending.{Ending}
 use Rattle.trace_grammar.specs.declared.fault.TraceFault.{TraceFault}
 use Rattle.trace_grammar.specs.declared.fault.TraceFault.TheVariants as faults

@@ -1,5 +1,6 @@
 -- How version 2 spells an address: by how far it is from the one before, in groups of seven bits.
-use Rattle.std.specs.Prelude.{ℕ, zero, suc, ◌+◌, ◌-◌, ◌*◌, ◌/◌, ◌%◌, ◌^◌, ◌==◌, ◌||◌, ◌&&◌, Bool, nat_lt, nat_le, List, [], ◌∷◌, length, slice_index, if◌then◌else◌}
+use Rattle.std.specs.Prelude.{ℕ, zero, suc, ◌+◌, ◌-◌, ◌*◌, ◌/◌, ◌%◌, ◌^◌, ◌==◌, ◌||◌, ◌&&◌, Bool}
+use Rattle.std.specs.Prelude.{nat_lt, nat_le, List, [], ◌∷◌, length, slice_index, if◌then◌else◌}
 
 -- Let D be the address minus the one before, modulo 2^32 into -2^31 to 2^31 - 1. It is told as 2D
 -- where it is not

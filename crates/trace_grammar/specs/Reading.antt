@@ -1,7 +1,8 @@
 -- What any bytes say of a trace: its records that are whole in them, and the first fault. A byte
 -- after the other is taken, so
 -- it does not matter in which pieces they come.
-use Rattle.std.specs.Prelude.{ℕ, ◌+◌, ◌==◌, nat_lt, List, [], ◌∷◌, ◌++◌, length, Option, Some, None, is_some, Result, Ok, Err, if◌then◌else◌}
+use Rattle.std.specs.Prelude.{ℕ, ◌+◌, ◌==◌, nat_lt, List, [], ◌∷◌, ◌++◌, length, Option, Some, None}
+use Rattle.std.specs.Prelude.{is_some, Result, Ok, Err, if◌then◌else◌}
 use Rattle.predator_base.specs.declared.ending.Ending.{Ending}
 use Rattle.trace_grammar.specs.declared.fault.TraceFault.{TraceFault}
 use Rattle.trace_grammar.specs.declared.fault.TraceFault.TheVariants as faults

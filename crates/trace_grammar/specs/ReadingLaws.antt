@@ -1,6 +1,8 @@
 -- What follows from the definition of reading: pieces are read as their whole is, and a record is
 -- read at once.
-use Rattle.std.proofs.Common.{◌≡◌, ℕ, zero, suc, ◌+◌, ◌≤◌, ◌<◌, true, false, eqb, ltb, List, [], ◌∷◌, ◌++◌, length, get_or, take, drop, Option, Some, None, Ok, Err, refl, sym, ap, ◌∙◌, append_assoc, arith}
+use Rattle.std.proofs.Common.{◌≡◌, ℕ, zero, suc, ◌+◌, ◌≤◌, ◌<◌, true, false, eqb, ltb, List, []}
+use Rattle.std.proofs.Common.{◌∷◌, ◌++◌, length, get_or, take, drop, Option, Some, None, Ok, Err}
+use Rattle.std.proofs.Common.{refl, sym, ap, ◌∙◌, append_assoc, arith}
 use Rattle.std.proofs.lemmas.Bool.Decides.{nat_tests}
 use Rattle.std.proofs.lemmas.List.{take_all, take-append-drop, length-take-le, append-nil}
 use Rattle.std.proofs.Math.Seq.{take-suc}
@@ -11,7 +13,8 @@ use Rattle.trace_grammar.specs.declared.record.TraceRecord.{TraceRecord}
 use Rattle.trace_grammar.specs.declared.progress.Progress.{Progress}
 use Rattle.trace_grammar.specs.Rules.{longest_trace}
 use Rattle.trace_grammar.specs.Judging.{header_judged, record_judged}
-use Rattle.trace_grammar.specs.Reading.{Reading, begin, place_of, extent_at, header_read, record_read, part_at, byte_read, read_on, reading_of}
+use Rattle.trace_grammar.specs.Reading.{Reading, begin, place_of, extent_at, header_read}
+use Rattle.trace_grammar.specs.Reading.{record_read, part_at, byte_read, read_on, reading_of}
 
 -- what was read before, and what more bytes say then
 abbrev pub then_read : List TraceRecord × Reading → List ℕ → List TraceRecord × Reading

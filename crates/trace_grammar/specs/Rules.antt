@@ -5,7 +5,8 @@ use Rattle.std.specs.Prelude.{Option, Some, None}
 use Rattle.heap_objects.specs.Names.{longest_name}
 use Rattle.predator_base.specs.Touch.{Touch, IsAllowed}
 use Rattle.predator_base.specs.declared.ending.Outcome.{Outcome}
-use Rattle.predator_base.specs.declared.ending.Outcome.TheVariants.{Exit, Budget, Deadlock, Trap, Part}
+use Rattle.predator_base.specs.declared.ending.Outcome.TheVariants.{Exit, Budget, Deadlock, Trap}
+use Rattle.predator_base.specs.declared.ending.Outcome.TheVariants.{Part}
 use Rattle.predator_base.specs.declared.ending.Ending.{Ending}
 use Rattle.trace_grammar.specs.declared.record.Version.{Version}
 use Rattle.trace_grammar.specs.declared.record.Header.{Header}

@@ -1,5 +1,6 @@
 -- What good parts spell is judged once it is whole, and says those parts again.
-use Rattle.std.proofs.Common.{◌≡◌, ℕ, ◌+◌, ◌*◌, ◌^◌, ◌≤◌, ◌<◌, true, false, ltb, List, [], ◌∷◌, ◌++◌, length, take, Some, None, refl, sym, ap, ◌∙◌, arith}
+use Rattle.std.proofs.Common.{◌≡◌, ℕ, ◌+◌, ◌*◌, ◌^◌, ◌≤◌, ◌<◌, true, false, ltb, List, [], ◌∷◌}
+use Rattle.std.proofs.Common.{◌++◌, length, take, Some, None, refl, sym, ap, ◌∙◌, arith}
 use Rattle.std.proofs.lemmas.Bool.Decides.{nat_tests}
 use Rattle.std.proofs.lemmas.Nat.{from_le_bytes-to_le_bytes_2}
 use Rattle.std.proofs.lemmas.List.{length-append}
@@ -11,15 +12,18 @@ use Rattle.predator_base.specs.Touch.{Touch, is_access_size}
 use Rattle.predator_base.specs.declared.access.Kind.{Kind}
 use Rattle.predator_base.specs.declared.access.Kind.TheVariants.{Read, Write}
 use Rattle.predator_base.specs.declared.ending.Outcome.{Outcome}
-use Rattle.predator_base.specs.declared.ending.Outcome.TheVariants.{Exit, Budget, Deadlock, Trap, Part}
+use Rattle.predator_base.specs.declared.ending.Outcome.TheVariants.{Exit, Budget, Deadlock, Trap}
+use Rattle.predator_base.specs.declared.ending.Outcome.TheVariants.{Part}
 use Rattle.trace_grammar.specs.declared.record.Version.{Version}
 use Rattle.trace_grammar.specs.declared.record.Version.TheVariants.{One, Two}
 use Rattle.trace_grammar.specs.declared.record.TraceRecord.{TraceRecord}
 use Rattle.trace_grammar.specs.declared.record.TraceRecord.TheVariants as records
 use Rattle.trace_grammar.specs.declared.tag.Tag.TheVariants as tags
 use Rattle.trace_grammar.specs.Tags.{half_of, tag_of}
-use Rattle.trace_grammar.specs.Numbers.{address_at, are_groups, distance, group_count, groups, number_in}
-use Rattle.trace_grammar.specs.Spelling.{spell_alloc, spell_ending, spell_free, spell_record, spell_symbol, spell_touch}
+use Rattle.trace_grammar.specs.Numbers.{address_at, are_groups, distance, group_count, groups}
+use Rattle.trace_grammar.specs.Numbers.{number_in}
+use Rattle.trace_grammar.specs.Spelling.{spell_alloc, spell_ending, spell_free, spell_record}
+use Rattle.trace_grammar.specs.Spelling.{spell_symbol, spell_touch}
 use Rattle.trace_grammar.specs.Rules.{IsGoodRecord}
 use Rattle.trace_grammar.specs.Judging.{begun, record_extent, symbol_extent}
 use Rattle.trace_grammar.specs.ExtentLaws.{extent_is_some, fronts_wait_at}

@@ -1,5 +1,6 @@
 -- What a good trace spells is read as its records and its end.
-use Rattle.std.proofs.Common.{◌≡◌, ℕ, ◌+◌, ◌^◌, ◌≤◌, ◌<◌, List, [], ◌∷◌, ◌++◌, length, take, drop, All, Option, Some, None, Ok, refl, sym, ap, ◌∙◌, append_assoc, arith}
+use Rattle.std.proofs.Common.{◌≡◌, ℕ, ◌+◌, ◌^◌, ◌≤◌, ◌<◌, List, [], ◌∷◌, ◌++◌, length, take, drop}
+use Rattle.std.proofs.Common.{All, Option, Some, None, Ok, refl, sym, ap, ◌∙◌, append_assoc, arith}
 use Rattle.std.proofs.lemmas.List.{drop_all, length-append, take_all}
 use Rattle.std.proofs.lemmas.List.Elements.{All-head, All-tail}
 use Rattle.predator_base.specs.declared.ending.Ending.{Ending}
@@ -9,10 +10,14 @@ use Rattle.trace_grammar.specs.declared.record.Version.TheVariants.{One, Two}
 use Rattle.trace_grammar.specs.declared.record.TraceRecord.{TraceRecord}
 use Rattle.trace_grammar.specs.declared.record.TraceRecord.TheVariants as records
 use Rattle.trace_grammar.specs.declared.progress.Progress.{Progress}
-use Rattle.trace_grammar.specs.Spelling.{last_after, spell, spell_ending, spell_header, spell_record, spell_records}
-use Rattle.trace_grammar.specs.Rules.{IsGoodEnding, IsGoodRecord, IsInner, IsTrace, last_position, longest_trace, touches_in}
+use Rattle.trace_grammar.specs.Spelling.{last_after, spell, spell_ending, spell_header}
+use Rattle.trace_grammar.specs.Spelling.{spell_record, spell_records}
+use Rattle.trace_grammar.specs.Rules.{IsGoodEnding, IsGoodRecord, IsInner, IsTrace, last_position}
+use Rattle.trace_grammar.specs.Rules.{longest_trace, touches_in}
 use Rattle.trace_grammar.specs.Judging.{begun}
-use Rattle.trace_grammar.specs.Reading.{Reading, begin, counted_after, ending_in, ending_of, extent_at, part_at, place_of, progress_after, read_on, reading_of}
+use Rattle.trace_grammar.specs.Reading.{Reading, begin, counted_after, ending_in, ending_of}
+use Rattle.trace_grammar.specs.Reading.{extent_at, part_at, place_of, progress_after, read_on}
+use Rattle.trace_grammar.specs.Reading.{reading_of}
 use Rattle.trace_grammar.specs.ReadingLaws.{part_then, read_on-append, then_read, waiting}
 use Rattle.trace_grammar.specs.ExtentLaws.{extent_is_some, fronts_wait_at}
 use Rattle.trace_grammar.specs.SpellingLaws.{record_whole}
@@ -131,14 +136,17 @@ unfolding spell_header
 header_length One h = refl
 header_length Two h = refl
 
--- The bytes of a good trace are read as its records and its end, however they are cut.
-pub trace_again : (bytes : List ℕ) (v : Version) (h : Header) (items : List TraceRecord) (e :
+-- The bytes of a good trace are read as its records and its end.
+read_again : (bytes : List ℕ) (v : Version) (h : Header) (items : List TraceRecord) (e :
     Ending)
     → IsTrace bytes v h items e
-    → ((reading_of bytes).0 ≡ items ++ records.End e ∷ []) × (ending_of (reading_of bytes).1 ≡ Ok
-    e)
+    → reading_of bytes ≡ (
+      items ++ records.End e ∷ [],
+      waiting
+          (Some (after_all (begun v h) items e)) (Some e) [],
+    )
 unfolding spell
-trace_again bytes v h items e is =
+read_again bytes v h items e is =
     let good = is.good in
     let front = spell_header v h in
     let later = spell_records v 0 items ++ spell_ending e in
@@ -152,14 +160,38 @@ trace_again bytes v h items e is =
     rest_again items e (begun v h) good.header.few (omega arith) good.records good.inner
     good.ending (good.counted ∙ omega arith) (omega (arith, good.positions)) (omega
     (arith, good.short)) in
-    let whole : reading_of bytes ≡ (
-      items ++ records.End e ∷ [],
-      waiting
-          (Some (after_all (begun v h) items e)) (Some e) [],
-    ) =
     ap reading_of is.spelled ∙ read_on-append begin front later
-    ∙ ap (λ (x : List TraceRecord × Reading). then_read x later) head ∙ rest in (
+    ∙ ap (λ (x : List TraceRecord × Reading). then_read x later) head ∙ rest
+
+-- However they are cut, the records and the end are those that were spelled,
+pub trace_again : (bytes : List ℕ) (v : Version) (h : Header) (items : List TraceRecord) (e :
+    Ending)
+    → IsTrace bytes v h items e
+    → ((reading_of bytes).0 ≡ items ++ records.End e ∷ []) × (ending_of (reading_of bytes).1 ≡ Ok
+    e)
+trace_again bytes v h items e is =
+    let whole = read_again bytes v h items e is in (
       ap (λ (x : List TraceRecord × Reading). x.0) whole,
       ap
           (λ (x : List TraceRecord × Reading). ending_of x.1) whole,
+    )
+
+head_kept : (p : Progress) (items : List TraceRecord) (e : Ending)
+    → ((after_all p items e).version ≡ p.version) × ((after_all p items e).header ≡ p.header)
+unfolding after_all after_one
+head_kept p [] e = (refl, refl)
+head_kept p (item ∷ items) e = head_kept (after_one p item) items e
+
+-- and so are the version and the header.
+pub head_again : (bytes : List ℕ) (v : Version) (h : Header) (items : List TraceRecord) (e :
+    Ending)
+    → IsTrace bytes v h items e
+    → (p : Progress) × ((reading_of bytes).1.progress ≡ Some p) × (p.version ≡ v) × (p.header ≡ h)
+head_again bytes v h items e is =
+    let whole = read_again bytes v h items e is in
+    let kept = head_kept (begun v h) items e in (
+      after_all (begun v h) items e,
+      ap (λ (x : List TraceRecord × Reading). x.1.progress) whole,
+      kept.0,
+      kept.1,
     )

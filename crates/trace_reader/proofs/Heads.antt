@@ -1,18 +1,64 @@
--- What a header tells stays told.
-use Rattle.std.proofs.Common.{◌≡◌, Option, Some, None, refl, ◌∙◌}
+-- What a header tells stays told, and is what the bytes have.
+use Rattle.std.proofs.Common.{◌≡◌, ℕ, List, ◌++◌, Option, Some, None, IsSome, refl, sym, ap, subst, ◌∙◌}
 use Rattle.trace_grammar.specs.declared.progress.Progress.{Progress}
-use Rattle.trace_reader.specs.States.{HeadStays}
+use Rattle.trace_grammar.specs.declared.record.TraceRecord.{TraceRecord}
+use Rattle.trace_grammar.specs.Reading.{Reading, read_on}
+use Rattle.trace_grammar.specs.ReadingLaws.{read_on-append, then_read}
+use Rattle.trace_reader.specs.States.{KeepsHead, SameHead}
+use Rattle.trace_reader.specs.Laws.{read_on-head, same_head}
 
-pub head_stays : (p : Option Progress) → HeadStays p p
-head_stays None = tt
-head_stays (Some p) = (refl, refl)
+pub same_back : (p q : Option Progress) → SameHead p q → SameHead q p
+same_back p q same = record { version = sym same.version; header = sym same.header }
 
-pub head_same : (p q : Option Progress) → q ≡ p → HeadStays p q
-head_same None q is = tt
-head_same (Some p) None is = cc
-head_same (Some p) (Some q) is = let same : q ≡ p = cc in (cc, cc)
+pub same_both : (p q r : Option Progress) → SameHead p q → SameHead q r → SameHead p r
+same_both p q r first later = record { version = first.version ∙ later.version; header = first.header ∙ later.header }
 
-pub head_stays_on : (p q r : Option Progress) → HeadStays p q → HeadStays q r → HeadStays p r
-head_stays_on None q r first later = tt
-head_stays_on (Some p) None r first later = let given = first.0 in absurd cc
-head_stays_on (Some p) (Some q) r first later = (later.0 ∙ first.0, later.1 ∙ first.1)
+-- what tells as a header that is told tells too
+pub told_too : (p q : Option Progress) → SameHead p q → IsSome q → IsSome p
+told_too (Some p) q same some = refl
+told_too None None same some = some
+told_too None (Some q) same some = let version = same.version in cc
+
+-- nothing is told that was not told before
+pub as_before : (old new : Reading) (bytes : List ℕ) → new.progress ≡ old.progress → KeepsHead old bytes new
+as_before old new bytes is =
+    let same : SameHead new.progress old.progress =
+    subst (λ (p : Option Progress). SameHead p old.progress) (sym is) (same_head old.progress) in
+    record {
+      stays = λ _. same;
+      told = λ some. same_both _ _ _ same (same_back _ _ (read_on-head old bytes (subst (λ (p : Option Progress). IsSome p) is some)));
+    }
+
+-- what tells the same
+pub keeps_with : (old mid new : Reading) (bytes : List ℕ) → new.progress ≡ mid.progress → KeepsHead old bytes mid
+    → KeepsHead old bytes new
+keeps_with old mid new bytes is keeps =
+    record {
+      stays = λ some. subst (λ (p : Option Progress). SameHead p old.progress) (sym is) (keeps.stays some);
+      told = λ some.
+          subst (λ (p : Option Progress). SameHead p (read_on old bytes).1.progress) (sym is)
+          (keeps.told (subst (λ (p : Option Progress). IsSome p) is some));
+    }
+
+-- what is told is what the bytes have
+pub as_read : (old new : Reading) (bytes : List ℕ) → SameHead new.progress (read_on old bytes).1.progress → KeepsHead old bytes new
+as_read old new bytes same =
+    record {
+      stays = λ some. same_both _ _ _ same (read_on-head old bytes some);
+      told = λ _. same;
+    }
+
+-- a header that was told in a front of the bytes
+pub keeps_longer : (old new : Reading) (piece front back : List ℕ) → piece ≡ front ++ back → KeepsHead old front new
+    → KeepsHead old piece new
+keeps_longer old new piece front back cut keeps =
+    let whole : read_on old piece ≡ then_read (read_on old front) back = ap (read_on old) cut ∙ read_on-append old front back in
+    let last : (read_on old piece).1.progress ≡ (read_on (read_on old front).1 back).1.progress =
+    ap (λ (x : List TraceRecord × Reading). x.1.progress) whole in
+    record {
+      stays = keeps.stays;
+      told = λ some.
+          let same = keeps.told some in
+          let on = read_on-head (read_on old front).1 back (told_too _ _ (same_back _ _ same) some) in
+          subst (λ (p : Option Progress). SameHead new.progress p) (sym last) (same_both _ _ _ same (same_back _ _ on));
+    }

@@ -1,7 +1,7 @@
 pub mod Groups
 pub mod Steps
+pub mod Heads
 pub mod Parts
 pub mod Pieces
 pub mod Limits
-pub mod Heads
 pub mod Endings

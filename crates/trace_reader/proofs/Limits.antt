@@ -1,5 +1,6 @@
 -- A reading that is at a fault, and one that comes to the last place of a trace.
-use Rattle.std.proofs.Common.{◌≡◌, ℕ, ◌<◌, List, [], ◌∷◌, ◌++◌, length, take, drop, Option, Some, None, IsSome, refl, sym, ap, subst, ◌∙◌, append_assoc, arith}
+use Rattle.std.proofs.Common.{◌≡◌, ℕ, ◌<◌, List, [], ◌∷◌, ◌++◌, length, take, drop, Option, Some, None, IsSome, refl, sym, ap, subst, ◌∙◌}
+use Rattle.std.proofs.Common.{append_assoc, arith}
 use Rattle.std.proofs.lemmas.List.{append-nil, take-append-drop}
 use Rattle.std.proofs.Math.Seq.{take-append_seam}
 use Rattle.trace_grammar.specs.declared.fault.TraceFault.{TraceFault}
@@ -14,13 +15,19 @@ use Rattle.trace_reader.specs.States.{AddsSome, HasRead, ReadsOn}
 fault_stays : (r : Reading) (bytes : List ℕ) (f : Option TraceFault) → f ≡ r.fault → IsSome f → read_on r bytes ≡ ([], r)
 fault_stays r bytes None is some = cc
 fault_stays r bytes (Some fault) is some =
-    let family : Option TraceFault → Type 0 = λ f. read_on (record { progress = r.progress; pending = r.pending; ending = r.ending; fault = f }) bytes ≡ ([], record { progress = r.progress; pending = r.pending; ending = r.ending; fault = f }) in
+    let family : Option TraceFault
+    → Type 0 = λ f. read_on (record { progress = r.progress; pending = r.pending; ending = r.ending; fault = f }) bytes ≡
+    ([], record { progress = r.progress; pending = r.pending; ending = r.ending; fault = f }) in
     subst family is (read_on-fault r.progress r.pending r.ending fault bytes)
 
 pub stays : (r : Reading) (bytes : List ℕ) (items : List TraceRecord) → IsSome r.fault → ReadsOn r bytes r items items
 stays r bytes items some =
     let same = fault_stays r bytes r.fault refl some in
-    record { reading = sym (ap (λ (x : List TraceRecord × Reading). x.1) same); records = sym (append-nil items) ∙ ap (λ (x : List TraceRecord × Reading). items ++ x.0) (sym same) }
+    record {
+      reading = sym (ap (λ (x : List TraceRecord × Reading). x.1) same);
+      records = sym (append-nil items)
+          ∙ ap (λ (x : List TraceRecord × Reading). items ++ x.0) (sym same);
+    }
 
 module _ (old new : Reading) (piece front back : List ℕ) (before after : List TraceRecord) (cut : piece ≡ front ++ back) where
   both : read_on old piece ≡ then_read (read_on old front) back
@@ -35,7 +42,8 @@ module _ (old new : Reading) (piece front back : List ℕ) (before after : List 
       record {
         reading = sym (ap (λ (x : List TraceRecord × Reading). x.1) whole);
         records = on.records
-            ∙ ap (λ (xs : List TraceRecord). before ++ xs) (sym (append-nil (read_on old front).0) ∙ sym (ap (λ (x : List TraceRecord × Reading). x.0) whole));
+            ∙ ap (λ (xs : List TraceRecord). before ++ xs) (sym (append-nil (read_on old front).0)
+            ∙ sym (ap (λ (x : List TraceRecord × Reading). x.0) whole));
       }
 
   pub front_at_fault : IsSome new.fault → ReadsOn old front new before after → ReadsOn old piece new before after
@@ -46,7 +54,9 @@ module _ (old new : Reading) (piece front back : List ℕ) (before after : List 
       → read_on new back ≡ ([], with_fault new faults.TooLong)
   too_long [] is some clean last = absurd (omega arith)
   too_long (b ∷ bytes) is some clean last =
-      let family : Option TraceFault → Type 0 = λ f. read_on (record { progress = new.progress; pending = new.pending; ending = new.ending; fault = f }) (b ∷ bytes) ≡ ([], with_fault new faults.TooLong) in
+      let family : Option TraceFault
+      → Type 0 = λ f. read_on (record { progress = new.progress; pending = new.pending; ending = new.ending; fault = f }) (b ∷ bytes) ≡
+      ([], with_fault new faults.TooLong) in
       ap (read_on new) is ∙ subst family (sym clean) (read_on-too_long new.progress new.ending new.pending b bytes last)
 
   pub front_then_too_long : 0 < length back → new.fault ≡ None → taken new ≡ longest_trace → ReadsOn old front new before after
@@ -59,7 +69,8 @@ module _ (old new : Reading) (piece front back : List ℕ) (before after : List 
       let later : List TraceRecord = (read_on (read_on old front).1 back).0 in
       let part : List TraceRecord = take some.0 first in
       let whole : (read_on old piece).0 ≡ first ++ later = ap (λ (x : List TraceRecord × Reading). x.0) both in
-      let split : first ++ later ≡ part ++ (drop some.0 first ++ later) = ap (λ (xs : List TraceRecord). xs ++ later) (sym (take-append-drop some.0 first))
+      let split : first ++ later ≡ part ++ (drop some.0 first ++ later) = ap (λ (xs : List TraceRecord). xs ++ later)
+      (sym (take-append-drop some.0 first))
       ∙ append_assoc part (drop some.0 first) later in
       let again : take (length part) (read_on old piece).0 ≡ part = ap (take (length part)) (whole ∙ split)
       ∙ take-append_seam part (drop some.0 first ++ later) in

@@ -1,5 +1,6 @@
 -- What is left of judging records once their fields are read.
-use Rattle.std.proofs.Common.{◌≡◌, ℕ, ◌+◌, ◌%◌, ◌≤◌, ◌<◌, true, false, eqb, leb, ltb, List, length, get_or, drop, Some, Ok, Err, refl, ap, sym, ◌∙◌, arith}
+use Rattle.std.proofs.Common.{◌≡◌, ℕ, ◌+◌, ◌%◌, ◌≤◌, ◌<◌, true, false, eqb, leb, ltb, List, length, get_or, drop, Some, Ok, Err, refl, ap}
+use Rattle.std.proofs.Common.{sym, ◌∙◌, arith}
 use Rattle.std.specs.Int.{w16, w32}
 use Rattle.std.specs.List.{list_any}
 use Rattle.std.proofs.lemmas.Bool.Decides.{nat_tests}
@@ -26,7 +27,8 @@ misaligned_step kind size harts last place addr bytes below spelled is odd =
 -- a symbol whose name is short
 pub short_symbol : (kind : SymbolKind) (addr size told place : ℕ) (name bytes : List ℕ) → length bytes ≡ symbol_extent bytes
     → Some kind ≡ symbol_kind_of (get_or bytes 1 0)
-    → addr ≡ number_at w32 2 bytes → size ≡ number_at w32 6 bytes → (size ≡ 0 → ⊥) → told ≡ number_at w16 10 bytes → told ≤ 1024 → list_any (eqb 0) (drop 12 bytes) ≡ false → name ≡ name_of (drop 12 bytes)
+    → addr ≡ number_at w32 2 bytes → size ≡ number_at w32 6 bytes → (size ≡ 0 → ⊥) → told ≡ number_at w16 10 bytes → told ≤ 1024
+    → list_any (eqb 0) (drop 12 bytes) ≡ false → name ≡ name_of (drop 12 bytes)
     → Ok (records.Symbol kind addr size name) ≡ symbol_judged place bytes
 unfolding symbol_judged symbol_extent
 short_symbol kind addr size told place name bytes long known is_addr is_size some is_told few clean named =

@@ -1,5 +1,6 @@
 -- How a reader keeps what it knows, and what is true of it.
-use Rattle.std.specs.Prelude.{◌≡◌, ℕ, List, [], ◌++◌, take, Option, Some, None, Result, Ok, Err, option_map}
+use Rattle.std.specs.Prelude.{◌≡◌, ℕ, List, [], ◌++◌, take, Option, Some, None, Result, Ok, Err}
+use Rattle.std.specs.Prelude.{option_map, IsSome}
 use Rattle.predator_base.specs.declared.ending.Ending.{Ending}
 use Rattle.trace_grammar.specs.declared.progress.Progress.{Progress}
 use Rattle.trace_grammar.specs.Found.{IsTraceOf}
@@ -10,15 +11,24 @@ use Rattle.trace_reader.specs.declared.state.State.{State}
 
 -- a state with some bytes after its whole records
 abbrev pub reading_with : State → List ℕ → Reading
-reading_with s bytes = record { progress = s.progress; pending = bytes; ending = s.ending; fault = s.fault }
+reading_with s bytes = record {
+  progress = s.progress;
+  pending = bytes;
+  ending = s.ending;
+  fault =
+      s.fault;
+}
 
 -- how many bytes a state waits for
 abbrev pub extent_in : State → List ℕ → ℕ
 extent_in s bytes = extent_at s.progress s.ending bytes
 
--- The header or a record is read whose bytes are all there, and the records stand behind those before.
-pub record ReadsPart (old : State) (bytes : List ℕ) (new : State) (before after : List TraceRecord) : Type 0 where
-  pub reading : reading_with new [] ≡ (part_at (reading_with old []) old.progress old.ending bytes).1
+-- The header or a record is read whose bytes are all there, and the records stand behind those
+-- before.
+pub record ReadsPart (old : State) (bytes : List ℕ) (new : State) (before after : List TraceRecord)
+    : Type 0 where
+  pub reading : reading_with new [] ≡
+      (part_at (reading_with old []) old.progress old.ending bytes).1
   pub records : after ≡ before ++ (part_at (reading_with old []) old.progress old.ending bytes).0
 
 -- what a call answers at a reading
@@ -27,7 +37,8 @@ answer_at None = Ok tt
 answer_at (Some fault) = Err fault
 
 -- More bytes are read, and the records that became whole stand behind those before.
-pub record ReadsOn (old : Reading) (bytes : List ℕ) (new : Reading) (before after : List TraceRecord) : Type 0 where
+pub record ReadsOn (old : Reading) (bytes : List ℕ) (new : Reading)
+    (before after : List TraceRecord) : Type 0 where
   pub reading : new ≡ (read_on old bytes).1
   pub records : after ≡ before ++ (read_on old bytes).0
 
@@ -36,7 +47,8 @@ abbrev pub AddsSome : Reading → List ℕ → List TraceRecord → List TraceRe
 AddsSome old bytes before after = (k : ℕ) × (after ≡ before ++ take k (read_on old bytes).0)
 
 -- The bytes so far are read, and the records that are whole in them stand behind the first ones.
-pub record HasRead (bytes : List ℕ) (first : List TraceRecord) (now : Reading) (items : List TraceRecord) : Type 0 where
+pub record HasRead (bytes : List ℕ) (first : List TraceRecord) (now : Reading)
+    (items : List TraceRecord) : Type 0 where
   pub reading : now ≡ (reading_of bytes).1
   pub records : items ≡ first ++ (reading_of bytes).0
 
@@ -46,9 +58,13 @@ pub record ReadsTrace (bytes : List ℕ) (first items : List TraceRecord) (e : E
   pub behind : items ≡ first ++ records
   pub trace : IsTraceOf bytes records e
 
--- the version and the header, once told, are told still
-abbrev pub HeadStays : Option Progress → Option Progress → Type 0
-HeadStays None now = Unit {0}
-HeadStays (Some p) now =
-    (option_map (λ q. q.version) now ≡ Some p.version)
-    × (option_map (λ q. q.header) now ≡ Some p.header)
+-- they tell the same version and header, or neither tells any
+pub record SameHead (p q : Option Progress) : Type 0 where
+  pub version : option_map (λ r. r.version) p ≡ option_map (λ r. r.version) q
+  pub header : option_map (λ r. r.header) p ≡ option_map (λ r. r.header) q
+
+-- The version and the header, once told, are told still, and those that are told are those of the
+-- bytes.
+pub record KeepsHead (old : Reading) (bytes : List ℕ) (new : Reading) : Type 0 where
+  pub stays : IsSome old.progress → SameHead new.progress old.progress
+  pub told : IsSome new.progress → SameHead new.progress (read_on old bytes).1.progress

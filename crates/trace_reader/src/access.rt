@@ -1,5 +1,6 @@
 // Accesses, in both versions.
-ghost use Rattle.std.specs.Prelude.{◌≡◌, ◌%◌, ◌^◌, ◌+◌, ◌<◌, ◌≤◌, IsTrue, drop, length, nat_lt, slice_index};
+ghost use Rattle.std.specs.Prelude.{◌≡◌, ◌%◌, ◌^◌, ◌+◌, ◌<◌, ◌≤◌, IsTrue, drop, length, nat_lt};
+ghost use Rattle.std.specs.Prelude.{slice_index};
 ghost use Rattle.predator_base.specs.Touch.{is_access_size};
 ghost use Rattle.trace_grammar.specs.Numbers.{address_at, are_groups, group_count, number_in};
 ghost use Rattle.trace_grammar.specs.Judging.{step_judged, touch_judged};

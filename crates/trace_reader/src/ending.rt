@@ -1,6 +1,7 @@
 // The end of a trace.
 ghost use Rattle.std.specs.Prelude.{◌≡◌, ◌^◌, ◌≤◌, length};
-ghost use Rattle.trace_grammar.specs.Judging.{cause_of, outcome_judged, plain_judged, plain_outcome_of, trap_judged};
+ghost use Rattle.trace_grammar.specs.Judging.{cause_of, outcome_judged, plain_judged};
+ghost use Rattle.trace_grammar.specs.Judging.{plain_outcome_of, trap_judged};
 
 use crate::fields::{u16_at, u32_at, u64_at};
 use predator_base::{Cause, Hart, Outcome};

@@ -1,7 +1,7 @@
 //! Traces read in pieces: the records that become whole, and the first fault by its place.
 //!
-//! `trace_grammar` defines what any bytes say. Here the pieces come one after the other: what a piece
-//! leaves over is kept, and stands before the next.
+//! `trace_grammar` defines what any bytes say. Here the pieces come one after the other: what a
+//! piece leaves over is kept, and stands before the next.
 #![tactic(auto)]
 
 mod access;

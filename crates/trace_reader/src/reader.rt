@@ -1,5 +1,6 @@
 // A trace in pieces.
-ghost use Rattle.std.specs.Prelude.{◌≡◌, ◌≢◌, ◌⊎◌, ◌+◌, ◌<◌, ◌≤◌, Some, None, [], ◌++◌, length, IsSome, IfOk, vec_len};
+ghost use Rattle.std.specs.Prelude.{◌≡◌, ◌≢◌, ◌⊎◌, ◌+◌, ◌<◌, ◌≤◌, Some, None, [], ◌++◌, length};
+ghost use Rattle.std.specs.Prelude.{IsSome, IfOk, vec_len};
 
 use crate::state::{State, read_parts};
 use predator_base::{Ending, NoMemory};
@@ -12,8 +13,8 @@ const LONGEST_TRACE: u64 = 1 << 44;
 
 /// Reads a trace in pieces, of either version.
 ///
-/// Contracts see how far it is read: what the records so far say, the bytes left over, the end and the
-/// first fault. It keeps no more bytes than one piece has, and 1035 more.
+/// Contracts see how far it is read: what the records so far say, the bytes left over, the end and
+/// the first fault. It keeps no more bytes than one piece has, and 1035 more.
 #[derive(Drop)]
 pub struct TraceReader {
     state: State,
@@ -57,7 +58,8 @@ fn kept_of(alloc: Global, state: &mut State, rest: &[u8]) -> Vec<u8>
     ensures fault { IsSome state.new.fault → result.items ≡ [] }
     ensures progress { state.new.progress ≡ state.old.progress }
     ensures ending { state.new.ending ≡ state.old.ending }
-    ensures same { state.new.fault ≢ Some TraceFault.NoMemory → state.new.fault ≡ state.old.fault }
+    ensures same { state.new.fault ≢ Some TraceFault.NoMemory →
+        state.new.fault ≡ state.old.fault }
     ensures was { state.new.fault ≡ None → state.old.fault ≡ None }
     ensures wanted { state.new.fault ≡ Some TraceFault.NoMemory →
         (state.old.fault ≡ None) ⊎ (state.old.fault ≡ Some TraceFault.NoMemory) }
@@ -79,9 +81,10 @@ impl TraceReader {
     ghost use Rattle.std.specs.List.{All};
     ghost use Rattle.predator_base.specs.declared.ending.Ending.{Ending};
     ghost use Rattle.trace_grammar.specs.declared.record.TraceRecord.{TraceRecord};
-    ghost use Rattle.trace_grammar.specs.Reading.{begin, ending_of, place_of, read_on, reading_of, taken, with_fault};
+    ghost use Rattle.trace_grammar.specs.Reading.{begin, ending_of, place_of, read_on, reading_of};
+    ghost use Rattle.trace_grammar.specs.Reading.{taken, with_fault};
     ghost use Rattle.trace_grammar.specs.Rules.{longest_trace};
-    ghost use Rattle.trace_reader.specs.States.{AddsSome, HasRead, HeadStays};
+    ghost use Rattle.trace_reader.specs.States.{AddsSome, HasRead, KeepsHead};
     ghost use Rattle.trace_reader.specs.States.{ReadsOn, ReadsTrace, answer_at};
 
     /// A reader before the first byte.
@@ -130,8 +133,8 @@ impl TraceReader {
         place + self.pending.len() as u64
     }
 
-    /// The end of the trace that the bytes so far are, or why they are none: the kept fault, which can
-    /// be the want of memory of an earlier piece, or `Truncated` with their number.
+    /// The end of the trace that the bytes so far are, or why they are none: the kept fault, which
+    /// can be the want of memory of an earlier piece, or `Truncated` with their number.
     pub fn finish(&self) -> Result<Ending, TraceFault>
         ensures value { result ≡ ending_of self.now }
 
@@ -163,8 +166,9 @@ impl TraceReader {
         requires low { taken self.old + length piece.now ≤ longest_trace }
         ensures read { self.new.fault ≢ Some TraceFault.NoMemory →
             ReadsOn self.old piece.now self.new into.old.items into.new.items }
-        ensures head { HeadStays self.old.progress self.new.progress }
-        ensures taken { self.new.fault ≡ None → taken self.new ≡ taken self.old + length piece.now }
+        ensures head { KeepsHead self.old piece.now self.new }
+        ensures taken { self.new.fault ≡ None →
+            taken self.new ≡ taken self.old + length piece.now }
         ensures no_memory { self.new.fault ≡ Some TraceFault.NoMemory →
             AddsSome self.old piece.now into.old.items into.new.items }
     {
@@ -202,7 +206,7 @@ impl TraceReader {
         ensures answer { result ≡ answer_at self.new.fault }
         ensures no_memory { result ≡ Err TraceFault.NoMemory →
             AddsSome self.old piece.now into.old.items into.new.items }
-        ensures head { HeadStays self.old.progress self.new.progress }
+        ensures head { KeepsHead self.old piece.now self.new }
         ensures kept { IsSome self.old.fault →
             (self.new ≡ self.old) × (into.new.items ≡ into.old.items) }
     {
@@ -236,7 +240,7 @@ impl TraceReader {
             ReadsOn self.old piece.now self.new into.old.items into.new.items }
         ensures no_memory { self.new.fault ≡ Some TraceFault.NoMemory →
             AddsSome self.old piece.now into.old.items into.new.items }
-        ensures head { HeadStays self.old.progress self.new.progress }
+        ensures head { KeepsHead self.old piece.now self.new }
         ensures ends { IsSome self.new.fault }
     {
         let (front, _) = piece.split_at(room);
@@ -248,12 +252,15 @@ impl TraceReader {
 
     /// Reads a piece: appends the records that became whole.
     ///
-    /// At a fault the records before it are appended, and each later call answers the same fault. At
-    /// `NoMemory` some of the records that became whole are appended, the first of them first, and each
-    /// later call answers `NoMemory`. `version` and `header` tell no less then than before.
+    /// At a fault the records before it are appended, and each later call answers the same fault.
+    /// At `NoMemory` some of the records that became whole are appended, the first of them first,
+    /// and each later call answers `NoMemory`. What `version` and `header` told before they tell
+    /// then too, and they tell nothing that the bytes don't have.
     pub fn feed(&mut self, piece: &[u8], into: &mut Vec<TraceRecord>) -> Result<(), TraceFault>
-        // However the bytes are cut, the records and the fault are those that the bytes so far have.
-        ensures so_far { result ≢ Err TraceFault.NoMemory → (bytes : List ℕ) (first : List TraceRecord)
+        // However the bytes are cut, the records and the fault are those that the bytes so far
+        // have.
+        ensures so_far { result ≢ Err TraceFault.NoMemory
+            → (bytes : List ℕ) (first : List TraceRecord)
             → HasRead bytes first self.old into.old.items
             → HasRead (bytes ++ piece.now) first self.new into.new.items }
         ensures answer { result ≡ answer_at self.new.fault }
@@ -262,8 +269,9 @@ impl TraceReader {
         ensures no_memory { result ≡ Err TraceFault.NoMemory →
             AddsSome self.old piece.now into.old.items into.new.items }
 
-        // The version and the header, once told, are told still, also after want of memory.
-        ensures head { HeadStays self.old.progress self.new.progress }
+        // The version and the header, once told, are told still, and what is told is what the bytes
+        // have, also after want of memory.
+        ensures head { KeepsHead self.old piece.now self.new }
 
         // A fault stays.
         ensures kept { IsSome self.old.fault →

@@ -2,7 +2,8 @@
 ghost use Rattle.std.specs.Prelude.{◌≡◌, ◌^◌, ◌≤◌, ◌≢◌, Err, length};
 ghost use Rattle.std.specs.Int.{w64};
 ghost use Rattle.predator_base.specs.Touch.{Touch};
-ghost use Rattle.trace_grammar.specs.Judging.{alloc_at, end_counted, extent_of, record_extent, record_judged, tagged_judged, touch_counted};
+ghost use Rattle.trace_grammar.specs.Judging.{alloc_at, end_counted, extent_of, record_extent};
+ghost use Rattle.trace_grammar.specs.Judging.{record_judged, tagged_judged, touch_counted};
 ghost use Rattle.trace_grammar.specs.Tags.{IsTag};
 ghost use Rattle.trace_reader.specs.Sound.{IsSound};
 

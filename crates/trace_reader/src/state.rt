@@ -1,11 +1,13 @@
 // How far a trace is read, without what is left over.
-ghost use Rattle.std.specs.Prelude.{◌≡◌, ◌^◌, ◌≤◌, ◌+◌, ◌≢◌, Some, None, Err, [], ◌++◌, length, ◌<◌, IsSome};
+ghost use Rattle.std.specs.Prelude.{◌≡◌, ◌^◌, ◌≤◌, ◌+◌, ◌≢◌, Some, None, Err, [], ◌++◌, length};
+ghost use Rattle.std.specs.Prelude.{◌<◌, IsSome};
 ghost use Rattle.std.specs.Option.{ForSome};
 ghost use Rattle.trace_grammar.specs.Judging.{header_judged, record_extent};
-ghost use Rattle.trace_grammar.specs.Reading.{ending_in, header_read, part_at, place_of, progress_after};
+ghost use Rattle.trace_grammar.specs.Reading.{ending_in, header_read, part_at, place_of};
+ghost use Rattle.trace_grammar.specs.Reading.{progress_after};
 ghost use Rattle.trace_grammar.specs.Rules.{longest_trace};
 ghost use Rattle.trace_reader.specs.Sound.{IsSound};
-ghost use Rattle.trace_reader.specs.States.{AddsSome, HeadStays, ReadsOn, ReadsPart};
+ghost use Rattle.trace_reader.specs.States.{AddsSome, KeepsHead, ReadsOn, ReadsPart};
 ghost use Rattle.trace_reader.specs.States.{extent_in, reading_with};
 
 use crate::header::{HEADER_LENGTH, header_of};
@@ -76,7 +78,8 @@ fn read_header(state: &mut State, bytes: &[u8])
     ensures sound { ForSome state.new.progress IsSound }
     ensures place { place_of state.new.progress ≤ 20 }
     ensures exact { state.new.fault ≡ None → place_of state.new.progress ≡ 20 }
-    ensures read { reading_with state.new [] ≡ (header_read (reading_with state.old []) (header_judged bytes.now)).1 }
+    ensures read { reading_with state.new [] ≡
+        (header_read (reading_with state.old []) (header_judged bytes.now)).1 }
     ensures never { state.new.fault ≢ Some TraceFault.NoMemory }
 {
     match header_of(bytes) {
@@ -105,10 +108,12 @@ fn read_record(
     ensures place { place_of state.new.progress ≤ progress.place + length bytes.now }
     ensures exact { state.new.fault ≡ None →
         place_of state.new.progress ≡ progress.place + length bytes.now }
-    ensures head { HeadStays state.old.progress state.new.progress }
+    ensures same { state.new.fault ≡ Some TraceFault.NoMemory →
+        state.new.progress ≡ state.old.progress }
     ensures read { state.new.fault ≢ Some TraceFault.NoMemory →
         ReadsPart state.old bytes.now state.new into.old.items into.new.items }
-    ensures no_memory { state.new.fault ≡ Some TraceFault.NoMemory → into.new.items ≡ into.old.items }
+    ensures no_memory { state.new.fault ≡ Some TraceFault.NoMemory
+        → into.new.items ≡ into.old.items }
 {
     match record_of(alloc, &progress, bytes) {
         Ok(item) => {
@@ -138,10 +143,12 @@ fn read_part(alloc: Global, state: &mut State, bytes: &[u8], into: &mut Vec<Trac
     ensures place { place_of state.new.progress ≤ place_of state.old.progress + length bytes.now }
     ensures exact { state.new.fault ≡ None →
         place_of state.new.progress ≡ place_of state.old.progress + length bytes.now }
-    ensures head { HeadStays state.old.progress state.new.progress }
+    ensures same { state.new.fault ≡ Some TraceFault.NoMemory →
+        state.new.progress ≡ state.old.progress }
     ensures read { state.new.fault ≢ Some TraceFault.NoMemory →
         ReadsPart state.old bytes.now state.new into.old.items into.new.items }
-    ensures no_memory { state.new.fault ≡ Some TraceFault.NoMemory → into.new.items ≡ into.old.items }
+    ensures no_memory { state.new.fault ≡ Some TraceFault.NoMemory
+        → into.new.items ≡ into.old.items }
 {
     match (state.progress, state.ending) {
         (None, _) => read_header(state, bytes),
@@ -165,12 +172,14 @@ pub(crate) fn read_parts<'a>(
         place_of state.old.progress + length bytes.now }
     ensures exact { state.new.fault ≡ None → place_of state.new.progress + length result.now ≡
         place_of state.old.progress + length bytes.now }
-    ensures head { HeadStays state.old.progress state.new.progress }
+    ensures head { KeepsHead (reading_with state.old []) bytes.now (reading_with state.new []) }
     ensures waits { state.new.fault ≡ None → length result.now < extent_in state.new result.now }
     ensures read { state.new.fault ≡ None →
-        ReadsOn (reading_with state.old []) bytes.now (reading_with state.new result.now) into.old.items into.new.items }
+        ReadsOn (reading_with state.old []) bytes.now (reading_with state.new result.now)
+        into.old.items into.new.items }
     ensures fault { IsSome state.new.fault → state.new.fault ≢ Some TraceFault.NoMemory →
-        ReadsOn (reading_with state.old []) bytes.now (reading_with state.new []) into.old.items into.new.items }
+        ReadsOn (reading_with state.old []) bytes.now (reading_with state.new []) into.old.items
+        into.new.items }
     ensures no_memory { state.new.fault ≡ Some TraceFault.NoMemory →
         AddsSome (reading_with state.old []) bytes.now into.old.items into.new.items }
 {

@@ -1,4 +1,5 @@
-//! Tests over the reader and the writers of traces together: what is written is read again, however it is cut.
+//! Tests over the reader and the writers of traces together: what is written is read again, however
+//! it is cut, and a trace is cut in two.
 #![tactic(auto)]
 
 #[cfg(test)]
@@ -7,3 +8,5 @@ mod lines;
 mod pieces;
 #[cfg(test)]
 mod rows;
+#[cfg(test)]
+mod splits;

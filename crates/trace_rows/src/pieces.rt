@@ -15,6 +15,22 @@ R1 fffffffe 2
 free 2000
 exit 7 9 2";
 
+// A function, and a block that was made in it.
+const WORKER: &str = "\
+symbol function 100a0 64 worker
+alloc 2000 24 100b0
+W0 2000
+W1 2004
+free 2000
+exit 0 2 2";
+
+// Two blocks, the second of no bytes, and then an access to the first.
+const TWO_BLOCKS: &str = "\
+alloc 11000 24
+alloc 11020 0
+W0 11000
+exit 69664 9 1";
+
 // The records of some bytes, and their first fault.
 #[derive(PartialEq, Eq, Drop)]
 struct Answer {
@@ -95,12 +111,16 @@ fn any_changed_byte_gives_one_answer(rt: HostRuntime) -> Result<(), Fail> {
 
 #[test]
 fn a_trace_is_read_again(rt: HostRuntime) -> Result<(), Fail> {
-    let records = records_of(rt.alloc(), EACH_KIND)?;
-    for version in [Version::One, Version::Two] {
-        let bytes = trace_of(rt.alloc(), version, EACH_KIND)?;
-        let answer = answer_in(rt.alloc(), &bytes, 7)?;
-        assert!(rt; answer.records == records);
-        assert!(rt; answer.fault.is_none());
+    for text in [EACH_KIND, WORKER, TWO_BLOCKS] {
+        let records = records_of(rt.alloc(), text)?;
+        for version in [Version::One, Version::Two] {
+            let bytes = trace_of(rt.alloc(), version, text)?;
+            for size in [1, 7, bytes.len()] {
+                let answer = answer_in(rt.alloc(), &bytes, size)?;
+                assert!(rt; answer.records == records);
+                assert!(rt; answer.fault.is_none());
+            }
+        }
     }
     Ok(())
 }

@@ -19,6 +19,13 @@ const THREE_WRITES: [u8; 55] = [
     6, 0, 0, 0, 0, 0, 0, 0, 0, 3, 0, 0, 0, 0, 0, 0, 0, 3, 0, 0, 0, 0, 0, 0, 0, // end
 ];
 
+// A write of 4 bytes at 0xfffffffc by hart 0, in version 2: 4 below the address 0 before it.
+const LAST_WORD: [u8; 48] = [
+    0x50, 0x52, 0x44, 0x54, 0x52, 0x43, 0x30, 0x32, 0, 0, 0, 0, 0, 0, 0, 0, 8, 0, 0, 0, // header
+    0x24, 0, 7, // write
+    6, 0, 0, 0, 0, 0, 0, 0, 0, 1, 0, 0, 0, 0, 0, 0, 0, 1, 0, 0, 0, 0, 0, 0, 0, // end
+];
+
 // The first fault of some bytes.
 fn fault_of(alloc: Global, bytes: &[u8]) -> Result<Option<TraceFault>, NoMemory> {
     let mut reader = TraceReader::new(alloc)?;
@@ -45,14 +52,21 @@ fn fault_with(
 
 #[test]
 fn the_bytes_are_those_of_their_lines(rt: HostRuntime) -> Result<(), Fail> {
-    let none = trace_of(rt.alloc(), Version::One, "exit 0 0 0")?;
-    assert!(rt; none.as_slice() == NO_ACCESSES.as_slice());
-    let three = trace_of(
-        rt.alloc(),
-        Version::Two,
-        "W0 1000\nW1 1004\nW0 1000\nexit 0 3 3",
-    )?;
-    assert!(rt; three.as_slice() == THREE_WRITES.as_slice());
+    for (version, text, bytes) in [
+        (Version::One, "exit 0 0 0", NO_ACCESSES.as_slice()),
+        (
+            Version::Two,
+            "W0 1000\nW1 1004\nW0 1000\nexit 0 3 3",
+            THREE_WRITES.as_slice(),
+        ),
+        (
+            Version::Two,
+            "W0 fffffffc\nexit 0 1 1",
+            LAST_WORD.as_slice(),
+        ),
+    ] {
+        assert!(rt; trace_of(rt.alloc(), version, text)?.as_slice() == bytes);
+    }
     Ok(())
 }
 
@@ -60,6 +74,7 @@ fn the_bytes_are_those_of_their_lines(rt: HostRuntime) -> Result<(), Fail> {
 fn good_traces_have_no_fault(rt: HostRuntime) -> Result<(), Fail> {
     assert!(rt; fault_of(rt.alloc(), &NO_ACCESSES)?.is_none());
     assert!(rt; fault_of(rt.alloc(), &THREE_WRITES)?.is_none());
+    assert!(rt; fault_of(rt.alloc(), &LAST_WORD)?.is_none());
     Ok(())
 }
 

@@ -10,7 +10,8 @@ use Rattle.trace_grammar.specs.Spelling.{magic_of, spell_header}
 -- four sites, each in four bytes
 pub sites_spelled : (sites a b c d : List ℕ) → length sites ≡ 4 → a ≡ to_le_bytes w32 (get_or sites 0 0)
     → b ≡ to_le_bytes w32 (get_or sites 1 0) → c ≡ to_le_bytes w32 (get_or sites 2 0) → d ≡ to_le_bytes w32 (get_or sites 3 0)
-    → get_or a 0 0 ∷ get_or a 1 0 ∷ get_or a 2 0 ∷ get_or a 3 0 ∷ get_or b 0 0 ∷ get_or b 1 0 ∷ get_or b 2 0 ∷ get_or b 3 0 ∷ get_or c 0 0 ∷ get_or c 1 0 ∷ get_or c 2 0 ∷ get_or c 3 0 ∷ get_or d 0 0 ∷ get_or d 1 0 ∷ get_or d 2 0 ∷ get_or d 3 0 ∷ []
+    → get_or a 0 0 ∷ get_or a 1 0 ∷ get_or a 2 0 ∷ get_or a 3 0 ∷ get_or b 0 0 ∷ get_or b 1 0 ∷ get_or b 2 0 ∷ get_or b 3 0 ∷ get_or c 0 0
+    ∷ get_or c 1 0 ∷ get_or c 2 0 ∷ get_or c 3 0 ∷ get_or d 0 0 ∷ get_or d 1 0 ∷ get_or d 2 0 ∷ get_or d 3 0 ∷ []
     ≡ flat_map (to_le_bytes w32) sites
 sites_spelled (s0 ∷ s1 ∷ s2 ∷ s3 ∷ []) a b c d four ea eb ec ed = rw (ea, eb, ec, ed) refl
 sites_spelled [] a b c d four ea eb ec ed = absurd (omega arith)

@@ -108,7 +108,8 @@ pub(crate) fn put_touch(
     access: &Access,
     into: &mut Vec<u8>,
 ) -> Result<(), NoMemory>
-    ensures ok { OnOk result (into.new.items ≡ into.old.items ++ spell_touch version last access.now) }
+    ensures ok { OnOk result
+        (into.new.items ≡ into.old.items ++ spell_touch version last access.now) }
     ensures err { OnErr result (into.new.items ≡ into.old.items) }
 {
     match version {

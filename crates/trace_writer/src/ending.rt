@@ -1,6 +1,7 @@
 // The end of a trace.
 ghost use Rattle.std.specs.Prelude.{◌≡◌};
-ghost use Rattle.trace_grammar.specs.Spelling.{cause_number, outcome_fields, spell_ending, spell_outcome};
+ghost use Rattle.trace_grammar.specs.Spelling.{cause_number, outcome_fields, spell_ending};
+ghost use Rattle.trace_grammar.specs.Spelling.{spell_outcome};
 
 use predator_base::{Cause, Ending, Outcome};
 
@@ -20,7 +21,8 @@ struct OutcomeFields {
 }
 
 fn fields_of(outcome: Outcome) -> OutcomeFields
-    ensures { spell_outcome outcome ≡ outcome_fields result.which result.cause result.hart result.value }
+    ensures { spell_outcome outcome ≡ outcome_fields result.which result.cause result.hart
+        result.value }
 {
     let plain = |which, value| OutcomeFields {
         which,

@@ -3,7 +3,8 @@ ghost use Rattle.std.specs.Prelude.{◌≡◌, ◌≤◌, ◌++◌, OnOk, OnErr,
 ghost use Rattle.std.specs.List.{flat_map};
 ghost use Rattle.std.specs.Int.{w32, to_le_bytes};
 ghost use Rattle.heap_objects.specs.Names.{longest_name};
-ghost use Rattle.trace_grammar.specs.Spelling.{kind_number, spell_alloc, spell_free, spell_record, spell_symbol};
+ghost use Rattle.trace_grammar.specs.Spelling.{kind_number, spell_alloc, spell_free, spell_record};
+ghost use Rattle.trace_grammar.specs.Spelling.{spell_symbol};
 
 use crate::access::put_touch;
 use crate::ending::ending_bytes;
@@ -80,7 +81,8 @@ fn put_symbol(
     name: &Name,
     into: &mut Vec<u8>,
 ) -> Result<(), NoMemory>
-    ensures ok { OnOk result (into.new.items ≡ into.old.items ++ spell_symbol kind addr size name.now) }
+    ensures ok { OnOk result
+        (into.new.items ≡ into.old.items ++ spell_symbol kind addr size name.now) }
     ensures err { OnErr result (into.new.items ≡ into.old.items) }
 {
     let content = name.bytes();

@@ -18,8 +18,8 @@ pub enum Side {
 
 /// Cuts a trace in two at an access, counted from 0.
 ///
-/// Contracts see the header, how many accesses there are, the cut, and how many accesses were met, up to
-/// one more than the cut.
+/// Contracts see the header, how many accesses there are, the cut, and how many accesses were met,
+/// up to one more than the cut.
 #[derive(Clone, Copy, Debug)]
 pub struct Splitter {
     header: Header,
@@ -36,19 +36,25 @@ impl Model for Splitter {
 
     ghost view = { λ s. record { header = s.header; total = s.total; cut = s.cut; met = s.met } };
 
-    ghost invariant = { λ s. (s.header.first + s.total ≤ 2 ^ 40) × (s.cut ≤ s.total) × (s.met ≤ s.cut + 1) };
+    ghost invariant = { λ s. (s.header.first + s.total ≤ 2 ^ 40) × (s.cut ≤ s.total)
+        × (s.met ≤ s.cut + 1) };
 
     ghost inverse = { λ s. record { header = s.header; total = s.total; cut = s.cut; met = s.met } };
 }
 
 impl Splitter {
-    ghost use Rattle.trace_writer.specs.Splits.{begin_split, endings_of, headers_of, met_after, side_of};
+    ghost use Rattle.std.specs.Prelude.{List, [], ◌∷◌, ◌++◌, length, min};
+    ghost use Rattle.trace_grammar.specs.declared.record.TraceRecord.{TraceRecord};
+    ghost use Rattle.trace_grammar.specs.Rules.{touches_in};
+    ghost use Rattle.trace_writer.specs.Splits.{HasSeen, SameCut, begin_split, endings_of};
+    ghost use Rattle.trace_writer.specs.Splits.{headers_of, side_after};
 
-    /// Cuts a trace with this header and so many accesses at access number `at`, or at its end where there are
-    /// fewer.
+    /// Cuts a trace with this header and so many accesses at access number `at`, or at its end
+    /// where there are fewer.
     pub fn new(header: Header, total: u64, at: u64) -> Splitter
         requires { header.first + total ≤ 2 ^ 40 }
-        ensures { result ≡ begin_split header total at }
+        ensures value { result ≡ begin_split header total at }
+        ensures seen { HasSeen [] result }
     {
         Splitter {
             header,
@@ -69,28 +75,33 @@ impl Splitter {
         (self.header, second)
     }
 
-    /// Which half the next record goes to: the first until the access at the cut is met.
-    #[tactic(auto, using(std::proofs::lemmas::Bool::Decides::nat_tests))]
-    pub fn side(&mut self, item: &TraceRecord) -> Side
-        ensures side { result ≡ side_of self.old item.now }
-        ensures met { self.new ≡ record self.old { met = met_after self.old item.now } }
+    // How many accesses are met with this record, up to one more than the cut.
+    fn met_with(&self, item: &TraceRecord) -> u64
+        ensures met { (seen : List TraceRecord) → HasSeen seen self.now →
+            result ≡ min (length (touches_in (seen ++ item.now ∷ []))) (self.now.cut + 1) }
+        ensures low { result ≤ self.now.cut + 1 }
     {
         match item {
+            TraceRecord::Touch(_) => self.met.min(self.cut) + 1,
+            _ => self.met,
+        }
+    }
+
+    /// Which half the next record goes to: the first until the access at the cut is met, and the
+    /// second from that access on. An end goes to neither.
+    pub fn side(&mut self, item: &TraceRecord) -> Side
+        // Whatever records came before, the side is that of this one behind them.
+        ensures side { (seen : List TraceRecord) → HasSeen seen self.old →
+            result ≡ side_after self.old.cut seen item.now }
+        ensures seen { (seen : List TraceRecord) → HasSeen seen self.old →
+            HasSeen (seen ++ item.now ∷ []) self.new }
+        ensures same { SameCut self.old self.new }
+    {
+        self.met = self.met_with(item);
+        match item {
             TraceRecord::End(_) => Side::Neither,
-            TraceRecord::Touch(_) => {
-                if self.met < self.cut {
-                    self.met += 1;
-                    Side::First
-                } else {
-                    self.met = self.cut + 1;
-                    Side::Second
-                }
-            }
-            _ => if self.met <= self.cut {
-                Side::First
-            } else {
-                Side::Second
-            },
+            _ if self.met <= self.cut => Side::First,
+            _ => Side::Second,
         }
     }
 

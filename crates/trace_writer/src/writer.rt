@@ -24,7 +24,8 @@ fn magic_of(version: Version) -> [u8; 8]
 }
 
 fn field_bytes(header: Header) -> [u8; 12]
-    ensures { result ≡ to_le_bytes w64 header.first ++ (to_le_bytes w16 header.harts ++ to_le_bytes w16 0) }
+    ensures { result ≡ to_le_bytes w64 header.first ++
+        (to_le_bytes w16 header.harts ++ to_le_bytes w16 0) }
 {
     let [f0, f1, f2, f3, f4, f5, f6, f7] = header.first.to_le_bytes();
     let [h0, h1] = header.harts.to_le_bytes();
@@ -48,8 +49,8 @@ pub fn header_bytes(header: Header, into: &mut Vec<u8>) -> Result<(), NoMemory>
     put_header(Version::One, header, into)
 }
 
-/// Appends the bytes of a record of version 1: 8 of an access, 25 of a block or an end, 5 of a block that
-/// is given back, 12 and the name of a symbol. At `NoMemory` nothing is appended.
+/// Appends the bytes of a record of version 1: 8 of an access, 25 of a block or an end, 5 of a
+/// block that is given back, 12 and the name of a symbol. At `NoMemory` nothing is appended.
 pub fn record_bytes(item: &TraceRecord, into: &mut Vec<u8>) -> Result<(), NoMemory>
     requires { IsWritable item.now }
     ensures ok { OnOk result (into.new.items ≡ into.old.items ++ spell_record One 0 item.now) }
@@ -90,7 +91,8 @@ impl TraceWriter {
     /// Appends the header. At `NoMemory` nothing is appended.
     pub fn header(&mut self, header: Header, into: &mut Vec<u8>) -> Result<(), NoMemory>
         requires { IsGoodHeader header }
-        ensures ok { OnOk result (into.new.items ≡ into.old.items ++ spell_header self.old.version header) }
+        ensures ok { OnOk result
+            (into.new.items ≡ into.old.items ++ spell_header self.old.version header) }
         ensures err { OnErr result (into.new.items ≡ into.old.items) }
         ensures same { self.new ≡ self.old }
     {
@@ -101,8 +103,10 @@ impl TraceWriter {
     pub fn item(&mut self, item: &TraceRecord, into: &mut Vec<u8>) -> Result<(), NoMemory>
         requires { IsWritable item.now }
         ensures ok { OnOk result
-            (into.new.items ≡ into.old.items ++ spell_record self.old.version self.old.last item.now) }
-        ensures next { OnOk result (self.new ≡ record self.old { last = last_after self.old.last item.now }) }
+            (into.new.items ≡ into.old.items ++ spell_record self.old.version self.old.last
+            item.now) }
+        ensures next { OnOk result
+            (self.new ≡ record self.old { last = last_after self.old.last item.now }) }
         ensures err { OnErr result (into.new.items ≡ into.old.items) }
         ensures stays { OnErr result (self.new ≡ self.old) }
     {

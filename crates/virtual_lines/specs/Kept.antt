@@ -1,5 +1,7 @@
 -- What is kept of a line that is watched, and what an access in its range makes of it.
-use Rattle.std.specs.Prelude.{◌≡◌, ℕ, ◌+◌, ◌<◌, ◌≤◌, ◌&&◌, if◌then◌else◌, List, [], ◌∷◌, sum_by, Option, Some, None, option_map, slice_index_or, slice_set, IsTrue, ◌/◌}
+use Rattle.std.specs.Prelude.{◌≡◌, ℕ, ◌+◌, ◌<◌, ◌≤◌, ◌&&◌, if◌then◌else◌, List, [], ◌∷◌, sum_by}
+use Rattle.std.specs.Prelude.{Option, Some, None, option_map, slice_index_or, slice_set, IsTrue}
+use Rattle.std.specs.Prelude.{◌/◌}
 use Rattle.std.specs.Option.{IfSome, option_map_or}
 use Rattle.predator_base.specs.Ranges.{holds_address}
 use Rattle.predator_base.specs.Touch.{Touch, is_write}
@@ -27,7 +29,15 @@ words_of x = record { range = x.range; words = x.words }
 
 -- one that has no start yet
 abbrev pub waiting : LineKind → Range → Kept
-waiting kind r = record { kind = kind; range = r; start = None; entries = []; count = 0; words = (blank r).words }
+waiting kind r = record {
+  kind = kind;
+  range = r;
+  start = None;
+  entries = [];
+  count = 0;
+  words =
+      (blank r).words;
+}
 
 -- after the write that starts it
 abbrev pub started : Kept → ℕ → Touch → Kept
@@ -59,7 +69,8 @@ note_from (Some s) x position a = goes_on x a
 abbrev pub note_kept : Kept → ℕ → Touch → Kept
 note_kept x position a = note_from x.start x position a
 
--- Since its start there was at most one access of it a position, and the starting one doesn't count.
+-- Since its start there was at most one access of it a position, and the starting one doesn't
+-- count.
 pub record IsSince (x : Kept) (position s : ℕ) : Type 0 where
   pub later : s < position
   pub accessed : sum_by accesses x.words + s ≤ position
@@ -83,7 +94,8 @@ pub record IsTrackOf (l : Line) (from : ℕ) (t : AccessList) (x : Kept) : Type 
   pub range : x.range ≡ range_of l
   pub traced_is : traced x ≡ track_of l from t
 
--- what is remembered of a track before an access of an address: all but the words of other addresses
+-- what is remembered of a track before an access of an address: all but the words of other
+-- addresses
 pub record Marked : Type 0 where
   pub start : Option ℕ
   pub entries : List ℕ
@@ -95,18 +107,33 @@ abbrev pub word_at : Kept → ℕ → Word
 word_at x i = slice_index_or x.words i (tally [])
 
 abbrev pub mark_of : Kept → ℕ → Marked
-mark_of x addr = record { start = x.start; entries = x.entries; count = x.count; place = place_of x.range addr; word = word_at x (place_of x.range addr) }
+mark_of x addr = record {
+  start = x.start;
+  entries = x.entries;
+  count = x.count;
+  place =
+      place_of x.range addr;
+  word = word_at x (place_of x.range addr);
+}
 
 -- with what a mark remembers
 abbrev pub restored : Kept → Marked → Kept
-restored x m = record { kind = x.kind; range = x.range; start = m.start; entries = m.entries; count = m.count; words = slice_set x.words m.place m.word }
+restored x m = record {
+  kind = x.kind;
+  range = x.range;
+  start = m.start;
+  entries = m.entries;
+  count = m.count;
+  words = slice_set x.words m.place m.word;
+}
 
 -- no start, no count, and no access of a word
 pub record IsBlank (x : Kept) : Type 0 where
   pub count : x.count ≡ 0
   pub words : x.words ≡ (blank x.range).words
 
--- A mark of no more accesses of its word, which is one of the track's; without a start it leaves a blank track.
+-- A mark of no more accesses of its word, which is one of the track's; without a start it leaves a
+-- blank track.
 pub record CanRestore (x : Kept) (m : Marked) : Type 0 where
   pub within : m.place < x.range.size / 4
   pub reads : m.word.reads ≤ (word_at x m.place).reads

@@ -10,7 +10,15 @@ use Rattle.virtual_lines.specs.Kept.{IsTrackOf, Kept}
 
 -- a track of a kind and a range
 abbrev pub kept_as : LineKind → Range → Traced → Kept
-kept_as kind r x = record { kind = kind; range = r; start = x.start; entries = x.entries; count = x.count; words = x.words }
+kept_as kind r x = record {
+  kind = kind;
+  range = r;
+  start = x.start;
+  entries = x.entries;
+  count =
+      x.count;
+  words = x.words;
+}
 
 -- what is kept of a line that is observed, or that opened
 abbrev pub kept_in : AccessList → Opened → Kept

@@ -14,11 +14,25 @@ entries_of None = []
 entries_of (Some b) = b.history
 
 abbrev pub kept_of : Inside → Kept
-kept_of t = record { kind = t.kind; range = t.shadow.range; start = start_of t.begun; entries = entries_of t.begun; count = t.count; words = t.shadow.words }
+kept_of t = record {
+  kind = t.kind;
+  range = t.shadow.range;
+  start = start_of t.begun;
+  entries =
+      entries_of t.begun;
+  count = t.count;
+  words = t.shadow.words;
+}
 
 -- before its start nothing is counted
 abbrev pub IsBlankBefore : Inside → Type 0
 IsBlankBefore t = t.begun ≡ None → IsBlank (kept_of t)
 
 abbrev pub marked_of : MarkInside → Marked
-marked_of m = record { start = start_of m.begun; entries = entries_of m.begun; count = m.count; place = m.place; word = m.word }
+marked_of m = record {
+  start = start_of m.begun;
+  entries = entries_of m.begun;
+  count = m.count;
+  place = m.place;
+  word = m.word;
+}

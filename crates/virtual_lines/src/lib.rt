@@ -1,8 +1,8 @@
 //! The tracks of lines, observed and predicted: what is kept of a line from its start on.
 //!
-//! A track keeps its start, the first two harts since the last write, the count of invalidations and the shadow of
-//! its words, in at most 100 bytes beside those of its words. It is exact: for every access list it is the track
-//! that the list defines.
+//! A track keeps its start, the first two harts since the last write, the count of invalidations
+//! and the shadow of its words, in at most 100 bytes beside those of its words. It is exact: for
+//! every access list it is the track that the list defines.
 #![tactic(auto)]
 
 mod laws;

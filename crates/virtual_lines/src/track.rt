@@ -1,12 +1,14 @@
 // What is kept of one line.
-ghost use Rattle.std.specs.Prelude.{◌≡◌, ℕ, ◌+◌, ◌<◌, ◌≤◌, ◌^◌, ◌*◌, ◌/◌, ◌%◌, ◌&&◌, if◌then◌else◌, [], ◌∷◌, ◌++◌, length, IsTrue, IsFalse, IfOk, None, option_map};
+ghost use Rattle.std.specs.Prelude.{◌≡◌, ℕ, ◌+◌, ◌<◌, ◌≤◌, ◌^◌, ◌*◌, ◌/◌, ◌%◌, ◌&&◌, if◌then◌else◌};
+ghost use Rattle.std.specs.Prelude.{[], ◌∷◌, ◌++◌, length, IsTrue, IsFalse, IfOk, None, option_map};
 ghost use Rattle.predator_base.specs.Lines.{is_layout};
 ghost use Rattle.predator_base.specs.Ranges.{holds_address};
 ghost use Rattle.predator_base.specs.Touch.{Touch, is_write};
 ghost use Rattle.sharing_rules.specs.AccessLists.{AccessList};
 ghost use Rattle.sharing_rules.specs.Lines.{Line};
 ghost use Rattle.history_table.specs.Entries.{entries_after_read, has_another};
-ghost use Rattle.virtual_lines.specs.Kept.{CanRestore, IsBlank, IsInTime, IsTrackOf, mark_of, note_kept, restored, saved, waiting, words_of};
+ghost use Rattle.virtual_lines.specs.Kept.{CanRestore, IsBlank, IsInTime, IsTrackOf, mark_of};
+ghost use Rattle.virtual_lines.specs.Kept.{note_kept, restored, saved, waiting, words_of};
 
 use history_table::History;
 use predator_base::{Access, Kind, NoMemory, Range, Steps};
@@ -72,8 +74,10 @@ impl Model for Mark {
 }
 
 // An access of a line: true exactly where it is a write and another hart was among the entries.
+#[inline(always)]
 fn meet(history: &mut History, access: Access) -> bool
-    ensures entries { history.new ≡ (if is_write access.kind then access.hart ∷ [] else entries_after_read history.old access.hart) }
+    ensures entries { history.new ≡ (if is_write access.kind then access.hart ∷ []
+        else entries_after_read history.old access.hart) }
     ensures found { result ≡ (is_write access.kind && has_another history.old access.hart) }
 {
     match access.kind() {
@@ -128,7 +132,8 @@ impl Track {
     pub(crate) fn mark(&self, addr: u32) -> Mark
         requires { IsTrue (holds_address self.now.range addr) }
         ensures value { result ≡ mark_of self.now addr }
-        ensures undoes { (position : ℕ) (a : Touch) → a.addr ≡ addr → CanRestore (note_kept self.now position a) result }
+        ensures undoes { (position : ℕ) (a : Touch) → a.addr ≡ addr
+            → CanRestore (note_kept self.now position a) result }
     {
         self.remembered(addr)
     }
@@ -156,15 +161,17 @@ impl Track {
         ensures { self.new ≡ restored self.old mark }
     {
         let total = self.shadow.total();
-        // The mark has no more accesses than its word has, and so the words stay within their bound.
+        // The mark has no more accesses than its word has, and so the words stay within their
+        // bound.
         prove!(total <= 1 << 40);
         self.begun = mark.begun;
         self.count = mark.count;
         self.shadow.put(mark.place, mark.word);
     }
 
-    /// One access in the range, at a position. Before the start a read changes nothing, and a write starts the track.
-    /// It takes one step and no memory.
+    /// One access in the range, at a position. Before the start a read changes nothing, and a write
+    /// starts the track. It takes one step and no memory.
+    #[inline(always)]
     pub fn note<L: Ledger>(&mut self, position: u64, access: Access, steps: &mut Steps<L>)
         requires inside { IsTrue (holds_address self.old.range access.addr) }
         requires early { position < 2 ^ 40 }
@@ -173,7 +180,8 @@ impl Track {
         ensures in_time { IsInTime self.new (position + 1) }
         ensures step { steps.new ≡ steps.old + 1 }
         // where it was the track of a list and a line, it is that of the list with the access
-        ensures follows { (l : Line) (from : ℕ) (t : AccessList) → IsTrue (is_layout l.size l.offset) → length t ≡ position → from ≤ position
+        ensures follows { (l : Line) (from : ℕ) (t : AccessList)
+            → IsTrue (is_layout l.size l.offset) → length t ≡ position → from ≤ position
             → IsTrackOf l from t self.old → IsTrackOf l from (t ++ access ∷ []) self.new }
     {
         steps.tick();
@@ -181,6 +189,7 @@ impl Track {
     }
 
     // The access itself.
+    #[inline(always)]
     fn take(&mut self, position: u64, access: Access)
         requires inside { IsTrue (holds_address self.old.range access.addr) }
         requires early { position < 2 ^ 40 }
@@ -226,11 +235,15 @@ impl Track {
     }
 
     /// Whether its range holds an address.
+    #[inline(always)]
     pub fn contains(&self, addr: u32) -> bool
         ensures value { result ≡ holds_address self.now.range addr }
-        // where it is the track of a list and a line, an access elsewhere leaves it that of the list with the access
-        ensures elsewhere { IsFalse result → (l : Line) (from : ℕ) (t : AccessList) (a : Touch) → a.addr ≡ addr
-            → IsTrue (is_layout l.size l.offset) → IsTrackOf l from t self.now → IsTrackOf l from (t ++ a ∷ []) self.now }
+        // where it is the track of a list and a line, an access elsewhere leaves it that of the
+        // list with the access
+        ensures elsewhere { IsFalse result → (l : Line) (from : ℕ) (t : AccessList) (a : Touch)
+            → a.addr ≡ addr
+            → IsTrue (is_layout l.size l.offset) → IsTrackOf l from t self.now
+            → IsTrackOf l from (t ++ a ∷ []) self.now }
     {
         self.shadow.range().contains(addr)
     }

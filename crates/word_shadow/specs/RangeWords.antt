@@ -1,5 +1,6 @@
 -- The words of a range of addresses: what was counted of each.
-use Rattle.std.specs.Prelude.{◌≡◌, ℕ, ◌*◌, ◌/◌, ◌≤◌, ◌^◌, pos, ◌-ℤ◌, nat_abs, Bool, false, ◌==◌, nat_le, IsTrue, List, [], map, length, sum_by, slice_get, slice_set}
+use Rattle.std.specs.Prelude.{◌≡◌, ℕ, ◌*◌, ◌/◌, ◌≤◌, ◌^◌, pos, ◌-ℤ◌, nat_abs, Bool, false, ◌==◌}
+use Rattle.std.specs.Prelude.{nat_le, IsTrue, List, [], map, length, sum_by, slice_get, slice_set}
 use Rattle.std.specs.List.{All}
 use Rattle.std.specs.Option.{option_map_or}
 use Rattle.predator_base.specs.Touch.{Touch}
@@ -16,7 +17,8 @@ pub record RangeWords : Type 0 where
   pub range : Range
   pub words : List Word
 
--- whether n accesses can have an owner: none has no access, one hart at least one, and many at least two
+-- whether n accesses can have an owner: none has no access, one hart at least one, and many at
+-- least two
 abbrev pub can_own : Owner → ℕ → Bool
 can_own owner.None n = n == 0
 can_own (owner.One h) n = nat_le 1 n
@@ -46,7 +48,8 @@ set_word v i w = record { range = v.range; words = slice_set v.words i w }
 
 -- with one access more of the word that it touches
 abbrev pub note_words : RangeWords → Touch → RangeWords
-note_words v a = option_map_or (λ w. set_word v (place_of v.range a.addr) (note_word w a)) (slice_get v.words (place_of v.range a.addr)) v
+note_words v a = option_map_or (λ w. set_word v (place_of v.range a.addr) (note_word w a))
+    (slice_get v.words (place_of v.range a.addr)) v
 
 -- whether word i is hot
 abbrev pub is_hot_place : List Word → ℕ → Bool

@@ -1,5 +1,6 @@
 // A range and its words.
-ghost use Rattle.std.specs.Prelude.{ℕ, ◌++◌, ◌∷◌, ◌≡◌, ◌+◌, ◌*◌, ◌/◌, ◌%◌, ◌<◌, ◌≤◌, ◌^◌, IsTrue, IfOk, Some, [], length, map, sum_by, slice_get, slice_set};
+ghost use Rattle.std.specs.Prelude.{ℕ, ◌++◌, ◌∷◌, ◌≡◌, ◌+◌, ◌*◌, ◌/◌, ◌%◌, ◌<◌, ◌≤◌, ◌^◌, IsTrue};
+ghost use Rattle.std.specs.Prelude.{IfOk, Some, [], length, map, sum_by, slice_get, slice_set};
 ghost use Rattle.std.specs.List.{All};
 ghost use Rattle.predator_base.specs.Lines.{is_layout};
 ghost use Rattle.predator_base.specs.Ranges.{holds_address};
@@ -7,14 +8,16 @@ ghost use Rattle.sharing_rules.specs.AccessLists.{AccessList};
 ghost use Rattle.sharing_rules.specs.Lines.{Line, range_of};
 ghost use Rattle.sharing_rules.specs.Words.{accesses, tally, words_since};
 ghost use Rattle.sharing_rules.specs.Places.{below};
-ghost use Rattle.word_shadow.specs.RangeWords.{AreWords, blank, is_hot_place, is_possible, note_words, place_of, set_word};
+ghost use Rattle.word_shadow.specs.RangeWords.{AreWords, blank, is_hot_place, is_possible};
+ghost use Rattle.word_shadow.specs.RangeWords.{note_words, place_of, set_word};
 
 use predator_base::{Access, NoMemory, Range};
 use sharing_rules::Word;
 use std::alloc::Global;
 use std::marker::Model;
 
-/// The words of a range of addresses, by their places from 0, with how often they were accessed together.
+/// The words of a range of addresses, by their places from 0, with how often they were accessed
+/// together.
 ///
 /// Contracts see the range and the list of its words.
 #[derive(Drop)]
@@ -33,10 +36,12 @@ impl Model for Shadow {
 
     ghost view = { λ s. record { range = s.range; words = s.words.items } };
 
-    ghost invariant = { λ s. AreWords (record { range = s.range; words = s.words.items }) × (s.total ≡ sum_by accesses s.words.items) };
+    ghost invariant = { λ s. AreWords (record { range = s.range; words = s.words.items })
+        × (s.total ≡ sum_by accesses s.words.items) };
 }
 
 // Which word of a range an address is in.
+#[inline(always)]
 fn place_in(range: Range, addr: u32) -> u32
     requires { IsTrue (holds_address range addr) }
     ensures place { result ≡ place_of range addr }
@@ -66,7 +71,8 @@ fn blank_words(alloc: Global, count: usize) -> Result<Vec<Word>, NoMemory>
 }
 
 impl Shadow {
-    /// The words of a range that no one touched. The range's size is a multiple of 4, and so is its base.
+    /// The words of a range that no one touched. The range's size is a multiple of 4, and so is its
+    /// base.
     ///
     /// NoMemory comes only where there is no memory for the words. It keeps the allocator.
     pub fn new(alloc: Global, range: Range) -> Result<Shadow, NoMemory>
@@ -82,13 +88,16 @@ impl Shadow {
     }
 
     /// One access more, in the range, where there were fewer than 2^40. It takes no memory.
+    #[inline(always)]
     pub fn note(&mut self, access: Access)
         requires inside { IsTrue (holds_address self.old.range access.addr) }
         requires room { sum_by accesses self.old.words < 2 ^ 40 }
         ensures exact { self.new ≡ note_words self.old access }
         ensures more { sum_by accesses self.new.words ≡ sum_by accesses self.old.words + 1 }
-        // where they were the words of a line since a position, they are those of the list with the access
-        ensures since { (l : Line) (s : ℕ) (t : AccessList) → IsTrue (is_layout l.size l.offset) → s ≤ length t
+        // where they were the words of a line since a position, they are those of the list with the
+        // access
+        ensures since { (l : Line) (s : ℕ) (t : AccessList) → IsTrue (is_layout l.size l.offset)
+            → s ≤ length t
             → self.old.range ≡ range_of l → self.old.words ≡ words_since l s t
             → self.new.words ≡ words_since l s (t ++ access ∷ []) }
     {

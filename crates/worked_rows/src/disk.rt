@@ -1,8 +1,11 @@
 // The program over a real file, in the folder that the tests run in.
 use crate::runs::{NEIGHBOURS, trace, words};
-use predator_cli::{DiskShelf, predator};
-use shelf::{FetchError, Shelf, fetch};
+use disk_shelf::DiskShelf;
+use predator_cli::predator;
+use shelf::{FetchError, Shelf, ShelfError, fetch};
 use std::fs;
+use std::os::unix::fs::symlink;
+use std::rt::{Clock, Files};
 use std::test::Fail;
 
 const NAME: &str = "worked_rows.tmp";
@@ -10,6 +13,17 @@ const NAME: &str = "worked_rows.tmp";
 const LONG_NAME: &str = "worked_rows_long.tmp";
 
 const LONG: usize = 150_000;
+
+const READ_NAME: &str = "worked_rows_read.tmp";
+
+// The same file.
+const READ_NAMES: [&str; 3] = [
+    "./worked_rows_read.tmp",
+    "worked_rows_hard.tmp",
+    "worked_rows_soft.tmp",
+];
+
+const BEGUN_NAME: &str = "worked_rows_begun.tmp";
 
 const REPLAY_IT: &str = "replay worked_rows.tmp";
 
@@ -58,5 +72,56 @@ fn a_folder_as_a_trace_is_a_read_fault(rt: HostRuntime) -> Result<(), Fail> {
     let mut shelf = DiskShelf::new(&rt);
     let line = words(alloc, "replay .")?;
     assert_eq!(rt; predator(alloc, &line, &mut shelf).number(), 7);
+    Ok(())
+}
+
+// Whether a file can't be begun under a name.
+fn is_refused<R: Files + Print + Eprint + Clock + AllocGlobal>(
+    shelf: &mut DiskShelf<'_, R>,
+    name: &str,
+) -> bool {
+    shelf.begin(name) == Err(ShelfError::Failed)
+}
+
+#[test]
+fn a_file_that_was_read_is_not_begun_under_another_name(rt: HostRuntime) -> Result<(), Fail> {
+    fs::write(&rt, READ_NAME, "kept")?;
+    fs::hard_link(&rt, READ_NAME, "worked_rows_hard.tmp")?;
+    symlink(&rt, READ_NAME, "worked_rows_soft.tmp")?;
+    let mut shelf = DiskShelf::new(&rt);
+    let fetched = fetch(rt.alloc(), &mut shelf, READ_NAME, 10)?;
+    assert_eq!(rt; fetched.as_slice(), b"kept".as_slice());
+    for name in READ_NAMES {
+        assert!(rt; is_refused(&mut shelf, name), "{name}");
+    }
+    let kept = fetch(rt.alloc(), &mut shelf, READ_NAME, 10)?;
+    for name in [
+        "worked_rows_read.tmp",
+        "worked_rows_hard.tmp",
+        "worked_rows_soft.tmp",
+    ] {
+        fs::remove_file(&rt, name)?;
+    }
+    assert_eq!(rt; kept.as_slice(), b"kept".as_slice());
+    Ok(())
+}
+
+#[test]
+fn a_file_that_was_begun_is_not_begun_under_another_name(rt: HostRuntime) -> Result<(), Fail> {
+    let mut shelf = DiskShelf::new(&rt);
+    shelf.begin(BEGUN_NAME)?;
+    assert!(rt; is_refused(&mut shelf, "./worked_rows_begun.tmp"));
+    shelf.begin(BEGUN_NAME)?;
+    fs::remove_file(&rt, BEGUN_NAME)?;
+    Ok(())
+}
+
+// Nothing is lost in a device.
+#[test]
+fn a_device_may_have_many_names(rt: HostRuntime) -> Result<(), Fail> {
+    let mut shelf = DiskShelf::new(&rt);
+    assert_eq!(rt; fetch(rt.alloc(), &mut shelf, "/dev/null", 10)?.len(), 0);
+    shelf.begin("/dev/./null")?;
+    shelf.append("/dev/../dev/null", b"lost")?;
     Ok(())
 }

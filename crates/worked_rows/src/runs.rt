@@ -2,7 +2,8 @@
 use predator_base::{Access, Ending, Hart, Kind, Outcome};
 use std::alloc::{AllocError, Global};
 use std::test::Fail;
-use trace_file::{Header, TraceRecord, header_bytes, record_bytes};
+use trace_grammar::{Header, TraceRecord};
+use trace_writer::{header_bytes, record_bytes};
 
 // A hart's access to 4 bytes: the hart, the address and what it does.
 pub(crate) type Touched = (u16, u32, Kind);

@@ -3,7 +3,7 @@
 //     # a remark; empty lines say nothing either
 //     text NAME               a file, whose lines follow, each behind `| `
 //     bytes NAME              a file, whose bytes follow in hexadecimal
-//     trace NAME [STEPS]      a trace, whose accesses follow, with exit 0 after so many steps
+//     trace NAME [STEPS]      a trace, whose records follow, with exit 0 after so many steps
 //     file NAME DATA          a file that is the one of the name DATA beside the case
 //     resize NAME LENGTH      the file, cut to this length or with zeros behind it
 //     patch NAME PLACE BYTES  the file, with other bytes from a place on

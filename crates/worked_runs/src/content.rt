@@ -1,6 +1,7 @@
 // The content of a file, as a case spells it line by line.
 use crate::trouble::Trouble;
 use std::alloc::{AllocError, Global};
+use std::str::SplitWhitespace;
 
 // How its lines spell it.
 #[derive(Clone, Copy, PartialEq, Eq)]
@@ -9,8 +10,10 @@ pub(crate) enum Form {
     Text,
     // Bytes of two hexadecimal digits.
     Bytes,
-    // A trace of 8 harts: a line for each access, as `W0 1000` or `R12 10fe 2`, which are a write
-    // of 4 bytes by hart 0 at 0x1000, and a read of 2 bytes by hart 12.
+    // A trace of 8 harts: a line for each record. `W0 1000` and `R12 10fe 2` are a write of 4 bytes
+    // by hart 0 at 0x1000, and a read of 2 bytes by hart 12; `alloc 2000 24 10018 1000c` is a block
+    // of 24 bytes at 0x2000 with two call sites; `free 2000` frees it; `symbol function 10000 40
+    // main` and `symbol object 2000 4 x` are symbols of 40 and 4 bytes.
     Trace,
 }
 
@@ -58,6 +61,15 @@ fn touch(word: &str) -> Option<(u8, u16)> {
     Some((2, hart.parse().ok()?))
 }
 
+// The number of a kind of symbols.
+fn kind_of(word: &str) -> Option<u8> {
+    match word {
+        "object" => Some(1),
+        "function" => Some(2),
+        _ => None,
+    }
+}
+
 impl Content {
     // The content that no line has spelled yet.
     pub(crate) fn new(alloc: Global, form: Form) -> Result<Self, AllocError> {
@@ -77,7 +89,7 @@ impl Content {
         match self.form {
             Form::Text => self.add_text(line)?,
             Form::Bytes => self.add_bytes(line)?,
-            Form::Trace => self.add_access(line)?,
+            Form::Trace => self.add_record(line)?,
         }
         Ok(())
     }
@@ -95,9 +107,62 @@ impl Content {
         Ok(())
     }
 
-    fn add_access(&mut self, line: &str) -> Result<(), Trouble> {
+    fn add_record(&mut self, line: &str) -> Result<(), Trouble> {
         let mut words = line.split_whitespace();
-        let (tag, hart) = words.next().and_then(touch).ok_or(Trouble::BadLine)?;
+        match words.next() {
+            Some("alloc") => self.add_alloc(words),
+            Some("free") => self.add_free(words),
+            Some("symbol") => self.add_symbol(words),
+            Some(word) => self.add_access(word, words),
+            None => Err(Trouble::BadLine),
+        }
+    }
+
+    fn add_alloc(&mut self, mut words: SplitWhitespace<'_>) -> Result<(), Trouble> {
+        self.bytes.push(3)?;
+        self.add_addr(words.next())?;
+        self.add_size(words.next())?;
+        for _ in 0..4 {
+            let site = words.next();
+            self.add_addr(Some(site.unwrap_or("0")))?;
+        }
+        Ok(())
+    }
+
+    fn add_free(&mut self, mut words: SplitWhitespace<'_>) -> Result<(), Trouble> {
+        self.bytes.push(4)?;
+        self.add_addr(words.next())
+    }
+
+    fn add_symbol(&mut self, mut words: SplitWhitespace<'_>) -> Result<(), Trouble> {
+        let kind = words.next().and_then(kind_of).ok_or(Trouble::BadLine)?;
+        self.bytes.extend_from_slice(&[5, kind])?;
+        self.add_addr(words.next())?;
+        self.add_size(words.next())?;
+        let name = words.next().ok_or(Trouble::BadLine)?;
+        let length = u16::try_from(name.len()).ok().ok_or(Trouble::BadLine)?;
+        self.bytes.extend_from_slice(&length.to_le_bytes())?;
+        self.bytes.extend_from_slice(name.as_bytes())?;
+        Ok(())
+    }
+
+    // An address of hexadecimal digits.
+    fn add_addr(&mut self, word: Option<&str>) -> Result<(), Trouble> {
+        let addr = word.and_then(hexadecimal).ok_or(Trouble::BadLine)?;
+        self.bytes.extend_from_slice(&addr.to_le_bytes())?;
+        Ok(())
+    }
+
+    // A number of bytes, in decimal digits.
+    fn add_size(&mut self, word: Option<&str>) -> Result<(), Trouble> {
+        let word = word.ok_or(Trouble::BadLine)?;
+        let size: u32 = word.parse().ok().ok_or(Trouble::BadLine)?;
+        self.bytes.extend_from_slice(&size.to_le_bytes())?;
+        Ok(())
+    }
+
+    fn add_access(&mut self, word: &str, mut words: SplitWhitespace<'_>) -> Result<(), Trouble> {
+        let (tag, hart) = touch(word).ok_or(Trouble::BadLine)?;
         let addr = words.next().and_then(hexadecimal).ok_or(Trouble::BadLine)?;
         let size = match words.next() {
             Some(word) => word.parse().ok().ok_or(Trouble::BadLine)?,

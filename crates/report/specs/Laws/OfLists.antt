@@ -1,5 +1,7 @@
 -- The tracks that a list keeps have the report of the list.
-use Rattle.std.proofs.Common.{◌≡◌, ℕ, Bool, true, false, not, eqb, ltb, leb, ◌&&◌, ◌||◌, ℤ, List, [], ◌∷◌, None, Some, map, filter, IsTrue, ◌<◌, ◌%◌, refl, sym, ap, ◌∙◌, inl, inr, arith}
+use Rattle.std.proofs.Common.{◌≡◌, ℕ, Bool, true, false, not, eqb, ltb, leb, ◌&&◌, ◌||◌, ℤ, List}
+use Rattle.std.proofs.Common.{[], ◌∷◌, None, Some, map, filter, IsTrue, ◌<◌, ◌%◌, refl, sym, ap}
+use Rattle.std.proofs.Common.{◌∙◌, inl, inr, arith}
 use Rattle.std.proofs.lemmas.Bool.{cases_Bool, false≢true, and_parts}
 use borrow.Author.Tests.{ltb-true}
 use Rattle.std.proofs.lemmas.Bool.Decides.{nat_tests}
@@ -18,10 +20,14 @@ use Rattle.sharing_rules.specs.Lines.{is_inside}
 use Rattle.sharing_rules.specs.Listed.{in_order, listed, may_predict, rank, tracked}
 use Rattle.sharing_rules.specs.Members.{Member, ties}
 use Rattle.sharing_rules.specs.Observed.{first_write_from}
-use Rattle.sharing_rules.specs.Opened.{Opened, finding_of, is_placed_before as is_opened_before, opened}
+use Rattle.sharing_rules.specs.Opened.{Opened, finding_of, is_placed_before as is_opened_before}
+use Rattle.sharing_rules.specs.Opened.{opened}
 use Rattle.sharing_rules.specs.Laws.Kept.{opened-apart, tracked-opened}
-use Rattle.sharing_rules.specs.Laws.Lists.{slice_cases, Member-filter, Member-filter_map, Member-permutation, all_at, all_from_members, filter-Member, filter-distinct, filter_map-Member}
-use Rattle.sharing_rules.specs.Laws.Orders.{in_order-from_members, in_order-permutes, in_order-rises}
+use Rattle.sharing_rules.specs.Laws.Lists.{slice_cases, Member-filter, Member-filter_map}
+use Rattle.sharing_rules.specs.Laws.Lists.{Member-permutation, all_at, all_from_members}
+use Rattle.sharing_rules.specs.Laws.Lists.{filter-Member, filter-distinct, filter_map-Member}
+use Rattle.sharing_rules.specs.Laws.Orders.{in_order-from_members, in_order-permutes}
+use Rattle.sharing_rules.specs.Laws.Orders.{in_order-rises}
 use Rattle.virtual_lines.specs.Kept.{Kept}
 use Rattle.virtual_lines.specs.KeptIn.{kept_in}
 use Rattle.report.specs.Shown.{ShownLine, is_shown_before, listed_of, listed_tracks, shown_of}
@@ -67,7 +73,8 @@ shown_place x l e =
     elim (slice_cases x.start) [
       | inl none ↦ absurd (let k : None ≡ Some l = rw none at e in cc)
       | inr s ↦ let k : Some
-          (record { kind = x.kind; range = x.range; start = s.0; count = x.count; words = x.words }) ≡ Some l = rw s.1 at e in (
+          (record { kind = x.kind; range = x.range; start = s.0; count = x.count; words = x.words })
+          ≡ Some l = rw s.1 at e in (
             sym (ap (λ (z : ShownLine). z.kind) (same_Some _ _ k)),
             sym (ap (λ
                 (z : ShownLine). z.range) (same_Some _ _ k)),
@@ -105,7 +112,8 @@ shown-distinct (x ∷ xs) d =
 
 shown-members : (xs ys : List Kept) → IsPermutation xs ys → (l : ShownLine)
     → Member l (filter_map shown_of ys) → Member l (filter_map shown_of xs)
-shown-members xs ys perm l m = let w = Member-filter_map shown_of ys l m in filter_map-Member shown_of xs w.0 l (Member-permutation xs ys w.0 perm w.1) w.2
+shown-members xs ys perm l m = let w = Member-filter_map shown_of ys l m
+    in filter_map-Member shown_of xs w.0 l (Member-permutation xs ys w.0 perm w.1) w.2
 
 ties_flip : {X : Type 0} (lt : X → X → Bool) (x y : X) → ties lt x y ≡ ties lt y x
 ties_flip lt x y = ap not (or_comm (lt x y) (lt y x))

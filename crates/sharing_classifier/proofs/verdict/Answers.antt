@@ -11,10 +11,13 @@ use Rattle.sharing_classifier.proofs.verdict.Goals as goal
 pub returns-then-not-is_any_shared-clause-quiet : goal.returns-then-not-is_any_shared-clause-quiet
 returns-then-not-is_any_shared-clause-quiet c =
     λ l s t allowed words e.
-    unshared-quiet l s t allowed (subst (λ (ws : List Word). list_any is_truly_shared ws ≡ false) words (sym c.is_any_shared.ensures ∙ c.if-not-is_any_shared.true))
+    unshared-quiet l s t allowed (subst (λ (ws : List Word). list_any is_truly_shared ws ≡ false) words
+    (sym c.is_any_shared.ensures ∙ c.if-not-is_any_shared.true))
 
 pub returns-then-not-is_any_shared-clause-tracked : goal.returns-then-not-is_any_shared-clause-tracked
 returns-then-not-is_any_shared-clause-tracked c =
     λ l from s t allowed start words e.
     unshared-quiet l s t allowed
-    (subst (λ (ws : List Word). list_any is_truly_shared ws ≡ false) (words ∙ track-words l t (first_write_from from (is_inside l) t) s start) (sym c.is_any_shared.ensures ∙ c.if-not-is_any_shared.true))
+    (subst (λ (ws : List Word). list_any is_truly_shared ws ≡ false)
+    (words ∙ track-words l t (first_write_from from (is_inside l) t) s start)
+    (sym c.is_any_shared.ensures ∙ c.if-not-is_any_shared.true))

@@ -2,9 +2,13 @@
 use Rattle.predator_base.specs.Touch.{Touch}
 use Rattle.sharing_rules.specs.Members.{Member}
 use Rattle.sharing_rules.specs.Places.{below}
-use Rattle.std.proofs.Common.{Bool, List, None, Option, Some, [], ap, arith, eqb, false, get_or, inl, inr, length, length-append, map, refl, subst, suc, sym, take, true, zero, ℕ, ◌++◌, ◌+◌, ◌<◌, ◌∙◌, ◌∷◌, ◌≡◌, ◌≢◌}
-use Rattle.std.proofs.lemmas.Bool.{cases_Bool, cases_eq, eqb-true, false≢true, or_cases, or_left, or_right}
-use Rattle.std.proofs.lemmas.List.{append-nil, append_assoc, length-append, length-map, map-append, take_more}
+use Rattle.std.proofs.Common.{Bool, List, None, Option, Some, [], ap, arith, eqb, false, get_or}
+use Rattle.std.proofs.Common.{inl, inr, length, length-append, map, refl, subst, suc, sym, take}
+use Rattle.std.proofs.Common.{true, zero, ℕ, ◌++◌, ◌+◌, ◌<◌, ◌∙◌, ◌∷◌, ◌≡◌, ◌≢◌}
+use Rattle.std.proofs.lemmas.Bool.{cases_Bool, cases_eq, eqb-true, false≢true, or_cases, or_left}
+use Rattle.std.proofs.lemmas.Bool.{or_right}
+use Rattle.std.proofs.lemmas.List.{append-nil, append_assoc, length-append, length-map, map-append}
+use Rattle.std.proofs.lemmas.List.{take_more}
 use Rattle.std.proofs.lemmas.List.Elements.{All-from_recursion, recursion_from_All}
 use Rattle.std.proofs.lemmas.List.Sorted.{All-permutation}
 use Rattle.std.proofs.lemmas.Option.{none-some, same_Some}
@@ -16,7 +20,8 @@ pub slice_cases : {X : Type 0} (o : Option X) → (o ≡ None) ⊎ ((x : X) × (
 slice_cases None = inl refl
 slice_cases (Some x) = inr (x, refl)
 
-pub slice_get-append_left : {X : Type 0} (t s : List X) (i : ℕ) → i < length t → slice_get (t ++ s) i ≡ slice_get t i
+pub slice_get-append_left : {X : Type 0} (t s : List X) (i : ℕ) → i < length t
+    → slice_get (t ++ s) i ≡ slice_get t i
 slice_get-append_left [] s i h = absurd (omega (arith, h))
 slice_get-append_left (x ∷ t) s zero h = refl
 slice_get-append_left (x ∷ t) s (suc i) h = slice_get-append_left t s i (omega arith)
@@ -26,18 +31,23 @@ slice_get-push [] a = refl
 slice_get-push (x ∷ t) a = slice_get-push t a
 
 -- a loop's step over a list: at place i stands x
-pub take_step : (t : List Touch) (i : ℕ) (x : Touch) → i < length t → x ≡ get_or t i x → take (i + 1) t ≡ take i t ++ x ∷ []
+pub take_step : (t : List Touch) (i : ℕ) (x : Touch) → i < length t → x ≡ get_or t i x
+    → take (i + 1) t ≡ take i t ++ x ∷ []
 take_step t i x l at = take_more t i x l ∙ ap (λ y. take i t ++ y ∷ []) (sym at)
 
 -- an induction by one element more at the end
-pub by_push_from : {X : Type 0} (P : List X → Type 0) → ((t : List X) (a : X) → P t → P (t ++ a ∷ [])) → (s t : List X) → P s → P (s ++ t)
+pub by_push_from : {X : Type 0} (P : List X → Type 0)
+    → ((t : List X) (a : X) → P t → P (t ++ a ∷ [])) → (s t : List X) → P s → P (s ++ t)
 by_push_from P step s [] h = subst P (sym (append-nil s)) h
-by_push_from P step s (a ∷ t) h = subst P (append_assoc s (a ∷ []) t) (by_push_from P step (s ++ a ∷ []) t (step s a h))
+by_push_from P step s (a ∷ t) h = subst P (append_assoc s (a ∷ []) t)
+    (by_push_from P step (s ++ a ∷ []) t (step s a h))
 
-pub by_push : {X : Type 0} (P : List X → Type 0) → P [] → ((t : List X) (a : X) → P t → P (t ++ a ∷ [])) → (t : List X) → P t
+pub by_push : {X : Type 0} (P : List X → Type 0) → P []
+    → ((t : List X) (a : X) → P t → P (t ++ a ∷ [])) → (t : List X) → P t
 by_push P none step t = by_push_from P step [] t none
 
-pub map_same : {X : Type 0} (f g : ℕ → X) → ((i : ℕ) → f i ≡ g i) → (xs : List ℕ) → map f xs ≡ map g xs
+pub map_same : {X : Type 0} (f g : ℕ → X) → ((i : ℕ) → f i ≡ g i) → (xs : List ℕ)
+    → map f xs ≡ map g xs
 map_same f g h [] = refl
 map_same f g h (x ∷ xs) = rw (h x, map_same f g h xs)
 
@@ -45,74 +55,104 @@ pub length-below : (n : ℕ) → length (below n) ≡ n
 length-below zero = refl
 length-below (suc n) = let e = length-below n in omega (arith, length-append (below n) (n ∷ []))
 
-pub slice_get-map-below : {X : Type 0} (f : ℕ → X) (n i : ℕ) → i < n → slice_get (map f (below n)) i ≡ Some (f i)
+pub slice_get-map-below : {X : Type 0} (f : ℕ → X) (n i : ℕ) → i < n
+    → slice_get (map f (below n)) i ≡ Some (f i)
 slice_get-map-below f zero i l = absurd (omega (arith, l))
 slice_get-map-below f (suc n) i l =
     let len : length (map f (below n)) ≡ n = length-map (below n) f ∙ length-below n in
     rw (map-append f (below n) (n ∷ []))
     (elim (cases_eq i n) [
-      | inl e ↦ ap (slice_get (map f (below n) ++ f n ∷ [])) (e ∙ sym len) ∙ slice_get-push (map f (below n)) (f n) ∙ ap (λ k. Some (f k)) (sym e)
-      | inr ne ↦ slice_get-append_left (map f (below n)) (f n ∷ []) i (omega arith) ∙ slice_get-map-below f n i (omega arith)
+      | inl e ↦ ap (slice_get (map f (below n) ++ f n ∷ [])) (e ∙ sym len)
+          ∙ slice_get-push (map f (below n)) (f n) ∙ ap (λ k. Some (f k)) (sym e)
+      | inr ne ↦ slice_get-append_left (map f (below n)) (f n ∷ []) i (omega arith)
+          ∙ slice_get-map-below f n i (omega arith)
     ])
 
-pub same_by_get : {X : Type 0} (xs ys : List X) → ((i : ℕ) → slice_get xs i ≡ slice_get ys i) → xs ≡ ys
+pub same_by_get : {X : Type 0} (xs ys : List X) → ((i : ℕ) → slice_get xs i ≡ slice_get ys i)
+    → xs ≡ ys
 same_by_get [] [] h = refl
 same_by_get [] (y ∷ ys) h = absurd (none-some y (h 0))
 same_by_get (x ∷ xs) [] h = absurd (none-some x (sym (h 0)))
-same_by_get (x ∷ xs) (y ∷ ys) h = ap (λ z. z ∷ xs) (same_Some x y (h 0)) ∙ ap (λ zs. y ∷ zs) (same_by_get xs ys (λ i. h (suc i)))
+same_by_get (x ∷ xs) (y ∷ ys) h = ap (λ z. z ∷ xs) (same_Some x y (h 0))
+    ∙ ap (λ zs. y ∷ zs) (same_by_get xs ys (λ i. h (suc i)))
 
-pub get-set_same : {X : Type 0} (xs : List X) (i : ℕ) (x : X) → i < length xs → slice_get (slice_set xs i x) i ≡ Some x
+pub get-set_same : {X : Type 0} (xs : List X) (i : ℕ) (x : X) → i < length xs
+    → slice_get (slice_set xs i x) i ≡ Some x
 get-set_same [] i x h = absurd (omega (arith, h))
 get-set_same (y ∷ xs) zero x h = refl
 get-set_same (y ∷ xs) (suc i) x h = get-set_same xs i x (omega arith)
 
-pub get-set_other : {X : Type 0} (xs : List X) (i j : ℕ) (x : X) → j ≢ i → slice_get (slice_set xs i x) j ≡ slice_get xs j
+pub get-set_other : {X : Type 0} (xs : List X) (i j : ℕ) (x : X) → j ≢ i
+    → slice_get (slice_set xs i x) j ≡ slice_get xs j
 get-set_other [] i j x other = refl
 get-set_other (y ∷ xs) zero zero x other = absurd (other refl)
 get-set_other (y ∷ xs) zero (suc j) x other = refl
 get-set_other (y ∷ xs) (suc i) zero x other = refl
 get-set_other (y ∷ xs) (suc i) (suc j) x other = get-set_other xs i j x (λ e. other (ap suc e))
 
-pub any_get : (p : Touch → Bool) (t : List Touch) (i : ℕ) (b : Touch) → slice_get t i ≡ Some b → p b ≡ true → list_any p t ≡ true
+pub any_get : (p : Touch → Bool) (t : List Touch) (i : ℕ) (b : Touch) → slice_get t i ≡ Some b
+    → p b ≡ true → list_any p t ≡ true
 any_get p [] i b e h = absurd (none-some b e)
 any_get p (x ∷ t) zero b e h = or_left (p x) (list_any p t) (rw (same_Some x b e) h)
 any_get p (x ∷ t) (suc i) b e h = or_right _ _ (any_get p t i b e h)
 
-pub all_at : {X : Type 0} (P : X → Type 0) (xs : List X) (z : X) → AllByRecursion P xs → Member z xs → P z
+pub all_at : {X : Type 0} (P : X → Type 0) (xs : List X) (z : X) → AllByRecursion P xs → Member z xs
+    → P z
 all_at P [] z all m = absurd m
-all_at P (x ∷ xs) z all m = elim m [ inl here ↦ subst P (sym here) all.0 | inr later ↦ all_at P xs z all.1 later ]
+all_at P (x ∷ xs) z all m = elim m [
+  | inl here ↦ subst P (sym here) all.0
+  | inr later ↦
+      all_at P xs z all.1 later
+]
 
-pub weaker : {X : Type 0} (P Q : X → Type 0) → ((x : X) → P x → Q x) → (xs : List X) → AllByRecursion P xs → AllByRecursion Q xs
+pub weaker : {X : Type 0} (P Q : X → Type 0) → ((x : X) → P x → Q x) → (xs : List X)
+    → AllByRecursion P xs → AllByRecursion Q xs
 weaker P Q f [] all = tt
 weaker P Q f (x ∷ xs) all = (f x all.0, weaker P Q f xs all.1)
 
 pub each_member : {X : Type 0} (xs : List X) → AllByRecursion (λ z. Member z xs) xs
 each_member [] = tt
-each_member (x ∷ xs) = (inl refl, weaker (λ z. Member z xs) (λ z. Member z (x ∷ xs)) (λ z m. inr m) xs (each_member xs))
+each_member (x ∷ xs) = (
+  inl refl,
+  weaker (λ z. Member z xs) (λ z. Member z (x ∷ xs)) (λ z m. inr m) xs
+      (each_member xs),
+)
 
-pub all_permuted : {X : Type 0} (P : X → Type 0) (xs ys : List X) → IsPermutation xs ys → AllByRecursion P xs → AllByRecursion P ys
-all_permuted P xs ys perm all = recursion_from_All P ys (All-permutation P xs ys perm (All-from_recursion P xs all))
+pub all_permuted : {X : Type 0} (P : X → Type 0) (xs ys : List X) → IsPermutation xs ys
+    → AllByRecursion P xs → AllByRecursion P ys
+all_permuted P xs ys perm all = recursion_from_All P ys
+    (All-permutation P xs ys perm (All-from_recursion P xs all))
 
-pub all_from_members : {X : Type 0} (P : X → Type 0) (xs : List X) → ((x : X) → Member x xs → P x) → AllByRecursion P xs
+pub all_from_members : {X : Type 0} (P : X → Type 0) (xs : List X) → ((x : X) → Member x xs → P x)
+    → AllByRecursion P xs
 all_from_members P [] f = tt
 all_from_members P (x ∷ xs) f = (f x (inl refl), all_from_members P xs (λ y m. f y (inr m)))
 
 -- a permutation has the same elements
-pub Member-permutation : {X : Type 0} (xs ys : List X) (z : X) → IsPermutation xs ys → Member z ys → Member z xs
-Member-permutation xs ys z perm m = all_at (λ w. Member w xs) ys z (all_permuted (λ w. Member w xs) xs ys perm (each_member xs)) m
+pub Member-permutation : {X : Type 0} (xs ys : List X) (z : X) → IsPermutation xs ys → Member z ys
+    → Member z xs
+Member-permutation xs ys z perm m = all_at (λ w. Member w xs) ys z
+    (all_permuted (λ w. Member w xs) xs ys perm (each_member xs)) m
 
 -- what a filter keeps
-pub Member-filter : {X : Type 0} (p : X → Bool) (xs : List X) (z : X) → Member z (filter p xs) → Member z xs × (p z ≡ true)
+pub Member-filter : {X : Type 0} (p : X → Bool) (xs : List X) (z : X) → Member z (filter p xs)
+    → Member z xs × (p z ≡ true)
 Member-filter p [] z m = absurd m
 Member-filter p (x ∷ xs) z m =
     elim (cases_Bool (p x)) [
       | inl keeps ↦
           let k : Member z (x ∷ filter p xs) = rw keeps at m in
-          elim k [ inl here ↦ (inl here, ap p here ∙ keeps) | inr later ↦ let w = Member-filter p xs z later in (inr w.0, w.1) ]
-      | inr drops ↦ let k : Member z (filter p xs) = rw drops at m in let w = Member-filter p xs z k in (inr w.0, w.1)
+          elim k [
+            | inl here ↦ (inl here, ap p here ∙ keeps)
+            | inr later ↦ let w =
+                Member-filter p xs z later in (inr w.0, w.1)
+          ]
+      | inr drops ↦ let k : Member z (filter p xs) = rw drops at m in let w = Member-filter p xs z k
+          in (inr w.0, w.1)
     ]
 
-pub filter-Member : {X : Type 0} (p : X → Bool) (xs : List X) (z : X) → Member z xs → p z ≡ true → Member z (filter p xs)
+pub filter-Member : {X : Type 0} (p : X → Bool) (xs : List X) (z : X) → Member z xs → p z ≡ true
+    → Member z (filter p xs)
 filter-Member p [] z m e = absurd m
 filter-Member p (x ∷ xs) z m e =
     elim m [
@@ -123,7 +163,8 @@ filter-Member p (x ∷ xs) z m e =
       ]
     ]
 
-filter-all : {X : Type 0} (P : X → Type 0) (p : X → Bool) (xs : List X) → AllByRecursion P xs → AllByRecursion P (filter p xs)
+filter-all : {X : Type 0} (P : X → Type 0) (p : X → Bool) (xs : List X) → AllByRecursion P xs
+    → AllByRecursion P (filter p xs)
 filter-all P p [] all = tt
 filter-all P p (x ∷ xs) all =
     elim (cases_Bool (p x)) [
@@ -131,7 +172,8 @@ filter-all P p (x ∷ xs) all =
       | inr drops ↦ rw drops (filter-all P p xs all.1)
     ]
 
-pub filter-distinct : {X : Type 0} (e : X → X → Bool) (p : X → Bool) (xs : List X) → IsDistinct e xs → IsDistinct e (filter p xs)
+pub filter-distinct : {X : Type 0} (e : X → X → Bool) (p : X → Bool) (xs : List X) → IsDistinct e xs
+    → IsDistinct e (filter p xs)
 unfolding IsDistinct
 filter-distinct e p [] d = tt
 filter-distinct e p (x ∷ xs) d =
@@ -141,11 +183,13 @@ filter-distinct e p (x ∷ xs) d =
     ]
 
 -- what a filter_map has, and the converse
-pub Member-filter_map : {X Y : Type 0} (h : X → Option Y) (xs : List X) (y : Y) → Member y (filter_map h xs) → (x : X) × Member x xs × (h x ≡ Some y)
+pub Member-filter_map : {X Y : Type 0} (h : X → Option Y) (xs : List X) (y : Y)
+    → Member y (filter_map h xs) → (x : X) × Member x xs × (h x ≡ Some y)
 Member-filter_map h [] y m = absurd m
 Member-filter_map h (x ∷ xs) y m =
     elim (slice_cases (h x)) [
-      | inl none ↦ let k : Member y (filter_map h xs) = rw none at m in let w = Member-filter_map h xs y k in (w.0, inr w.1, w.2)
+      | inl none ↦ let k : Member y (filter_map h xs) = rw none at m
+          in let w = Member-filter_map h xs y k in (w.0, inr w.1, w.2)
       | inr some ↦
           let k : Member y (some.0 ∷ filter_map h xs) = rw some.1 at m in
           elim k [
@@ -154,7 +198,8 @@ Member-filter_map h (x ∷ xs) y m =
           ]
     ]
 
-pub filter_map-Member : {X Y : Type 0} (h : X → Option Y) (xs : List X) (x : X) (y : Y) → Member x xs → h x ≡ Some y → Member y (filter_map h xs)
+pub filter_map-Member : {X Y : Type 0} (h : X → Option Y) (xs : List X) (x : X) (y : Y)
+    → Member x xs → h x ≡ Some y → Member y (filter_map h xs)
 filter_map-Member h [] x y m e = absurd m
 filter_map-Member h (z ∷ xs) x y m e =
     elim m [
@@ -167,4 +212,5 @@ filter_map-Member h (z ∷ xs) x y m e =
 
 pub Member-from_any : (k : ℕ) (ks : List ℕ) → list_any (eqb k) ks ≡ true → Member k ks
 Member-from_any k [] e = absurd (false≢true e)
-Member-from_any k (x ∷ ks) e = elim (or_cases (eqb k x) (list_any (eqb k) ks) e) [ inl here ↦ inl (eqb-true k x here) | inr later ↦ inr (Member-from_any k ks later) ]
+Member-from_any k (x ∷ ks) e = elim (or_cases (eqb k x) (list_any (eqb k) ks) e)
+    [ inl here ↦ inl (eqb-true k x here) | inr later ↦ inr (Member-from_any k ks later) ]

@@ -9,7 +9,8 @@ use Rattle.command_line.proofs.check.read_check.Goals as goal
 pub returns-in_err-matches-clause-refused : goal.returns-in_err-matches-clause-refused
 returns-in_err-matches-clause-refused c =
     let given = err_from_is_err_and c.from_residual-in_err-matches.result c.from_residual-in_err-matches.ensures.1 in
-    rw (given.1, given.2) (asked-refused (app_of c.in_ok-command.command) check_app check_of (texts c.args.words.now) _ c.in_ok-command.ensures c.in_err-matches.ensures.refused)
+    rw (given.1, given.2) (asked-refused (app_of c.in_ok-command.command) check_app check_of (texts c.args.words.now) _
+    c.in_ok-command.ensures c.in_err-matches.ensures.refused)
 
 pub returns-in-Some-clause-accepted : goal.returns-in-Some-clause-accepted
 returns-in-Some-clause-accepted c =

@@ -7,4 +7,5 @@ pub returns-clause-shaped : goal.returns-clause-shaped
 returns-clause-shaped g c = λ k odd pair r e.
     let found = c.in_ok-pair.ensures.found c.args.size k pair in
     doubled-shaped c.args.size k r pair.native found.some odd
-    (sym (same_Some c.doubled_range.result r e) ∙ c.doubled_range.ensures.pair k odd (pair-inside c.args.size k c.args.tracks.now c.args.lower.now.track c.args.upper.now.track _ c.in_ok-pair.pair found))
+    (sym (same_Some c.doubled_range.result r e) ∙ c.doubled_range.ensures.pair k odd
+    (pair-inside c.args.size k c.args.tracks.now c.args.lower.now.track c.args.upper.now.track _ c.in_ok-pair.pair found))

@@ -9,7 +9,8 @@ use Rattle.detector.proofs.openings.even_opening.Goals as goal
 
 pub returns-then-line-eq1-clause-value : goal.returns-then-line-eq1-clause-value
 returns-then-line-eq1-clause-value g c =
-    c.doubled_opening.ensures.value c.args.line c.if-line-eq1.true c.requires.upper ∙ doubled-is c.args.size c.args.line c.args.tracks.now c.args.around.now c.requires
+    c.doubled_opening.ensures.value c.args.line c.if-line-eq1.true c.requires.upper
+    ∙ doubled-is c.args.size c.args.line c.args.tracks.now c.args.around.now c.requires
     ∙ ap (λ k. doubled_opens (native_grid c.args.size) k c.args.tracks.now) (sym (even-odd c.args.line c.if-line-eq1.true))
 
 pub returns-then-line-eq1-clause-shaped : goal.returns-then-line-eq1-clause-shaped

@@ -16,5 +16,6 @@ pub returns-clause-tracks : goal.returns-clause-tracks
 returns-clause-tracks g c =
     let f = entry_at (g.I.LineIndex.entries c.args.index.now) in
     let n = c.requires.notable in
-    c.note_places.ensures.tracks ∙ ap (λ (z : Places). touched_places c.args.position c.args.access z c.args.tracks.now) (c.places_of.ensures ∙ ap (places f) n.1.line)
+    c.note_places.ensures.tracks ∙ ap (λ (z : Places). touched_places c.args.position c.args.access z c.args.tracks.now)
+    (c.places_of.ensures ∙ ap (places f) n.1.line)
     ∙ places-touched f n.0 c.args.tracks.now c.args.position c.args.access n.1.layout n.1.names

@@ -11,7 +11,8 @@ is_multiple-searches-requires g c = λ m e. levels-positive c.args.thresholds m 
 pub returns : goal.returns
 returns g c =
     let f = entry_at (g.I.LineIndex.entries c.args.index.now) in
-    let writes : c.peek-writes.result.writes + 1 ≡ (f c.args.line).writes + 1 = ap (λ (e : LineEntry). e.writes + 1) c.peek-writes.ensures in
+    let writes : c.peek-writes.result.writes + 1 ≡ (f c.args.line).writes + 1 =
+    ap (λ (e : LineEntry). e.writes + 1) c.peek-writes.ensures in
     record {
       begins = ap (λ n. eqb n c.tracking.result) writes ∙ ap (eqb ((f c.args.line).writes + 1)) c.tracking.ensures.value;
       searches =

@@ -14,9 +14,15 @@ returns-in-Ok-clause-begun g c =
     let xs = c.args.tracks.now in
     let w : Kept = waiting Observed c.line_of.result in
     let at : slice_get c.add.new.tracks c.in-Ok.place ≡ Some (waiting Observed c.line_of.result) =
-    ap (λ zs. slice_get zs c.in-Ok.place) c.in-Ok.ensures.added ∙ ap (slice_get (c.args.tracks.now ++ waiting Observed c.line_of.result ∷ [])) c.in-Ok.ensures.place ∙ slice_get-end c.args.tracks.now (waiting Observed c.line_of.result) in
+    ap (λ zs. slice_get zs c.in-Ok.place) c.in-Ok.ensures.added
+    ∙ ap (slice_get (c.args.tracks.now ++ waiting Observed c.line_of.result ∷ [])) c.in-Ok.ensures.place
+    ∙ slice_get-end c.args.tracks.now (waiting Observed c.line_of.result) in
     c.note.ensures.exact (waiting Observed c.line_of.result) at
-    ∙ ap (λ zs. slice_set zs c.in-Ok.place (note_kept (waiting Observed c.line_of.result) c.args.position c.args.access)) c.in-Ok.ensures.added
-    ∙ set_end c.args.tracks.now (waiting Observed c.line_of.result) (note_kept (waiting Observed c.line_of.result) c.args.position c.args.access) c.in-Ok.place c.in-Ok.ensures.place
+    ∙ ap (λ zs. slice_set zs c.in-Ok.place (note_kept (waiting Observed c.line_of.result) c.args.position c.args.access))
+    c.in-Ok.ensures.added
+    ∙ set_end c.args.tracks.now (waiting Observed c.line_of.result)
+    (note_kept (waiting Observed c.line_of.result) c.args.position c.args.access) c.in-Ok.place c.in-Ok.ensures.place
     ∙ ap (λ (r : Range). c.args.tracks.now ++ note_kept (waiting Observed r) c.args.position c.args.access ∷ [])
-    (c.line_of.ensures.value ∙ ap (λ (a : ℕ). line_range c.args.layout.size c.args.layout.offset (line_number c.args.layout.size c.args.layout.offset a)) c.addr.ensures)
+    (c.line_of.ensures.value
+    ∙ ap (λ (a : ℕ). line_range c.args.layout.size c.args.layout.offset (line_number c.args.layout.size c.args.layout.offset a))
+    c.addr.ensures)

@@ -6,44 +6,55 @@ use Rattle.detector.proofs.turn.change.Goals as goal
 pub openings_at-openings-requires-clause-named : goal.openings_at-openings-requires-clause-named
 openings_at-openings-requires-clause-named g c =
     let f = entry_at (g.I.LineIndex.entries c.args.index.now) in
-    (turn-begun f c.args.layout c.args.tracks.now c.own_place.new.tracks c.args.line _ c.args.turn c.args.position c.args.access c.in-Ok.own c.peek-named.result c.requires.turn c.requires.line
+    (turn-begun f c.args.layout c.args.tracks.now c.own_place.new.tracks c.args.line _ c.args.turn c.args.position c.args.access c.in-Ok.own
+    c.peek-named.result c.requires.turn c.requires.line
     c.in-Ok.ensures.tracks c.in-Ok.ensures.place c.peek-named.ensures).named
 
 pub settle-requires-clause-below : goal.settle-requires-clause-below
 settle-requires-clause-below g c =
     let f = entry_at (g.I.LineIndex.entries c.args.index.now) in
-    let b = turn-begun f c.args.layout c.args.tracks.now c.own_place.new.tracks c.args.line _ c.args.turn c.args.position c.args.access c.in-Ok.own c.peek-named.result c.requires.turn c.requires.line
+    let b = turn-begun f c.args.layout c.args.tracks.now c.own_place.new.tracks c.args.line _ c.args.turn c.args.position c.args.access
+    c.in-Ok.own c.peek-named.result c.requires.turn c.requires.line
     c.in-Ok.ensures.tracks c.in-Ok.ensures.place c.peek-named.ensures in
-    turn-below f c.args.layout c.args.tracks.now c.own_place.new.tracks c.args.line c.args.turn c.args.position c.args.access c.in-Ok.own c.openings_at-openings.result c.in-Ok-open.opened (length c.own_place.new.tracks)
+    turn-below f c.args.layout c.args.tracks.now c.own_place.new.tracks c.args.line c.args.turn c.args.position c.args.access c.in-Ok.own
+    c.openings_at-openings.result c.in-Ok-open.opened (length c.own_place.new.tracks)
     c.requires.turn b c.openings_at-openings.ensures.value c.in-Ok-open.ensures.places
 
 pub settle-requires-clause-doubled : goal.settle-requires-clause-doubled
 settle-requires-clause-doubled g c =
     let f = entry_at (g.I.LineIndex.entries c.args.index.now) in
-    let b = turn-begun f c.args.layout c.args.tracks.now c.own_place.new.tracks c.args.line _ c.args.turn c.args.position c.args.access c.in-Ok.own c.peek-named.result c.requires.turn c.requires.line
+    let b = turn-begun f c.args.layout c.args.tracks.now c.own_place.new.tracks c.args.line _ c.args.turn c.args.position c.args.access
+    c.in-Ok.own c.peek-named.result c.requires.turn c.requires.line
     c.in-Ok.ensures.tracks c.in-Ok.ensures.place c.peek-named.ensures in
-    turn-doubled f c.args.layout c.args.tracks.now c.own_place.new.tracks c.args.line c.args.turn c.args.position c.args.access c.in-Ok.own c.openings_at-openings.result c.in-Ok-open.opened (length c.own_place.new.tracks)
+    turn-doubled f c.args.layout c.args.tracks.now c.own_place.new.tracks c.args.line c.args.turn c.args.position c.args.access c.in-Ok.own
+    c.openings_at-openings.result c.in-Ok-open.opened (length c.own_place.new.tracks)
     c.requires.turn b c.openings_at-openings.ensures.value c.in-Ok-open.ensures.places
 
 pub returns-in-Ok-open-clause-tracks : goal.returns-in-Ok-open-clause-tracks
 returns-in-Ok-open-clause-tracks g c =
     let f = entry_at (g.I.LineIndex.entries c.args.index.now) in
-    let b = turn-begun f c.args.layout c.args.tracks.now c.own_place.new.tracks c.args.line _ c.args.turn c.args.position c.args.access c.in-Ok.own c.peek-named.result c.requires.turn c.requires.line
+    let b = turn-begun f c.args.layout c.args.tracks.now c.own_place.new.tracks c.args.line _ c.args.turn c.args.position c.args.access
+    c.in-Ok.own c.peek-named.result c.requires.turn c.requires.line
     c.in-Ok.ensures.tracks c.in-Ok.ensures.place c.peek-named.ensures in
-    turn-tracks c.args.layout c.args.tracks.now c.own_place.new.tracks c.open.new.tracks c.args.line c.args.position c.args.access c.args.turn.begins c.args.turn.searches c.openings_at-openings.result
+    turn-tracks c.args.layout c.args.tracks.now c.own_place.new.tracks c.open.new.tracks c.args.line c.args.position c.args.access
+    c.args.turn.begins c.args.turn.searches c.openings_at-openings.result
     b.tracks c.openings_at-openings.ensures.value c.in-Ok-open.ensures.added
 
 pub returns-in-Ok-open-clause-indexed : goal.returns-in-Ok-open-clause-indexed
 returns-in-Ok-open-clause-indexed g c = λ T due.
     let f = entry_at (g.I.LineIndex.entries c.args.index.now) in
     let h = entry_at (g.I.LineIndex.entries c.settle.new.index) in
-    let b = turn-begun f c.args.layout c.args.tracks.now c.own_place.new.tracks c.args.line _ c.args.turn c.args.position c.args.access c.in-Ok.own c.peek-named.result c.requires.turn c.requires.line
+    let b = turn-begun f c.args.layout c.args.tracks.now c.own_place.new.tracks c.args.line _ c.args.turn c.args.position c.args.access
+    c.in-Ok.own c.peek-named.result c.requires.turn c.requires.line
     c.in-Ok.ensures.tracks c.in-Ok.ensures.place c.peek-named.ensures in
-    turn-indexed f h c.args.layout c.args.tracks.now c.own_place.new.tracks c.open.new.tracks c.args.line c.args.turn c.args.position T c.args.access c.in-Ok.own c.openings_at-openings.result c.in-Ok-open.opened
-    c.requires.turn b due c.openings_at-openings.ensures.value c.openings_at-openings.ensures.shaped_here c.in-Ok-open.ensures.places c.in-Ok-open.ensures.added
+    turn-indexed f h c.args.layout c.args.tracks.now c.own_place.new.tracks c.open.new.tracks c.args.line c.args.turn c.args.position T
+    c.args.access c.in-Ok.own c.openings_at-openings.result c.in-Ok-open.opened
+    c.requires.turn b due c.openings_at-openings.ensures.value c.openings_at-openings.ensures.shaped_here c.in-Ok-open.ensures.places
+    c.in-Ok-open.ensures.added
     c.settle.ensures.names c.settle.ensures.writes c.in-Ok-open.ensures.few
 
 pub returns-in-Err-open-clause-kept : goal.returns-in-Err-open-clause-kept
 returns-in-Err-open-clause-kept g c =
     let f = entry_at (g.I.LineIndex.entries c.args.index.now) in
-    turn-kept c.args.layout c.args.tracks.now c.own_place.new.tracks c.open.new.tracks _ c.args.position c.args.access c.args.turn.begins c.in-Ok.ensures.tracks c.in-Err-open.ensures.kept
+    turn-kept c.args.layout c.args.tracks.now c.own_place.new.tracks c.open.new.tracks _ c.args.position c.args.access c.args.turn.begins
+    c.in-Ok.ensures.tracks c.in-Err-open.ensures.kept

@@ -12,5 +12,6 @@ returns-in-Ok-clause-counts g c =
     let m = g.I.LineIndex.entries c.args.index.now in
     let change = (c.entry.follows.holds c.set_place.new.entry (ap is_ok c.in-Ok.is)).0 in
     let same : c.set_place.new.entry.writes ≡ (entry_at m c.args.line).writes =
-    ap (λ (e : LineEntry). e.writes) c.set_place.ensures ∙ with_place-writes _ c.args.kind _ ∙ ap (λ (e : LineEntry). e.writes) c.in-Ok.ensures.value in
+    ap (λ (e : LineEntry). e.writes) c.set_place.ensures ∙ with_place-writes _ c.args.kind _
+    ∙ ap (λ (e : LineEntry). e.writes) c.in-Ok.ensures.value in
     ap counts_of change.whole ∙ counts-same m c.args.line c.set_place.new.entry same (c.requires.written c.in-Some.place c.in-Some.is)

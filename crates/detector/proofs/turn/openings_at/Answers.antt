@@ -31,15 +31,24 @@ search-requires g c =
     let low = (reached-native c.args.layout c.args.line grid.size grid.offset c.requires.reached).some in
     let e : Around = record {
       below = c.peek.result;
-      here = record { writes = c.peek-here.result.writes; track = c.args.own; shifted = c.peek-here.result.shifted; doubled = c.peek-here.result.doubled };
+      here = record {
+        writes = c.peek-here.result.writes;
+        track = c.args.own;
+        shifted = c.peek-here.result.shifted;
+        doubled =
+            c.peek-here.result.doubled;
+      };
       above = c.peek-2.result;
     } in
     let below : c.peek.result ≡ f (c.args.line - 1) = c.peek.ensures ∙ ap f c.saturating_sub.ensures in
     subst (λ (h : Grid). AreAround h c.args.line c.args.tracks.now e) (grid_is c.args.layout c.size.result c.size.ensures.value grid.offset)
-    (around (with_name (names_in f) Observed c.args.line c.args.own) c.args.layout c.args.tracks.now c.args.line e grid.size grid.offset low c.requires.named
-    (ap (λ (x : LineEntry). x.track) below ∙ sym (with_name-other (names_in f) Observed Observed c.args.line (c.args.line - 1) c.args.own (λ h. below_other c.args.line low h.1)))
+    (around (with_name (names_in f) Observed c.args.line c.args.own) c.args.layout c.args.tracks.now c.args.line e grid.size grid.offset low
+    c.requires.named
+    (ap (λ (x : LineEntry). x.track) below ∙ sym (with_name-other (names_in f) Observed Observed c.args.line (c.args.line - 1) c.args.own
+    (λ h. below_other c.args.line low h.1)))
     c.requires.own
-    (ap (λ (x : LineEntry). x.track) c.peek-2.ensures ∙ sym (with_name-other (names_in f) Observed Observed c.args.line (c.args.line + 1) c.args.own (λ h. above_other c.args.line h.1)))
+    (ap (λ (x : LineEntry). x.track) c.peek-2.ensures ∙ sym (with_name-other (names_in f) Observed Observed c.args.line (c.args.line + 1)
+    c.args.own (λ h. above_other c.args.line h.1)))
     (ap (λ (x : LineEntry). x.shifted) below)
     (ap (λ (x : LineEntry). x.shifted) c.peek-here.ensures)
     (ap (λ (x : LineEntry). x.doubled) below)
@@ -48,5 +57,6 @@ search-requires g c =
 pub returns-clause-value : goal.returns-clause-value
 returns-clause-value g c =
     let grid : IsNativeGrid c.args.layout = c.requires.native c.if-not-searches.false in
-    c.search.ensures.value ∙ ap (λ (h : Grid). openings h c.args.line c.args.tracks.now) (sym (grid_is c.args.layout c.size.result c.size.ensures.value grid.offset))
+    c.search.ensures.value ∙ ap (λ (h : Grid). openings h c.args.line c.args.tracks.now)
+    (sym (grid_is c.args.layout c.size.result c.size.ensures.value grid.offset))
     ∙ sym (ap (λ b. if b then openings c.args.layout c.args.line c.args.tracks.now else nothing_opens) c.if-not-searches.false)

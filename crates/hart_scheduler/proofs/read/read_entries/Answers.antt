@@ -22,7 +22,8 @@ loop-rest-preserved c =
     let some : 0 < length rest = grind (arith, nat_tests) in
     let shorter : length after < length rest = shorter_after rest after c.cut_at.ensures.back some in
     record {
-      faults = c.loop-rest.invariant.faults ∙ faults_on c.args.harts c.loop-rest.number rest line after c.cut_at.ensures.front c.cut_at.ensures.back c.in-Ok.ensures.good;
+      faults = c.loop-rest.invariant.faults ∙ faults_on c.args.harts c.loop-rest.number rest line after c.cut_at.ensures.front
+          c.cut_at.ensures.back c.in-Ok.ensures.good;
       entries =
           c.loop-rest.invariant.entries ∙ entries_on rest line after c.loop-rest.entries.items c.cut_at.ensures.front c.cut_at.ensures.back
           ∙ ap (λ (front : List ListEntry). front ++ entries_of after) (sym c.in-Ok.ensures.added);
@@ -33,4 +34,5 @@ pub returns-clause-read : goal.returns-clause-read
 returns-clause-read c =
     let items = c.loop-rest.entries.items in
     sym (c.loop-rest.invariant.entries
-    ∙ ap (λ (back : List ListEntry). items ++ back) (entries_none c.loop-rest.rest.now (sym c.is_empty.ensures ∙ c.loop-rest-test.false)) ∙ append-nil items)
+    ∙ ap (λ (back : List ListEntry). items ++ back) (entries_none c.loop-rest.rest.now (sym c.is_empty.ensures ∙ c.loop-rest-test.false))
+    ∙ append-nil items)

@@ -5,4 +5,5 @@ use Rattle.predator_cli.proofs.command.obey.Goals as goal
 
 pub returns-in-Err-NoMemory : goal.returns-in-Err-NoMemory
 returns-in-Err-NoMemory g c =
-    c.refuse.ensures (demand_of (texts c.args.words.now)) (g.S.Shelf.outside c.args.shelf.now) (words_unread (demand_of (texts c.args.words.now)) (g.S.Shelf.outside c.args.shelf.now))
+    c.refuse.ensures (demand_of (texts c.args.words.now)) (g.S.Shelf.outside c.args.shelf.now)
+    (words_unread (demand_of (texts c.args.words.now)) (g.S.Shelf.outside c.args.shelf.now))

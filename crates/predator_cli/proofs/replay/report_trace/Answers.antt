@@ -1,19 +1,15 @@
-use Rattle.std.proofs.Common.{◌≡◌, ◌∙◌, ap₂, subst}
-use Rattle.std.proofs.lemmas.Result.{IfOk-weaker}
-use Rattle.detector.specs.Standing.{StandsFor}
-use Rattle.predator_base.specs.Lines.{Grid}
-use Rattle.predator_base.specs.Levels.{Levels}
-use Rattle.predator_cli.specs.Seen.{seen_report}
-use Rattle.trace_file.specs.Reading.{touches_in}
+use Rattle.std.proofs.Common.{Err, ap, subst, sym, [], ◌∷◌}
+use Rattle.predator_cli.specs.Readings.{IsStopped}
+use Rattle.predator_cli.specs.Replay.{trace_reading}
+use Rattle.predator_cli.specs.declared.status.Status.{Status}
+use Rattle.predator_cli.proofs.TraceFiles.{pass_stopped}
 use Rattle.predator_cli.proofs.replay.report_trace.Goals as goal
 
-pub report_seen-requires : goal.report_seen-requires
-report_seen-requires c = rw (c.in_ok-detector.ensures.layout, c.in_ok-detector.ensures.thresholds) c.requires.native
-
-pub returns : goal.returns
-returns c =
-    let ending = c.args.parts.now.ending in
-    let seen = c.in_ok-detector.ensures in
-    let t = touches_in c.args.parts.now.records.items in
-    let stands : StandsFor t c.in_ok-detector.detector = subst (λ rs. StandsFor (touches_in rs) c.in_ok-detector.detector) c.deref.ensures.value seen.stands in
-    IfOk-weaker c.report_seen.result _ _ (λ text is. is ∙ ap₂ (λ (g : Grid) (v : Levels). seen_report ending g v t) seen.layout seen.thresholds) (c.report_seen.ensures t stands)
+pub returns-clause-stopped : goal.returns-clause-stopped
+returns-clause-stopped g c =
+    let a = g.S.Shelf.outside c.args.shelf.now in
+    let b = g.S.Shelf.outside c.pass.new.shelf in
+    subst (λ (s : Status). IsStopped (trace_reading c.args.name.now ∷ []) a b s) (sym c.from.ensures)
+    (pass_stopped c.args.name.now a b c.in-Err.fault (λ r is. c.in-Err.ensures.refused r (ap Err is))
+    (λ is. c.in-Err.ensures.memory (ap Err is))
+    c.in-Err.ensures.cause c.in-Err.ensures.only)

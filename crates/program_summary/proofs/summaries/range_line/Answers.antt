@@ -7,5 +7,6 @@ pub returns : goal.returns
 returns c =
     let first = string_bytes c.in_ok-first.first in
     let end = string_bytes c.in_ok-end.end in
-    let text : IfOk c.format.result (λ s. string_bytes s ≡ c.args.name.now ++ (first ++ (codes " " ++ (end ++ codes "\n")))) = c.format.ensures.ok in
+    let text : IfOk c.format.result (λ s. string_bytes s ≡ c.args.name.now ++ (first ++ (codes " " ++ (end ++ codes "\n")))) =
+    c.format.ensures.ok in
     rw (range_pieces c.args.name.now first end, c.in_ok-first.ensures, c.in_ok-end.ensures) at text

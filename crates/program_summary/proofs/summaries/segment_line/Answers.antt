@@ -11,5 +11,8 @@ returns c =
     let read = c.right-read.result.now in
     let write = c.right-write.result.now in
     let run = c.right-run.result.now in
-    let text : IfOk c.format.result (λ s. string_bytes s ≡ codes "segment " ++ (base ++ (codes " " ++ (size ++ (codes " " ++ (read ++ (write ++ (run ++ codes "\n")))))))) = c.format.ensures.ok in
-    rw (segment_pieces base size read write run, c.in_ok-base.ensures, c.right-read.ensures, c.right-write.ensures, c.right-run.ensures) at text
+    let text : IfOk c.format.result
+    (λ s. string_bytes s ≡ codes "segment " ++
+    (base ++ (codes " " ++ (size ++ (codes " " ++ (read ++ (write ++ (run ++ codes "\n")))))))) = c.format.ensures.ok in
+    rw (segment_pieces base size read write run, c.in_ok-base.ensures, c.right-read.ensures, c.right-write.ensures, c.right-run.ensures) at
+    text

@@ -4,4 +4,5 @@ use Rattle.report.proofs.lines.push_word.Goals as goal
 
 pub returns : goal.returns
 returns c =
-    rw (← word_pieces c.args.range c.args.i c.args.word (string_bytes c.args.text.now)) (rw c.in_ok-push_numbers.ensures at c.push_owner.ensures)
+    rw (← word_pieces c.args.range c.args.i c.args.word (string_bytes c.args.text.now))
+    (rw c.in_ok-push_numbers.ensures at c.push_owner.ensures)

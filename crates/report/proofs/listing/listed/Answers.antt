@@ -18,4 +18,5 @@ returns c =
     in_order-from_stable is_before (by_shown-ranks row_shown) c.in_ok-rows.rows.items c.sort_by.new.self.items
     (c.in_ok-sort_by.ensures.sorted is_before (by_shown-ranks row_shown) (answers_always _ _ _ (λ f a r g called. search rules)))
     (c.in_ok-sort_by.ensures.stable is_before (by_shown-ranks row_shown) (answers_always _ _ _ (λ f a r g called. search rules))) in
-    ap (map row_shown) sorted ∙ in_order-map row_shown is_shown_before c.in_ok-rows.rows.items ∙ ap (in_order is_shown_before) c.in_ok-rows.ensures
+    ap (map row_shown) sorted ∙ in_order-map row_shown is_shown_before c.in_ok-rows.rows.items
+    ∙ ap (in_order is_shown_before) c.in_ok-rows.ensures

@@ -5,4 +5,5 @@ use Rattle.report.specs.Shown.{shown_of}
 use Rattle.report.proofs.listing.reported.Given as goal
 
 abbrev pub invariant-loop-track : goal.invariant-loop-track
-invariant-loop-track l = map row_shown l.rows.items ≡ filter (λ s. nat_le l.report s.count) (filter_map shown_of (take l.track-index l.tracks))
+invariant-loop-track l = map row_shown l.rows.items ≡ filter (λ s. nat_le l.report s.count)
+    (filter_map shown_of (take l.track-index l.tracks))

@@ -6,4 +6,5 @@ use Rattle.report.specs.Lines.{standing_lines}
 use Rattle.report.proofs.near.push_near.Given as goal
 
 abbrev pub invariant-loop-chunk : goal.invariant-loop-chunk
-invariant-loop-chunk l = string_bytes l.text ≡ string_bytes l.fn.text ++ text_of (standing_lines l.objects.symbols l.range l.start l.end (flat_map blocks_in (take l.chunk-index l.chunks)))
+invariant-loop-chunk l = string_bytes l.text ≡ string_bytes l.fn.text ++ text_of
+    (standing_lines l.objects.symbols l.range l.start l.end (flat_map blocks_in (take l.chunk-index l.chunks)))

@@ -4,4 +4,5 @@ use Rattle.report.specs.Lines.{standing_lines}
 use Rattle.report.proofs.objects.push_blocks.Given as goal
 
 abbrev pub invariant-loop-block : goal.invariant-loop-block
-invariant-loop-block l = string_bytes l.text ≡ string_bytes l.fn.text ++ text_of (standing_lines l.objects.symbols l.range l.start l.end (take l.block-index l.blocks))
+invariant-loop-block l = string_bytes l.text ≡ string_bytes l.fn.text ++ text_of
+    (standing_lines l.objects.symbols l.range l.start l.end (take l.block-index l.blocks))

@@ -11,6 +11,8 @@ use Rattle.report.proofs.objects.push_symbols.Goals as goal
 
 pub loop-i-preserved : goal.loop-i-preserved
 loop-i-preserved c =
-    text_more_at (λ xs. text_of (symbol_lines c.args.range xs)) (text_of-joins symbol_line (λ s. is_same_kind s.kind Object && symbol_stands c.args.range s.addr s.size))
-    c.args.objects.now.symbols c.loop-i.i (option_map symbol_of c.symbol.result) (string_bytes c.args.text.now) (string_bytes c.loop-i.text) (string_bytes c.push_symbol_at.new.text)
+    text_more_at (λ xs. text_of (symbol_lines c.args.range xs))
+    (text_of-joins symbol_line (λ s. is_same_kind s.kind Object && symbol_stands c.args.range s.addr s.size))
+    c.args.objects.now.symbols c.loop-i.i (option_map symbol_of c.symbol.result) (string_bytes c.args.text.now) (string_bytes c.loop-i.text)
+    (string_bytes c.push_symbol_at.new.text)
     (rw c.symbol_count-i-end.ensures.value at c.loop-i-test.true) c.symbol.ensures.row c.loop-i.invariant c.in_ok-push_symbol_at.ensures

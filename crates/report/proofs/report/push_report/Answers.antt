@@ -8,5 +8,6 @@ pub returns : goal.returns
 returns c =
     let f = c.args.findings.now in
     let rows = c.args.rows.now in
-    rw (← report_pieces (length rows) f.ending.accesses (string_bytes c.args.text.now) f.ending f.layout f.thresholds f.objects.now (map row_shown rows) (sym (length-map rows row_shown)) refl)
+    rw (← report_pieces (length rows) f.ending.accesses (string_bytes c.args.text.now) f.ending f.layout f.thresholds f.objects.now
+    (map row_shown rows) (sym (length-map rows row_shown)) refl)
     (rw (c.in_ok-push_rows.ensures, c.in_ok-push_settings.ensures, c.in_ok-push_ending.ensures) at c.push_end.ensures)

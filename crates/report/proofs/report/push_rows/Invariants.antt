@@ -6,4 +6,5 @@ use Rattle.report.specs.Rows.{row_shown}
 use Rattle.report.proofs.report.push_rows.Given as goal
 
 abbrev pub invariant-loop-row : goal.invariant-loop-row
-invariant-loop-row l = string_bytes l.text ≡ string_bytes l.fn.text ++ text_of (flat_map (lines_of l.objects l.end) (map row_shown (take l.row-index l.rows)))
+invariant-loop-row l = string_bytes l.text ≡ string_bytes l.fn.text ++ text_of
+    (flat_map (lines_of l.objects l.end) (map row_shown (take l.row-index l.rows)))

@@ -10,7 +10,8 @@ use Rattle.report.proofs.report.write_report.Goals as goal
 pub returns-clause-text : goal.returns-clause-text
 returns-clause-text c =
     let f = c.args.findings.now in
-    let rows : map row_shown c.deref.result.now ≡ listed_tracks f.thresholds.report f.tracks.now = ap (map row_shown) c.deref.ensures.value ∙ rw c.report.ensures at c.in_ok-rows.ensures in
+    let rows : map row_shown c.deref.result.now ≡ listed_tracks f.thresholds.report f.tracks.now = ap (map row_shown) c.deref.ensures.value
+    ∙ rw c.report.ensures at c.in_ok-rows.ensures in
     ap (λ v. v.items) c.into_bytes.ensures.value
     ∙ rw c.new-text.ensures.bytes at c.in_ok-push_report.ensures
     ∙ ap (λ ls. text_of (report_lines f.ending f.layout f.thresholds f.objects.now ls)) rows
@@ -20,4 +21,5 @@ unfolding report_of
 returns-clause-of_list c = λ t native perm.
     let f = c.args.findings.now in
     returns-clause-text c
-    ∙ ap (λ ls. text_of (report_lines f.ending f.layout f.thresholds f.objects.now ls)) (listed_tracks-kept f.layout f.thresholds t f.tracks.now c.size-size.ensures.allowed native perm)
+    ∙ ap (λ ls. text_of (report_lines f.ending f.layout f.thresholds f.objects.now ls))
+    (listed_tracks-kept f.layout f.thresholds t f.tracks.now c.size-size.ensures.allowed native perm)

@@ -1,5 +1,5 @@
-use Rattle.std.proofs.Common.{add-one, arith}
-use Rattle.run_recorder.proofs.Beginning.{at_place, begun_all, begun_cut, begun_more, file_at, next_new}
+use Rattle.std.proofs.Common.{add-one}
+use Rattle.run_recorder.proofs.Beginning.{at_place, begun_cut, begun_more, file_at, next_new}
 use Rattle.run_recorder.proofs.files.begin_outputs.Goals as goal
 
 pub begin-requires : goal.begin-requires

@@ -4,8 +4,7 @@ use Rattle.run_recorder.proofs.record.follow.Given as goal
 
 abbrev pub invariant-turns : goal.invariant-turns
 invariant-turns g l =
-    Follows l.initial.guest l.guest l.initial.recorder.detector l.recorder.detector l.files l.initial.recorder.outputs
-    l.recorder.outputs
+    Follows g.O.Observer.given l.initial.guest l.guest l.initial.observer l.observer l.files l.initial.outputs l.outputs
     (g.S.Shelf.outside l.initial.shelf) (g.S.Shelf.outside l.shelf)
 
 abbrev pub decreases-turns : goal.decreases-turns

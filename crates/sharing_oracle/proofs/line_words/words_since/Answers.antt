@@ -14,6 +14,7 @@ returns-clause-value c =
 
 pub returns-clause-short : goal.returns-clause-short
 returns-clause-short c =
-    let count = ap length c.loop-place.invariant.value ∙ length-map (below c.loop-place.place) (word_since c.args.line.now c.args.start c.args.accesses.now) ∙ length-below c.loop-place.place in
+    let count = ap length c.loop-place.invariant.value ∙ length-map (below c.loop-place.place)
+    (word_since c.args.line.now c.args.start c.args.accesses.now) ∙ length-below c.loop-place.place in
     let few = c.word_count-place-end.ensures.small in
     omega (arith, count)

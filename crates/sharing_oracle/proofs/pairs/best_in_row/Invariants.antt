@@ -8,6 +8,8 @@ use Rattle.sharing_oracle.proofs.pairs.best_in_row.Given as goal
 abbrev pub invariant-loop-j : goal.invariant-loop-j
 invariant-loop-j l = record {
   is_in : is_in l.lines.lower.now l.lines.upper.now l.best;
-  best : (ps : List (ℕ × ℕ)) → l.fn.best ≡ first_best (score l.lines.lower.now l.lines.upper.now) (filter (is_passing l.lines.lower.now l.lines.upper.now l.lines.within) ps)
-      → l.best ≡ first_best (score l.lines.lower.now l.lines.upper.now) (filter (is_passing l.lines.lower.now l.lines.upper.now l.lines.within) (ps ++ row_pairs l.i l.j));
+  best : (ps : List (ℕ × ℕ)) → l.fn.best ≡ first_best (score l.lines.lower.now l.lines.upper.now)
+      (filter (is_passing l.lines.lower.now l.lines.upper.now l.lines.within) ps)
+      → l.best ≡ first_best (score l.lines.lower.now l.lines.upper.now)
+      (filter (is_passing l.lines.lower.now l.lines.upper.now l.lines.within) (ps ++ row_pairs l.i l.j));
 }

@@ -11,7 +11,8 @@ loop-i-init g c = record { value = sym (count_places-empty (g.Q.Question.asked c
 
 pub loop-i-preserved : goal.loop-i-preserved
 loop-i-preserved g c =
-    let more = count_places-more (g.Q.Question.asked c.args.question.now) c.args.accesses.now c.loop-i.i c.index-accesses-i.result c.loop-i-test.true c.index-accesses-i.is in
+    let more = count_places-more (g.Q.Question.asked c.args.question.now) c.args.accesses.now c.loop-i.i c.index-accesses-i.result
+    c.loop-i-test.true c.index-accesses-i.is in
     elim c.if-passes.branch [
       | then-passes w ↦ record {
         value = rw (more, ← c.passes.ensures, w.if-passes.true, w.count-is, c.loop-i.invariant.value);

@@ -15,7 +15,8 @@ loop-i-preserved c =
     let at : c.index.result.now ≡ get_or c.in_ok-numbers.numbers.items c.loop-i.i c.index.result.now = search rules in
     let p = c.native_pair-pair.result in
     let is = c.native_pair-pair.ensures in
-    let line : c.in_ok-line.line ≡ tracked_shifted c.args.layout.size c.args.tracking c.args.prediction c.args.accesses.now c.index.result.now =
+    let line : c.in_ok-line.line ≡ tracked_shifted c.args.layout.size c.args.tracking c.args.prediction c.args.accesses.now
+    c.index.result.now =
     c.in_ok-line.ensures ∙ ap (λ (g : Grid). tracked_shifted g.size p.tracking p.prediction t p.number) is.layout
     ∙ ap (λ (T : ℕ). tracked_shifted c.args.layout.size T p.prediction t p.number) is.tracking
     ∙ ap (λ (P : ℕ). tracked_shifted c.args.layout.size c.args.tracking P t p.number) is.prediction ∙ ap h is.number in

@@ -5,5 +5,6 @@ use Rattle.shelf.proofs.whole_file.read_piece.Goals as goal
 
 pub returns-clause-front : goal.returns-clause-front
 returns-clause-front g c =
-    told_both _ (λ files. front-more _ _ _ _ c.len.result c.in_ok-count.count (omega arith) (omega (arith, c.in_ok-count.ensures.bound)) (grind (arith, common_steps)))
+    told_both _ (λ files. front-more _ _ _ _ c.len.result c.in_ok-count.count (omega arith) (omega (arith, c.in_ok-count.ensures.bound))
+    (grind (arith, common_steps)))
     c.requires.front c.in_ok-count.ensures.bytes

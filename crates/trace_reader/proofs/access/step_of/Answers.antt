@@ -7,5 +7,7 @@ pub returns-in-None : goal.returns-in-None
 returns-in-None c =
     let told = c.behind-told.ensures.value in
     let below : get_or c.args.bytes.now 1 0 < c.args.harts = grind arith in
-    misaligned_step c.args.kind c.args.size c.args.harts c.args.last c.args.place c.address_at-addr.result c.args.bytes.now below (ap are_groups (sym told) ∙ sym c.if-not-are_groups.ensures)
-    (c.address_at-addr.ensures ∙ ap (address_at c.args.last) (c.number_in.ensures ∙ ap number_in told)) (λ e. c.in-None.ensures (c.requires.sized, e))
+    misaligned_step c.args.kind c.args.size c.args.harts c.args.last c.args.place c.address_at-addr.result c.args.bytes.now below
+    (ap are_groups (sym told) ∙ sym c.if-not-are_groups.ensures)
+    (c.address_at-addr.ensures ∙ ap (address_at c.args.last) (c.number_in.ensures ∙ ap number_in told))
+    (λ e. c.in-None.ensures (c.requires.sized, e))

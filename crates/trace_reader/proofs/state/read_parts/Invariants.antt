@@ -3,7 +3,7 @@ use Rattle.std.specs.Option.{ForSome}
 use Rattle.trace_grammar.specs.Reading.{place_of}
 use Rattle.trace_grammar.specs.Rules.{longest_trace}
 use Rattle.trace_reader.specs.Sound.{IsSound}
-use Rattle.trace_reader.specs.States.{HeadStays, reading_with}
+use Rattle.trace_reader.specs.States.{reading_with}
 use Rattle.trace_reader.proofs.Parts.{IsReadTo}
 use Rattle.trace_reader.proofs.state.read_parts.Given as goal
 
@@ -13,7 +13,6 @@ invariant-loop-alloc l = record {
   low : place_of l.state.progress + length l.rest ≤ longest_trace;
   within : place_of l.state.progress + length l.rest ≤ place_of l.fn.state.progress + length l.bytes;
   exact : l.state.fault ≡ None → place_of l.state.progress + length l.rest ≡ place_of l.fn.state.progress + length l.bytes;
-  head : HeadStays l.fn.state.progress l.state.progress;
   read : IsReadTo (reading_with l.fn.state []) l.bytes l.fn.into.items l.state l.rest l.into.items;
 }
 

@@ -11,7 +11,8 @@ use Rattle.detector.proofs.detector.Detector.new.Goals as goal
 
 pub invariant_of-result : goal.invariant_of-result
 invariant_of-result g c = (
-  subst (λ (xs : List Kept). IsIndexed (entry_at (g.I.LineIndex.entries c.args.index)) c.args.layout xs c.args.thresholds.tracking 0) (sym c.new.ensures)
+  subst (λ (xs : List Kept). IsIndexed (entry_at (g.I.LineIndex.entries c.args.index)) c.args.layout xs c.args.thresholds.tracking 0)
+      (sym c.new.ensures)
       (indexed-empty (g.I.LineIndex.entries c.args.index) c.args.layout c.args.thresholds.tracking c.requires.empty),
   c.size-size.ensures.allowed,
   c.requires.native,
@@ -26,5 +27,13 @@ returns-clause-blank g c =
 pub returns-clause-stands : goal.returns-clause-stands
 returns-clause-stands g c =
     let none : counts_of (g.I.LineIndex.entries c.args.index) ≡ no_writes = ap counts_of c.requires.empty ∙ counts-empty in
-    subst (λ xs. StandsFor [] (record { position = 0; grid = c.args.layout; levels = c.args.thresholds; writes = counts_of (g.I.LineIndex.entries c.args.index); tracks = xs })) (sym c.new.ensures)
-    (subst (λ ws. StandsFor [] (record { position = 0; grid = c.args.layout; levels = c.args.thresholds; writes = ws; tracks = [] })) (sym none) (stands_nothing c.args.layout c.args.thresholds))
+    subst (λ xs. StandsFor []
+    (record {
+      position = 0;
+      grid = c.args.layout;
+      levels = c.args.thresholds;
+      writes = counts_of (g.I.LineIndex.entries c.args.index);
+      tracks = xs;
+    })) (sym c.new.ensures)
+    (subst (λ ws. StandsFor [] (record { position = 0; grid = c.args.layout; levels = c.args.thresholds; writes = ws; tracks = [] }))
+    (sym none) (stands_nothing c.args.layout c.args.thresholds))

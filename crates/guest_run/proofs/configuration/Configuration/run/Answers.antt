@@ -1,6 +1,7 @@
-use Rattle.std.proofs.Common.{◌∙◌, arith}
+use Rattle.std.proofs.Common.{◌∙◌, ap, arith, refl}
+use Rattle.guest_run.specs.Calls.{RunTurn}
 use Rattle.guest_run.specs.Inside.{config_of}
-use Rattle.guest_run.specs.Turns.{chosen}
+use Rattle.guest_run.specs.Turns.{chosen, makes_block}
 use Rattle.guest_run.proofs.Answering.{if_ok-map, on_ok-if}
 use Rattle.guest_run.proofs.AtCall.{called}
 use Rattle.guest_run.proofs.Fitting.{fits_called, fits_chosen}
@@ -14,13 +15,26 @@ returns-in-Next-clause-seen c =
 pub returns-in-Call-clause-turn : goal.returns-in-Call-clause-turn
 returns-in-Call-clause-turn c =
     if_ok-map c.call.result _ _
-    (λ turn h. called c.args.setup.now c.args.hart c.from.result (chosen (config_of c.args.self.now)) c.index_mut-state.result.now c.step.new.state c.step.new.memory c.step.new.held _
-    (c.from.ensures ∙ c.number.ensures.value) (omega arith) c.index_mut-state.ensures.value c.in-Call.ensures.effect c.in-Call.ensures.left h)
+    (λ turn h. called c.args.setup.now c.args.hart c.from.result (chosen (config_of c.args.self.now)) c.index_mut-state.result.now
+    c.step.new.state c.step.new.memory c.step.new.held _
+    (c.from.ensures ∙ c.number.ensures.value) (omega arith) c.index_mut-state.ensures.value c.in-Call.ensures.effect c.in-Call.ensures.left
+    h)
     c.call.ensures.turn
 
 pub returns-in-Call-clause-fits : goal.returns-in-Call-clause-fits
 returns-in-Call-clause-fits c =
     on_ok-if c.call.result _ _
-    (λ turn h harts fits. fits_called harts c.args.hart c.from.result c.args.setup.now (chosen (config_of c.args.self.now)) c.step.new.state c.step.new.memory c.step.new.held
+    (λ turn h harts fits. fits_called harts c.args.hart c.from.result c.args.setup.now (chosen (config_of c.args.self.now)) c.step.new.state
+    c.step.new.memory c.step.new.held
     turn (config_of c.call.new.self) h c.step.ensures.harts (fits_chosen harts (config_of c.args.self.now) fits))
     c.call.ensures.turn
+
+pub returns-in-Call-clause-settled : goal.returns-in-Call-clause-settled
+returns-in-Call-clause-settled c = λ h.
+    c.call.ensures.settled
+    (ap (λ (t : RunTurn). makes_block t)
+    (called c.args.setup.now c.args.hart c.from.result (chosen (config_of c.args.self.now)) c.index_mut-state.result.now c.step.new.state
+    c.step.new.memory c.step.new.held _
+    (c.from.ensures ∙ c.number.ensures.value) (omega arith) c.index_mut-state.ensures.value c.in-Call.ensures.effect c.in-Call.ensures.left
+    refl)
+    ∙ h)

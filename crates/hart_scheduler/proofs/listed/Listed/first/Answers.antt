@@ -16,6 +16,8 @@ returns-then-place-len c =
     let inside : place < length items = omega arith in
     let before : place < length c.as_slice.result.now = omega arith in
     let able : is_able runnable (get_or items place d) ≡ true = rw same at (c.first_able-place.ensures.able d before) in
-    let found : find (is_runnable runnable) (harts_from items c.self.inside.place) ≡ find (is_runnable runnable) (harts_from items place) = rw same at c.first_able-place.ensures.found in
-    ap (λ (entry : ListEntry). Some entry.hart) (c.behind-self.view_is ∙ c.index.ensures) ∙ sym (found_at runnable items place d inside able) ∙ sym found
+    let found : find (is_runnable runnable) (harts_from items c.self.inside.place) ≡ find (is_runnable runnable) (harts_from items place) =
+    rw same at c.first_able-place.ensures.found in
+    ap (λ (entry : ListEntry). Some entry.hart) (c.behind-self.view_is ∙ c.index.ensures)
+    ∙ sym (found_at runnable items place d inside able) ∙ sym found
     ∙ ap (λ (harts : List ℕ). find (is_runnable runnable) harts) c.self.view_is

@@ -5,7 +5,8 @@ use Rattle.hart_scheduler.proofs.InTurn.{choice_none, choice_able}
 use Rattle.hart_scheduler.proofs.schedule.Schedule.peek.Goals as goal
 
 pub returns-clause-none : goal.returns-clause-none
-returns-clause-none c = let law = choice_none c.args.runnable.now c.args.self.now c.requires in ((λ r. law.0 (sym c.choice.ensures ∙ r)), (λ n. c.choice.ensures ∙ law.1 n))
+returns-clause-none c = let law = choice_none c.args.runnable.now c.args.self.now c.requires in
+    ((λ r. law.0 (sym c.choice.ensures ∙ r)), (λ n. c.choice.ensures ∙ law.1 n))
 
 pub returns-clause-able : goal.returns-clause-able
 returns-clause-able c =

@@ -20,8 +20,15 @@ pub returns-in-Some-clause-least : goal.returns-in-Some-clause-least
 returns-in-Some-clause-least c = λ q above below.
     absent _ (λ some.
     let held = c.range.ensures.in_range (search rules) in
-    let first = subst (λ r. IfSome (slice_get r 0) (IsEntryInRange nat_cmp (Included (range_inclusive_start c.new.result)) (Included (range_inclusive_end c.new.result)) c.args.self.now.lines)) c.in-Some.ensures.steps held.1 in
+    let first = subst
+    (λ r. IfSome (slice_get r 0) (IsEntryInRange nat_cmp (Included (range_inclusive_start c.new.result))
+    (Included (range_inclusive_end c.new.result)) c.args.self.now.lines)) c.in-Some.ensures.steps held.1 in
     let small : c.in-Some.number.now ≤ range_inclusive_end c.new.result = upward _ _ first.0.1 in
-    let inside : IsLeBy nat_cmp (range_inclusive_start c.new.result) q × IsLeBy nat_cmp q (range_inclusive_end c.new.result) = (at_most (range_inclusive_start c.new.result) q (omega (arith, c.new.ensures.start)), at_most q (range_inclusive_end c.new.result) (omega arith)) in
-    let least : c.in-Some.number.now ≤ q = upward _ _ (subst (λ r. IfSome (slice_get r 0) (λ e. IsLeBy nat_cmp e.0 q)) c.in-Some.ensures.steps (held.2 q inside some)) in
+    let inside : IsLeBy nat_cmp (range_inclusive_start c.new.result) q × IsLeBy nat_cmp q (range_inclusive_end c.new.result) = (
+      at_most (range_inclusive_start c.new.result) q (omega (arith, c.new.ensures.start)),
+      at_most q (range_inclusive_end c.new.result)
+          (omega arith),
+    ) in
+    let least : c.in-Some.number.now ≤ q =
+    upward _ _ (subst (λ r. IfSome (slice_get r 0) (λ e. IsLeBy nat_cmp e.0 q)) c.in-Some.ensures.steps (held.2 q inside some)) in
     absurd (omega arith))

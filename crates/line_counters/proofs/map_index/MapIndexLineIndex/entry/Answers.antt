@@ -11,8 +11,10 @@ returns-in-Some c =
     let after : LineEntry → MapIndex = λ (w : LineEntry). record { lines = c.get_mut.follows.lender w } in
     let each : (w : LineEntry) (q : ℕ) → map_entry (after w) q ≡ if q == c.args.line then w else map_entry c.args.self.now q =
     λ w q. grind (arith, common_steps, c.get_mut.follows.holds w, c.in-Ok.ensures.same q) in
-    let keys : (w : LineEntry) (q : ℕ) → map_place (after w) q ≡ map_place c.make_place.new.self q = λ w q. grind (arith, common_steps, c.get_mut.follows.holds w, c.in-Ok.ensures.placed) in
-    let value : c.in-Some.entry.now ≡ map_entry c.make_place.new.self c.args.line = grind (arith, common_steps, c.in-Some.ensures.value) in (
+    let keys : (w : LineEntry) (q : ℕ) → map_place (after w) q ≡ map_place c.make_place.new.self q =
+    λ w q. grind (arith, common_steps, c.get_mut.follows.holds w, c.in-Ok.ensures.placed) in
+    let value : c.in-Some.entry.now ≡ map_entry c.make_place.new.self c.args.line = grind (arith, common_steps, c.in-Some.ensures.value)
+    in (
       (
         refl,
         (λ w _. (
@@ -22,11 +24,23 @@ returns-in-Some c =
         )),
         tt,
       ),
-      record { writes_back = tt; value = value ∙ c.in-Ok.ensures.same c.args.line ∙ sym (entry_at-entries_of (map_entry c.args.self.now) c.args.line c.requires); unplaced = tt; blank = tt },
+      record {
+        writes_back = tt;
+        value = value ∙ c.in-Ok.ensures.same c.args.line
+            ∙ sym (entry_at-entries_of (map_entry c.args.self.now) c.args.line c.requires);
+        unplaced = tt;
+        blank = tt;
+      },
     )
 
 pub returns-in-Err : goal.returns-in-Err
 returns-in-Err c = (
   (refl, (λ w is. let no : false ≡ true = is in cc), (same_entries _ _ c.in-Err.ensures.same, c.in-Err.ensures.keeps)),
-  record { writes_back = tt; value = tt; unplaced = c.in-Err.ensures.unplaced; blank = entry_at-entries_of (map_entry c.args.self.now) c.args.line c.requires ∙ c.in-Err.ensures.blank },
+  record {
+    writes_back = tt;
+    value = tt;
+    unplaced = c.in-Err.ensures.unplaced;
+    blank = entry_at-entries_of (map_entry c.args.self.now)
+        c.args.line c.requires ∙ c.in-Err.ensures.blank;
+  },
 )

@@ -7,7 +7,8 @@ use Rattle.line_counters.proofs.map_index.MapIndexLineIndex.next_from.Goals as g
 pub returns-then-entry-gt0-clause-written : goal.returns-then-entry-gt0-clause-written
 returns-then-entry-gt0-clause-written c =
     let is : entry_at (map_entries c.args.self.now) c.in-Some.number ≡ c.in-Some.entry =
-    entry_at-entries_of (map_entry c.args.self.now) c.in-Some.number c.in-Some.ensures.in_range ∙ ap (λ o. unwrap_or o blank_entry) c.in-Some.ensures.has in
+    entry_at-entries_of (map_entry c.args.self.now) c.in-Some.number c.in-Some.ensures.in_range
+    ∙ ap (λ o. unwrap_or o blank_entry) c.in-Some.ensures.has in
     subst (λ e. 0 < e.writes) (sym is) c.if-entry-gt0.true
 
 pub returns-then-entry-gt0-clause-least : goal.returns-then-entry-gt0-clause-least

@@ -13,8 +13,10 @@ pub returns-in-Ok-clause-same : goal.returns-in-Ok-clause-same
 returns-in-Ok-clause-same c = λ q.
     let number : ℕ = c.args.line / 262144 in
     let within : number < length c.reach.new.all.items = omega (arith, c.in-Ok.ensures.reached) in
-    let held : items_at c.reach.new.all.items number ≡ c.index_mut.result.now.items = items_at-held c.reach.new.all.items number c.index_mut.result.now within c.index_mut.ensures.value in
-    related-set (λ ps qs. (k : ℕ) → directory_entry qs k ≡ directory_entry ps k) (λ ps k. refl) c.reach.new.all.items number c.make_page.new.directory within
+    let held : items_at c.reach.new.all.items number ≡ c.index_mut.result.now.items = items_at-held c.reach.new.all.items number
+    c.index_mut.result.now within c.index_mut.ensures.value in
+    related-set (λ ps qs. (k : ℕ) → directory_entry qs k ≡ directory_entry ps k) (λ ps k. refl) c.reach.new.all.items number
+    c.make_page.new.directory within
     (λ k. c.make_page.ensures.same k ∙ ap (λ pages. directory_entry pages k) (sym held)) (q / 262144) (q % 262144)
     ∙ ap (λ pages. directory_entry pages (q % 262144)) (c.in-Ok.ensures.same (q / 262144))
 
@@ -22,8 +24,10 @@ pub returns-in-Ok-clause-keeps : goal.returns-in-Ok-clause-keeps
 returns-in-Ok-clause-keeps c = λ q had.
     let number : ℕ = c.args.line / 262144 in
     let within : number < length c.reach.new.all.items = omega (arith, c.in-Ok.ensures.reached) in
-    let held : items_at c.reach.new.all.items number ≡ c.index_mut.result.now.items = items_at-held c.reach.new.all.items number c.index_mut.result.now within c.index_mut.ensures.value in
-    related-set (λ ps qs. KeepsPlaces (has_line ps) (has_line qs)) (λ ps k h. h) c.reach.new.all.items number c.make_page.new.directory within
+    let held : items_at c.reach.new.all.items number ≡ c.index_mut.result.now.items = items_at-held c.reach.new.all.items number
+    c.index_mut.result.now within c.index_mut.ensures.value in
+    related-set (λ ps qs. KeepsPlaces (has_line ps) (has_line qs)) (λ ps k h. h) c.reach.new.all.items number c.make_page.new.directory
+    within
     (λ k h. c.make_page.ensures.keeps k (subst (λ ps. IsTrue (has_line ps k)) held h)) (q / 262144) (q % 262144)
     (subst (λ ps. IsTrue (has_line ps (q % 262144))) (sym (c.in-Ok.ensures.same (q / 262144))) had)
 
@@ -37,20 +41,23 @@ pub returns-in-Ok-clause-unplaced : goal.returns-in-Ok-clause-unplaced
 returns-in-Ok-clause-unplaced c =
     let within : c.args.line / 262144 < length c.reach.new.all.items = omega (arith, c.in-Ok.ensures.reached) in
     subst (λ pages. OnErr c.make_page.result (has_line pages (c.args.line % 262144) ≡ false))
-    (sym (items_at-held c.reach.new.all.items (c.args.line / 262144) c.index_mut.result.now within c.index_mut.ensures.value) ∙ c.in-Ok.ensures.same (c.args.line / 262144))
+    (sym (items_at-held c.reach.new.all.items (c.args.line / 262144) c.index_mut.result.now within c.index_mut.ensures.value)
+    ∙ c.in-Ok.ensures.same (c.args.line / 262144))
     c.make_page.ensures.unplaced
 
 pub returns-in-Ok-clause-blank : goal.returns-in-Ok-clause-blank
 returns-in-Ok-clause-blank c =
     let within : c.args.line / 262144 < length c.reach.new.all.items = omega (arith, c.in-Ok.ensures.reached) in
     subst (λ pages. OnErr c.make_page.result (directory_entry pages (c.args.line % 262144) ≡ blank_entry))
-    (sym (items_at-held c.reach.new.all.items (c.args.line / 262144) c.index_mut.result.now within c.index_mut.ensures.value) ∙ c.in-Ok.ensures.same (c.args.line / 262144))
+    (sym (items_at-held c.reach.new.all.items (c.args.line / 262144) c.index_mut.result.now within c.index_mut.ensures.value)
+    ∙ c.in-Ok.ensures.same (c.args.line / 262144))
     c.make_page.ensures.blank
 
 pub returns-in-Err-clause-unplaced : goal.returns-in-Err-clause-unplaced
 returns-in-Err-clause-unplaced c =
     let past : length c.args.self.now.directories.items ≤ c.args.line / 262144 = omega (arith, c.in-Err.ensures.refused) in
-    ap (λ pages. has_line pages (c.args.line % 262144)) (items_at-past c.args.self.now.directories.items (c.args.line / 262144) past) ∙ none_below (c.args.line % 262144 % 64)
+    ap (λ pages. has_line pages (c.args.line % 262144)) (items_at-past c.args.self.now.directories.items (c.args.line / 262144) past)
+    ∙ none_below (c.args.line % 262144 % 64)
 
 pub returns-in-Err-clause-blank : goal.returns-in-Err-clause-blank
 returns-in-Err-clause-blank c =

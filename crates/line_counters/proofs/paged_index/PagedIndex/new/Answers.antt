@@ -5,4 +5,5 @@ use Rattle.line_counters.specs.PagedEntries.{paged_entry}
 use Rattle.line_counters.proofs.paged_index.PagedIndex.new.Goals as goal
 
 pub returns : goal.returns
-returns c = blank_entries (paged_entry (record { directories = c.new.result; alloc = c.args.alloc })) (λ q. grind (arith, common_steps, c.new.ensures.items))
+returns c = blank_entries (paged_entry (record { directories = c.new.result; alloc = c.args.alloc }))
+    (λ q. grind (arith, common_steps, c.new.ensures.items))

@@ -11,7 +11,8 @@ use Rattle.line_counters.proofs.paged_index.PagedIndexLineIndex.next_from.Goals 
 pub returns-then-line-le-LAST_LINE-clause-written : goal.returns-then-line-le-LAST_LINE-clause-written
 returns-then-line-le-LAST_LINE-clause-written c =
     let within : c.loop-number.number < length c.args.self.now.directories.items = omega arith in
-    let is : entry_at (paged_entries c.args.self.now) (c.loop-number.number * 262144 + c.in-Some.found) ≡ directory_entry c.index.result.now.items c.in-Some.found =
+    let is : entry_at (paged_entries c.args.self.now) (c.loop-number.number * 262144 + c.in-Some.found) ≡ directory_entry
+    c.index.result.now.items c.in-Some.found =
     entry_at-entries_of (paged_entry c.args.self.now) (c.loop-number.number * 262144 + c.in-Some.found) c.if-line-le-LAST_LINE.true
     ∙ found_in c.args.self.now c.loop-number.number c.in-Some.found c.index.result.now within c.index.ensures c.in-Some.ensures.in_range in
     subst (λ e. 0 < e.writes) (sym is) c.in-Some.ensures.written

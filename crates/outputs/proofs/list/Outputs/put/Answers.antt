@@ -4,7 +4,8 @@ use Rattle.shelf.specs.Shelf.{Outside}
 use Rattle.outputs.specs.OneFile.{Waiting}
 use Rattle.outputs.specs.OnTheirWay.{AreApart, IsOutputs, names_of, outputs_with, waiting_with}
 use Rattle.outputs.specs.Files.{Output, AreCut}
-use Rattle.outputs.proofs.Lists.{Stops, begun_at, begun_moved, moves_ok, name_at, if_err_by, on_ok_by, outputs_moved, outputs_stopped, stops_err, waits_at}
+use Rattle.outputs.proofs.Lists.{Stops, begun_at, begun_moved, moves_ok, name_at, if_err_by, on_ok_by, outputs_moved, outputs_stopped}
+use Rattle.outputs.proofs.Lists.{stops_err, waits_at}
 use Rattle.outputs.proofs.list.Outputs.put.Goals as goal
 
 pub put-requires : goal.put-requires

@@ -1,20 +1,18 @@
 use Rattle.std.proofs.Common.{◌≡◌, ◌⊎◌, ◌∙◌, [], ℕ, inl, inr, List, ap, subst, sym}
-use Rattle.predator_base.specs.declared.access.Access.{Access}
-use Rattle.predator_base.specs.declared.ending.Ending.{Ending}
+use Rattle.std.specs.Borrow.{Bor}
+use Rattle.trace_grammar.specs.declared.record.TraceRecord.{TraceRecord}
 use Rattle.run_recorder.specs.declared.moment.Moment.{Moment}
-use Rattle.run_recorder.specs.declared.moment.Moment.TheVariants.{Start, Touch, End}
+use Rattle.run_recorder.specs.declared.moment.Moment.TheVariants.{Start, Record}
 use Rattle.run_recorder.specs.Recording.{output_bytes}
 use Rattle.outputs.specs.Files.{Output}
 use Rattle.outputs.specs.OnTheirWay.{IsOutputs, outputs_with}
 use Rattle.outputs.specs.Laws.{outputs_with-nothing}
 use Rattle.run_recorder.proofs.files.RunOutputs.put_one.Goals as goal
 
--- the output gets nothing of a start, an access or an end
-silent : (m : Moment) → ((harts : ℕ) × (m ≡ Start harts)) ⊎ (((a : Access) × (m ≡ Touch a)) ⊎ ((e : Ending) × (m ≡ End e)))
-    → output_bytes m ≡ []
+-- the output gets nothing of a start or of a record
+silent : (m : Moment) → ((harts : ℕ) × (m ≡ Start harts)) ⊎ ((item : Bor TraceRecord) × (m ≡ Record item)) → output_bytes m ≡ []
 silent m (inl is) = ap output_bytes is.1
-silent m (inr (inl is)) = ap output_bytes is.1
-silent m (inr (inr is)) = ap output_bytes is.1
+silent m (inr is) = ap output_bytes is.1
 
 pub returns-in-Trace-clause-outputs : goal.returns-in-Trace-clause-outputs
 returns-in-Trace-clause-outputs g c = rw c.in-Trace.is c.put_record.ensures.outputs
@@ -37,13 +35,6 @@ returns-in-Start-clause-outputs g c =
 
 pub returns-in-Start-2-clause-outputs : goal.returns-in-Start-2-clause-outputs
 returns-in-Start-2-clause-outputs g c =
-    let none : output_bytes c.args.moment.now ≡ [] = silent c.args.moment.now c.in-Start.is in
-    rw c.in-Output.is
-    (λ outputs before on. subst (λ (l : List Output). IsOutputs c.args.self.now l before (g.S.Shelf.outside c.args.shelf.now))
-    (sym (ap (outputs_with outputs c.args.place) none ∙ outputs_with-nothing outputs c.args.place)) on)
-
-pub returns-in-Start-3-clause-outputs : goal.returns-in-Start-3-clause-outputs
-returns-in-Start-3-clause-outputs g c =
     let none : output_bytes c.args.moment.now ≡ [] = silent c.args.moment.now c.in-Start.is in
     rw c.in-Output.is
     (λ outputs before on. subst (λ (l : List Output). IsOutputs c.args.self.now l before (g.S.Shelf.outside c.args.shelf.now))

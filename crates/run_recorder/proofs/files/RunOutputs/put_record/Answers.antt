@@ -1,6 +1,6 @@
 use Rattle.outputs.specs.OnTheirWay.{outputs_with}
 use Rattle.outputs.specs.Laws.{AreCut-longer, GoOn-with, IsOutputs-cut}
-use Rattle.shelf.specs.declared.shelf.ShelfError.TheVariants.{Failed, NoMemory}
+use Rattle.shelf.specs.declared.shelf.ShelfError.TheVariants.{NoMemory}
 use Rattle.run_recorder.specs.Recording.{trace_bytes}
 use Rattle.run_recorder.proofs.files.RunOutputs.put_record.Goals as goal
 

@@ -4,7 +4,8 @@ use Rattle.settings.proofs.values.Settings.read.Goals as goal
 
 pub returns-in-Ok-clause-accepted : goal.returns-in-Ok-clause-accepted
 returns-in-Ok-clause-accepted c =
-    rw (settings_of-table _ _ c.if-content-gt-LONGEST_CONTENT.false c.in-Ok.ensures.ok.0 c.in-Ok.ensures.ok.1) c.judge_table.ensures.accepted
+    rw (settings_of-table _ _ c.if-content-gt-LONGEST_CONTENT.false c.in-Ok.ensures.ok.0 c.in-Ok.ensures.ok.1)
+    c.judge_table.ensures.accepted
 
 pub returns-in-Ok-clause-refused : goal.returns-in-Ok-clause-refused
 returns-in-Ok-clause-refused c =

@@ -7,4 +7,5 @@ use Rattle.sharing_oracle.proofs.predicted.NativePair.doubled_opening.Goals as g
 pub returns-then-self-ne1 : goal.returns-then-self-ne1
 returns-then-self-ne1 c =
     let p = c.args.self.now in
-    sym (doubled_opening-even p.layout.size p.tracking p.prediction p.number c.args.accesses.now (ne_eqb (p.number % 2) 1 c.if-self-ne1.true))
+    sym (doubled_opening-even p.layout.size p.tracking p.prediction p.number c.args.accesses.now
+    (ne_eqb (p.number % 2) 1 c.if-self-ne1.true))

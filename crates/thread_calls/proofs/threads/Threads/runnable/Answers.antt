@@ -4,4 +4,4 @@ use Rattle.thread_calls.proofs.threads.Threads.runnable.Goals as goal
 
 pub returns-clause-each : goal.returns-clause-each
 returns-clause-each c = marks_tell c.as_slice.result.now c.args.self.now (c.as_slice.ensures.value
-    ∙ rw c.self.view_is at c.self.invariant.0)
+    ∙ rw c.self.view_is at c.self.invariant.marked)

@@ -1,9 +1,17 @@
-use Rattle.std.proofs.Common.{◌∙◌}
-use Rattle.thread_calls.proofs.Keeps.{set_in_both}
+use Rattle.std.proofs.Common.{◌≡◌, ◌∙◌, ap, List, length, arith}
+use Rattle.thread_calls.specs.declared.phase.HartPhase.{HartPhase}
+use Rattle.thread_calls.specs.Phases.{lone_runnable}
+use Rattle.thread_calls.proofs.Alone.{count_after}
+use Rattle.thread_calls.proofs.Keeps.{set_kept}
 use Rattle.thread_calls.proofs.threads.Threads.set.Goals as goal
 
 pub invariant_of-self : goal.invariant_of-self
 invariant_of-self c =
-    set_in_both c.self.inside.runnable.items c.self.inside.phases.items c.args.self.now c.from-place.result c.args.hart
-    c.is_runnable-runs.result c.args.phase
+    let whole : length c.self.inside.phases.items ≡ length c.args.self.now = ap (λ (xs : List HartPhase). length xs) c.self.view_is in
+    set_kept c.self.inside.runnable.items c.self.inside.phases.items c.args.self.now c.self.inside.running _ c.from-place.result c.args.hart
+    c.self.inside.lone c.lone_in-self-inside.result c.is_runnable-runs.result c.args.phase
     c.self.invariant c.self.view_is (c.from-place.ensures ∙ c.number.ensures.value) c.is_runnable-runs.ensures c.requires.keeps
+    (count_after c.self.inside.phases.items c.self.inside.running c.running_in-ran.result c.running_in.result c.from-place.result
+    c.index.result.now
+    c.args.phase (omega arith) c.self.invariant.counted c.index.ensures c.running_in-ran.ensures c.running_in.ensures).after
+    (c.lone_in-self-inside.ensures ∙ ap (λ (xs : List HartPhase). lone_runnable xs) c.as_slice.ensures.value)

@@ -3,7 +3,9 @@ use Rattle.thread_calls.specs.declared.phase.HartPhase.{HartPhase}
 use Rattle.thread_calls.proofs.Keeps.{keeps_runnable}
 use Rattle.thread_calls.proofs.Wakes.{wakes_one, passes_waiter, passes_other, wakes_all}
 use Rattle.thread_calls.proofs.threads.Threads.wake.Goals as goal
-use Rattle.thread_calls.proofs.threads.Threads.wake.Goals.{then-count-most+then-is_waiting, else-count-most, else-count-most-via-then-count-most+else-is_waiting, else-count-most-via-else-count-most}
+use Rattle.thread_calls.proofs.threads.Threads.wake.Goals.{then-count-most+then-is_waiting, else-count-most}
+use Rattle.thread_calls.proofs.threads.Threads.wake.Goals.{else-count-most-via-then-count-most+else-is_waiting}
+use Rattle.thread_calls.proofs.threads.Threads.wake.Goals.{else-count-most-via-else-count-most}
 
 pub set-requires-clause-keeps : goal.set-requires-clause-keeps
 set-requires-clause-keeps c = λ sound.

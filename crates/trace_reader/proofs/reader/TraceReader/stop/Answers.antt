@@ -3,5 +3,8 @@ use Rattle.trace_grammar.specs.ExtentLaws.{extent_is_some}
 use Rattle.trace_reader.proofs.reader.TraceReader.stop.Goals as goal
 
 pub invariant_of-self : goal.invariant_of-self
-invariant_of-self c =
-    (c.self.invariant.0, omega (arith, c.self.invariant.1, ap length c.clear.ensures.items), rw c.clear.ensures.items (omega (arith, extent_is_some c.self.inside.state.progress c.self.inside.state.ending [])))
+invariant_of-self c = (
+  c.self.invariant.0,
+  omega (arith, c.self.invariant.1, ap length c.clear.ensures.items),
+  rw c.clear.ensures.items (omega (arith, extent_is_some c.self.inside.state.progress c.self.inside.state.ending [])),
+)

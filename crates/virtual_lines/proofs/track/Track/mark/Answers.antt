@@ -9,5 +9,7 @@ pub returns-clause-undoes : goal.returns-clause-undoes
 returns-clause-undoes c = λ position a same.
     let x = c.args.self.now in
     let is = c.remembered.ensures.value ∙ ap (mark_of c.args.self.now) (sym same) in
-    let within : place_of c.args.self.now.range a.addr < c.args.self.now.range.size / 4 = subst (λ (m : Marked). m.place < c.args.self.now.range.size / 4) is c.remembered.ensures.within in
-    subst (λ (m : Marked). CanRestore (note_kept c.args.self.now position a) m) (sym is) (can_undo c.args.self.now position a c.remembered.ensures.sized within c.remembered.ensures.blank)
+    let within : place_of c.args.self.now.range a.addr < c.args.self.now.range.size / 4 =
+    subst (λ (m : Marked). m.place < c.args.self.now.range.size / 4) is c.remembered.ensures.within in
+    subst (λ (m : Marked). CanRestore (note_kept c.args.self.now position a) m) (sym is)
+    (can_undo c.args.self.now position a c.remembered.ensures.sized within c.remembered.ensures.blank)

@@ -4,7 +4,11 @@ use Rattle.virtual_lines.specs.KeptLaws.{untouched-none}
 use Rattle.virtual_lines.proofs.track.Track.take.Goals as goal
 
 pub note-requires-clause-room : goal.note-requires-clause-room
-note-requires-clause-room c = omega (arith, untouched-none c.self.inside.shadow.range c.self.inside.shadow.words (c.self.invariant c.in-None.is).words)
+note-requires-clause-room c = omega (
+  arith,
+  untouched-none c.self.inside.shadow.range c.self.inside.shadow.words
+      (c.self.invariant c.in-None.is).words,
+)
 
 pub returns-then-is_write-clause-in_time : goal.returns-then-is_write-clause-in_time
 returns-then-is_write-clause-in_time c =

@@ -23,5 +23,6 @@ returns-clause-undoes c = λ x position a e marked.
     let there : slice_get c.args.self.now c.args.index ≡ Some c.index_mut-track.result.now = grind (arith, common_steps, gets) in
     let same : note_kept x position a ≡ c.index_mut-track.result.now = same_Some _ _ (sym e ∙ there) in
     let back : c.restore.new.self ≡ x =
-    c.restore.ensures ∙ ap (λ (k : Kept). restored k c.args.mark) (sym same) ∙ ap (λ (m : Marked). restored (note_kept x position a) m) marked ∙ undone x position a in
+    c.restore.ensures ∙ ap (λ (k : Kept). restored k c.args.mark) (sym same) ∙ ap (λ (m : Marked). restored (note_kept x position a) m)
+    marked ∙ undone x position a in
     rw (back, c.self.view_is)

@@ -13,7 +13,8 @@ returns-clause-since c = λ l s t allowed due range words.
     let w = c.index.result.now in
     let within : p < length items = search rules in
     let get : slice_get items p ≡ Some w = slice_get-get_or items p w within ∙ ap Some (sym c.index.ensures) in
-    let place : p ≡ place_of c.self.inside.range c.args.access.addr = c.place_in-place.ensures.place ∙ ap (place_of c.self.inside.range) c.addr.ensures in
+    let place : p ≡ place_of c.self.inside.range c.args.access.addr = c.place_in-place.ensures.place
+    ∙ ap (place_of c.self.inside.range) c.addr.ensures in
     let exact : (note_words c.args.self.now c.args.access).words ≡ set items p c.noted.result =
     ap (λ v. (note_words v c.args.access).words) (sym c.self.view_is) ∙ noted_words c.self.inside.range items c.args.access p w place get
     ∙ ap (set items p) (sym c.noted.ensures.value) in

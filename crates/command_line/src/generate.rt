@@ -1,0 +1,68 @@
+// The command `gen`.
+ghost use Rattle.std.specs.Prelude.{◌≡◌, ◌≤◌, ◌^◌, IfOk, IfErr, Some, None, option_map};
+ghost use Rattle.std.specs.Option.{IfSome};
+ghost use Rattle.clap.specs.Words.{app_of, found_of, rows_of};
+ghost use Rattle.command_line.specs.Gen.{asked_of_gen, count_in, gen_app, gen_meaning, gen_of};
+ghost use Rattle.command_line.specs.Demands.{text_of, texts, UnlessMemory};
+
+use crate::demand::WordsFault;
+use crate::forms::{matches_by, plain_command, value_of, with_word};
+use crate::layout::number;
+use clap::{ArgMatches, Command};
+use std::alloc::{AllocError, Global};
+
+// The most accesses that a trace may be asked to have.
+const MOST: u64 = 1_000_000_000;
+
+/// `gen N FILE`. The name is a text as it stands in the words.
+#[derive(Clone, Copy, PartialEq, Eq, Debug)]
+pub struct GenOptions<'a> {
+    /// How many accesses the trace has, at most 10^9.
+    pub count: u64,
+    /// The name under which it is written.
+    pub file: &'a str,
+}
+
+// The command, as `clap` knows it.
+fn gen_command<'a>(alloc: Global) -> Result<Command<'a>, AllocError>
+    ensures { IfOk result (λ command. app_of command ≡ gen_app) }
+{
+    let plain = plain_command(alloc, "gen");
+    let with_count = with_word(alloc, plain, "count")?;
+    with_word(alloc, with_count, "file")
+}
+
+// The number of accesses that a word is, where a trace may have so many.
+fn read_count(word: Option<&str>) -> Option<u64>
+    ensures value { result ≡ count_in (text_of word.entry) }
+    ensures few { IfSome result (λ count. count ≤ 10 ^ 9) }
+{
+    let count = number(word?)?;
+    if count <= MOST { Some(count) } else { None }
+}
+
+// What the values of a `gen` ask for.
+fn options_in<'a>(matches: &ArgMatches<'a>) -> Option<GenOptions<'a>>
+    ensures value { option_map gen_meaning result ≡ gen_of (rows_of (found_of matches.now)) }
+    ensures few { IfSome result (λ options. options.count ≤ 10 ^ 9) }
+{
+    let file = value_of(matches, "file")?;
+    let count = read_count(value_of(matches, "count"))?;
+    Some(GenOptions { count, file })
+}
+
+// What the words of a `gen` ask for, the command's own name first.
+pub fn read_gen<'a>(alloc: Global, words: &'a [String]) -> Result<GenOptions<'a>, WordsFault>
+    ensures accepted { IfOk result (λ options. asked_of_gen (texts words.now)
+        ≡ Some (gen_meaning options)) }
+    ensures refused { IfErr result (λ fault. UnlessMemory fault
+        (asked_of_gen (texts words.now) ≡ None)) }
+    ensures few { IfOk result (λ options. options.count ≤ 10 ^ 9) }
+{
+    let command = gen_command(alloc)?;
+    let matches = matches_by(command, words)?;
+    match options_in(&matches) {
+        Some(options) => Ok(options),
+        None => Err(WordsFault::Usage),
+    }
+}

@@ -1,0 +1,2 @@
+mod DiskLaws
+mod KnownFileLaws

@@ -1,0 +1,48 @@
+-- What is promised of the counts in a report: what a plain recount of the same lines says of them.
+use Rattle.std.specs.Prelude.{◌≡◌, Option, Some, None}
+use Rattle.std.specs.List.{All}
+use Rattle.command_line.specs.Replay.{ReplayDemand}
+use Rattle.command_line.specs.Run.{RunDemand}
+use Rattle.command_line.specs.Words.{Demand, replay, check, run, gen}
+use Rattle.predator_base.specs.Levels.{Levels}
+use Rattle.predator_base.specs.Lines.{Grid}
+use Rattle.sharing_rules.specs.AccessLists.{AccessList}
+use Rattle.sharing_rules.specs.Listed.{listed}
+use Rattle.sharing_rules.specs.Recounts.{IsRecounted}
+use Rattle.shelf.specs.Shelf.{Files, content}
+use Rattle.trace_grammar.specs.Rules.{touches_in}
+use Rattle.trace_passes.specs.Passes.{Trace, all_records, trace_of}
+use Rattle.predator_cli.specs.Run.{trace_for_demand}
+use Rattle.predator_cli.specs.SettingsFiles.{chosen_settings, layout_of, levels_of, native_of}
+
+-- Every line that is listed of an access list is recounted: over the same list, under the line's
+-- own layout and from its first write on, a plain recount counts no less, and after the line's
+-- start as much.
+abbrev pub AreRecounted : Grid → Levels → AccessList → Type 0
+AreRecounted g v t = All (IsRecounted t) (listed g v t)
+
+-- so of the accesses of a trace, under a layout and thresholds
+abbrev pub IsRecountedIn : Grid → Levels → Trace → Type 0
+IsRecountedIn g v t = AreRecounted g v (touches_in (all_records t))
+
+-- of the trace that a replay reads, under the layout and the thresholds of its report
+abbrev pub ReplayIsRecounted : ReplayDemand → Files → Type 0
+ReplayIsRecounted demand files =
+    let settings = chosen_settings demand.settings files in
+    (t : Trace) → trace_of (content files demand.trace) ≡ Some t
+    → IsRecountedIn (layout_of demand.layout settings) (levels_of demand.layout settings) t
+
+-- and of the trace of a run
+abbrev pub RunIsRecounted : RunDemand → Files → Type 0
+RunIsRecounted demand files =
+    let settings = chosen_settings demand.settings files in
+    IsRecountedIn (native_of settings) (levels_of None settings)
+    (trace_for_demand demand settings files)
+
+-- the same of what is asked for
+abbrev pub ReportIsRecounted : Option Demand → Files → Type 0
+ReportIsRecounted None files = Unit {0}
+ReportIsRecounted (Some (replay demand)) files = ReplayIsRecounted demand files
+ReportIsRecounted (Some (check demand)) files = Unit {0}
+ReportIsRecounted (Some (gen demand)) files = Unit {0}
+ReportIsRecounted (Some (run demand)) files = RunIsRecounted demand files

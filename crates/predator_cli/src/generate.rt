@@ -1,0 +1,129 @@
+// The command `gen`.
+ghost use Rattle.std.specs.Prelude.{◌≡◌, ◌++◌, ◌≤◌, ◌^◌, IfErr, IfOk, IsTrue, OnOk, Some, string_bytes};
+ghost use Rattle.command_line.specs.Gen.{gen_meaning};
+ghost use Rattle.command_line.specs.Words.{gen as asks};
+ghost use Rattle.detector.specs.Standing.{StandsFor};
+ghost use Rattle.outputs.specs.Files.{AreCut, AreWritten};
+ghost use Rattle.sharing_rules.specs.AccessLists.{AccessList};
+ghost use Rattle.sharing_rules.specs.Listed.{may_predict};
+ghost use Rattle.trace_maker.specs.Made.{made_file};
+ghost use Rattle.track_totals.specs.TotalsOf.{totals_of};
+ghost use Rattle.predator_cli.specs.Gen.{made_accesses, summary_of, summary_text};
+ghost use Rattle.predator_cli.specs.Meets.{Meets};
+
+use crate::Status;
+use crate::endings::{finish, refuse};
+use crate::settings_file::{native_layout, thresholds_of};
+use command_line::GenOptions;
+use predator_base::{Layout, NoMemory, Thresholds};
+use settings::Settings;
+use shelf::{Shelf, ShelfError};
+use sightings::Sightings;
+use std::alloc::{AllocError, Global};
+use trace_maker::make_trace;
+use track_totals::{Totals, count_tracks};
+
+// Puts the summary of so many accesses whose lines come to these totals behind a text.
+fn push_summary(text: &mut String, count: u64, totals: Totals) -> Result<(), AllocError>
+    ensures { OnOk result (string_bytes text.new
+        ≡ string_bytes text.old ++ summary_text count totals) }
+{
+    let tracked = totals.tracked;
+    let listed = totals.listed;
+    let invalidations = totals.invalidations;
+    writeln!(
+        text,
+        "generated {count}\ntracked {tracked}\nlisted {listed}\ninvalidations {invalidations}\nend"
+    )
+}
+
+// The same alone.
+fn summary(alloc: Global, count: u64, totals: Totals) -> Result<String, AllocError>
+    ensures { IfOk result (λ text. string_bytes text ≡ summary_text count totals) }
+{
+    let mut text = String::new(alloc);
+    push_summary(&mut text, count, totals)?;
+    Ok(text)
+}
+
+// The summary of accesses that were seen.
+fn summary_of_seen(alloc: Global, count: u64, sightings: &Sightings) -> Result<String, NoMemory>
+    ensures { (t : AccessList) → StandsFor t sightings.now.watch
+        → IfOk result (λ text. string_bytes text ≡ summary_text count
+        (totals_of sightings.now.watch.grid sightings.now.watch.levels t)) }
+{
+    let detector = sightings.detector();
+    let totals = count_tracks(detector.tracks(), detector.thresholds().report());
+    match summary(alloc, count, totals) {
+        Ok(text) => Ok(text),
+        Err(AllocError) => Err(NoMemory),
+    }
+}
+
+// Makes the trace of so many accesses, and counts them under a layout and thresholds as they are
+// made.
+fn make_under<S: Shelf>(
+    alloc: Global,
+    shelf: &mut S,
+    name: &str,
+    count: u64,
+    layout: Layout,
+    thresholds: Thresholds,
+) -> Result<String, ShelfError>
+    requires few { count ≤ 10 ^ 9 }
+    requires native { IsTrue (may_predict layout thresholds) }
+    ensures text { IfOk result (λ text. string_bytes text
+        ≡ summary_text count (totals_of layout thresholds (made_accesses count))) }
+    ensures written { OnOk result (AreWritten (made_file name.now count)
+        (S.outside shelf.old) (S.outside shelf.new)) }
+    ensures cut { IfErr result (AreCut (made_file name.now count)
+        (S.outside shelf.old) (S.outside shelf.new)) }
+{
+    let mut sightings = Sightings::new(alloc, layout, thresholds);
+    match make_trace(alloc, shelf, name, count, &mut sightings) {
+        Ok(()) => match summary_of_seen(alloc, count, &sightings) {
+            Ok(text) => Ok(text),
+            Err(NoMemory) => Err(ShelfError::NoMemory),
+        },
+        Err(error) => Err(error),
+    }
+}
+
+// The same under the usual settings.
+fn make<S: Shelf>(
+    alloc: Global,
+    options: &GenOptions<'_>,
+    shelf: &mut S,
+) -> Result<String, ShelfError>
+    requires { options.now.count ≤ 10 ^ 9 }
+    ensures text { IfOk result (λ text. string_bytes text ≡ summary_of options.now.count) }
+    ensures written { OnOk result (AreWritten (made_file options.now.file.now options.now.count)
+        (S.outside shelf.old) (S.outside shelf.new)) }
+    ensures cut { IfErr result (AreCut (made_file options.now.file.now options.now.count)
+        (S.outside shelf.old) (S.outside shelf.new)) }
+{
+    let settings = Settings::usual();
+    let layout = native_layout(&settings);
+    let thresholds = thresholds_of(&settings, None);
+    make_under(
+        alloc,
+        shelf,
+        options.file,
+        options.count,
+        layout,
+        thresholds,
+    )
+}
+
+/// Makes a trace of so many accesses under a name, counts them as they are made, and prints what
+/// their lines come to under the usual settings.
+pub fn generate<S: Shelf>(alloc: Global, options: &GenOptions<'_>, shelf: &mut S) -> Status
+    requires { options.now.count ≤ 10 ^ 9 }
+    ensures { Meets (Some (asks (gen_meaning options.now)))
+        (S.outside shelf.old) (S.outside shelf.new) result }
+{
+    match make(alloc, options, shelf) {
+        Ok(text) => finish(shelf, Status::Done, text.as_bytes()),
+        Err(error) => refuse(alloc, shelf, Status::from(error)),
+    }
+}

@@ -1,0 +1,49 @@
+// The symbols of a program, as its trace tells them.
+ghost use Rattle.std.specs.Prelude.{◌≡◌, ◌≤◌, ◌≢◌, ◌++◌, ◌∷◌, [], OnOk, IfOk, length, map};
+ghost use Rattle.std.specs.List.{All};
+ghost use Rattle.heap_objects.specs.Names.{name_of};
+ghost use Rattle.trace_grammar.specs.declared.record.TraceRecord.TheVariants as records;
+ghost use Rattle.run_recorder.specs.Recorded.{IsSymbolRecord};
+ghost use Rattle.predator_cli.specs.Run.{HasNameAndSize, symbol_record};
+
+use elf_loader::Symbols;
+use heap_objects::{Name, SymbolKind};
+use predator_base::NoMemory;
+use std::alloc::Global;
+use trace_grammar::TraceRecord;
+
+// A symbol of some bytes, as a trace tells it: of a name of more than 1024 bytes the first 1024.
+fn record_of(
+    alloc: Global,
+    kind: SymbolKind,
+    addr: u32,
+    size: u32,
+    name: &[u8],
+) -> Result<TraceRecord, NoMemory>
+    requires some { 1 ≤ size }
+    requires no_zero { All (λ b. b ≢ 0) name.now }
+    ensures value { IfOk result (λ told. told ≡ records.Symbol kind addr size (name_of name.now)) }
+    ensures good { IfOk result IsSymbolRecord }
+{
+    let kept = Name::new(alloc, name)?;
+    Ok(TraceRecord::Symbol {
+        kind,
+        addr,
+        size,
+        name: kept,
+    })
+}
+
+/// The records of the symbols of a program, in their order.
+pub fn records_of(alloc: Global, mut symbols: Symbols<'_>) -> Result<Vec<TraceRecord>, NoMemory>
+    requires { All HasNameAndSize symbols }
+    ensures value { IfOk result (λ told. told.items ≡ map symbol_record symbols.entry) }
+    ensures good { IfOk result (λ told. All IsSymbolRecord told.items) }
+{
+    let mut records = Vec::new(alloc);
+    while let Some(symbol) = symbols.next() {
+        let record = record_of(alloc, symbol.kind, symbol.addr, symbol.size, symbol.name)?;
+        records.push(record)?;
+    }
+    Ok(records)
+}

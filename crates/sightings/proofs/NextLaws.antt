@@ -1,0 +1,261 @@
+-- What has been seen, with one record more.
+use Rattle.std.proofs.Common.{◌≡◌, ℕ, ◌+◌, ◌<◌, ◌≤◌, List, [], ◌∷◌, ◌++◌, length, map, refl, sym, ap, ◌∙◌, subst, append_assoc, arith}
+use Rattle.std.proofs.Math.Nat.{add-zero}
+use Rattle.std.proofs.lemmas.List.{append-nil, length-append}
+use Rattle.std.proofs.lemmas.List.Elements.{filter_map-append}
+use Rattle.std.proofs.Common.{Option, Some, None, Result, Ok, Err}
+use Rattle.std.specs.Prelude.{OnOk, unwrap_or}
+use Rattle.std.specs.Ordering.{nat_cmp}
+use Rattle.std.specs.FinMap as finite
+use Rattle.std.specs.List.Sorted.{IsPermutation}
+use Rattle.std.proofs.lemmas.List.Sorted.{IsPermutation-refl}
+use Rattle.predator_base.specs.Levels.{Levels}
+use Rattle.predator_base.specs.Lines.{Grid}
+use Rattle.predator_base.specs.Touch.{Touch}
+use Rattle.predator_base.specs.declared.ending.Ending.{Ending}
+use Rattle.virtual_lines.specs.KeptIn.{kept_in}
+use Rattle.sharing_rules.specs.Opened.{Opened}
+use Rattle.sharing_rules.specs.Laws.Opened.{opened-empty}
+use Rattle.sharing_rules.specs.AccessLists.{AccessList}
+use Rattle.heap_objects.specs.declared.block.Block.{Block}
+use Rattle.heap_objects.specs.Objects.{Objects}
+use Rattle.heap_objects.specs.Blocks.{blocks_after_alloc, blocks_after_free}
+use Rattle.heap_objects.specs.Symbols.{NoTwoAlike, Symbol, kept_symbol, symbols_of}
+use Rattle.heap_objects.specs.declared.symbol.SymbolKind.{SymbolKind}
+use Rattle.detector.specs.Watch.{Watch, nothing_seen, watched}
+use Rattle.detector.specs.Standing.{StandsFor}
+use Rattle.trace_grammar.specs.Reading.{counted_after}
+use Rattle.trace_grammar.specs.Rules.{last_position, touch_in, touches_in}
+use Rattle.trace_grammar.specs.declared.record.TraceRecord.{TraceRecord}
+use Rattle.trace_grammar.specs.declared.record.TraceRecord.TheVariants as records
+use Rattle.trace_passes.specs.Rooms.{HasRoom}
+use Rattle.sightings.specs.Lives.{lived, made_by, objects_after, symbol_in, symbols_in}
+use Rattle.report.specs.OfLists.{report_of}
+use Rattle.sightings.specs.Seen.{HasSeen, begins_at, SeesNext, report_of_records}
+use Rattle.sightings.specs.Sights.{Sighted, nothing_sighted, objects_noted}
+use Rattle.sightings.specs.LifeLaws.{blocks_behind, blocks_behind-push, ended, none_ended, position_after}
+
+-- one record more at a position, over any blocks
+pub blocks_noted : (before : Objects) (q : ℕ) (x : TraceRecord)
+    → map (ended q x) before.blocks ++ made_by q x [] ≡ (objects_noted before x q).blocks
+blocks_noted before q (records.Touch a) = append-nil _ ∙ none_ended q (records.Touch a) (λ addr. refl) before.blocks
+blocks_noted before q (records.Alloc addr size sites) = refl
+blocks_noted before q (records.Free addr) = append-nil _
+blocks_noted before q (records.Symbol kind addr size name) =
+    append-nil _ ∙ none_ended q (records.Symbol kind addr size name) (λ addr. refl) before.blocks
+blocks_noted before q (records.End e) = append-nil _ ∙ none_ended q (records.End e) (λ addr. refl) before.blocks
+
+-- what one record changed
+pub record IsNext (old new : Sighted) (x : TraceRecord) : Type 0 where
+  pub stands : (t : AccessList) → StandsFor t old.watch → StandsFor (t ++ touches_in (x ∷ [])) new.watch
+  pub position : new.watch.position ≡ counted_after old.watch.position x
+  pub symbols : (list : List Symbol) → old.objects.symbols ≡ symbols_of list
+      → new.objects.symbols ≡ symbols_of (list ++ symbols_in (x ∷ []))
+  pub blocks : new.objects.blocks ≡ (objects_noted old.objects x old.watch.position).blocks
+  pub grid : new.watch.grid ≡ old.watch.grid
+  pub levels : new.watch.levels ≡ old.watch.levels
+
+touches-push : (xs : List TraceRecord) (x : TraceRecord) → touches_in (xs ++ x ∷ []) ≡ touches_in xs ++ touches_in (x ∷ [])
+touches-push xs x = filter_map-append touch_in xs (x ∷ [])
+
+counted-one : (p : ℕ) (x : TraceRecord) → counted_after p x ≡ p + length (touches_in (x ∷ []))
+counted-one p (records.Touch a) = refl
+counted-one p (records.Alloc addr size sites) = sym (add-zero p)
+counted-one p (records.Free addr) = sym (add-zero p)
+counted-one p (records.Symbol kind addr size name) = sym (add-zero p)
+counted-one p (records.End e) = sym (add-zero p)
+
+same_objects : (a b : Objects) → a.symbols ≡ b.symbols → a.blocks ≡ b.blocks → a ≡ b
+same_objects a b symbols blocks =
+    ap (λ s. record { symbols = s; blocks = a.blocks }) symbols ∙ ap (λ bs. record { symbols = b.symbols; blocks = bs }) blocks
+
+module _ (begun old new : Sighted) (xs : List TraceRecord) (x : TraceRecord) (one : IsNext old new x) (so_far : HasSeen begun old xs)
+  where
+    next_stands : (t : AccessList) → StandsFor t begun.watch → StandsFor (t ++ touches_in (xs ++ x ∷ [])) new.watch
+    next_stands t stood =
+        let P : AccessList → Type 0 = λ list. StandsFor list new.watch in
+        subst P (append_assoc t (touches_in xs) (touches_in (x ∷ [])) ∙ ap (λ list. t ++ list) (sym (touches-push xs x)))
+        (one.stands (t ++ touches_in xs) (so_far.stands t stood))
+
+    next_position : new.watch.position ≡ begun.watch.position + length (touches_in (xs ++ x ∷ []))
+    next_position =
+        let all : length (touches_in (xs ++ x ∷ [])) ≡ length (touches_in xs) + length (touches_in (x ∷ [])) =
+        ap length (touches-push xs x) ∙ length-append (touches_in xs) (touches_in (x ∷ [])) in
+        omega (arith, all, one.position, counted-one old.watch.position x, so_far.position)
+
+    next_symbols : new.objects.symbols ≡ symbols_of (begun.objects.symbols ++ symbols_in (xs ++ x ∷ []))
+    next_symbols =
+        one.symbols (begun.objects.symbols ++ symbols_in xs) (ap (λ (o : Objects). o.symbols) so_far.objects)
+        ∙ ap symbols_of (append_assoc begun.objects.symbols (symbols_in xs) (symbols_in (x ∷ []))
+        ∙ ap (λ ss. begun.objects.symbols ++ ss) (sym (filter_map-append symbol_in xs (x ∷ []))))
+
+    next_blocks : new.objects.blocks ≡ blocks_behind begun.objects.blocks begun.watch.position (xs ++ x ∷ [])
+    next_blocks =
+        let first : ℕ = begun.watch.position in
+        one.blocks
+        ∙ ap (λ (o : Objects). (objects_noted o x old.watch.position).blocks) so_far.objects
+        ∙ ap (λ q. (objects_noted (objects_after begun.objects first xs) x q).blocks) so_far.position
+        ∙ sym (blocks_noted (objects_after begun.objects first xs) (position_after first xs) x)
+        ∙ sym (blocks_behind-push begun.objects.blocks first xs x)
+
+    next : HasSeen begun new (xs ++ x ∷ [])
+    next = record {
+      stands = next_stands;
+      position = next_position;
+      objects = same_objects new.objects (objects_after begun.objects begun.watch.position (xs ++ x ∷ [])) next_symbols next_blocks;
+      grid = one.grid ∙ so_far.grid;
+      levels = one.levels ∙ so_far.levels;
+    }
+
+pub sees_next : (old new : Sighted) (x : TraceRecord) → IsNext old new x → SeesNext old new x
+sees_next old new x one begun xs so_far = next begun old new xs x one so_far
+
+abbrev sighted : Watch → Objects → Sighted
+sighted w o = record { watch = w; objects = o }
+
+no_symbol : (old new list : List Symbol) → new ≡ old → old ≡ symbols_of list → new ≡ symbols_of (list ++ [])
+no_symbol old new list same is = same ∙ is ∙ ap symbols_of (sym (append-nil list))
+
+-- an access, over any objects
+pub next_access : (o : Objects) (old new : Watch) (a : Touch) → new ≡ watched old a
+    → ((t : AccessList) → StandsFor t old → StandsFor (t ++ a ∷ []) new)
+    → SeesNext (sighted old o) (sighted new o) (records.Touch a)
+next_access o old new a is stands =
+    sees_next (sighted old o) (sighted new o) (records.Touch a) (record {
+      stands = stands;
+      position = ap (λ (w : Watch). w.position) is;
+      symbols = λ list was. no_symbol o.symbols o.symbols list refl was;
+      blocks = refl;
+      grid = ap (λ (w : Watch). w.grid) is;
+      levels = ap (λ (w : Watch). w.levels) is;
+    })
+
+-- a record that is no access, over anything that the accesses show
+module _ (w : Watch) (old new : Objects) where
+  another : (x : TraceRecord) → touches_in (x ∷ []) ≡ [] → counted_after w.position x ≡ w.position
+      → ((list : List Symbol) → old.symbols ≡ symbols_of list → new.symbols ≡ symbols_of (list ++ symbols_in (x ∷ [])))
+      → new.blocks ≡ (objects_noted old x w.position).blocks
+      → SeesNext (sighted w old) (sighted w new) x
+  another x none stays symbols blocks =
+      sees_next (sighted w old) (sighted w new) x (record {
+        stands = λ t stood. subst (λ (list : AccessList). StandsFor list w) (same_list t) stood;
+        position = sym stays;
+        symbols = symbols;
+        blocks = blocks;
+        grid = refl;
+        levels = refl;
+      })
+    where
+      same_list : (t : AccessList) → t ≡ t ++ touches_in (x ∷ [])
+      same_list t = sym (append-nil t) ∙ ap (λ (list : AccessList). t ++ list) (sym none)
+
+  pub next_alloc : (addr size : ℕ) (sites : List ℕ)
+      → new ≡ record old { blocks = blocks_after_alloc old.blocks w.position addr size sites }
+      → SeesNext (sighted w old) (sighted w new) (records.Alloc addr size sites)
+  next_alloc addr size sites is =
+      another (records.Alloc addr size sites) refl refl
+      (λ list was. no_symbol old.symbols new.symbols list (ap (λ (o : Objects). o.symbols) is) was) (ap (λ (o : Objects). o.blocks) is)
+
+  pub next_free : (addr : ℕ) → new ≡ record old { blocks = blocks_after_free old.blocks w.position addr }
+      → SeesNext (sighted w old) (sighted w new) (records.Free addr)
+  next_free addr is =
+      another (records.Free addr) refl refl
+      (λ list was. no_symbol old.symbols new.symbols list (ap (λ (o : Objects). o.symbols) is) was) (ap (λ (o : Objects). o.blocks) is)
+
+  pub next_symbol : (kind : SymbolKind) (addr size : ℕ) (name : List ℕ)
+      → new ≡ record old { symbols = symbols_of (old.symbols ++ kept_symbol kind addr size name ∷ []) }
+      → ((list : List Symbol) → old.symbols ≡ symbols_of list → new.symbols ≡ symbols_of (list ++ kept_symbol kind addr size name ∷ []))
+      → SeesNext (sighted w old) (sighted w new) (records.Symbol kind addr size name)
+  next_symbol kind addr size name is whole =
+      another (records.Symbol kind addr size name) refl refl whole (ap (λ (o : Objects). o.blocks) is)
+
+-- an end changes nothing
+pub next_end : (s : Sighted) (e : Ending) → SeesNext s s (records.End e)
+next_end s e =
+    another s.watch s.objects s.objects (records.End e) refl refl
+    (λ list was. no_symbol s.objects.symbols s.objects.symbols list refl was) refl
+
+-- two facts about a call that ended well
+pub on_both : {T E P Q R : Type 0} (r : Result T E) → (P → Q → R) → OnOk r P → OnOk r Q → OnOk r R
+on_both (Ok x) f p q = f p q
+on_both (Err e) f p q = tt
+
+-- before any record
+pub seen_nothing : (s : Sighted) → NoTwoAlike s.objects.symbols → HasSeen s s []
+seen_nothing s apart = record {
+  stands = λ t stood. subst (λ (list : AccessList). StandsFor list s.watch) (sym (append-nil t)) stood;
+  position = sym (add-zero s.watch.position);
+  objects = same_objects s.objects (objects_after s.objects s.watch.position [])
+      (sym (ap symbols_of (append-nil s.objects.symbols) ∙ apart))
+      (sym (append-nil (map (lived s.watch.position []) s.objects.blocks) ∙ unchanged s.watch.position s.objects.blocks));
+  grid = refl;
+  levels = refl;
+}
+  where
+    as_it_is : (p : ℕ) (b : Block) (died : Option ℕ) → lived p [] (record b { died = died }) ≡ record b { died = died }
+    as_it_is p b None = refl
+    as_it_is p b (Some d) = refl
+
+    unchanged : (p : ℕ) (bs : List Block) → map (lived p []) bs ≡ bs
+    unchanged p [] = refl
+    unchanged p (b ∷ bs) = ap (λ c. c ∷ map (lived p []) bs) (as_it_is p b b.died) ∙ ap (λ cs. b ∷ cs) (unchanged p bs)
+
+-- a detector that has seen nothing stands for the empty list
+pub stands_nothing : (g : Grid) (v : Levels) → StandsFor [] (nothing_seen g v)
+stands_nothing g v = record {
+  position = refl;
+  writes = λ k. ap (λ (o : Option ℕ). unwrap_or o 0) (finite.get-empty nat_cmp k);
+  tracks = subst (λ (lines : List Opened). IsPermutation [] (map (kept_in []) lines)) (sym (opened-empty g v)) (IsPermutation-refl []);
+}
+
+-- what was seen from the beginning stands for the accesses, under the layout and thresholds of the beginning
+pub seen_whole : (g : Grid) (v : Levels) (now : Sighted) (items : List TraceRecord) → HasSeen (nothing_sighted g v) now items
+    → StandsFor (touches_in items) now.watch
+seen_whole g v now items so_far = so_far.stands [] (stands_nothing g v)
+
+-- the report of what was seen from the beginning
+pub reported : (e : Ending) (g : Grid) (v : Levels) (now : Sighted) (items : List TraceRecord) → HasSeen (nothing_sighted g v) now items
+    → report_of e now.watch.grid now.watch.levels now.objects (touches_in items) ≡ report_of_records e g v items
+unfolding report_of_records
+reported e g v now items so_far =
+    ap (λ (q : Grid). report_of e q now.watch.levels now.objects (touches_in items)) so_far.grid
+    ∙ ap (λ (q : Levels). report_of e g q now.objects (touches_in items)) so_far.levels
+    ∙ ap (λ (o : Objects). report_of e g v o (touches_in items)) so_far.objects
+
+-- where a list has room for one record more, the position that is next has
+pub room_for_one : (now : Sighted) (x : TraceRecord) → HasRoom begins_at HasSeen now (x ∷ [])
+    → counted_after now.watch.position x ≤ last_position
+room_for_one now x room =
+    let all : length (touches_in (room.seen ++ x ∷ [])) ≡ length (touches_in room.seen) + length (touches_in (x ∷ [])) =
+    ap length (touches-push room.seen x) ∙ length-append (touches_in room.seen) (touches_in (x ∷ [])) in
+    omega (arith, all, counted-one now.watch.position x, room.given_so_far.position, room.begins_there, room.room)
+
+-- a call that ended well made the symbols those of each list with one more
+pub whole_ok : {T E : Type 0} (r : Result T E) (old new : List Symbol) (one : Symbol)
+    → ((list : List Symbol) → old ≡ symbols_of list → OnOk r (new ≡ symbols_of (list ++ one ∷ [])))
+    → OnOk r ((list : List Symbol) → old ≡ symbols_of list → new ≡ symbols_of (list ++ one ∷ []))
+whole_ok (Ok x) old new one each = each
+whole_ok (Err e) old new one each = tt
+
+one_at_most : (x : TraceRecord) → length (touches_in (x ∷ [])) ≤ 1
+one_at_most (records.Touch a) = omega arith
+one_at_most (records.Alloc addr size sites) = omega arith
+one_at_most (records.Free addr) = omega arith
+one_at_most (records.Symbol kind addr size name) = omega arith
+one_at_most (records.End e) = omega arith
+
+-- a record moves the position on by one at most
+pub counted_one_more : (p : ℕ) (x : TraceRecord) → counted_after p x ≤ p + 1
+counted_one_more p x = omega (arith, counted-one p x, one_at_most x)
+
+-- before the last position there is room for one record more
+pub room_from : (now : Sighted) (x : TraceRecord) → HasSeen now now [] → now.watch.position < last_position
+    → HasRoom begins_at HasSeen now (x ∷ [])
+room_from now x begun low = record {
+  begun = now;
+  first = now.watch.position;
+  seen = [];
+  begins_there = refl;
+  given_so_far = begun;
+  room = omega (arith, one_at_most x);
+}

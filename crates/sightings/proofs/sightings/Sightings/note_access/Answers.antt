@@ -1,0 +1,21 @@
+use Rattle.std.proofs.Common.{ap}
+use Rattle.std.proofs.lemmas.Result.{on_ok_weaker}
+use Rattle.detector.specs.Watch.{Watch}
+use Rattle.sightings.specs.Sights.{Sighted}
+use Rattle.sightings.proofs.NextLaws.{next_access, on_both}
+use Rattle.sightings.proofs.sightings.Sightings.note_access.Goals as goal
+
+pub returns-clause-noted : goal.returns-clause-noted
+returns-clause-noted c =
+    let with_watch : Watch → Sighted = λ w. record { watch = w; objects = c.self.inside.objects } in
+    rw (← c.self.view_is) (on_ok_weaker c.see.result (ap with_watch) c.see.ensures.watched)
+
+pub returns-clause-seen : goal.returns-clause-seen
+returns-clause-seen c =
+    rw (← c.self.view_is)
+    (on_both c.see.result
+    (next_access c.self.inside.objects c.self.inside.detector c.see.new.detector c.args.access) c.see.ensures.watched
+    c.see.ensures.stands)
+
+pub returns-clause-known : goal.returns-clause-known
+returns-clause-known c = rw (← c.self.view_is) c.see.ensures.known

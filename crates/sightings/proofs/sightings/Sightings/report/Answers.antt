@@ -1,0 +1,13 @@
+use Rattle.std.proofs.Common.{◌∙◌, rules}
+use Rattle.std.proofs.lemmas.Result.{IfOk-weaker}
+use Rattle.trace_grammar.specs.Rules.{touches_in}
+use Rattle.sightings.proofs.NextLaws.{reported, seen_whole}
+use Rattle.sightings.proofs.sightings.Sightings.report.Goals as goal
+
+pub returns-clause-of_list : goal.returns-clause-of_list
+returns-clause-of_list c = search rules
+
+pub returns-clause-of_records : goal.returns-clause-of_records
+returns-clause-of_records c = λ g v items so_far.
+    IfOk-weaker c.write_report.result _ _ (λ text is. is ∙ reported c.args.ending.now g v c.args.self.now items so_far)
+    (returns-clause-of_list c (touches_in items) (seen_whole g v c.args.self.now items so_far))

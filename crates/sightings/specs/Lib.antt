@@ -1,0 +1,6 @@
+pub mod Lives
+pub mod LifeLaws
+pub mod Sights
+pub mod SightedCode
+pub mod Seen
+pub mod SeenLaws

@@ -1,0 +1,39 @@
+-- What a list of trace records has shown, and its report.
+use Rattle.std.specs.Prelude.{◌≡◌, ℕ, ◌+◌, List, [], ◌∷◌, ◌++◌, length}
+use Rattle.predator_base.specs.Levels.{Levels}
+use Rattle.predator_base.specs.Lines.{Grid}
+use Rattle.predator_base.specs.declared.ending.Ending.{Ending}
+use Rattle.sharing_rules.specs.AccessLists.{AccessList}
+use Rattle.detector.specs.Standing.{StandsFor}
+use Rattle.report.specs.OfLists.{report_of}
+use Rattle.trace_grammar.specs.Rules.{touches_in}
+use Rattle.trace_grammar.specs.declared.record.TraceRecord.{TraceRecord}
+use Rattle.sightings.specs.Lives.{objects_after, objects_of}
+use Rattle.sightings.specs.Sights.{Sighted}
+
+-- from what was seen first, what is seen now came by these records
+pub record HasSeen (begun now : Sighted) (items : List TraceRecord) : Type 0 where
+  -- for each list that it stood for, it stands for the list with their accesses
+  pub stands : (t : AccessList) → StandsFor t begun.watch
+      → StandsFor (t ++ touches_in items) now.watch
+  -- each access moved it on by one
+  pub position : now.watch.position ≡ begun.watch.position + length (touches_in items)
+  -- the objects that stood there before, and those of the records
+  pub objects : now.objects ≡ objects_after begun.objects begun.watch.position items
+  -- under the same layout and thresholds
+  pub grid : now.watch.grid ≡ begun.watch.grid
+  pub levels : now.watch.levels ≡ begun.watch.levels
+
+-- its first access has this position
+abbrev pub begins_at : Sighted → ℕ → Type 0
+begins_at begun first = begun.watch.position ≡ first
+
+-- whatever records came before, this one came after them
+abbrev pub SeesNext : Sighted → Sighted → TraceRecord → Type 0
+SeesNext old new item =
+    (begun : Sighted) (items : List TraceRecord)
+    → HasSeen begun old items → HasSeen begun new (items ++ item ∷ [])
+
+-- the report of a list of records with an end, under a layout and thresholds
+unfoldable pub report_of_records : Ending → Grid → Levels → List TraceRecord → List ℕ
+report_of_records ending g v items = report_of ending g v (objects_of items) (touches_in items)

@@ -1,0 +1,50 @@
+-- What is seen of trace records: what the accesses show, and what stands in memory.
+use Rattle.std.specs.Prelude.{ℕ, [], ◌∷◌, ◌++◌, Bool, true, false, not}
+use Rattle.std.specs.List.{list_any}
+use Rattle.predator_base.specs.Levels.{Levels}
+use Rattle.predator_base.specs.Lines.{Grid}
+use Rattle.heap_objects.specs.Blocks.{blocks_after_alloc, blocks_after_free}
+use Rattle.heap_objects.specs.Objects.{Objects, no_objects}
+use Rattle.heap_objects.specs.Symbols.{is_in_place_of, kept_symbol, symbols_of}
+use Rattle.detector.specs.Watch.{Watch, nothing_seen, takes_memory, watched}
+use Rattle.trace_grammar.specs.declared.record.TraceRecord.{TraceRecord}
+use Rattle.trace_grammar.specs.declared.record.TraceRecord.TheVariants as records
+
+pub record Sighted : Type 0 where
+  pub watch : Watch
+  pub objects : Objects
+
+-- before the first record
+abbrev pub nothing_sighted : Grid → Levels → Sighted
+nothing_sighted g v = record { watch = nothing_seen g v; objects = no_objects }
+
+-- the objects once a record came at a position
+abbrev pub objects_noted : Objects → TraceRecord → ℕ → Objects
+objects_noted o (records.Alloc addr size sites) position =
+    record o { blocks = blocks_after_alloc o.blocks position addr size sites }
+objects_noted o (records.Free addr) position =
+    record o { blocks = blocks_after_free o.blocks position addr }
+objects_noted o (records.Symbol kind addr size name) position =
+    record o { symbols = symbols_of (o.symbols ++ kept_symbol kind addr size name ∷ []) }
+objects_noted o _ position = o
+
+-- what the accesses show once a record came
+abbrev pub watch_noted : Watch → TraceRecord → Watch
+watch_noted w (records.Touch a) = watched w a
+watch_noted w _ = w
+
+-- one record more
+abbrev pub noted : Sighted → TraceRecord → Sighted
+noted s item = record {
+  watch = watch_noted s.watch item;
+  objects = objects_noted s.objects item s.watch.position;
+}
+
+-- whether a record may want memory
+abbrev pub wants_memory : Sighted → TraceRecord → Bool
+wants_memory s (records.Touch a) = takes_memory s.watch a
+wants_memory s (records.Alloc addr size sites) = true
+wants_memory s (records.Free addr) = false
+wants_memory s (records.Symbol kind addr size name) =
+    not (list_any (is_in_place_of (kept_symbol kind addr size name)) s.objects.symbols)
+wants_memory s (records.End e) = false

@@ -1,0 +1,11 @@
+//! What is seen of a list of trace records: a detector and a table of objects together, and the
+//! report of both.
+#![tactic(auto)]
+
+mod laws;
+mod sightings;
+#[cfg(test)]
+mod tests;
+
+pub use laws::an_end_shows_nothing;
+pub use sightings::Sightings;

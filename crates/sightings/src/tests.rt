@@ -1,0 +1,119 @@
+// A worked trace: what is seen of each kind of record, and the report.
+ghost use Rattle.std.specs.Prelude.{[], ◌∷◌};
+ghost use Rattle.trace_grammar.specs.Rules.{IsWritable};
+ghost use Rattle.trace_passes.specs.Rooms.{HasRoom};
+
+use crate::Sightings;
+use heap_objects::{Name, SymbolKind};
+use predator_base::Kind::Write;
+use predator_base::{Access, Ending, Hart, Layout, NoMemory, Outcome, Thresholds};
+use std::alloc::Global;
+use std::process::Abort;
+use std::test::Fail;
+use trace_grammar::TraceRecord;
+use trace_passes::Observer;
+
+const ENDING: Ending = Ending {
+    outcome: Outcome::Exit(7),
+    steps: 9,
+    accesses: 2,
+};
+
+// Lines of 64 bytes that are tracked, and listed, from the first write on.
+fn blank(alloc: Global) -> Result<Sightings, Fail> {
+    let layout = Layout::new(64, 0).ok_or("a layout")?;
+    let thresholds = Thresholds::new(1, None, 1).ok_or("thresholds")?;
+    Ok(Sightings::new(alloc, layout, thresholds))
+}
+
+fn write(hart: u16, addr: u32) -> Result<TraceRecord, Fail> {
+    let hart = Hart::new(hart).ok_or("a hart")?;
+    let access = Access::new(hart, addr, Write, 4).ok_or("a word")?;
+    Ok(TraceRecord::Touch(access))
+}
+
+fn symbol(
+    alloc: Global,
+    kind: SymbolKind,
+    addr: u32,
+    size: u32,
+    name: &[u8],
+) -> Result<TraceRecord, Fail> {
+    let name = Name::new(alloc, name)?;
+    Ok(TraceRecord::Symbol {
+        kind,
+        addr,
+        size,
+        name,
+    })
+}
+
+fn note(rt: &impl Abort, sightings: &mut Sightings, item: &TraceRecord) -> Result<(), Fail> {
+    assert!(rt; sightings.position() < 1 << 40);
+    sightings.note(item)?;
+    Ok(())
+}
+
+// A record that any observer is given.
+fn give<O: Observer>(observer: &mut O, item: &TraceRecord) -> Result<(), NoMemory>
+    requires good { IsWritable item.now }
+    requires room { HasRoom O.begins O.given observer.old (item.now ∷ []) }
+{
+    observer.note(item)
+}
+
+fn free(rt: &impl Abort, sightings: &mut Sightings, addr: u32) -> Result<(), Fail> {
+    assert!(rt; sightings.position() < 1 << 40);
+    give(sightings, &TraceRecord::Free { addr })?;
+    Ok(())
+}
+
+const REPORT: &str = "predator report 1\n\
+    outcome exit 7\n\
+    steps 9\n\
+    accesses 2\n\
+    layout 64 0\n\
+    thresholds 1 none 1\n\
+    lines 1\n\
+    line observed 0x00002000 64 start 0 count 1 verdict false\n\
+    object symbol counters 0x00001fe0 48\n\
+    object block 0x00002000 24 born 0 died 2\n\
+    site 0x000100b0 worker\n\
+    object block 0x00002020 8 born 1 live\n\
+    word 0x00002000 reads 0 writes 1 hart 0\n\
+    word 0x00002004 reads 0 writes 1 hart 1\n\
+    end\n";
+
+#[test]
+fn tells_of_accesses_and_objects(rt: HostRuntime) -> Result<(), Fail> {
+    let alloc = rt.alloc();
+    let mut sightings = blank(alloc)?;
+    let worker = symbol(alloc, SymbolKind::Function, 0x100a0, 64, b"worker")?;
+    note(&rt, &mut sightings, &worker)?;
+    let counters = symbol(alloc, SymbolKind::Object, 0x1fe0, 48, b"counters")?;
+    note(&rt, &mut sightings, &counters)?;
+    let alike = symbol(alloc, SymbolKind::Object, 0x1fe0, 48, b"alias")?;
+    note(&rt, &mut sightings, &alike)?;
+    let made = TraceRecord::Alloc {
+        addr: 0x2000,
+        size: 24,
+        sites: [0x100b0, 0, 0, 0],
+    };
+    note(&rt, &mut sightings, &made)?;
+    note(&rt, &mut sightings, &write(0, 0x2000)?)?;
+    let another = TraceRecord::Alloc {
+        addr: 0x2020,
+        size: 8,
+        sites: [0; 4],
+    };
+    note(&rt, &mut sightings, &another)?;
+    note(&rt, &mut sightings, &write(1, 0x2004)?)?;
+    free(&rt, &mut sightings, 0x2000)?;
+    note(&rt, &mut sightings, &TraceRecord::End(ENDING))?;
+    assert_eq!(rt; sightings.position(), 2);
+    assert_eq!(rt; sightings.objects().blocks().len(), 2);
+    assert_eq!(rt; sightings.detector().tracks().len(), 1);
+    let text = sightings.report(alloc, &ENDING)?;
+    assert_eq!(rt; text.as_slice(), REPORT.as_bytes());
+    Ok(())
+}

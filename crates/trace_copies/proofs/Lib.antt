@@ -1,0 +1,7 @@
+pub mod Spelled
+pub mod Readings
+pub mod Stopped
+pub mod Conversions
+pub mod Going
+pub mod Pieces
+pub mod Answering

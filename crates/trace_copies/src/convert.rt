@@ -1,0 +1,188 @@
+// A copy of a trace in the other version.
+ghost use Rattle.std.specs.Prelude.{◌≡◌, ◌≢◌, ◌∷◌, ◌++◌, ℕ, List, [], Err, None, Some, length};
+ghost use Rattle.std.specs.Prelude.{IfErr, IfOk, OnOk};
+ghost use Rattle.shelf.specs.Shelf.{Outside, Told, content};
+ghost use Rattle.outputs.specs.Files.{AreCut, Output};
+ghost use Rattle.outputs.specs.OneFile.{Waiting};
+ghost use Rattle.outputs.specs.OnTheirWay.{IsOutputs};
+ghost use Rattle.trace_grammar.specs.declared.fault.TraceFault.TheVariants as trace_faults;
+ghost use Rattle.trace_grammar.specs.declared.record.TraceRecord.{TraceRecord as Record};
+ghost use Rattle.trace_grammar.specs.declared.record.Version.TheVariants.{One, Two};
+ghost use Rattle.trace_grammar.specs.Rules.{IsGoodHeader, IsWritable, touches_in};
+ghost use Rattle.trace_passes.specs.declared.wanted.Refusal.{Refusal as Refused};
+ghost use Rattle.trace_passes.specs.declared.wanted.Refusal.TheVariants as refusals;
+ghost use Rattle.trace_passes.specs.Passes.{Trace, refusal_of};
+ghost use Rattle.trace_copies.specs.Copies.{HasCopied, HasStopped, any, conversion, other_version};
+ghost use Rattle.trace_copies.specs.Copying.{HasConverted, IsAccepted, conversion_so_far};
+
+use crate::CopyFault;
+use crate::copy::{accept, copy_again};
+use crate::fault::write_fault;
+use crate::part::Files;
+use crate::target::Target;
+use outputs::Outputs;
+use shelf::{Shelf, ShelfError};
+use std::alloc::Global;
+use trace_grammar::{Header, TraceRecord, Version};
+use trace_passes::Passed;
+use trace_writer::TraceWriter;
+
+/// What was written of a trace in the other version.
+#[derive(Clone, Copy, PartialEq, Eq, Debug)]
+pub struct Converted {
+    /// The version that was written.
+    pub version: Version,
+    /// How many accesses there are.
+    pub accesses: u64,
+}
+
+// The file of a conversion on its way.
+#[derive(Drop)]
+struct Conversion<'a> {
+    name: &'a str,
+    header: Header,
+    version: Version,
+    writer: TraceWriter,
+    files: Files<'a>,
+}
+
+impl<'a> Target for Conversion<'a> {
+    ghost waiting = { λ c. c.files.outputs };
+
+    ghost files = { λ c. conversion_so_far c.name.now c.version c.header };
+
+    ghost has = { λ c seen. HasConverted c seen };
+
+    fn put<S: Shelf>(&mut self, shelf: &mut S, item: &TraceRecord) -> Result<(), ShelfError> {
+        self.files.put_record(shelf, 0, &mut self.writer, item)
+    }
+}
+
+fn other_version(version: Version) -> Version
+    ensures { result ≡ other_version version }
+{
+    match version {
+        Version::One => Version::Two,
+        Version::Two => Version::One,
+    }
+}
+
+// Begins the file, and puts the header into it.
+fn begin<'a, S: Shelf>(
+    alloc: Global,
+    shelf: &mut S,
+    name: &'a str,
+    version: Version,
+    header: Header,
+) -> Result<Conversion<'a>, ShelfError>
+    requires { IsGoodHeader header }
+    ensures files { IfOk result (λ c. conversion_so_far c.name.now c.version c.header
+        ≡ conversion_so_far name.now version header) }
+    ensures has { IfOk result (λ c. HasConverted c []) }
+    ensures outputs { IfOk result (λ c. IsOutputs c.files.outputs
+        (conversion_so_far name.now version header [])
+        (S.outside shelf.old) (S.outside shelf.new)) }
+    ensures cut { IfErr result (λ error. AreCut (conversion_so_far name.now version header [])
+        (S.outside shelf.old) (S.outside shelf.new) error) }
+{
+    let mut writer = TraceWriter::new(version);
+    let mut files = Files {
+        outputs: Outputs::new(alloc),
+        piece: Vec::new(alloc),
+    };
+    match files.outputs.begin(alloc, shelf, name) {
+        Ok(()) => {}
+        Err(error) => return Err(error),
+    }
+    match files.put_header(shelf, 0, &mut writer, header) {
+        Ok(()) => Ok(Conversion {
+            name,
+            header,
+            version,
+            writer,
+            files,
+        }),
+        Err(error) => Err(error),
+    }
+}
+
+// Writes an accepted trace in the other version.
+fn convert_accepted<S: Shelf>(
+    alloc: Global,
+    shelf: &mut S,
+    name: &str,
+    output: &str,
+    first: &Passed,
+) -> Result<Converted, CopyFault>
+    requires { IsAccepted (S.outside shelf.old).held name.now first.now }
+    ensures copied { IfOk result (λ made. HasCopied (S.outside shelf.old).held name.now
+        (conversion output.now)
+        (λ t. (made.version ≡ other_version t.version)
+        × (made.accesses ≡ length (touches_in t.items)))
+        (S.outside shelf.old) (S.outside shelf.new)) }
+    ensures unrefused { (refusal : Refused) → result ≢ Err (CopyFault.Refused refusal) }
+    ensures changed { (refusal : Refused) → result ≡ Err (CopyFault.Changed refusal)
+        → (S.outside shelf.old).held ≡ None }
+    ensures stopped { IfErr result (λ fault. HasStopped (S.outside shelf.old).held name.now
+        (output.now ∷ []) (conversion output.now) (S.outside shelf.old)
+        (S.outside shelf.new) fault) }
+{
+    let version = other_version(first.version);
+    let mut target = match begin(alloc, shelf, output, version, first.header) {
+        Ok(target) => target,
+        Err(error) => return Err(write_fault(error)),
+    };
+    let second = match copy_again(alloc, shelf, name, first, &mut target) {
+        Ok(passed) => passed,
+        Err(fault) => return Err(fault),
+    };
+    match target.files.outputs.finish(shelf) {
+        Ok(()) => Ok(Converted {
+            version,
+            accesses: second.ending.accesses,
+        }),
+        Err(error) => Err(write_fault(error)),
+    }
+}
+
+/// Writes a trace in the other version: the same header, records and end.
+///
+/// The trace is read twice in pieces, and no more of it is kept than a piece has. The output is
+/// begun only once a first reading was accepted. At an error after that it is as it was, or a
+/// front of what it would be. `Refused` comes exactly where a pass refuses the trace, `ReadFault`
+/// only where the faults of reading its name rose, `WriteFault` only where those of writing the
+/// output rose.
+pub fn convert_trace<S: Shelf>(
+    alloc: Global,
+    shelf: &mut S,
+    name: &str,
+    output: &str,
+) -> Result<Converted, CopyFault>
+    // The file is that of the trace that the name's bytes are.
+    ensures copied { IfOk result (λ made. HasCopied (S.outside shelf.old).held name.now
+        (conversion output.now)
+        (λ t. (made.version ≡ other_version t.version)
+        × (made.accesses ≡ length (touches_in t.items)))
+        (S.outside shelf.old) (S.outside shelf.new)) }
+    // At a refusal nothing is done.
+    ensures refused { (refusal : Refused) → result ≡ Err (CopyFault.Refused refusal)
+        → Told (S.outside shelf.old).held
+        (λ files. refusal_of any (content files name.now) ≡ Some refusal) }
+    ensures stays { (refusal : Refused) → result ≡ Err (CopyFault.Refused refusal)
+        → S.outside shelf.new ≡ S.outside shelf.old }
+    ensures memory { result ≢ Err (CopyFault.Refused (refusals.Trace trace_faults.NoMemory)) }
+    // What is told doesn't change.
+    ensures changed { (refusal : Refused) → result ≡ Err (CopyFault.Changed refusal)
+        → (S.outside shelf.old).held ≡ None }
+    // Only an accepted trace is written.
+    ensures accepted { result ≡ Err CopyFault.WriteFault → Told (S.outside shelf.old).held
+        (λ files. refusal_of any (content files name.now) ≡ None) }
+    ensures stopped { IfErr result (λ fault. HasStopped (S.outside shelf.old).held name.now
+        (output.now ∷ []) (conversion output.now) (S.outside shelf.old)
+        (S.outside shelf.new) fault) }
+{
+    match accept(alloc, shelf, name) {
+        Ok(first) => convert_accepted(alloc, shelf, name, output, &first),
+        Err(fault) => Err(fault),
+    }
+}

@@ -1,4 +1,0 @@
-mod Worked
-pub mod Loop
-pub mod Found
-pub mod Lengths

@@ -1,0 +1,98 @@
+// Small traces, made.
+use crate::make_trace;
+use predator_base::NoMemory;
+use shelf::{Failing, HeldFile, MemoryShelf, ShelfError};
+use std::alloc::Global;
+use std::test::Fail;
+use trace_grammar::TraceRecord;
+use trace_passes::{Observer, Wanted, pass};
+
+// Counts the accesses that it sees, and whether it sees the end.
+#[derive(Clone, Copy, PartialEq, Eq, Debug)]
+struct Tally {
+    accesses: u64,
+    ended: bool,
+}
+
+fn begin_tally() -> Tally {
+    Tally {
+        accesses: 0,
+        ended: false,
+    }
+}
+
+impl Observer for Tally {
+    ghost given = { λ _ _ _. Unit {0} };
+
+    fn note(&mut self, item: &TraceRecord) -> Result<(), NoMemory> {
+        match item {
+            TraceRecord::Touch(_) => self.accesses = self.accesses.saturating_add(1),
+            TraceRecord::End(_) => self.ended = true,
+            _ => {}
+        }
+        Ok(())
+    }
+}
+
+// A shelf of whose calls these fail, which holds no file.
+fn shelf_with(alloc: Global, failing: &[Failing]) -> Result<MemoryShelf, Fail> {
+    Ok(MemoryShelf::new(alloc, Vec::new(alloc), failing.to_vec(alloc)?)?)
+}
+
+// The header, a write of hart 4 at 0x10d70, and the end with a step and an access.
+const OF_ONE_ACCESS: [u8; 53] = *b"PRDTRC01\0\0\0\0\0\0\0\0\x08\0\0\0\
+\x02\x04\0\x70\x0d\x01\0\x04\
+\x06\0\0\0\0\0\0\0\0\x01\0\0\0\0\0\0\0\x01\0\0\0\0\0\0\0";
+
+#[test]
+fn one_access_is_written(rt: HostRuntime) -> Result<(), Fail> {
+    let alloc = rt.alloc();
+    let mut shelf = shelf_with(alloc, &[])?;
+    make_trace(alloc, &mut shelf, "f", 1, &mut begin_tally())?;
+    assert_eq!(rt; shelf.written("f"), Some(OF_ONE_ACCESS.as_slice()));
+    Ok(())
+}
+
+// The calls are the begin, and an append of what waits at the end.
+#[test]
+fn a_failing_append_leaves_a_front(rt: HostRuntime) -> Result<(), Fail> {
+    let alloc = rt.alloc();
+    let mut shelf = shelf_with(alloc, &[Failing { call: 2, keep: 3 }])?;
+    let refused = make_trace(alloc, &mut shelf, "f", 3, &mut begin_tally()).err();
+    assert_eq!(rt; refused, Some(ShelfError::Failed));
+    assert_eq!(rt; shelf.written("f"), Some(b"PRD".as_slice()));
+    Ok(())
+}
+
+// What is made is read again, and a reader sees as many accesses as were made.
+#[test]
+fn what_is_made_is_a_trace(rt: HostRuntime) -> Result<(), Fail> {
+    let alloc = rt.alloc();
+    let mut shelf = shelf_with(alloc, &[])?;
+    let mut made = begin_tally();
+    make_trace(alloc, &mut shelf, "f", 300, &mut made)?;
+    let seen = Tally {
+        accesses: 300,
+        ended: true,
+    };
+    assert_eq!(rt; made, seen);
+    let Some(bytes) = shelf.written("f") else {
+        return Err("nothing is written".into());
+    };
+    let mut files = Vec::new(alloc);
+    let name = String::from_str(alloc, "t")?;
+    let content = bytes.to_vec(alloc)?;
+    files.push(HeldFile { name, content })?;
+    let mut held = MemoryShelf::new(alloc, files, Vec::new(alloc))?;
+    let wanted = Wanted {
+        harts: Some(8),
+        first: Some(0),
+    };
+    let mut read = begin_tally();
+    match pass(alloc, &mut held, "t", &wanted, &mut read) {
+        Ok(passed) => assert_eq!(rt; passed.ending.steps, 300),
+        Err(_) => return Err("what is made is refused".into()),
+    }
+    assert_eq!(rt; read, seen);
+    Ok(())
+}

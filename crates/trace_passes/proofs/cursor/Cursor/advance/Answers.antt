@@ -1,0 +1,92 @@
+use Rattle.std.proofs.Common.{◌≡◌, ◌≢◌, ◌+◌, ◌≤◌, ◌<◌, ◌++◌, ℕ, List, Option, Some, length, take, refl, sym, ap, subst, ◌∙◌, arith}
+use Rattle.shelf.specs.Shelf.{Files, Told, content, Reads}
+use Rattle.shelf.specs.Fetch.{IsFront}
+use Rattle.trace_grammar.specs.declared.record.TraceRecord.{TraceRecord}
+use Rattle.trace_grammar.specs.Reading.{reading_of}
+use Rattle.trace_passes.specs.Cursors.{HasEnded, IsRead}
+use Rattle.trace_passes.specs.Passes.{refusal_of}
+use Rattle.trace_passes.proofs.Fronts.{at_most, falls, given_back, longer_front, next_come, refused_file, told_both, whole_front}
+use Rattle.trace_passes.proofs.Closings.{ended}
+use Rattle.trace_passes.proofs.cursor.Cursor.advance.Goals as goal
+
+pub returns-then-count-eq0-clause-ended : goal.returns-then-count-eq0-clause-ended
+returns-then-count-eq0-clause-ended g c = λ passed same bytes come.
+    let into = c.read_at.new.into in
+    let size : length c.args.self.now.piece.items ≡ c.args.self.now.piece.len = omega arith in
+    let some : 0 < length into = omega (arith, c.deref_mut.ensures.len, size, come.room) in
+    let none : c.in_ok-count.count ≡ 0 = c.if-count-eq0.true in
+    let held = (g.S.Shelf.outside c.args.shelf.now).held in
+    let name = c.args.name.now in
+    let w = c.args.wanted.now in
+    let at = c.args.self.now.at in
+    let count = c.in_ok-count.count in
+    let whole : Told held (λ files. bytes ≡ content files name) =
+    told_both held (λ files. whole_front (content files name) bytes into at count come.size none some) come.front
+    c.in_ok-count.ensures.bytes in
+    let is : c.in_ok-end_of.field-0 ≡ passed = cc in
+    subst (HasEnded held name w bytes) is
+    (ended held name w c.args.self.now.reader bytes come.read whole c.in_ok-end_of.field-0 c.in_ok-end_of.ensures.ending
+    c.in_ok-end_of.ensures.progress)
+
+pub returns-in_err-take_piece-clause-refused : goal.returns-in_err-take_piece-clause-refused
+returns-in_err-take_piece-clause-refused g c = λ refusal same.
+    let into = c.read_at.new.into in
+    let was = c.args.self.now.piece.items in
+    let lent : length into ≡ c.args.self.now.piece.len = omega (arith, c.deref_mut.ensures.len) in
+    let size : length was ≡ c.args.self.now.piece.len = omega arith in
+    let back = given_back c.args.self.now.piece.len into was lent size in
+    let bytes = c.requires.0 in
+    let come = c.requires.1 in
+    let held = (g.S.Shelf.outside c.args.shelf.now).held in
+    let name = c.args.name.now in
+    let at = c.args.self.now.at in
+    let count = c.in_ok-count.count in
+    let fits : count ≤ length into = omega (arith, c.in_ok-count.ensures.bound) in
+    let front : Told held (λ files. IsFront (content files name) (bytes ++ take count into)) =
+    told_both held (λ files. longer_front (content files name) bytes into at count come.size fits) come.front c.in_ok-count.ensures.bytes in
+    let was_err = c.in_err-take_piece.was in
+    let handed_on = rw same at c.from_residual-in_err-take_piece.ensures.1 in
+    let refused : (more : List ℕ) → refusal_of c.args.wanted.now ((bytes ++ take count into) ++ more) ≡ Some refusal =
+    λ more. subst (λ (xs : List ℕ). refusal_of c.args.wanted.now ((bytes ++ take count xs) ++ more) ≡ Some refusal)
+    (c.deref.ensures.value ∙ back) (c.take_piece.ensures.refused refusal (cc) bytes more come.read.reading) in
+    refused_file held name (bytes ++ take count into) c.args.wanted.now refusal front refused
+
+pub returns-clause-more : goal.returns-clause-more
+returns-clause-more g c = λ same bytes come.
+    let into = c.read_at.new.into in
+    let was = c.args.self.now.piece.items in
+    let lent : length into ≡ c.args.self.now.piece.len = omega (arith, c.deref_mut.ensures.len) in
+    let size : length was ≡ c.args.self.now.piece.len = omega arith in
+    let back = given_back c.args.self.now.piece.len into was lent size in
+    let held = (g.S.Shelf.outside c.args.shelf.now).held in
+    let count = c.in_ok-count.count in
+    let w = c.args.wanted.now in
+    let new = c.take_piece.new.reader in
+    let items = c.take_piece.new.items.items in
+    let read : IsRead w (bytes ++ take count into) new =
+    subst (λ (xs : List ℕ). IsRead w (bytes ++ take count xs) new) (c.deref.ensures.value ∙ back)
+    (c.in_ok-take_piece.ensures.read bytes come.read.reading) in
+    let records : (reading_of (bytes ++ take count into)).0 ≡ (reading_of bytes).0 ++ items =
+    subst (λ (xs : List ℕ). (reading_of (bytes ++ take count xs)).0 ≡ (reading_of bytes).0 ++ items) (c.deref.ensures.value ∙ back)
+    (c.in_ok-take_piece.ensures.records bytes come.read.reading) in
+    record {
+      more = take count into;
+      come = next_come held c.args.name.now w bytes into c.args.self.now.at count _ come.size
+          (omega (arith, c.in_ok-count.ensures.bound)) come.front c.in_ok-count.ensures.bytes read refl
+          (omega (arith, ap length back, lent, size, come.room));
+      records = records;
+    }
+
+pub overflow_add-self : goal.overflow_add-self
+overflow_add-self g c =
+    let held = (g.S.Shelf.outside c.args.shelf.now).held in
+    let low = at_most held c.args.name.now c.args.wanted.now c.requires.0 c.args.self.now c.requires.1 in
+    let small : c.in_ok-count.count ≤ c.args.self.now.piece.len = omega (arith, c.in_ok-count.ensures.bound, c.deref_mut.ensures.len) in
+    omega arith
+
+pub returns-clause-fewer : goal.returns-clause-fewer
+returns-clause-fewer g c = λ same.
+    let held = (g.S.Shelf.outside c.args.shelf.now).held in
+    let on = returns-clause-more g c same c.requires.0 c.requires.1 in
+    let low = at_most held c.args.name.now c.args.wanted.now _ _ on.come in
+    falls c.args.self.now.at c.in_ok-count.count c.if-count-eq0.false low

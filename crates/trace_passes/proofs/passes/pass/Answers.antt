@@ -1,0 +1,116 @@
+use Rattle.std.proofs.Common.{◌≡◌, ◌++◌, ◌∙◌, ℕ, [], List, Option, Some, All, refl, sym, ap, subst, arith, length}
+use Rattle.shelf.specs.Shelf.{Files, Told, content}
+use Rattle.trace_grammar.specs.declared.record.TraceRecord.{TraceRecord}
+use Rattle.trace_grammar.specs.Reading.{Reading, reading_of}
+use Rattle.trace_grammar.specs.Rules.{IsWritable}
+use Rattle.trace_passes.specs.Cursors.{GoesOn, HasCome, HasEnded, records_at}
+use Rattle.trace_passes.specs.Passes.{refusal_of}
+use Rattle.trace_passes.specs.Rooms.{HasRoom}
+use Rattle.trace_passes.proofs.Fronts.{nothing_read, only_both}
+use Rattle.trace_passes.proofs.Pieces.{all_writable, room_for_all}
+use Rattle.trace_passes.proofs.Closings.{accepted_then, has_passed}
+use Rattle.trace_passes.proofs.passes.pass.Goals as goal
+
+pub pieces-init : goal.pieces-init
+pieces-init g c = record {
+  way = record {
+    bytes = [];
+    come = c.in_ok-cursor.ensures.begins _ _ _;
+    saw = subst (g.O.Observer.given c.args.observer.now c.args.observer.now)
+        (sym (ap (λ (x : List TraceRecord × Reading). x.0) nothing_read)) c.requires.fresh;
+  };
+  only = record { held = refl; written = refl; printed = refl; write_faults = refl; print_faults = refl };
+  quiet = refl;
+}
+
+pub advance-requires : goal.advance-requires
+advance-requires g c =
+    let x = c.pieces.invariant in (
+      x.way.bytes,
+      subst (λ (h : Option Files). HasCome h c.args.name.now c.args.wanted.now x.way.bytes c.pieces.cursor)
+          (sym x.only.held) x.way.come,
+    )
+
+pub note_all-requires : goal.note_all-requires
+note_all-requires g c =
+    let x = c.pieces.invariant in
+    let bytes = x.way.bytes in
+    let name = c.args.name.now in
+    let w = c.args.wanted.now in
+    let next = c.advance.new.self in
+    let none = c.in_default.is in
+    let come = subst (λ (h : Option Files). HasCome h name w bytes c.pieces.cursor) (sym x.only.held) x.way.come in
+    let on : GoesOn (g.S.Shelf.outside c.pieces.shelf).held name w bytes next = c.in_ok-passed.ensures.more (cc) bytes come in
+    let items = records_at next in
+    record {
+      good = subst (All IsWritable) (sym c.items.ensures) (all_writable bytes on.more items on.records);
+      room = λ some. subst (HasRoom g.O.Observer.begins g.O.Observer.given c.pieces.observer) (sym c.items.ensures)
+          (room_for_all bytes on.more items on.records g.O.Observer.begins g.O.Observer.given w c.args.observer.now c.pieces.observer
+          next.reader c.requires.begins x.way.saw on.come.read (omega (arith, some, ap length c.items.ensures)));
+    }
+
+pub pieces-preserved : goal.pieces-preserved
+pieces-preserved g c =
+    let x = c.pieces.invariant in
+    let bytes = x.way.bytes in
+    let name = c.args.name.now in
+    let w = c.args.wanted.now in
+    let next = c.advance.new.self in
+    let none = c.in_default.is in
+    let given = g.O.Observer.given c.args.observer.now c.note_all.new.observer in
+    let come = subst (λ (h : Option Files). HasCome h name w bytes c.pieces.cursor) (sym x.only.held) x.way.come in
+    let later : GoesOn (g.S.Shelf.outside c.pieces.shelf).held name w bytes next = c.in_ok-passed.ensures.more (cc) bytes come in
+    let on : GoesOn (g.S.Shelf.outside c.args.shelf.now).held name w bytes next =
+    subst (λ (h : Option Files). GoesOn h name w bytes next) x.only.held later in
+    record {
+      way = record {
+        bytes = bytes ++ on.more;
+        come = on.come;
+        saw = subst given (ap (λ (xs : List TraceRecord). (reading_of bytes).0 ++ xs) c.items.ensures ∙ sym on.records)
+            (c.in_ok-note_all.ensures.given c.args.observer.now _ x.way.saw);
+      };
+      only = only_both (g.S.Shelf.outside c.args.shelf.now) (g.S.Shelf.outside c.pieces.shelf) (g.S.Shelf.outside c.advance.new.shelf)
+          x.only c.in_ok-passed.ensures.only;
+      quiet = c.in_ok-passed.ensures.cause.quiet (λ e. cc) ∙ x.quiet;
+    }
+
+pub pieces-smaller : goal.pieces-smaller
+pieces-smaller g c = let none = c.in_default.is in c.in_ok-passed.ensures.fewer (cc)
+
+pub returns-in-Some : goal.returns-in-Some
+returns-in-Some g c =
+    let x = c.pieces.invariant in
+    let bytes = x.way.bytes in
+    let name = c.args.name.now in
+    let w = c.args.wanted.now in
+    let passed = c.in-Some.passed in
+    let some = c.in-Some.is in
+    let held = (g.S.Shelf.outside c.args.shelf.now).held in
+    let come = subst (λ (h : Option Files). HasCome h name w bytes c.pieces.cursor) (sym x.only.held) x.way.come in
+    let later : HasEnded (g.S.Shelf.outside c.pieces.shelf).held name w bytes passed =
+    c.in_ok-passed.ensures.ended passed (cc) bytes come in
+    let ended : HasEnded held name w bytes passed =
+    subst (λ (h : Option Files). HasEnded h name w bytes passed) x.only.held later in
+    let quiet = c.in_ok-passed.ensures.cause.quiet (λ e. cc) ∙ x.quiet in
+    record {
+      passed = has_passed held name w bytes passed (g.O.Observer.given c.args.observer.now c.pieces.observer) ended x.way.saw;
+      head = (ended.header, ended.wanted);
+      accepted = accepted_then held name w bytes passed ended;
+      refused = λ refusal same. absurd cc;
+      memory = λ same. cc;
+      cause = record {
+        later = λ n. (let at = ap (λ (f : List ℕ → ℕ). f n) quiet in omega (arith, at));
+        failed = λ same. absurd cc;
+        quiet = λ no. quiet;
+      };
+      only = only_both (g.S.Shelf.outside c.args.shelf.now) (g.S.Shelf.outside c.pieces.shelf) (g.S.Shelf.outside c.advance.new.shelf)
+          x.only c.in_ok-passed.ensures.only;
+    }
+
+pub returns-in_err-passed-clause-refused : goal.returns-in_err-passed-clause-refused
+returns-in_err-passed-clause-refused g c = λ refusal same.
+    let was_err = c.in_err-passed.was in
+    let handed_on = rw same at c.from_residual-in_err-passed.ensures.1 in
+    let P : Files → Type 0 = λ files. refusal_of c.args.wanted.now (content files c.args.name.now) ≡ Some refusal in
+    let told : Told (g.S.Shelf.outside c.pieces.shelf).held P = c.advance.ensures.refused refusal (cc) in
+    subst (λ (h : Option Files). Told h P) c.pieces.invariant.only.held told

@@ -1,0 +1,61 @@
+-- How far a named trace is read, piece after piece, and what stands at its end.
+use Rattle.std.specs.Prelude.{◌≡◌, ℕ, ◌-◌, ◌<◌, List, ◌++◌, length, Option, Some, None}
+use Rattle.shelf.specs.Shelf.{Files, Told, content}
+use Rattle.shelf.specs.Fetch.{IsFront}
+use Rattle.trace_grammar.specs.declared.progress.Progress.{Progress}
+use Rattle.trace_grammar.specs.declared.record.TraceRecord.{TraceRecord}
+use Rattle.trace_grammar.specs.Reading.{Reading, reading_of}
+use Rattle.trace_grammar.specs.Rules.{IsGoodHeader, longest_trace}
+use Rattle.trace_passes.specs.declared.cursor.Cursor.{Cursor}
+use Rattle.trace_passes.specs.declared.passes.Passed.{Passed}
+use Rattle.trace_passes.specs.declared.wanted.Wanted.{Wanted}
+use Rattle.trace_passes.specs.Passes.{IsWanted, head_of, header_refusal, refusal_of, trace_of}
+use Rattle.trace_passes.specs.Passes.{trace_with}
+
+-- These bytes are read with no fault, and their header isn't refused.
+pub record IsRead (w : Wanted) (bytes : List ℕ) (now : Reading) : Type 0 where
+  pub reading : now ≡ (reading_of bytes).1
+  pub clean : now.fault ≡ None
+  pub unrefused : header_refusal w (head_of now.progress) ≡ None
+
+-- what is given of a header that was accepted
+pub record IsHeadOf (progress : Option Progress) (passed : Passed) : Type 0 where
+  pub now : Progress
+  pub known : progress ≡ Some now
+  pub version : passed.version ≡ now.version
+  pub header : passed.header ≡ now.header
+
+-- the records of the last piece
+abbrev pub records_at : Cursor → List TraceRecord
+records_at now = now.items.items
+
+-- how many bytes a trace may have behind those that are read
+abbrev pub bytes_left : Cursor → ℕ
+bytes_left now = longest_trace - now.at
+
+-- The cursor has read these bytes, which the name's begin with where these are told. It has room
+-- for more.
+pub record HasCome (held : Option Files) (name : List ℕ) (w : Wanted) (bytes : List ℕ)
+    (now : Cursor) : Type 0 where
+  pub size : length bytes ≡ now.at
+  pub room : 0 < length now.piece.items
+  pub front : Told held (λ files. IsFront (content files name) bytes)
+  pub read : IsRead w bytes now.reader
+
+-- It has read more bytes than these, and holds the records that became whole in them.
+pub record GoesOn (held : Option Files) (name : List ℕ) (w : Wanted) (bytes : List ℕ)
+    (now : Cursor) : Type 0 where
+  pub more : List ℕ
+  pub come : HasCome held name w (bytes ++ more) now
+  pub records : (reading_of (bytes ++ more)).0 ≡ (reading_of bytes).0 ++ records_at now
+
+-- These bytes are all of the name's, where these are told, and they are a trace of these parts, as
+-- wanted.
+pub record HasEnded (held : Option Files) (name : List ℕ) (w : Wanted) (bytes : List ℕ)
+    (passed : Passed) : Type 0 where
+  pub whole : Told held (λ files. bytes ≡ content files name)
+  pub items : List TraceRecord
+  pub is : trace_of bytes ≡ Some (trace_with passed items)
+  pub header : IsGoodHeader passed.header
+  pub wanted : IsWanted w passed.header
+  pub accepted : refusal_of w bytes ≡ None

@@ -1,0 +1,16 @@
+-- When an observer may be given more records.
+use Rattle.std.specs.Prelude.{ℕ, ◌+◌, ◌≤◌, List, ◌++◌, length}
+use Rattle.trace_grammar.specs.declared.record.TraceRecord.{TraceRecord}
+use Rattle.trace_grammar.specs.Rules.{last_position, touches_in}
+
+-- It was given some records since it began, and may begin at a position from which on the accesses
+-- among them and these are no more than a trace may have.
+pub record HasRoom {A : Type 0} (begins : A → ℕ → Type 0) (given : A → A → List TraceRecord
+    → Type 0) (now : A)
+    (more : List TraceRecord) : Type 0 where
+  pub begun : A
+  pub first : ℕ
+  pub seen : List TraceRecord
+  pub begins_there : begins begun first
+  pub given_so_far : given begun now seen
+  pub room : first + length (touches_in (seen ++ more)) ≤ last_position

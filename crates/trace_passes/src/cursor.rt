@@ -1,0 +1,179 @@
+// A named trace, piece after piece.
+ghost use Rattle.std.specs.Prelude.{◌≡◌, ◌≢◌, ◌++◌, ◌<◌, ℕ, List, [], length};
+ghost use Rattle.std.specs.Prelude.{None, Some, unwrap_or, true, Ok, Err, IfOk, OnOk};
+ghost use Rattle.shelf.specs.Shelf.{content, OnlyReads, Told};
+ghost use Rattle.trace_grammar.specs.declared.fault.TraceFault.TheVariants as trace_faults;
+ghost use Rattle.trace_grammar.specs.declared.record.TraceRecord.{TraceRecord as Record};
+ghost use Rattle.trace_grammar.specs.Reading.{ending_of, reading_of};
+ghost use Rattle.trace_passes.specs.Cursors.{GoesOn, HasCome, HasEnded, IsHeadOf, IsRead};
+ghost use Rattle.trace_passes.specs.Cursors.{bytes_left, records_at};
+ghost use Rattle.trace_passes.specs.Passes.{HasPassCause, refusal_of, trace_refusal};
+ghost use Rattle.trace_passes.specs.declared.passes.Passed.{Passed as Parts};
+ghost use Rattle.trace_passes.specs.declared.wanted.Refusal.{Refusal as Refused};
+ghost use Rattle.trace_passes.specs.declared.wanted.Refusal.TheVariants as refusals;
+
+use crate::{PassFault, Passed, Refusal, Wanted};
+use shelf::Shelf;
+use std::alloc::{AllocError, Global};
+use trace_grammar::{TraceFault, TraceRecord};
+use trace_reader::TraceReader;
+
+// The most bytes that are asked for at once. The records of a piece are held together, so that a
+// small piece keeps them few.
+const PIECE: usize = 16384;
+
+/// A place in a named trace that is read piece after piece, and the records of the last piece.
+#[derive(Drop)]
+pub struct Cursor {
+    reader: TraceReader,
+    piece: Vec<u8>,
+    at: u64,
+    items: Vec<TraceRecord>,
+}
+
+// A buffer of some bytes. (The length is a parameter, since a proof would write out a list of a
+// known length.)
+fn buffer_of(alloc: Global, count: usize) -> Result<Vec<u8>, AllocError>
+    ensures { IfOk result (λ buffer. length buffer.items ≡ count) }
+{
+    Vec::from_elem(alloc, 0u8, count)
+}
+
+// Why a pass ends at a fault of the reader: for its header before any fault of the records.
+fn fault_after(refusal: Option<Refusal>, fault: TraceFault) -> PassFault
+    ensures memory { fault ≡ trace_faults.NoMemory → result ≡ PassFault.NoMemory }
+    ensures refused { fault ≢ trace_faults.NoMemory
+        → result ≡ PassFault.Refused (unwrap_or refusal (refusals.Trace fault)) }
+{
+    match fault {
+        TraceFault::NoMemory => PassFault::NoMemory,
+        _ => PassFault::Refused(refusal.unwrap_or(Refusal::Trace(fault))),
+    }
+}
+
+// Reads a piece, and judges the header.
+fn take_piece(
+    reader: &mut TraceReader,
+    wanted: &Wanted,
+    piece: &[u8],
+    items: &mut Vec<TraceRecord>,
+) -> Result<(), PassFault>
+    requires empty { items.old.items ≡ [] }
+    ensures read { OnOk result ((bytes : List ℕ) → reader.old ≡ (reading_of bytes).1
+        → IsRead wanted.now (bytes ++ piece.now) reader.new) }
+    ensures records { OnOk result ((bytes : List ℕ) → reader.old ≡ (reading_of bytes).1
+        → (reading_of (bytes ++ piece.now)).0 ≡ (reading_of bytes).0 ++ items.new.items) }
+    ensures refused { (refusal : Refused) → result ≡ Err (PassFault.Refused refusal)
+        → (bytes more : List ℕ) → reader.old ≡ (reading_of bytes).1
+        → refusal_of wanted.now ((bytes ++ piece.now) ++ more) ≡ Some refusal }
+    ensures memory { result ≢ Err (PassFault.Refused (refusals.Trace trace_faults.NoMemory)) }
+    ensures quiet { result ≢ Err PassFault.ReadFault }
+{
+    match reader.feed(piece, items) {
+        Ok(()) => match wanted.refusal(reader.header()) {
+            Some(refusal) => Err(PassFault::Refused(refusal)),
+            None => Ok(()),
+        },
+        Err(fault) => Err(fault_after(wanted.refusal(reader.header()), fault)),
+    }
+}
+
+// What the trace is that was read without a fault, or why it is none.
+fn end_of(reader: &TraceReader) -> Result<Passed, PassFault>
+    requires clean { reader.now.fault ≡ None }
+    requires read { (bytes : List ℕ) × (reader.now ≡ (reading_of bytes).1) }
+    ensures ending { IfOk result (λ passed. ending_of reader.now ≡ Ok passed.ending) }
+    ensures progress { IfOk result (λ passed. IsHeadOf reader.now.progress passed) }
+    ensures refused { (refusal : Refused) → result ≡ Err (PassFault.Refused refusal)
+        → trace_refusal (ending_of reader.now) ≡ Some refusal }
+    ensures memory { result ≢ Err (PassFault.Refused (refusals.Trace trace_faults.NoMemory)) }
+    ensures quiet { result ≢ Err PassFault.ReadFault }
+{
+    let ending = match reader.finish() {
+        Ok(ending) => ending,
+        Err(fault) => return Err(PassFault::Refused(Refusal::Trace(fault))),
+    };
+    let Some(version) = reader.version() else {
+        unreachable!();
+    };
+    let Some(header) = reader.header() else {
+        unreachable!();
+    };
+    Ok(Passed {
+        version,
+        header,
+        ending,
+    })
+}
+
+impl Cursor {
+    ghost use Rattle.std.specs.Prelude.{Option};
+    ghost use Rattle.shelf.specs.Shelf.{Files};
+    ghost use Rattle.trace_passes.specs.declared.wanted.Wanted.{Wanted as Wish};
+
+    /// A cursor before the first byte.
+    pub fn new(alloc: Global) -> Result<Cursor, PassFault>
+        ensures begins { IfOk result
+            (λ cursor. (held : Option Files) (name : List ℕ) (wanted : Wish)
+            → HasCome held name wanted [] cursor) }
+        ensures memory { (fault : PassFault) → result ≡ Err fault → fault ≡ PassFault.NoMemory }
+    {
+        Ok(Cursor {
+            reader: TraceReader::new(alloc)?,
+            piece: buffer_of(alloc, PIECE)?,
+            at: 0,
+            items: Vec::new(alloc),
+        })
+    }
+
+    /// The records that became whole in the last piece.
+    pub fn items(&self) -> &[TraceRecord]
+        ensures { result.now ≡ records_at self.now }
+    {
+        &self.items
+    }
+
+    /// Reads the next piece of a name, of at most 16 KiB, and judges the header once it is
+    /// accepted. None stands for more records, and the trace's parts for its end.
+    ///
+    /// The condition is that the bytes so far are read without a fault. At an error nothing is said
+    /// of the cursor.
+    pub fn advance<S: Shelf>(
+        &mut self,
+        shelf: &mut S,
+        name: &str,
+        wanted: &Wanted,
+    ) -> Result<Option<Passed>, PassFault>
+        requires { (bytes : List ℕ)
+            × HasCome (S.outside shelf.old).held name.now wanted.now bytes self.old }
+        // More bytes were read, and their records are there.
+        ensures more { result ≡ Ok None → (bytes : List ℕ)
+            → HasCome (S.outside shelf.old).held name.now wanted.now bytes self.old
+            → GoesOn (S.outside shelf.old).held name.now wanted.now bytes self.new }
+        ensures fewer { result ≡ Ok None → bytes_left self.new < bytes_left self.old }
+        // No more bytes are there, and those so far are a trace.
+        ensures ended { (passed : Parts) → result ≡ Ok (Some passed) → (bytes : List ℕ)
+            → HasCome (S.outside shelf.old).held name.now wanted.now bytes self.old
+            → HasEnded (S.outside shelf.old).held name.now wanted.now bytes passed }
+        ensures refused { (refusal : Refused) → result ≡ Err (PassFault.Refused refusal)
+            → Told (S.outside shelf.old).held
+            (λ files. refusal_of wanted.now (content files name.now) ≡ Some refusal) }
+        ensures memory { result ≢ Err (PassFault.Refused (refusals.Trace trace_faults.NoMemory)) }
+        ensures cause { HasPassCause name.now (S.outside shelf.old) (S.outside shelf.new) result }
+        ensures only { OnlyReads (S.outside shelf.old) (S.outside shelf.new) }
+    {
+        self.items.clear();
+        let count = shelf.read_at(name, self.at, &mut self.piece)?;
+        if count == 0 {
+            return Ok(Some(end_of(&self.reader)?));
+        }
+        take_piece(
+            &mut self.reader,
+            wanted,
+            &self.piece[..count],
+            &mut self.items,
+        )?;
+        self.at += count as u64;
+        Ok(None)
+    }
+}

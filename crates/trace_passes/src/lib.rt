@@ -1,0 +1,22 @@
+//! A named trace, read in pieces, each of whose records an observer sees.
+//!
+//! [`pass`] reads the trace, judges its header against what a caller wants, and gives each record to
+//! an [`Observer`]. It goes by a [`Cursor`], for those who need the shelf between two pieces.
+//! `specs/Passes.antt` says which trace some bytes are, and how one is refused, and
+//! `specs/Cursors.antt` how far a cursor is. `specs/PassLaws.antt`, `specs/CountLaws.antt` and
+//! `specs/SpelledLaws.antt` have laws for those who cite them.
+#![tactic(auto)]
+
+mod cursor;
+mod laws;
+mod observer;
+mod passes;
+#[cfg(test)]
+mod tests;
+mod wanted;
+
+pub use cursor::Cursor;
+pub use laws::a_trace_is_its_spelling;
+pub use observer::Observer;
+pub use passes::{PassFault, Passed, pass};
+pub use wanted::{Refusal, Wanted};

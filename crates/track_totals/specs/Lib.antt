@@ -1,0 +1,2 @@
+pub mod TotalsOf
+pub mod Counted
