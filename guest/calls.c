@@ -1,4 +1,4 @@
-// The calls of a guest: the number in a7, the arguments in a0 to a2, and the answer in a0. spawn stands in start.S.
+// The calls of a guest: the number in a7, the arguments in a0 to a2, and the answer in a0. predator_spawn stands in start.S.
 #include "predator.h"
 
 static int call(int number, uintptr_t first, uintptr_t second, uintptr_t third)
@@ -11,49 +11,49 @@ static int call(int number, uintptr_t first, uintptr_t second, uintptr_t third)
     return (int)a0;
 }
 
-int write(int file, const void *bytes, size_t count)
+int predator_write(int file, const void *bytes, size_t count)
 {
     return call(64, (uintptr_t)file, (uintptr_t)bytes, count);
 }
 
-_Noreturn void exit(int code)
+_Noreturn void predator_exit(int code)
 {
     call(93, (uintptr_t)code, 0, 0);
     __builtin_unreachable();
 }
 
-_Noreturn void exit_group(int code)
+_Noreturn void predator_exit_group(int code)
 {
     call(94, (uintptr_t)code, 0, 0);
     __builtin_unreachable();
 }
 
-void *alloc(size_t size)
+void *predator_alloc(size_t size)
 {
     return (void *)call(1024, size, 0, 0);
 }
 
-int free(void *block)
+int predator_free(void *block)
 {
     return call(1025, (uintptr_t)block, 0, 0);
 }
 
-int join(int hart)
+int predator_join(int hart)
 {
     return call(1027, (uintptr_t)hart, 0, 0);
 }
 
-int wait(const volatile uint32_t *word, uint32_t value)
+int predator_wait(const volatile uint32_t *word, uint32_t value)
 {
     return call(1028, (uintptr_t)word, value, 0);
 }
 
-int wake(const volatile uint32_t *word, uint32_t most)
+int predator_wake(const volatile uint32_t *word, uint32_t most)
 {
     return call(1029, (uintptr_t)word, most, 0);
 }
 
-int hart_id(void)
+int predator_hart_id(void)
 {
     return call(1030, 0, 0, 0);
 }

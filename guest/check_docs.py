@@ -14,7 +14,7 @@ import sys
 import tempfile
 
 TOP = os.path.abspath(os.path.join(os.path.dirname(os.path.abspath(__file__)), ".."))
-FILES = ["README.md", "docs/GUIDE.md", "guest/README.md", "examples/README.md", "docs/FORMATS.md"]
+FILES = ["README.md", "docs/GUIDE.md", "guest/README.md", "examples/README.md", "docs/FORMATS.md", "docs/STUDIES.md"]
 BLOCK = "    "
 
 

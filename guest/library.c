@@ -1,6 +1,7 @@
 // What a compiler calls by itself, and the printing of text and of numbers.
 #include "predator.h"
 
+#ifndef PREDATOR_C_LIBRARY
 void *memcpy(void *restrict to, const void *restrict from, size_t count)
 {
     char *next = to;
@@ -46,9 +47,13 @@ size_t strlen(const char *text)
     return length;
 }
 
+#else
+#include <string.h>
+#endif
+
 void print(const char *text)
 {
-    write(1, text, strlen(text));
+    predator_write(1, text, strlen(text));
 }
 
 void print_number(uint32_t number)
@@ -59,5 +64,5 @@ void print_number(uint32_t number)
         digits[--first] = (char)('0' + number % 10);
         number /= 10;
     } while (number > 0);
-    write(1, digits + first, sizeof digits - first);
+    predator_write(1, digits + first, sizeof digits - first);
 }

@@ -1,27 +1,80 @@
-# Where harts begin and end. Hart 0 begins at _start, with its stack pointer set; any other in hart_entry.
+# Where harts begin and end. Hart 0 begins at _start, with its stack pointer set; any other in hart_entry or thread_entry.
+#
+# With PREDATOR_THREADS each hart has the variables that are thread_local at the end of its stack, and tp shows there. With
+# PREDATOR_C_LIBRARY what main needs of it is done before, and its end behind main.
+
+    .macro  set_gp
+    .option push
+    .option norelax
+    lla     gp, __global_pointer$
+    .option pop
+    .endm
+
+    # Makes the hart's own variables, with a0 and a1 kept.
+    .macro  set_tp
+#ifdef PREDATOR_THREADS
+    lui     t2, %hi(__own_size)
+    addi    t2, t2, %lo(__own_size)
+    sub     tp, sp, t2
+    andi    tp, tp, -256            # (as aligned as any of them may be)
+    mv      sp, tp
+    jal     t0, make_own            # (by t0, which the call list takes for a call as well)
+#endif
+    .endm
 
     .section .text.start, "ax"
 
     .globl  _start
     .type   _start, @function
 _start:
-    .option push
-    .option norelax
-    lla     gp, __global_pointer$
-    .option pop
+    set_gp
+    set_tp
+#ifdef PREDATOR_C_LIBRARY
+    call    predator_start          # runs main, and ends the run
+#else
     call    main
     li      a7, 94                  # exit_group(main's result): the run ends
     ecall
+#endif
     .size   _start, . - _start
+
+#ifdef PREDATOR_THREADS
+    .text
+
+# Copies what is filled at first, word by word, and clears the rest.
+    .type   make_own, @function
+make_own:
+    lla     t3, __own_image
+    lui     t4, %hi(__own_filled)
+    addi    t4, t4, %lo(__own_filled)
+    add     t4, t4, tp
+    add     t2, t2, tp
+    mv      t5, tp
+1:
+    bgeu    t5, t4, 2f
+    lw      t6, 0(t3)
+    sw      t6, 0(t5)
+    addi    t3, t3, 4
+    addi    t5, t5, 4
+    j       1b
+2:
+    bgeu    t5, t2, 3f
+    sw      zero, 0(t5)
+    addi    t5, t5, 4
+    j       2b
+3:
+    jr      t0
+    .size   make_own, . - make_own
+#endif
 
     .text
 
-# int spawn(int (*run)(void *), void *argument)
+# int predator_spawn(int (*run)(void *), void *argument)
 #
 # A new hart is given one argument, and the gp of the hart that makes it. So its function comes to it in gp.
-    .globl  spawn
-    .type   spawn, @function
-spawn:
+    .globl  predator_spawn
+    .type   predator_spawn, @function
+predator_spawn:
     mv      t0, gp
     mv      gp, a0
     lla     a0, hart_entry
@@ -29,16 +82,39 @@ spawn:
     ecall
     mv      gp, t0
     ret
-    .size   spawn, . - spawn
+    .size   predator_spawn, . - predator_spawn
 
     .type   hart_entry, @function
 hart_entry:
-    mv      t0, gp
-    .option push
-    .option norelax
-    lla     gp, __global_pointer$
-    .option pop
-    jalr    t0                      # a0 is the argument
+    mv      t1, gp                  # (t0 is a link register, and a jump through it would count as a return)
+    set_gp
+    set_tp
+    jalr    t1                      # a0 is the argument
     li      a7, 93                  # exit(the function's result): the hart ends
     ecall
     .size   hart_entry, . - hart_entry
+
+#ifdef PREDATOR_THREADS
+    .section .text.predator_spawn_thread, "ax"
+
+# int predator_spawn_thread(void *(*run)(void *), void *argument), of pthread.c
+    .globl  predator_spawn_thread
+    .type   predator_spawn_thread, @function
+predator_spawn_thread:
+    mv      t0, gp
+    mv      gp, a0
+    lla     a0, thread_entry
+    li      a7, 1026
+    ecall
+    mv      gp, t0
+    ret
+    .size   predator_spawn_thread, . - predator_spawn_thread
+
+    .type   thread_entry, @function
+thread_entry:
+    mv      a1, gp
+    set_gp
+    set_tp
+    call    predator_thread         # with the argument and the function; it doesn't come back
+    .size   thread_entry, . - thread_entry
+#endif

@@ -35,6 +35,16 @@ prints() {
     fi
 }
 
+# says WHAT LINE: the last command said this line, behind the program's name, and no other one.
+says() {
+    tried=$((tried + 1))
+    if [ "$(cat said)" != "predator: $2" ]; then
+        echo "$1: not 'predator: $2' but:"
+        head -n 5 said
+        failed=$((failed + 1))
+    fi
+}
+
 quiet() {
     tried=$((tried + 1))
     if [ -s said ]; then
@@ -78,27 +88,73 @@ prints "a summary" "entry 0x00010000"
 
 try "no words" 1 "$predator"
 try "a wrong word" 1 "$predator" run programs/counters.elf --fast
+says "a wrong word" "'--fast' is no option of this command"
 try "no program" 2 "$predator" run settings
 printf '9 1\n' >schedule
 try "no schedule" 3 "$predator" run programs/counters.elf --schedule schedule
 printf 'harts = 0\n' >bad
 try "bad settings" 4 "$predator" run programs/counters.elf --settings bad
+says "bad settings" "\`harts\` is a whole number from 1 to 256"
 try "no trace" 5 "$predator" replay settings
 try "a missing file" 7 "$predator" replay missing
+says "a missing file" "missing: No such file or directory"
 try "a folder" 7 "$predator" replay programs
+says "a folder" "programs: Is a directory"
 try "no place to write" 8 "$predator" run programs/counters.elf --trace missing/t
+says "no place to write" "missing/t: No such file or directory"
 printf 'budget = 10\n' >few
 try "a small budget" 10 "$predator" run programs/counters.elf --settings few
 try "its own name as an output" 1 "$predator" run programs/counters.elf --trace programs/counters.elf
-if [ "${PREDATOR_NAMES:-}" = 1 ]; then
-    # (once the disk shelf knows the files that were read)
-    try "its own name in another form" 8 "$predator" run programs/counters.elf --trace ./programs/counters.elf
-fi
+says "its own name as an output" "a file that is written has the name of another one; each wants its own"
+
+# ---- nothing is lost
+
+same() {
+    tried=$((tried + 1))
+    cmp -s "$here/built/counters.elf" programs/counters.elf || { echo "$1: the program was lost"; failed=$((failed + 1)); }
+    cp "$here/built/counters.elf" programs/counters.elf
+}
+ln -s programs/counters.elf soft.elf
+ln programs/counters.elf hard.elf
+for it in ./programs/counters.elf "$work/programs/counters.elf" soft.elf hard.elf; do
+    try "$it as a trace" 8 "$predator" run programs/counters.elf --trace "$it"
+    says "$it as a trace" "$it: the same file is in use under another name, and stays as it is"
+    same "$it as a trace"
+    try "$it as an output" 8 "$predator" run programs/counters.elf --output "$it"
+    same "$it as an output"
+done
+try "the settings as an output" 8 "$predator" run programs/counters.elf --settings settings --output ./settings
+try "the settings, still there" 0 grep -x "tracking = 1" settings
+try "two outputs of one file" 8 "$predator" run programs/counters.elf --trace t --output ./t
+try "a device" 0 "$predator" run programs/counters.elf --trace /dev/null --output /dev/./null
+quiet "a device"
+
+# ---- messages
+
+try "an output that can't be printed" 8 bash -c '"$0" check programs/counters.elf >/dev/full' "$predator"
+says "an output that can't be printed" "standard output: No space left on device"
+try "no word" 1 "$predator"
+says "no word" "the command is missing; see predator --help"
+try "a wrong command" 1 "$predator" reply t
+says "a wrong command" "'reply' is no command; see predator --help"
+try "a lone option" 1 "$predator" run programs/counters.elf --trace
+says "a lone option" "--trace wants a value behind it"
+try "no layout" 1 "$predator" replay t --size 48
+says "no layout" "--size is a power of two from 4 to 1024, --shift a multiple of 4 below the size"
+try "another machine" 2 "$predator" check /bin/true
+says "another machine" "compile for little-endian RV32, with -march=rv32ima -mabi=ilp32"
+printf 'memory = 65536\n' >small
+try "a small memory" 2 "$predator" run programs/counters.elf --settings small
+says "a small memory" "set more \`memory\`, fewer \`harts\` or less \`stack\` in the settings"
+printf '0  1\n' >spaces
+try "a schedule's line" 3 "$predator" run programs/counters.elf --schedule spaces
+says "a schedule's line" "a line is a hart, one space and a count, as \`0 500\`"
 
 # ---- the cases, over real files
 
 try "the cases" 0 "$here/cases/on_disk.py"
 try "the documents" 0 "$here/check_docs.py"
+try "two studies" 0 "$here/studies/run.py" histogram bounded_queue
 
 # ---- installed
 
@@ -129,6 +185,78 @@ C
     prints "what was built" "outcome exit 0"
     try "initialised variables" 0 grep -x 11 o
     try "a build without words" 1 "$here/build.sh"
+    # Alone, and with free lines before and behind.
+    cat >alone.c <<'C'
+#include "predator.h"
+ALONE volatile uint32_t first;
+ALONE static volatile uint32_t second[64] = {1};
+ALONE volatile uint8_t third;
+volatile uint32_t other = 1;
+int main(void)
+{
+    first = third = 1;
+    return (uintptr_t)second - (uintptr_t)&first < 260 || (uintptr_t)&third - (uintptr_t)second < 512 ||
+        (uintptr_t)&other - (uintptr_t)&third < 257;
+}
+C
+    try "a build of lone variables" 0 "$here/build.sh" alone.elf alone.c
+    try "lone variables" 0 "$predator" run alone.elf
+    prints "lone variables" "outcome exit 0"
+
+    # What can't be had says why.
+    cannot() {
+        echo "$2" >cannot.c
+        try "cannot $1" 1 "$here/build.sh" cannot.elf cannot.c
+        tried=$((tried + 1))
+        grep -q "unavailable: $3" said || { echo "cannot $1: no reason is said"; failed=$((failed + 1)); }
+    }
+    cannot "cancel" '#include <pthread.h>
+int main(void) { return pthread_cancel(pthread_self()); }' "a hart can't be ended by another one"
+    cannot "signal" '#include <pthread.h>
+int main(void) { return pthread_kill(pthread_self(), 2); }' "there are no signals"
+    cannot "wait for a time" '#include <pthread.h>
+int f(pthread_cond_t *c, pthread_mutex_t *m) { return pthread_cond_timedwait(c, m, 0); } int main(void) { return 0; }' "there is no clock"
+    cannot "bring a stack" '#include <pthread.h>
+int main(void) { pthread_attr_t a; return pthread_attr_setstack(&a, 0, 0); }' "each hart has the stack"
+    cannot "sleep" '#include <unistd.h>
+int main(void) { return (int)sleep(1); }' "there is no clock"
+    try "threads" 0 "$here/threads.sh" --seeds 2
+
+    # The C library, where it is.
+    if [ -d /usr/lib/picolibc/riscv64-unknown-elf ]; then
+        for it in as_is atomics; do
+            try "a build of $it" 0 "$here/build.sh" $it.elf "$here/examples/$it.c"
+            try "$it" 0 "$predator" run $it.elf --output $it.out
+            prints "$it" "outcome exit 0"
+            if command -v cc >/dev/null; then
+                try "$it natively" 0 cc -pthread -w "$here/examples/$it.c" -o $it.native
+                ./$it.native >$it.wanted
+                try "the same from $it" 0 cmp $it.wanted $it.out
+            fi
+        done
+        cat >words.c <<'C'
+#include <assert.h>
+#include <stdio.h>
+#include <stdlib.h>
+static void last(void) { puts("last"); }
+int main(int count, char **words)
+{
+    atexit(last);
+    for (int i = 1; i < count; i++)
+        printf("word %s\n", words[i]);
+    assert(count == 3);
+    exit(3);
+}
+C
+        try "a build with words" 0 env ARGUMENTS="4 in.txt" "$here/build.sh" words.elf words.c
+        try "words" 0 "$predator" run words.elf --output o
+        prints "words" "outcome exit 3"
+        try "the last words" 0 grep -x -c -e last -e "word in.txt" o
+        try "a build without words" 0 "$here/build.sh" words.elf words.c
+        try "a failed claim" 0 "$predator" run words.elf --output o
+        prints "a failed claim" "outcome exit 134"
+        try "a failed claim is said" 0 grep "count == 3" o
+    fi
 fi
 
 # ---- the unproved run, which takes minutes: UNPROVED=1

@@ -18,7 +18,7 @@ import struct
 import sys
 
 PAGE = 4096
-MOST = (2**26 - 45) // 8
+MOST = 2**40
 
 
 def stop(why):
@@ -69,7 +69,7 @@ def table_of(found):
 
 def write(found, harts, table, path):
     if len(found) > MOST:
-        stop(f"{len(found)} accesses, and a trace of 2^26 bytes has at most {MOST}")
+        stop(f"{len(found)} accesses, and a trace has at most {MOST}")
     with open(path, "wb") as out:
         out.write(struct.pack("<8sQHH", b"PRDTRC01", 0, harts, 0))
         for hart, tag, addr, size in found:

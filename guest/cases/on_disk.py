@@ -25,12 +25,25 @@ def content(form, lines, words):
         return "".join(line + "\n" for line in lines).encode()
     if form == "bytes":
         return bytes.fromhex("".join(lines))
-    made = struct.pack("<8sQHH", b"PRDTRC01", 0, 8, 0)
-    for line in lines:
-        touch, addr, size = (line.split() + ["4"])[:3]
-        made += struct.pack("<BHIB", 1 + (touch[0] == "W"), int(touch[1:]), int(addr, 16), int(size))
-    steps = int(words[1]) if len(words) > 1 else len(lines)
-    return made + struct.pack("<B8xQQ", 6, steps, len(lines))
+    made = struct.pack("<8sQHH", b"PRDTRC01", 0, 8, 0) + b"".join(map(record, lines))
+    accesses = sum(line[0] in "RW" for line in lines)
+    steps = int(words[1]) if len(words) > 1 else accesses
+    return made + struct.pack("<B8xQQ", 6, steps, accesses)
+
+
+def record(line):
+    """The bytes of a record that a case spells."""
+    words = line.split()
+    if words[0] == "alloc":
+        sites = [int(it, 16) for it in words[3:]]
+        return struct.pack("<BII4I", 3, int(words[1], 16), int(words[2]), *sites, *[0] * (4 - len(sites)))
+    if words[0] == "free":
+        return struct.pack("<BI", 4, int(words[1], 16))
+    if words[0] == "symbol":
+        kind, name = 1 + (words[1] == "function"), words[4].encode()
+        return struct.pack("<BBIIH", 5, kind, int(words[2], 16), int(words[3]), len(name)) + name
+    touch, addr, size = (words + ["4"])[:3]
+    return struct.pack("<BHIB", 1 + (touch[0] == "W"), int(touch[1:]), int(addr, 16), int(size))
 
 
 def parts(path):

@@ -122,3 +122,29 @@
     li      a7, 94
     li      a0, 9
     ecall
+
+#= allocates: makes blocks of 24 bytes and of none, writes to the first, and exits with the second's address
+    li      a7, 1024
+    li      a0, 24
+    ecall
+    mv      t0, a0
+    li      a0, 0
+    ecall
+    sw      zero, 0(t0)
+    li      a7, 93
+    ecall
+
+#= frees: makes a block in a function that it calls, writes to it, frees it twice, and exits with the second answer
+    jal     ra, 1f
+    sw      zero, 4(a0)
+    mv      s0, a0
+    li      a7, 1025
+    ecall
+    mv      a0, s0
+    ecall
+    li      a7, 93
+    ecall
+1:  li      a7, 1024
+    li      a0, 8
+    ecall
+    ret

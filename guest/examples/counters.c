@@ -18,10 +18,10 @@ int main(void)
 {
     int harts[HARTS];
     for (int i = 1; i < HARTS; i++)
-        harts[i] = spawn(count, (void *)&counters[i]);
+        harts[i] = predator_spawn(count, (void *)&counters[i]);
     count((void *)&counters[0]);
     for (int i = 1; i < HARTS; i++)
-        if (harts[i] < 0 || join(harts[i]) != 0)
+        if (harts[i] < 0 || predator_join(harts[i]) != 0)
             return 1;
     uint32_t sum = 0;
     for (int i = 0; i < HARTS; i++)

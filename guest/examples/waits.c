@@ -16,13 +16,13 @@ static void take(void)
     if (__atomic_compare_exchange_n(&lock, &seen, 1, 0, __ATOMIC_SEQ_CST, __ATOMIC_SEQ_CST))
         return;
     while (__atomic_exchange_n(&lock, 2, __ATOMIC_SEQ_CST) != 0)
-        wait(&lock, 2);
+        predator_wait(&lock, 2);
 }
 
 static void leave(void)
 {
     if (__atomic_exchange_n(&lock, 0, __ATOMIC_SEQ_CST) == 2)
-        wake(&lock, 1);
+        predator_wake(&lock, 1);
 }
 
 static int hand_round(void *argument)
@@ -31,25 +31,25 @@ static int hand_round(void *argument)
     for (int i = 0; i < ROUNDS; i++) {
         uint32_t seen;
         while ((seen = turns) % HARTS != number)
-            wait(&turns, seen);
+            predator_wait(&turns, seen);
         turns = seen + 1;
-        wake(&turns, HARTS);
+        predator_wake(&turns, HARTS);
         take();
         count += 1;
         leave();
         __atomic_fetch_add(&added, 1, __ATOMIC_SEQ_CST);
     }
-    return hart_id();
+    return predator_hart_id();
 }
 
 int main(void)
 {
     int harts[HARTS];
     for (uint32_t i = 1; i < HARTS; i++)
-        harts[i] = spawn(hand_round, (void *)i);
+        harts[i] = predator_spawn(hand_round, (void *)i);
     int codes = hand_round((void *)0);
     for (int i = 1; i < HARTS; i++)
-        codes += join(harts[i]);
+        codes += predator_join(harts[i]);
     print("turns ");
     print_number(turns);
     print(" count ");

@@ -1,0 +1,106 @@
+#!/usr/bin/env python3
+"""Builds Debian's allocators, unchanged, into one workload, runs it, and prints where blocks of two threads meet: run.py [--renew].
+
+fetch.sh has fetched the sources. --renew puts the table into docs/STUDIES.md."""
+
+import os
+import subprocess
+import sys
+import tempfile
+
+HERE = os.path.dirname(os.path.abspath(__file__))
+sys.path.insert(0, os.path.join(HERE, "..", "studies"))
+from report import PROGRAM, TOP, Run, block, renew, table  # noqa: E402
+
+SETTINGS = "memory = 67108864\n"
+KIT = "the kit's `malloc`"
+# How many lines of a report are shown.
+MOST = 4
+SHIM = [os.path.join(HERE, "shim", "shim.c")]
+FETCHED = os.path.join(HERE, "fetched")
+# Each allocator's sources, and the flags that its own documents name for a release with locks.
+ALLOCATORS = {
+    KIT: ([], []),
+    "dlmalloc 2.8.3": (
+        [*SHIM, os.path.join(FETCHED, "dlmalloc", "src", "dlmalloc.c")],
+        ["-DMALLOC=dlmalloc", "-DFREE=dlfree", "-DUSE_DL_PREFIX", "-DUSE_LOCKS"],
+    ),
+    "mimalloc 2.0.9": (
+        [*SHIM, os.path.join(FETCHED, "mimalloc", "src", "static.c")],
+        ["-DMALLOC=mi_malloc", "-DFREE=mi_free", "-DNDEBUG", "-I", os.path.join(FETCHED, "mimalloc", "include")]
+        # (picolibc declares its clocks where these are defined)
+        + ["-D_POSIX_TIMERS", "-D_POSIX_MONOTONIC_CLOCK", "-w"],
+    ),
+}
+WORKLOADS = {"own": [], "handed over": ["-DPASSED"]}
+
+
+def build(out, sources, flags):
+    words = [os.path.join(TOP, "guest", "build.sh"), out, os.path.join(HERE, "workload.c"), *sources, "--"]
+    words += ["-g0", "-I", os.path.join(HERE, "shim"), "-I", os.path.join(TOP, "guest"), *flags]
+    subprocess.run(words, check=True, env={**os.environ, "KIT": "c"})
+
+
+def heap_of(path):
+    """Where the heap begins."""
+    ran = subprocess.run([PROGRAM, "check", path], stdout=subprocess.PIPE, text=True, check=True)
+    return next(int(it.split()[1], 16) for it in ran.stdout.split("\n") if it.startswith("heap"))
+
+
+def threads_of(output):
+    """The threads whose blocks stand on each line of 64 bytes, at the end."""
+    found = {}
+    for words in (it.split() for it in output.split("\n") if it.startswith("block ")):
+        first, size, thread = int(words[1], 16), int(words[2]), int(words[3])
+        for base in range(first & -64, first + size, 64):
+            found.setdefault(base, set()).add(thread)
+    return found
+
+
+def row(name, workload, run, heap):
+    threads = threads_of(run.output)
+    of_heap = [it for it in run.report.of_kind("observed") if it.base >= heap]
+    others = [it for it in run.report.of_kind("observed") if it.base < heap]
+    met = [it for it in threads if len(threads[it]) > 1]
+    return [
+        name,
+        workload,
+        len(threads),
+        len(met),
+        len(of_heap),
+        sum(it.count for it in of_heap),
+        len(others),
+        sum(it.count for it in others),
+        run.told(),
+    ]
+
+
+def first_lines(report):
+    """The first observed lines, and what stands on them."""
+    return [text for it in report.of_kind("observed")[:MOST] for text in [it.text, *it.objects]]
+
+
+def main(words):
+    if not os.path.isdir(os.path.join(FETCHED, "mimalloc")):
+        sys.exit("run.py: guest/allocators/fetch.sh fetches the allocators' sources first")
+    rows, shown, wrong = [], [], 0
+    with tempfile.TemporaryDirectory() as work:
+        for name, (sources, flags) in ALLOCATORS.items():
+            for workload, more in WORKLOADS.items():
+                path = os.path.join(work, "workload.elf")
+                build(path, sources, flags + more)
+                run = Run(path, SETTINGS)
+                wrong += len(run.wrong)
+                rows.append(row(name, workload, run, heap_of(path)))
+                if not more:
+                    shown.append(f"{name}:\n\n" + block(first_lines(run.report) or ["lines 0"]))
+    heads = ["Allocator", "First blocks", "Lines with blocks", "of two threads", "Observed on the heap", "Counts"]
+    parts = {"allocators": table([*heads, "Observed elsewhere", "Counts", "Recount"], rows), "allocators' lines": "\n\n".join(shown)}
+    for name, text in parts.items():
+        print(f"\n== {name}\n\n{text}")
+    if "--renew" in words:
+        renew(parts)
+    return 1 if wrong else 0
+
+
+sys.exit(main(sys.argv[1:]))

@@ -1,0 +1,97 @@
+// What the C library asks of a system, and where a program with it begins and ends.
+#include <errno.h>
+#include <signal.h>
+#include <stdint.h>
+#include <stdlib.h>
+#include <sys/time.h>
+#include <time.h>
+#include <unistd.h>
+#include "../predator.h"
+
+#ifndef PREDATOR_ARGUMENTS
+#define PREDATOR_ARGUMENTS
+#endif
+
+int main(int count, char **words, char **names);
+void __libc_init_array(void);
+
+// Run by start.S in place of main.
+_Noreturn void predator_start(void)
+{
+    static char *words[] = {"program", PREDATOR_ARGUMENTS NULL};
+    __libc_init_array();
+    exit(main(sizeof words / sizeof *words - 1, words, environ));
+}
+
+void _init(void)
+{
+}
+
+void _fini(void)
+{
+}
+
+_Noreturn void _exit(int code)
+{
+    predator_exit_group(code);
+}
+
+// As a shell tells of a program that aborts.
+_Noreturn void abort(void)
+{
+    predator_exit_group(134);
+}
+
+// There is one process. A signal that it raises, and doesn't handle, ends the run in the same way.
+pid_t getpid(void)
+{
+    return 1;
+}
+
+int kill(pid_t process, int signal)
+{
+    if (process == getpid() && signal != 0)
+        predator_exit_group(128 + signal);
+    return process == getpid() ? 0 : (errno = ESRCH, -1);
+}
+
+ssize_t write(int file, const void *bytes, size_t count)
+{
+    int done = predator_write(file, bytes, count);
+    if (done >= 0)
+        return done;
+    errno = -done;
+    return -1;
+}
+
+// There is no clock.
+time_t time(time_t *now)
+{
+    if (now != NULL)
+        *now = -1;
+    return -1;
+}
+
+clock_t clock(void)
+{
+    return (clock_t)-1;
+}
+
+int gettimeofday(struct timeval *restrict now, void *restrict zone)
+{
+    (void)now, (void)zone;
+    errno = ENOSYS;
+    return -1;
+}
+
+int clock_gettime(clockid_t clock, struct timespec *now)
+{
+    (void)clock, (void)now;
+    errno = ENOSYS;
+    return -1;
+}
+
+int clock_getres(clockid_t clock, struct timespec *least)
+{
+    return clock_gettime(clock, least);
+}

@@ -1,0 +1,142 @@
+"""What the scripts of the studies share: a run of the program, its report, the recount of its trace, and tables in a document."""
+
+import os
+import subprocess
+import sys
+import tempfile
+import time
+
+TOP = os.path.abspath(os.path.join(os.path.dirname(os.path.abspath(__file__)), "..", ".."))
+BUILT = os.path.join(TOP, "guest", "built", "studies")
+PROGRAM = os.environ.get("PREDATOR", os.path.join(TOP, "bin", "predator"))
+PAGE = os.path.join(TOP, "docs", "STUDIES.md")
+
+sys.path.insert(0, os.path.join(TOP, "tools"))
+from recount import accesses, recount  # noqa: E402
+
+
+def shown(addr):
+    return f"{'-' if addr < 0 else ''}0x{abs(addr):08x}"
+
+
+class Line:
+    """A listed line of a report: its own line, and the lines of what stands on it and of its words, as they are printed."""
+
+    def __init__(self, text):
+        words = text.split()
+        self.text, self.kind, self.base = text, words[1], int(words[2], 16)
+        self.size, self.start, self.count = (int(words[it]) for it in (3, 5, 7))
+        self.verdict, self.objects, self.words = words[9], [], []
+
+
+class Report:
+    def __init__(self, text):
+        self.text, self.lines = text, []
+        for line in text.split("\n"):
+            words = line.split()
+            if words[:1] == ["line"]:
+                self.lines.append(Line(line))
+            elif words[:1] == ["outcome"]:
+                self.outcome = line
+            elif words[:1] == ["steps"]:
+                self.steps = int(words[1])
+            elif words[:1] in (["object"], ["site"]):
+                self.lines[-1].objects.append(line)
+            elif words[:1] == ["word"]:
+                self.lines[-1].words.append(line)
+
+    def of_kind(self, *kinds):
+        return [it for it in self.lines if it.kind in kinds]
+
+    def sum(self, *kinds):
+        return sum(it.count for it in self.of_kind(*kinds))
+
+
+def count_since(trace, line):
+    """The count of a line since its start, whatever opened it, by caches that are simulated over the whole list."""
+    held, count = set(), 0
+    for position, (hart, addr, is_write) in enumerate(accesses(trace)):
+        if line.base <= addr < line.base + line.size:
+            count += is_write and position > line.start and bool(held - {hart})
+            held = {hart} if is_write else held | {hart}
+    return count
+
+
+def called(words, trace):
+    """The report of a call that has a trace, written or read."""
+    ran = subprocess.run([PROGRAM, *words], stdout=subprocess.PIPE, text=True, check=False)
+    if "\nend\n" not in ran.stdout or not os.path.exists(trace):
+        sys.exit(f"{' '.join(words)}: no report with a trace, and status {ran.returncode} (the built program is wanted)\n{ran.stdout}")
+    return Report(ran.stdout)
+
+
+class Run:
+    """A run of a built program under settings: its report, that of its trace under words of 4 bytes, its output, and what is wrong: an end
+    other than exit 0, and what the recount of the trace says otherwise."""
+
+    def __init__(self, path, settings=""):
+        if not os.path.exists(path):
+            sys.exit(f"{path} isn't there: `guest/build.sh studies` builds it")
+        with tempfile.TemporaryDirectory() as work:
+            names = {it: os.path.join(work, it) for it in ("settings", "trace", "output")}
+            with open(names["settings"], "w") as file:
+                file.write(settings)
+            began = time.monotonic()
+            self.report = called(["run", path, *(it for name in names for it in (f"--{name}", names[name]))], names["trace"])
+            self.seconds = time.monotonic() - began
+            self.by_word = called(["replay", names["trace"], "--size", "4"], names["trace"])
+            with open(names["trace"], "rb") as file:
+                trace = file.read()
+            with open(names["output"]) as file:
+                self.output = file.read()
+        self.wrong = [] if self.report.outcome == "outcome exit 0" else [self.report.outcome]
+        self.wrong += differences(trace, 64, self.report) + differences(trace, 4, self.by_word)
+        for it in self.report.of_kind("shifted", "doubled"):
+            again = count_since(trace, it)
+            if again != it.count:
+                self.wrong.append(f"{it.text}: recounted {again}")
+
+    def told(self):
+        return "differs" if self.wrong else "equal"
+
+
+def differences(trace, size, report):
+    """The observed lines that a report and the recount tell otherwise, of either."""
+    counted = {base: (start, count) for base, start, count in recount(trace, size)}
+    observed = {it.base: (it.start, it.count) for it in report.of_kind("observed")}
+    return [
+        f"line {shown(it)} of {size}: reported {observed.get(it)}, recounted {counted.get(it)}"
+        for it in sorted(counted.keys() | observed.keys())
+        if counted.get(it) != observed.get(it)
+    ]
+
+
+def table(heads, rows):
+    """A table of a document; numbers stand to the right."""
+    rows = [[str(it) for it in row] for row in rows]
+    right = ["-:" if all(row[at].isdigit() for row in rows) else "-" for at in range(len(heads))]
+    return "\n".join(f"| {' | '.join(row)} |" for row in [heads, right, *rows])
+
+
+def block(lines):
+    return "\n".join(f"    {it}" for it in lines)
+
+
+def commit():
+    words = ["git", "-C", TOP, "describe", "--always", "--dirty", "--abbrev=12"]
+    ran = subprocess.run(words, stdout=subprocess.PIPE, text=True, check=False)
+    return ran.stdout.strip() or "unknown"
+
+
+def renew(parts):
+    """Puts texts into the document, each between its mark `<!-- NAME -->` and the next `<!-- end -->`."""
+    with open(PAGE) as file:
+        page = file.read()
+    for name, text in parts.items():
+        mark = f"<!-- {name} -->\n"
+        if mark not in page:
+            sys.exit(f"{PAGE}: there is no {mark}")
+        before, rest = page.split(mark, 1)
+        page = f"{before}{mark}\n{text}\n\n<!-- end -->{rest.split('<!-- end -->', 1)[1]}"
+    with open(PAGE, "w") as file:
+        file.write(page)

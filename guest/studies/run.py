@@ -1,0 +1,108 @@
+#!/usr/bin/env python3
+"""Runs the studies, recounts their traces, and prints their tables: run.py [--renew] [STUDY ..].
+
+The programs are those that `guest/build.sh studies` built. --renew puts the tables into docs/STUDIES.md, with the commit. It ends with 1
+where a program doesn't end with exit 0, or a recount says otherwise than a report."""
+
+import os
+import sys
+
+from report import BUILT, Run, block, commit, renew, shown, table
+
+HERE = os.path.dirname(os.path.abspath(__file__))
+# How many lines of a report a study shows, and the one that shows the words of the first.
+MOST = 4
+SHOWN = "linear_regression"
+# The studies that show a prediction, and the place of their build where nothing is observed.
+PREDICTED = {"linear_regression": 0, "word_count": 0, "string_match": 0}
+# Settings other than the usual ones.
+SETTINGS = {"bounded_queue": "quantum = 10\n"}
+
+
+def builds():
+    """The names of the builds of each study, in order."""
+    found = {}
+    with open(os.path.join(HERE, "builds.txt")) as file:
+        for words in (it.split() for it in file):
+            if words and words[0] != "#":
+                found.setdefault(words[0].split("-")[0], []).append(words[0])
+    return found
+
+
+def summary(runs):
+    rows = []
+    for name, run in runs.items():
+        counts = [len(run.report.of_kind("observed")), run.report.sum("observed"), run.by_word.sum("observed")]
+        predicted = [len(run.report.of_kind("shifted", "doubled")), run.report.sum("shifted", "doubled")]
+        rows.append([name, run.report.steps, *counts, *predicted, run.told()])
+    return table(["Build", "Steps", "Observed lines", "Counts", "By word", "Predicted lines", "Counts", "Recount"], rows)
+
+
+def excerpt(name, run):
+    """The first observed lines of a report with what stands on them, or else the first predicted ones, as the program printed them."""
+    lines, observed = run.report.lines, run.report.of_kind("observed")
+    first = (observed or lines)[:MOST]
+    made = [f"{name}: lines {len(lines)}" + (f", {len(observed)} of them observed" if lines else "")]
+    for it in first:
+        made += [it.text, *it.objects, *(it.words if name == SHOWN and it == first[0] else [])]
+    return block(made + [".."] * (len(observed or lines) > MOST))
+
+
+def placements(runs):
+    rows = []
+    for name, run in runs.items():
+        if "-at-" in name:
+            report = run.report
+            rows.append(
+                [name.split("-at-")[1]]
+                + [len(report.of_kind("observed")), report.sum("observed")]
+                + [len(report.of_kind("shifted")), report.sum("shifted")]
+                + [len(report.of_kind("doubled")), report.sum("doubled")]
+            )
+    return table(["Place", "Observed", "Counts", "Shifted", "Counts", "Doubled", "Counts"], rows)
+
+
+def foretold(study, place, runs):
+    """Each shifted line that was predicted at a place, beside the line that is observed where the data lie so."""
+    rows = []
+    for line in runs[f"{study}-at-{place}"].report.of_kind("shifted"):
+        moved = (place - line.base) % 64
+        other = runs.get(f"{study}-at-{moved}")
+        seen = [it for it in other.report.of_kind("observed") if it.base == line.base + moved - place] if other else []
+        rows.append(
+            [study, place, f"`{shown(line.base)}`", line.count, moved]
+            + ([f"`{shown(seen[0].base)}`", seen[0].count] if seen else ["-", "-"])
+        )
+    return rows
+
+
+def main(words):
+    studies = builds()
+    names = [it for it in words if it != "--renew"] or list(studies)
+    if "--renew" in words and names != list(studies):
+        sys.exit("run.py: --renew is for all studies")
+    runs, wrong = {}, 0
+    for name in (it for study in names for it in studies[study]):
+        runs[name] = Run(os.path.join(BUILT, f"{name}.elf"), SETTINGS.get(name.split("-")[0], ""))
+        wrong += len(runs[name].wrong)
+        for it in runs[name].wrong:
+            print(f"{name}: {it}")
+    parts = {"suite": summary(runs)}
+    for study in names:
+        parts[study] = "\n\n".join(excerpt(it, runs[it]) for it in studies[study] if "-at-" not in it)
+        if any("-at-" in it for it in studies[study]):
+            parts[f"{study} by place"] = placements({it: runs[it] for it in studies[study]})
+    heads = ["Study", "Place", "Predicted line", "Count", "Place of the other run", "Observed line", "Count"]
+    rows = [row for study, place in PREDICTED.items() if study in names for row in foretold(study, place, runs)]
+    parts["foretold"] = table(heads, rows)
+    slowest = max(runs, key=lambda it: runs[it].seconds)
+    parts["commit"] = f"Made at commit {commit()}."
+    for name, text in parts.items():
+        print(f"\n== {name}\n\n{text}")
+    print(f"\n{len(runs)} programs, {wrong} wrong; the slowest, {slowest}, ran for {runs[slowest].seconds:.1f} s")
+    if "--renew" in words:
+        renew(parts)
+    return 1 if wrong else 0
+
+
+sys.exit(main(sys.argv[1:]))
