@@ -2,14 +2,14 @@
 _predator() {
     local word=${COMP_WORDS[COMP_CWORD]} before=${COMP_WORDS[COMP_CWORD - 1]} options
     if ((COMP_CWORD == 1)); then
-        mapfile -t COMPREPLY < <(compgen -W "run replay check gen --help --version" -- "$word")
+        mapfile -t COMPREPLY < <(compgen -W "run replay check split gen convert --help --version" -- "$word")
         return
     fi
     case ${COMP_WORDS[1]} in
         run) options="--settings --schedule --trace --output" ;;
         replay) options="--settings --size --shift" ;;
         check) options="--settings" ;;
-        gen) options="" ;;
+        split | gen | convert) options="" ;;
         *) return ;;
     esac
     case $before in

@@ -81,6 +81,14 @@ try "the output" 0 grep -x "sum 80000" o
 try "a replay" 0 "$predator" replay t
 try "a replay under words" 0 "$predator" replay t --size 4
 prints "a replay under words" "lines 0"
+try "a conversion" 0 "$predator" convert t converted
+prints "a conversion" "convert 2 160042"
+try "a conversion back" 0 "$predator" convert converted back
+try "the first trace again" 0 cmp t back
+try "a cut" 0 "$predator" split t 100000 before behind
+prints "a cut" "split 100000 60042"
+try "a half over its trace" 8 "$predator" split t 100000 other ./t
+try "the trace, still there" 0 cmp t back
 try "a summary" 0 "$predator" check programs/counters.elf
 prints "a summary" "entry 0x00010000"
 

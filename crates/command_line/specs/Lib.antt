@@ -7,5 +7,7 @@ pub mod Demands
 pub mod Replay
 pub mod Check
 pub mod Run
+pub mod Split
 pub mod Gen
+pub mod Convert
 pub mod Words

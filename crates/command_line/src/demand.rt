@@ -2,9 +2,11 @@
 ghost use Rattle.std.specs.Prelude.{◌≡◌};
 
 use crate::check::CheckOptions;
+use crate::convert::ConvertOptions;
 use crate::generate::GenOptions;
 use crate::replay::ReplayOptions;
 use crate::run::RunOptions;
+use crate::split::SplitOptions;
 use std::alloc::AllocError;
 
 /// What the words ask for: a command, with its options.
@@ -17,8 +19,13 @@ pub enum Demand<'a> {
     /// Run a program, and report. No file that it writes has the name of another that it reads or
     /// writes.
     Run(RunOptions<'a>),
+    /// Cut a trace in two, and tell of both. The trace and its halves have three names.
+    Split(SplitOptions<'a>),
     /// Make a trace, and tell of it.
     Gen(GenOptions<'a>),
+    /// Write a trace in the other version, and tell of it. The file has another name than the
+    /// trace.
+    Convert(ConvertOptions<'a>),
 }
 
 /// Why words give no demand.

@@ -7,6 +7,7 @@
 #![tactic(auto)]
 
 mod check;
+mod convert;
 mod demand;
 mod forms;
 mod generate;
@@ -14,13 +15,16 @@ mod layout;
 mod names;
 mod replay;
 mod run;
+mod split;
 #[cfg(test)]
 mod tests;
 mod words;
 
 pub use check::CheckOptions;
+pub use convert::ConvertOptions;
 pub use demand::{Demand, WordsFault};
 pub use generate::GenOptions;
 pub use replay::ReplayOptions;
 pub use run::RunOptions;
+pub use split::SplitOptions;
 pub use words::read_words;

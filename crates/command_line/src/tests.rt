@@ -1,5 +1,8 @@
 // Command lines as users write them, each against what it asks for.
-use crate::{CheckOptions, Demand, GenOptions, ReplayOptions, RunOptions, WordsFault, read_words};
+use crate::{
+    CheckOptions, ConvertOptions, Demand, GenOptions, ReplayOptions, RunOptions, SplitOptions,
+    WordsFault, read_words,
+};
 use predator_base::Layout;
 use std::alloc::{AllocError, Global};
 use std::test::Fail;
@@ -162,12 +165,47 @@ fn reads_how_many_accesses_are_made(rt: HostRuntime) -> Result<(), Fail> {
 }
 
 #[test]
+fn reads_which_trace_is_copied(rt: HostRuntime) -> Result<(), Fail> {
+    let alloc = rt.alloc();
+    let halves = Ok(Demand::Split(SplitOptions {
+        trace: "t",
+        at: 18_446_744_073_709_551_615,
+        first: "a",
+        second: "",
+    }));
+    assert!(rt; is_answered(alloc, "split t 18446744073709551615 a ", &halves)?);
+    let other = Ok(Demand::Convert(ConvertOptions {
+        trace: "-t",
+        file: "f",
+    }));
+    assert!(rt; is_answered(alloc, "convert -- -t f", &other)?);
+    for line in [
+        "split t 18446744073709551616 a b",
+        "split t 04 a b",
+        "split 4 t a b",
+        "split t 4 a",
+        "split t 4 a b c",
+        "split t 4 a b --c",
+        "convert t",
+        "convert t f g",
+        "convert t --f",
+    ] {
+        assert!(rt; is_usage(alloc, line)?, "{line}");
+    }
+    Ok(())
+}
+
+#[test]
 fn refuses_one_name_for_two_files(rt: HostRuntime) -> Result<(), Fail> {
     let alloc = rt.alloc();
     assert!(rt; is_usage(alloc, "run p --trace p")?);
     assert!(rt; is_usage(alloc, "run p --output s --settings s")?);
     assert!(rt; is_usage(alloc, "run p --schedule s --output=s")?);
     assert!(rt; is_usage(alloc, "run p --output t --trace t")?);
+    assert!(rt; is_usage(alloc, "split t 4 a a")?);
+    assert!(rt; is_usage(alloc, "split t 4 t b")?);
+    assert!(rt; is_usage(alloc, "split t 4 a t")?);
+    assert!(rt; is_usage(alloc, "convert t t")?);
     let one_input = run(Some("p"), Some("p"), None, None);
     assert!(rt; is_answered(alloc, "run p --settings p --schedule p", &one_input)?);
     Ok(())

@@ -6,10 +6,12 @@ ghost use Rattle.command_line.specs.Words.{IsBounded, asked_of, demand_of, input
 ghost use Rattle.command_line.specs.Words.{meaning, outputs};
 
 use crate::check::read_check;
+use crate::convert::{self, read_convert};
 use crate::demand::{Demand, WordsFault};
 use crate::generate::read_gen;
 use crate::replay::read_replay;
-use crate::run::{has_names_apart, read_run};
+use crate::run::{self, read_run};
+use crate::split::{self, read_split};
 use std::alloc::Global;
 
 // What the words ask of the command that the first of them names.
@@ -38,8 +40,16 @@ fn read_command<'a>(
             Ok(options) => Ok(Demand::Run(options)),
             Err(fault) => Err(fault),
         },
+        "split" => match read_split(alloc, words) {
+            Ok(options) => Ok(Demand::Split(options)),
+            Err(fault) => Err(fault),
+        },
         "gen" => match read_gen(alloc, words) {
             Ok(options) => Ok(Demand::Gen(options)),
+            Err(fault) => Err(fault),
+        },
+        "convert" => match read_convert(alloc, words) {
+            Ok(options) => Ok(Demand::Convert(options)),
             Err(fault) => Err(fault),
         },
         _ => Err(WordsFault::Usage),
@@ -52,7 +62,9 @@ fn are_names_apart(demand: &Demand<'_>) -> bool
 {
     match demand {
         Demand::Replay(_) | Demand::Check(_) | Demand::Gen(_) => true,
-        Demand::Run(options) => has_names_apart(options),
+        Demand::Run(options) => run::has_names_apart(options),
+        Demand::Split(options) => split::has_names_apart(options),
+        Demand::Convert(options) => convert::has_names_apart(options),
     }
 }
 

@@ -1,21 +1,21 @@
 -- What a command has done stands after a text is printed.
-use Rattle.std.proofs.Common.{◌≡◌, ◌≢◌, ℕ, ◌≤◌, false, List, [], Option, Some, None, sym, ◌∙◌, ap, refl, inl, inr, ◌⊎◌}
+use Rattle.std.proofs.Common.{◌≡◌, ◌≢◌, ℕ, ◌≤◌, Bool, true, false, List, [], Option, Some, None, sym, ◌∙◌, ap, refl, inl, inr, ◌⊎◌}
 use Rattle.shelf.specs.Shelf.{Files, Outside, Told, Goes, Rose, OnlyPrints, OnlyReads, Adds, AddsFront}
 use Rattle.command_line.specs.Words.{Demand, outputs as outputs_of}
 use Rattle.predator_cli.specs.Readings.{IsStopped, first_refusal}
 use Rattle.predator_cli.specs.Commands.{readings_of, work_of}
 use Rattle.predator_cli.specs.Works.{Work, done_with}
 use Rattle.outputs.specs.Files.{AllMayStand, AreWhole, Output, bytes_for}
-use Rattle.predator_cli.specs.Written.{AreSame, Writes}
+use Rattle.predator_cli.specs.Written.{AreSame, OnlyAt, StandsInPart, StaysAtReadFault, StaysAtRefusal, Writes}
 use Rattle.predator_cli.specs.Again.{RepeatsReport, WhereDone}
-use Rattle.predator_cli.specs.Answer.{answer_of, outputs, refusal_of}
+use Rattle.predator_cli.specs.Answer.{answer_of, are_copies, outputs, refusal_of}
 use Rattle.predator_cli.specs.Statuses.{Kind, kind_of, done, refusal, read_fault, write_fault, no_memory, hides_no_memory}
 use Rattle.predator_cli.specs.Meets.{EndsAs, IsAnswered, IsCaused, IsComplete, IsFaulty, IsPrintable, IsWorked, Meets, NoFaults, Printed}
 use Rattle.predator_cli.specs.Meets.{Prints, ReadsInPeace}
 use Rattle.predator_cli.specs.Faults.{fault_text}
 use Rattle.predator_cli.specs.declared.status.Status.{Status}
 use Rattle.predator_cli.specs.declared.status.Status.TheVariants as status
-use Rattle.predator_cli.proofs.Standing.{goes_map, goes_same, may_stay, only_same_names, same_may, whole_stands}
+use Rattle.predator_cli.proofs.Standing.{goes_map, goes_same, may_stay, only_same_names, same_stands, whole_stands}
 use Rattle.predator_cli.proofs.Told.{told, told_map, told_both, rose_later, whole_prefix}
 
 -- ---- the line of a fault
@@ -72,14 +72,23 @@ peace_after a b d no_memory only peace = tt
 
 -- what stands at a fault may stand where memory runs out after it
 same_later : (asked : Option Demand) (a b : Outside) → Goes a.written b.written AreSame → Writes asked a b no_memory
-same_later asked a b goes =
-    told a.held (λ files. goes_map a.written b.written (λ before now is name. same_may (bytes_for (answer_of asked files).outputs name)
-    (before name) (now name) (is name)) goes)
+same_later asked a b goes = told a.held (λ files. same_stands (answer_of asked files).outputs a.written b.written goes)
+
+refused_later : (copies : Bool) (asked : Option Demand) (a b : Outside) → StaysAtRefusal copies a.held a.written b.written
+    → Writes asked a b no_memory
+refused_later false asked a b writes = same_later asked a b writes
+refused_later true asked a b writes =
+    told_map a.held (λ files goes. same_stands (answer_of asked files).outputs a.written b.written goes) writes
+
+unread_later : (copies : Bool) (asked : Option Demand) (a b : Outside) → StaysAtReadFault copies asked a.held a.written b.written
+    → Writes asked a b no_memory
+unread_later false asked a b writes = same_later asked a b writes
+unread_later true asked a b writes = writes
 
 writes_later : (asked : Option Demand) (a b : Outside) (k : Kind) → (k ≡ done → ⊥) → Writes asked a b k → Writes asked a b no_memory
 writes_later asked a b done n writes = absurd (n refl)
-writes_later asked a b refusal n writes = same_later asked a b writes
-writes_later asked a b read_fault n writes = same_later asked a b writes
+writes_later asked a b refusal n writes = refused_later (are_copies asked) asked a b writes
+writes_later asked a b read_fault n writes = unread_later (are_copies asked) asked a b writes
 writes_later asked a b write_fault n writes = writes
 writes_later asked a b no_memory n writes = writes
 
@@ -129,23 +138,29 @@ refuse_out_of_memory asked a b d s faulty only printed =
       again = told a.held (λ files. not_done RepeatsReport asked files no_memory (λ e. cc));
     }
 
--- memory ran out before it was
-pub faulty_for_memory : (asked : Option Demand) (a b : Outside) (s : Status) → IsFaulty asked a b s → IsFaulty asked a b status.NoMemory
-faulty_for_memory asked a b s faulty = record {
+-- memory ran out
+pub starved : (asked : Option Demand) (a b : Outside) → Writes asked a b no_memory → OnlyAt (outputs asked) a b → b.held ≡ a.held
+    → b.printed ≡ a.printed → b.print_faults ≡ a.print_faults → IsFaulty asked a b status.NoMemory
+starved asked a b writes only held printed print_faults = record {
   fault = λ e. cc;
   ends = told a.held (λ files. tt);
   usage = λ u. cc;
-  refuses = λ r. inr refl;
-  caused = tt;
-  printable = told a.held (λ files. inr (inl refl));
+  refuses = λ u. inr refl;
   memory = refl;
+  caused = tt;
   peace = tt;
-  writes = writes_later asked a b (kind_of s) faulty.fault faulty.writes;
-  only = faulty.only;
-  held = faulty.held;
-  printed = faulty.printed;
-  print_faults = faulty.print_faults;
+  printable = told a.held (λ files. inr (inl refl));
+  writes = writes;
+  only = only;
+  held = held;
+  printed = printed;
+  print_faults = print_faults;
 }
+
+-- memory ran out before it was
+pub faulty_for_memory : (asked : Option Demand) (a b : Outside) (s : Status) → IsFaulty asked a b s → IsFaulty asked a b status.NoMemory
+faulty_for_memory asked a b s faulty =
+    starved asked a b (writes_later asked a b (kind_of s) faulty.fault faulty.writes) faulty.only faulty.held faulty.printed faulty.print_faults
 
 -- ---- the command's own text
 
@@ -279,6 +294,12 @@ finish_out_of_memory demand a b d s text worked only printed =
       again = told a.held (λ files. tt);
     }
 
+-- memory ran out before it was made
+pub finish_untold : (demand : Demand) (a b : Outside) (s : Status) (text : List ℕ) → IsWorked demand a b s text
+    → IsFaulty (Some demand) a b status.NoMemory
+finish_untold demand a b s text worked =
+    starved (Some demand) a b (part_after demand a b s text worked) worked.only worked.held worked.printed worked.print_faults
+
 -- a command that writes nothing
 pub answered_worked : (demand : Demand) (a b : Outside) (text : List ℕ) → IsAnswered demand a b text → IsWorked demand a b status.Done text
 answered_worked demand a b text answered =
@@ -320,34 +341,30 @@ words_refused a = record {
   print_faults = refl;
 }
 
+part_same : (asked : Option Demand) (held o : Option Files) → StandsInPart asked held o o
+part_same asked held o =
+    told held (λ files. goes_same _ o (λ before name. may_stay (bytes_for (answer_of asked files).outputs name) (before name)))
+
+refused_same : (copies : Bool) (held o : Option Files) → StaysAtRefusal copies held o o
+refused_same false held o = goes_same AreSame o (λ before name. refl)
+refused_same true held o = told held (λ files. goes_same AreSame o (λ before name. refl))
+
+unread_same : (copies : Bool) (asked : Option Demand) (held o : Option Files) → StaysAtReadFault copies asked held o o
+unread_same false asked held o = goes_same AreSame o (λ before name. refl)
+unread_same true asked held o = part_same asked held o
+
 -- memory ran out
 same_written : (asked : Option Demand) (a b : Outside) (k : Kind) → (k ≡ done → ⊥) → b.written ≡ a.written → Writes asked a b k
 same_written asked a b done n same = absurd (n refl)
-same_written asked a b refusal n same = rw same (goes_same AreSame a.written (λ before name. refl))
-same_written asked a b read_fault n same = rw same (goes_same AreSame a.written (λ before name. refl))
-same_written asked a b write_fault n same =
-    rw same (told a.held
-    (λ files. goes_same _ a.written (λ before name. may_stay (bytes_for (answer_of asked files).outputs name) (before name))))
-same_written asked a b no_memory n same =
-    rw same (told a.held
-    (λ files. goes_same _ a.written (λ before name. may_stay (bytes_for (answer_of asked files).outputs name) (before name))))
+same_written asked a b refusal n same = rw same (refused_same (are_copies asked) a.held a.written)
+same_written asked a b read_fault n same = rw same (unread_same (are_copies asked) asked a.held a.written)
+same_written asked a b write_fault n same = rw same (part_same asked a.held a.written)
+same_written asked a b no_memory n same = rw same (part_same asked a.held a.written)
 
 pub memory_faulty : (asked : Option Demand) (a b : Outside) → OnlyReads a b → IsFaulty asked a b status.NoMemory
-memory_faulty asked a b only = record {
-  fault = λ e. cc;
-  ends = told a.held (λ files. tt);
-  usage = λ u. cc;
-  refuses = λ r. inr refl;
-  memory = refl;
-  caused = tt;
-  peace = tt;
-  printable = told a.held (λ files. inr (inl refl));
-  writes = same_written asked a b no_memory (λ e. cc) only.written;
-  only = only_same_names (outputs asked) a b only.written;
-  held = only.held;
-  printed = only.printed;
-  print_faults = only.print_faults;
-}
+memory_faulty asked a b only =
+    starved asked a b (same_written asked a b no_memory (λ e. cc) only.written) (only_same_names (outputs asked) a b only.written) only.held
+    only.printed only.print_faults
 
 pub words_unread : (asked : Option Demand) (a : Outside) → IsFaulty asked a a status.NoMemory
 words_unread asked a = memory_faulty asked a a

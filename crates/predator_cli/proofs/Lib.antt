@@ -13,3 +13,4 @@ mod WriteEnds
 mod RunEnds
 mod SummaryLaws
 mod GenEnds
+mod CopyEnds

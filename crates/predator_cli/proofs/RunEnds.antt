@@ -1,37 +1,36 @@
 -- What a run leaves in its files, and how the command ends after it.
 use Rattle.std.proofs.Common.{◌≡◌, ℕ, List, [], ◌∷◌, ◌++◌, Option, Some, None, Ok, Bool, true, false, refl, sym, ap, subst, ◌∙◌, inl, inr}
-use Rattle.std.proofs.Common.{not, ◌||◌, ◌&&◌, ◌≤◌, unwrap_or, map, arith}
+use Rattle.std.proofs.Common.{not, ◌&&◌, unwrap_or}
 use Rattle.std.proofs.lemmas.Bool.{cases_Bool}
 use Rattle.std.proofs.lemmas.Option.{none-some, same_Some}
 use Rattle.std.proofs.lemmas.Slice.Eq.{bytes_eq-Decides}
-use Rattle.std.specs.List.{list_any}
-use Rattle.std.specs.Option.{option_and_then, option_map, option_or}
+use Rattle.std.specs.Option.{option_and_then, option_map}
 use Rattle.std.specs.Str.{bytes_eq}
-use Rattle.shelf.specs.Shelf.{Files, Goes, Outside, Told, content}
+use Rattle.shelf.specs.Shelf.{Files, Outside, Told, content}
 use Rattle.shelf.specs.declared.shelf.ShelfError.{ShelfError}
-use Rattle.shelf.specs.declared.shelf.ShelfError.TheVariants.{Failed, NoMemory}
 use Rattle.command_line.specs.Names.{are_apart, given, is_named}
 use Rattle.command_line.specs.Replay.{ReplayDemand}
 use Rattle.command_line.specs.Demands.{text_of}
 use Rattle.command_line.specs.Run.{RunDemand, run_meaning, run_outputs}
+use Rattle.command_line.specs.Split.{SplitDemand, split_outputs}
 use Rattle.command_line.specs.declared.run.RunOptions.{RunOptions}
 use Rattle.std.specs.Borrow.{Bor}
-use Rattle.command_line.specs.Words.{Demand, asked_of, demand_of, replay, run, with_names_apart, inputs as inputs_of, outputs as outputs_of}
+use Rattle.command_line.specs.Words.{Demand, asked_of, demand_of, replay, run, split, with_names_apart}
+use Rattle.command_line.specs.Words.{inputs as inputs_of, outputs as outputs_of}
 use Rattle.settings.specs.declared.values.Settings.{Settings}
 use Rattle.guest_run.specs.Runs.{Run, output_of}
 use Rattle.trace_grammar.specs.declared.record.TraceRecord.{TraceRecord}
 use Rattle.trace_passes.specs.Passes.{Trace, refusal_of, trace_of}
-use Rattle.outputs.specs.Files.{AllMayStand, AreCut, AreWhole, AreWritten, MayStand, Output, RoseAmong, bytes_for}
+use Rattle.outputs.specs.Files.{AreCut, AreWritten, Output, bytes_for}
 use Rattle.outputs.specs.OnTheirWay.{AreApart, IsNew}
 use Rattle.run_recorder.specs.Recorded.{IsKept, names_of, outputs_for, spell_trace, trace_for}
 use Rattle.run_recorder.specs.declared.file.Content.TheVariants as Content
 use Rattle.run_recorder.specs.declared.file.RunFile.{RunFile}
-use Rattle.predator_cli.specs.Written.{OnlyAt}
 use Rattle.predator_cli.specs.Again.{RepeatsReport, RunRepeats}
 use Rattle.predator_cli.specs.Answer.{answer_of}
 use Rattle.predator_cli.specs.Commands.{work_of}
 use Rattle.predator_cli.specs.Meets.{IsFaulty, IsWorked}
-use Rattle.predator_cli.specs.Readings.{RoseAt, first_refusal}
+use Rattle.predator_cli.specs.Readings.{first_refusal}
 use Rattle.predator_cli.specs.Replay.{replay_readings, report_of, trace_reading, whole}
 use Rattle.predator_cli.specs.Run.{IsReady, file_for, output_for, outputs_of_run, run_for_demand, run_readings, status_for}
 use Rattle.predator_cli.specs.Run.{trace_for_demand, work_of_run}
@@ -41,9 +40,8 @@ use Rattle.predator_cli.specs.Works.{Work, done_with}
 use Rattle.predator_cli.specs.declared.status.Status.{Status}
 use Rattle.predator_cli.specs.declared.status.Status.TheVariants as status
 use Rattle.predator_cli.proofs.FileLaws.{settings_chosen, settings_pass}
-use Rattle.predator_cli.proofs.Ends.{accepted_answer, memory_faulty, own_outputs}
+use Rattle.predator_cli.proofs.Ends.{accepted_answer, memory_faulty}
 use Rattle.predator_cli.proofs.ReadingLaws.{none_alone, only_same, passed}
-use Rattle.predator_cli.proofs.Standing.{goes_map, whole_stands}
 use Rattle.predator_cli.proofs.SpelledAgain.{spelled_again, spelled_wanted}
 use Rattle.predator_cli.proofs.Told.{told_both}
 use Rattle.predator_cli.proofs.WriteEnds.{IsToWrite, names_in, or_false, writing_cut, written_worked}
@@ -125,11 +123,16 @@ asked_apart : (o : Option Demand) (d : Demand) → option_and_then with_names_ap
 asked_apart None d is = absurd (none-some d is)
 asked_apart (Some x) d is = kept_apart x d is
 
--- the outputs of a run that the words ask for have two names
+demanded : (words : List (List ℕ)) (d : Demand) → demand_of words ≡ Some d → AreApart (outputs_of d)
+demanded [] d is = absurd (none-some d is)
+demanded (command ∷ rest) d is = names_apart (outputs_of d) (inputs_of d) (asked_apart (asked_of command (command ∷ rest)) d is)
+
+-- the outputs of a run that the words ask for have two names, and so have the halves of a trace
 pub demanded_apart : (words : List (List ℕ)) (d : RunDemand) → demand_of words ≡ Some (run d) → AreApart (run_outputs d)
-demanded_apart [] d is = absurd (none-some (run d) is)
-demanded_apart (command ∷ rest) d is = names_apart (run_outputs d) (inputs_of (run d))
-    (asked_apart (asked_of command (command ∷ rest)) (run d) is)
+demanded_apart words d is = demanded words (run d) is
+
+pub halves_apart : (words : List (List ℕ)) (d : SplitDemand) → demand_of words ≡ Some (split d) → AreApart (split_outputs d)
+halves_apart words d is = demanded words (split d) is
 
 -- ---- how the command ends
 

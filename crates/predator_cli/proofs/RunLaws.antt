@@ -2,7 +2,7 @@
 use Rattle.std.proofs.Common.{◌≡◌, ℕ, List, Option, Some, None, Ok, refl, sym, ap, ◌∙◌}
 use Rattle.shelf.specs.Shelf.{Files, Told, content}
 use Rattle.command_line.specs.Run.{RunDemand}
-use Rattle.command_line.specs.Words.{Demand, replay, check, run, gen}
+use Rattle.command_line.specs.Words.{Demand, replay, check, run, split, gen, convert}
 use Rattle.settings.specs.declared.values.Settings.{Settings}
 use Rattle.hart_scheduler.specs.Choices.{Plan}
 use Rattle.elf_loader.specs.declared.image.Image.{Image}
@@ -46,7 +46,9 @@ pub stays_within : ((s : Setup) (c : Config) → c.steps ≡ 0 → c.accesses �
 stays_within short None files = tt
 stays_within short (Some (replay d)) files = tt
 stays_within short (Some (check d)) files = tt
+stays_within short (Some (split d)) files = tt
 stays_within short (Some (gen d)) files = tt
+stays_within short (Some (convert d)) files = tt
 stays_within short (Some (run d)) files =
     let s = chosen_settings d.settings files in
     let image = image_of (space_of s) (content files d.program) in

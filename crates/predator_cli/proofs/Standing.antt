@@ -4,7 +4,7 @@ use Rattle.std.proofs.Math.Seq.{take-length}
 use Rattle.std.specs.Option.{option_or}
 use Rattle.shelf.specs.Shelf.{Files, Outside, Goes}
 use Rattle.outputs.specs.Files.{AllMayStand, AreWhole, MayStand, Output, bytes_for}
-use Rattle.predator_cli.specs.Written.{OnlyAt}
+use Rattle.predator_cli.specs.Written.{AreSame, OnlyAt}
 
 -- a meaning that did not change
 pub goes_same : {A : Type 0} (P : A → A → Type 0) (o : Option A) → ((x : A) → P x x) → Goes o o P
@@ -24,9 +24,14 @@ may_stay (Some bytes) before = inl refl
 pub only_same_names : (names : List (List ℕ)) (a b : Outside) → b.written ≡ a.written → OnlyAt names a b
 only_same_names names a b same = rw same (goes_same _ a.written (λ files name not_there. refl))
 
-pub same_may : (bytes before now : Option (List ℕ)) → now ≡ before → MayStand bytes before now
+same_may : (bytes before now : Option (List ℕ)) → now ≡ before → MayStand bytes before now
 same_may None before now is = is
 same_may (Some bytes) before now is = inl is
+
+-- files that are as they were may stand at a fault
+pub same_stands : (outputs : List Output) (o n : Option Files) → Goes o n AreSame → Goes o n (AllMayStand outputs)
+same_stands outputs o n same =
+    goes_map o n (λ before now is name. same_may (bytes_for outputs name) (before name) (now name) (is name)) same
 
 whole_may : (bytes before now : Option (List ℕ)) → now ≡ option_or bytes before → MayStand bytes before now
 whole_may None before now is = is

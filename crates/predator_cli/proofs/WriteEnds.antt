@@ -5,7 +5,7 @@ use Rattle.std.proofs.lemmas.Option.{none-some}
 use Rattle.std.specs.List.{list_any}
 use Rattle.std.specs.Option.{option_or}
 use Rattle.std.specs.Str.{bytes_eq}
-use Rattle.shelf.specs.Shelf.{Files, Goes, Outside, Told}
+use Rattle.shelf.specs.Shelf.{Goes, Outside, Told}
 use Rattle.shelf.specs.declared.shelf.ShelfError.{ShelfError}
 use Rattle.shelf.specs.declared.shelf.ShelfError.TheVariants.{Failed, NoMemory}
 use Rattle.command_line.specs.Words.{Demand, outputs as outputs_of}
@@ -19,8 +19,7 @@ use Rattle.predator_cli.specs.Readings.{RoseAt, first_refusal}
 use Rattle.predator_cli.specs.Statuses.{status_of_writing}
 use Rattle.predator_cli.specs.Works.{Work}
 use Rattle.predator_cli.specs.declared.status.Status.{Status}
-use Rattle.predator_cli.specs.declared.status.Status.TheVariants as status
-use Rattle.predator_cli.proofs.Ends.{own_outputs}
+use Rattle.predator_cli.proofs.Ends.{own_outputs, starved}
 use Rattle.predator_cli.proofs.Standing.{goes_map, whole_stands}
 use Rattle.predator_cli.proofs.Told.{told, told_map, told_both}
 
@@ -130,18 +129,6 @@ writing_cut d w a b Failed ready cut =
       printed = cut.only.printed;
       print_faults = cut.only.print_faults;
     }
-writing_cut d w a b NoMemory ready cut = record {
-  fault = λ e. cc;
-  ends = told a.held (λ files. tt);
-  usage = λ u. cc;
-  refuses = λ u. cc;
-  memory = refl;
-  caused = tt;
-  peace = tt;
-  printable = told a.held (λ files. inr (inl refl));
-  writes = cut_stands d w a b ready cut.may;
-  only = subst (λ names. OnlyAt names a b) ready.names (cut_only w.outputs a b cut.may);
-  held = cut.only.held;
-  printed = cut.only.printed;
-  print_faults = cut.only.print_faults;
-}
+writing_cut d w a b NoMemory ready cut =
+    starved (Some d) a b (cut_stands d w a b ready cut.may)
+    (subst (λ names. OnlyAt names a b) ready.names (cut_only w.outputs a b cut.may)) cut.only.held cut.only.printed cut.only.print_faults

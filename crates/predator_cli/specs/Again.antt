@@ -1,7 +1,7 @@
 -- What is promised of a run: the replay of the trace that it wrote, and the steps that it made.
 use Rattle.std.specs.Prelude.{◌≡◌, ℕ, List, Option, Some, None}
 use Rattle.command_line.specs.Run.{RunDemand}
-use Rattle.command_line.specs.Words.{Demand, replay, check, run, gen}
+use Rattle.command_line.specs.Words.{Demand, replay, check, run, split, gen, convert}
 use Rattle.outputs.specs.Files.{bytes_for}
 use Rattle.shelf.specs.Shelf.{Files}
 use Rattle.predator_cli.specs.Answer.{answer_of}
@@ -25,7 +25,9 @@ RunRepeats demand files =
 abbrev pub RepeatsReport : Demand → Files → Type 0
 RepeatsReport (replay demand) files = Unit {0}
 RepeatsReport (check demand) files = Unit {0}
+RepeatsReport (split demand) files = Unit {0}
 RepeatsReport (gen demand) files = Unit {0}
+RepeatsReport (convert demand) files = Unit {0}
 RepeatsReport (run demand) files = RunRepeats demand files
 
 -- the run that is asked for makes at most as many steps as its budget has
@@ -33,7 +35,9 @@ abbrev pub StaysWithinBudget : Option Demand → Files → Type 0
 StaysWithinBudget None files = Unit {0}
 StaysWithinBudget (Some (replay demand)) files = Unit {0}
 StaysWithinBudget (Some (check demand)) files = Unit {0}
+StaysWithinBudget (Some (split demand)) files = Unit {0}
 StaysWithinBudget (Some (gen demand)) files = Unit {0}
+StaysWithinBudget (Some (convert demand)) files = Unit {0}
 StaysWithinBudget (Some (run demand)) files = run_command.StaysWithinBudget demand files
 
 -- a fact about what was asked for, after a call whose work is done

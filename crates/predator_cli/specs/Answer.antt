@@ -1,11 +1,11 @@
 -- What the words ask for, and what the program answers, for the contents of the names: a status,
 -- the text that it prints, and the bytes of the files that it writes.
-use Rattle.std.specs.Prelude.{List, [], ℕ, Option, Some, None}
+use Rattle.std.specs.Prelude.{Bool, false, List, [], ℕ, Option, Some, None}
 use Rattle.std.specs.Option.{option_map_or}
 use Rattle.shelf.specs.Shelf.{Files}
 use Rattle.command_line.specs.Words.{Demand, outputs as outputs_of}
 use Rattle.predator_cli.specs.Readings.{Reading, first_refusal, names_of}
-use Rattle.predator_cli.specs.Commands.{readings_of, work_of}
+use Rattle.predator_cli.specs.Commands.{is_copy, readings_of, work_of}
 use Rattle.predator_cli.specs.Works.{Work}
 use Rattle.predator_cli.specs.Faults.{fault_text}
 use Rattle.predator_cli.specs.declared.status.Status.{Status}
@@ -21,6 +21,9 @@ inputs asked = names_of (files_of asked)
 
 abbrev pub outputs : Option Demand → List (List ℕ)
 outputs asked = option_map_or outputs_of asked []
+
+abbrev pub are_copies : Option Demand → Bool
+are_copies asked = option_map_or is_copy asked false
 
 abbrev pub refusal_of : Status → Work
 refusal_of s = record { status = s; text = fault_text s; outputs = [] }

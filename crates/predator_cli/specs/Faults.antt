@@ -78,7 +78,9 @@ usage_text =
     line (codes "usage: predator run PROGRAM [--settings F] [--schedule F] [--trace F] [--output F]")
     ++ line (codes "usage: predator replay TRACE [--settings F] [--size N] [--shift N]")
     ++ line (codes "usage: predator check PROGRAM [--settings F]")
+    ++ line (codes "usage: predator split TRACE K A B")
     ++ line (codes "usage: predator gen N FILE")
+    ++ line (codes "usage: predator convert TRACE FILE")
 
 abbrev pub fault_text : Status → List ℕ
 fault_text status.Done = []

@@ -3,7 +3,6 @@ use Rattle.std.specs.Prelude.{ℕ, List, [], ◌∷◌, None, codes}
 use Rattle.std.specs.Fmt.{decimal}
 use Rattle.command_line.specs.Gen.{GenDemand}
 use Rattle.sharing_rules.specs.AccessLists.{AccessList}
-use Rattle.shelf.specs.Shelf.{Files}
 use Rattle.text_forms.specs.Lines.{text_of}
 use Rattle.trace_grammar.specs.Rules.{touches_in}
 use Rattle.trace_maker.specs.Made.{made, made_file}

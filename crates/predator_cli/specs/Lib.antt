@@ -9,7 +9,10 @@ pub mod ProgramFiles
 pub mod Replay
 pub mod Check
 pub mod Run
+pub mod Copies
+pub mod Split
 pub mod Gen
+pub mod Convert
 pub mod Commands
 pub mod Answer
 pub mod Written

@@ -3,7 +3,7 @@ use Rattle.std.specs.Prelude.{◌≡◌, Option, Some, None}
 use Rattle.std.specs.List.{All}
 use Rattle.command_line.specs.Replay.{ReplayDemand}
 use Rattle.command_line.specs.Run.{RunDemand}
-use Rattle.command_line.specs.Words.{Demand, replay, check, run, gen}
+use Rattle.command_line.specs.Words.{Demand, replay, check, run, split, gen, convert}
 use Rattle.predator_base.specs.Levels.{Levels}
 use Rattle.predator_base.specs.Lines.{Grid}
 use Rattle.sharing_rules.specs.AccessLists.{AccessList}
@@ -44,5 +44,7 @@ abbrev pub ReportIsRecounted : Option Demand → Files → Type 0
 ReportIsRecounted None files = Unit {0}
 ReportIsRecounted (Some (replay demand)) files = ReplayIsRecounted demand files
 ReportIsRecounted (Some (check demand)) files = Unit {0}
+ReportIsRecounted (Some (split demand)) files = Unit {0}
 ReportIsRecounted (Some (gen demand)) files = Unit {0}
+ReportIsRecounted (Some (convert demand)) files = Unit {0}
 ReportIsRecounted (Some (run demand)) files = RunIsRecounted demand files

@@ -1,5 +1,5 @@
 -- The command `replay`: what it reads, and the report that it gives of a trace.
-use Rattle.std.specs.Prelude.{ℕ, List, [], ◌∷◌, ◌++◌, ◌≡◌, Some, None}
+use Rattle.std.specs.Prelude.{ℕ, List, [], ◌∷◌, ◌++◌, ◌≡◌, Option, Some, None}
 use Rattle.std.specs.Option.{option_map, option_map_or}
 use Rattle.command_line.specs.Replay.{ReplayDemand}
 use Rattle.predator_base.specs.Lines.{Grid}
@@ -13,14 +13,19 @@ use Rattle.predator_cli.specs.SettingsFiles.{chosen_settings, layout_of, levels_
 use Rattle.predator_cli.specs.SettingsFiles.{settings_readings}
 use Rattle.predator_cli.specs.Statuses.{status_of_refusal}
 use Rattle.predator_cli.specs.Works.{Work, done_with}
+use Rattle.predator_cli.specs.declared.status.Status.{Status}
 
 -- a whole trace is wanted: one of any number of harts, whose first access has position 0
 abbrev pub whole : Wanted
 whole = record { harts = None; first = Some 0 }
 
+-- how a file is refused that is no trace as it is wanted
+abbrev pub refuses_trace : Wanted → List ℕ → Files → Option Status
+refuses_trace wanted name files =
+    option_map status_of_refusal (refusal_of wanted (content files name))
+
 abbrev pub trace_reading : List ℕ → Reading
-trace_reading name =
-    reading name (λ files. option_map status_of_refusal (refusal_of whole (content files name)))
+trace_reading name = reading name (refuses_trace whole name)
 
 abbrev pub replay_readings : ReplayDemand → List Reading
 replay_readings demand = settings_readings demand.settings ++ trace_reading demand.trace ∷ []

@@ -11,6 +11,8 @@ use Rattle.settings.specs.declared.fault.SettingsFault.{SettingsFault}
 use Rattle.settings.specs.declared.fault.SettingsFault.TheVariants as settings
 use Rattle.shelf.specs.declared.shelf.ShelfError.{ShelfError}
 use Rattle.shelf.specs.declared.shelf.ShelfError.TheVariants as shelf
+use Rattle.trace_copies.specs.declared.fault.CopyFault.{CopyFault}
+use Rattle.trace_copies.specs.declared.fault.CopyFault.TheVariants as copies
 use Rattle.trace_grammar.specs.declared.fault.TraceFault.{TraceFault}
 use Rattle.trace_grammar.specs.declared.fault.TraceFault.TheVariants as trace
 use Rattle.trace_passes.specs.declared.passes.PassFault.{PassFault}
@@ -91,6 +93,14 @@ abbrev pub status_of_pass : PassFault → Status
 status_of_pass (passes.Refused r) = status_of_refusal r
 status_of_pass passes.ReadFault = status.ReadFault
 status_of_pass passes.NoMemory = status.NoMemory
+
+-- a trace is refused by the reading before its copies are begun, or by the one that copies it
+abbrev pub status_of_copy : CopyFault → Status
+status_of_copy (copies.Refused r) = status_of_refusal r
+status_of_copy (copies.Changed r) = status_of_refusal r
+status_of_copy copies.ReadFault = status.ReadFault
+status_of_copy copies.WriteFault = status.WriteFault
+status_of_copy copies.NoMemory = status.NoMemory
 
 -- a fault of writing or printing
 abbrev pub status_of_writing : ShelfError → Status

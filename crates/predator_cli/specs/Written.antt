@@ -1,28 +1,46 @@
 -- What stands in the files that a command writes, at each end.
-use Rattle.std.specs.Prelude.{◌≡◌, ℕ, List, Option, false}
+use Rattle.std.specs.Prelude.{◌≡◌, ℕ, List, Option, Bool, true, false}
 use Rattle.std.specs.List.{list_any}
 use Rattle.std.specs.Str.{bytes_eq}
 use Rattle.shelf.specs.Shelf.{Files, Goes, Outside, Told}
 use Rattle.command_line.specs.Words.{Demand}
 use Rattle.outputs.specs.Files.{AllMayStand, AreWhole}
-use Rattle.predator_cli.specs.Answer.{answer_of}
+use Rattle.predator_cli.specs.Answer.{answer_of, are_copies}
 use Rattle.predator_cli.specs.Statuses.{Kind, done, refusal, read_fault, write_fault, no_memory}
 
 -- each file is as it was
 abbrev pub AreSame : Files → Files → Type 0
 AreSame before now = (name : List ℕ) → now name ≡ before name
 
+-- each output may stand in part, where it is told what is held, and so what the outputs are
+abbrev pub StandsInPart : Option Demand → Option Files → Option Files → Option Files → Type 0
+StandsInPart asked held before now =
+    Told held (λ files. Goes before now (AllMayStand (answer_of asked files).outputs))
+
+-- At a refusal each file is as it was. Copies whose trace is refused only as it is read again may
+-- stand in part; where it is told what is held no trace is.
+abbrev pub StaysAtRefusal : Bool → Option Files → Option Files → Option Files → Type 0
+StaysAtRefusal false held before now = Goes before now AreSame
+StaysAtRefusal true held before now = Told held (λ files. Goes before now AreSame)
+
+-- at a fault of reading too, but that of copies, whose trace may be read again then
+abbrev pub StaysAtReadFault : Bool → Option Demand → Option Files → Option Files → Option Files
+    → Type 0
+StaysAtReadFault false asked held before now = Goes before now AreSame
+StaysAtReadFault true asked held before now = StandsInPart asked held before now
+
 -- Every output is whole where the work is done, every file is as it was at a refusal and at a fault
--- of reading, and each output may stand in part at a fault of writing and at want of memory.
+-- of reading but of copies, and each output may stand in part at a fault of writing and at want of
+-- memory.
 abbrev pub Writes : Option Demand → Outside → Outside → Kind → Type 0
 Writes asked old new done =
     Told old.held (λ files. Goes old.written new.written (AreWhole (answer_of asked files).outputs))
-Writes asked old new refusal = Goes old.written new.written AreSame
-Writes asked old new read_fault = Goes old.written new.written AreSame
-Writes asked old new write_fault = Told old.held
-    (λ files. Goes old.written new.written (AllMayStand (answer_of asked files).outputs))
-Writes asked old new no_memory = Told old.held
-    (λ files. Goes old.written new.written (AllMayStand (answer_of asked files).outputs))
+Writes asked old new refusal =
+    StaysAtRefusal (are_copies asked) old.held old.written new.written
+Writes asked old new read_fault =
+    StaysAtReadFault (are_copies asked) asked old.held old.written new.written
+Writes asked old new write_fault = StandsInPart asked old.held old.written new.written
+Writes asked old new no_memory = StandsInPart asked old.held old.written new.written
 
 -- no file changed but those of these names
 abbrev pub OnlyAt : List (List ℕ) → Outside → Outside → Type 0

@@ -13,10 +13,12 @@ ghost use Rattle.shelf.specs.Shelf.{Told};
 
 use crate::Status;
 use crate::check::check;
+use crate::convert::convert;
 use crate::endings::{refuse, refuse_words};
 use crate::generate::generate;
 use crate::replay::replay;
 use crate::run::run;
+use crate::split::split;
 use command_line::{Demand, WordsFault, read_words};
 use guest_run::runs_are_short;
 use shelf::Shelf;
@@ -31,7 +33,9 @@ fn obey<S: Shelf>(alloc: Global, words: &[String], shelf: &mut S) -> Status
         Ok(Demand::Replay(options)) => replay(alloc, &options, shelf),
         Ok(Demand::Check(options)) => check(alloc, &options, shelf),
         Ok(Demand::Run(options)) => run(alloc, &options, shelf),
+        Ok(Demand::Split(options)) => split(alloc, &options, shelf),
         Ok(Demand::Gen(options)) => generate(alloc, &options, shelf),
+        Ok(Demand::Convert(options)) => convert(alloc, &options, shelf),
         Err(WordsFault::Usage) => refuse_words(shelf),
         Err(WordsFault::NoMemory) => refuse(alloc, shelf, Status::NoMemory),
     }
@@ -53,6 +57,10 @@ fn obey<S: Shelf>(alloc: Global, words: &[String], shelf: &mut S) -> Status
 /// output where they are named, and prints the report; its status is `Done`, `Budget`,
 /// `Deadlock` or `Trapped`, as the run ended. `gen` makes a trace of so many accesses under a name,
 /// counts them as they are made under the usual settings, and prints what their lines come to.
+/// `split` cuts a trace in two before one of its accesses, and prints how many accesses each half
+/// has; `convert` writes a trace in the other version, and prints which version that is and how
+/// many accesses there are. Both read a trace of at most 2^44 bytes to its end and judge it, and
+/// write under their names as they read it again.
 pub fn predator<S: Shelf>(alloc: Global, words: &[String], shelf: &mut S) -> Status
     // Where the held files are told, it ends as the words and the files ask, or by a fault of the
     // outside before which nothing is refused.
@@ -78,7 +86,8 @@ pub fn predator<S: Shelf>(alloc: Global, words: &[String], shelf: &mut S) -> Sta
     ensures held { (S.outside shelf.new).held ≡ (S.outside shelf.old).held }
     // What stands in the files that are written: every output is whole where the work is done, each
     // is as it was or a front of its bytes at a fault of writing and at want of memory, and all are
-    // as they were at each other end.
+    // as they were at each other end. Copies may stand so at a fault of reading too, for their
+    // trace is read twice; and where it isn't told what is held, also at a refusal.
     ensures writes { Writes (demand_of (texts words.now))
         (S.outside shelf.old) (S.outside shelf.new) (kind_of result) }
     // Where a run is done, the replay of the trace that it wrote, under the same settings and with

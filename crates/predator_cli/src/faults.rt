@@ -16,7 +16,7 @@ pub const NO_MEMORY_LINE: &str = "predator: no memory\n";
 
 /// A line for each command.
 pub const USAGE: &str =
-    "usage: predator run PROGRAM [--settings F] [--schedule F] [--trace F] [--output F]\nusage: predator replay TRACE [--settings F] [--size N] [--shift N]\nusage: predator check PROGRAM [--settings F]\nusage: predator gen N FILE\n";
+    "usage: predator run PROGRAM [--settings F] [--schedule F] [--trace F] [--output F]\nusage: predator replay TRACE [--settings F] [--size N] [--shift N]\nusage: predator check PROGRAM [--settings F]\nusage: predator split TRACE K A B\nusage: predator gen N FILE\nusage: predator convert TRACE FILE\n";
 
 fn elf_name(fault: ElfFault) -> &'static str
     ensures { result.now ≡ elf_text fault }

@@ -1,6 +1,7 @@
 //! The program `predator`, as one call over a shelf of files: `run` runs a program and `replay`
 //! reads a recorded trace, and both print the cache lines that harts took from each other; `check`
-//! tells of a program file, and `gen` makes a trace.
+//! tells of a program file, `gen` makes a trace, `split` cuts one in two, and `convert` writes one
+//! in the other version.
 //!
 //! The call says what it answers by `answer_of` (specs/Answer.antt), over the definitions of
 //! `sharing_rules` and of `guest_run`; what it prints, writes and excuses at each end is `Meets`
@@ -9,6 +10,8 @@
 
 mod check;
 mod command;
+mod convert;
+mod copies;
 mod endings;
 mod faults;
 mod files;
@@ -18,15 +21,15 @@ mod program_file;
 mod replay;
 mod run;
 mod settings_file;
+mod split;
 mod start;
 mod status;
 mod steady;
 mod symbols;
-mod wrong_words;
 
 pub use command::predator;
+pub use faults::USAGE;
 pub use messages::{advice_on, advise};
 pub use start::{exit_code, give_up, words_of};
 pub use status::{StateFault, Status};
 pub use steady::predator_steady;
-pub use wrong_words::{WrongWord, wrong_word};

@@ -1,5 +1,5 @@
 // How a program file is judged: viewed, placed, and its symbols.
-ghost use Rattle.std.specs.Prelude.{◌≡◌, ◌≤◌, ◌^◌, IfErr, IfOk, None, OnOk, length};
+ghost use Rattle.std.specs.Prelude.{◌≡◌, ◌≤◌, ◌^◌, Err, IfErr, IfOk, None, OnOk, length};
 ghost use Rattle.elf_loader.specs.PlacedImages.{IsAllowedSpace, IsImageOf, image_of};
 ghost use Rattle.elf_loader.specs.Symbols.{symbols_of};
 ghost use Rattle.settings.specs.Allowed.{IsAllowed};
@@ -7,7 +7,7 @@ ghost use Rattle.predator_cli.specs.ProgramFiles.{IsStartable, program_refusal, 
 ghost use Rattle.predator_cli.specs.Readings.{IsJudged};
 
 use crate::Status;
-use elf_loader::{ElfView, Image, Space, Symbols, place};
+use elf_loader::{ElfView, Image, Space, Symbols, place, place_fault};
 use settings::Settings;
 use std::alloc::Global;
 
@@ -55,13 +55,21 @@ pub fn judge_program<'a>(
     ensures symbols { IfOk result (λ program. program.symbols ≡ symbols_of bytes.now) }
     ensures accepted { OnOk result (program_refusal settings.now bytes.now ≡ None) }
     ensures judged { IfErr result (IsJudged (program_refusal settings.now bytes.now)) }
+    // no memory is taken for a file that is refused
+    ensures memory { result ≡ Err Status.NoMemory
+        → program_refusal settings.now bytes.now ≡ None }
 {
     let view = ElfView::read(bytes)?;
-    let image = place(alloc, &view, space_of(settings))?;
-    let symbols = view.symbols()?;
-    Ok(Program {
-        view,
-        image,
-        symbols,
-    })
+    let space = space_of(settings);
+    match view.symbols() {
+        Ok(symbols) => {
+            let image = place(alloc, &view, space)?;
+            Ok(Program {
+                view,
+                image,
+                symbols,
+            })
+        }
+        Err(fault) => Err(Status::Elf(place_fault(&view, space).unwrap_or(fault))),
+    }
 }

@@ -8,6 +8,7 @@ use hart_scheduler::ScheduleFault;
 use predator_base::NoMemory;
 use settings::SettingsFault;
 use shelf::ShelfError;
+use trace_copies::CopyFault;
 use trace_grammar::TraceFault;
 use trace_passes::{PassFault, Refusal};
 
@@ -194,6 +195,21 @@ impl From<PassFault> for Status {
             PassFault::Refused(refusal) => Status::from(refusal),
             PassFault::ReadFault => Status::ReadFault,
             PassFault::NoMemory => Status::NoMemory,
+        }
+    }
+}
+
+impl From<CopyFault> for Status {
+    ghost use Rattle.predator_cli.specs.Statuses.{status_of_copy};
+
+    ghost from_gives = { λ fault s. s ≡ status_of_copy fault };
+
+    fn from(fault: CopyFault) -> Self {
+        match fault {
+            CopyFault::Refused(refusal) | CopyFault::Changed(refusal) => Status::from(refusal),
+            CopyFault::ReadFault => Status::ReadFault,
+            CopyFault::WriteFault => Status::WriteFault,
+            CopyFault::NoMemory => Status::NoMemory,
         }
     }
 }

@@ -5,22 +5,22 @@ use Rattle.shelf.specs.declared.shelf.ShelfError.{ShelfError}
 use Rattle.outputs.specs.Files.{AreCut, AreWritten, GoOn, Output}
 use Rattle.outputs.specs.OneFile.{Waiting}
 use Rattle.outputs.specs.OnTheirWay.{outputs_with}
-use Rattle.trace_grammar.specs.declared.record.Header.{Header}
 use Rattle.trace_grammar.specs.declared.record.Version.{Version}
 use Rattle.trace_grammar.specs.declared.record.TraceRecord.{TraceRecord}
 use Rattle.trace_grammar.specs.Rules.{touches_in}
-use Rattle.trace_grammar.specs.Spelling.{spell, spell_record, spell_records}
+use Rattle.trace_grammar.specs.Spelling.{spell_record}
 use Rattle.trace_passes.specs.declared.passes.Passed.{Passed}
 use Rattle.trace_passes.specs.Passes.{Trace, all_records, trace_of, trace_with}
 use Rattle.trace_passes.specs.PassLaws.{trace-parts, trace-records}
 use Rattle.trace_copies.specs.declared.convert.Conversion.{Conversion}
 use Rattle.trace_copies.specs.declared.fault.CopyFault.{CopyFault}
 use Rattle.trace_copies.specs.Copies.{HasCopied, HasStopped, conversion, other_version}
-use Rattle.trace_copies.specs.Copying.{AreAlike, AreFirst, HasConverted, IsAccepted, IsCopied, IsCutShort, begun_with, conversion_so_far}
-use Rattle.trace_copies.specs.Copying.{last_behind, write_fault}
-use Rattle.trace_copies.proofs.Readings.{short_write, told_both}
-use Rattle.trace_copies.proofs.Spelled.{begun-all, begun-append, conversion-more}
-use Rattle.trace_copies.proofs.Stopped.{stopped, told_parts}
+use Rattle.trace_copies.specs.Copying.{AreAlike, AreFirst, HasConverted, IsAccepted, IsCopied, IsCutShort, conversion_so_far}
+use Rattle.trace_copies.specs.Copying.{write_fault}
+use Rattle.trace_copies.proofs.Again.{stopped_reading, stopped_writing}
+use Rattle.trace_copies.proofs.Readings.{told_both}
+use Rattle.trace_copies.proofs.Spelled.{begun-all, begun_on, conversion-more}
+use Rattle.trace_copies.proofs.Stopped.{first_all, told_parts}
 
 -- a record that is put after others
 pub put_more : (c : Conversion) (seen : List TraceRecord) (item : TraceRecord) → HasConverted c seen
@@ -31,14 +31,6 @@ put_more c seen item has =
     (spell_record (has.writer i).version (has.writer i).last item))
     ∙ conversion-more c.name.now c.version c.header seen item
 
--- what some records spell goes on to what all of them do
-on_to : (v : Version) (h : Header) (t : Trace) (seen more : List TraceRecord) → all_records t ≡ seen ++ more
-    → (rest : List ℕ) × (spell v h t.items t.ending ≡ begun_with v h seen ++ rest)
-on_to v h t seen more is = (
-  spell_records v (last_behind 0 seen) more,
-  sym (begun-all v h t.items t.ending) ∙ ap (begun_with v h) is ∙ begun-append v h seen more,
-)
-
 module _ (held : Option Files) (name output : List ℕ) (first : Passed) (accepted : IsAccepted held name first) where
   abbrev pub so_far : List TraceRecord → List Output
   so_far seen = conversion_so_far output (other_version first.version) first.header seen
@@ -46,7 +38,7 @@ module _ (held : Option Files) (name output : List ℕ) (first : Passed) (accept
   goes_on : (t : Trace) (items seen more : List TraceRecord) → t ≡ trace_with first items → all_records t ≡ seen ++ more
       → GoOn (so_far seen) (conversion output t)
   goes_on t items seen more is all =
-      let on = on_to (other_version t.version) t.header t seen more all in
+      let on = begun_on (other_version t.version) t.header t.items seen more t.ending all in
       subst (λ (x : Passed). GoOn (conversion_so_far output (other_version x.version) x.header seen) (conversion output t))
       (λ i. record { version = (is i).version; header = (is i).header; ending = (is i).ending })
       (refl, on, tt)
@@ -59,12 +51,6 @@ module _ (held : Option Files) (name output : List ℕ) (first : Passed) (accept
       goes_on t same.0 seen more.0 same.1 (sym (trace-records (content fs name) t is) ∙ more.1))
       (told_parts held name first accepted) are
 
-  -- it gave up
-  pub stopped_short : (before now : Outside) (fault : CopyFault) → IsCutShort held name so_far before now fault
-      → HasStopped held name (output ∷ []) (conversion output) before now fault
-  stopped_short before now fault short =
-      stopped held name (output ∷ []) (conversion output) so_far before now fault (λ seen. refl) goes short
-
   -- once all records of a trace came, the file is that of the trace
   whole : (second : Passed) (items : List TraceRecord) → AreAlike first second
       → so_far (all_records (trace_with second items)) ≡ conversion output (trace_with second items)
@@ -76,40 +62,46 @@ module _ (held : Option Files) (name output : List ℕ) (first : Passed) (accept
   -- within a call that writes, once these records came
   pub stopped_put : (seen : List TraceRecord) → AreFirst held name seen → (before now : Outside) (error : ShelfError)
       → AreCut (so_far seen) before now error → HasStopped held name (output ∷ []) (conversion output) before now (write_fault error)
-  stopped_put seen are before now error cut =
-      stopped_short before now (write_fault error) (short_write held name so_far seen before now error are cut)
-
-  pub copied_whole : (v : Version) → v ≡ other_version first.version → (second : Passed) (has : List TraceRecord → Type 0)
-      (waiting : List Waiting) (before mid now : Outside) → AreAlike first second
-      → (copied : IsCopied held name second so_far has waiting before mid)
-      → AreWritten (so_far (all_records (trace_with second copied.items))) before now
-      → HasCopied held name (conversion output)
-      (λ t. (v ≡ other_version t.version) × (second.ending.accesses ≡ length (touches_in t.items))) before now
-  copied_whole v is second has waiting before mid now alike copied written = record {
-    bytes = copied.bytes;
-    whole = copied.whole;
-    trace = trace_with second copied.items;
-    is = copied.is;
-    told = (is ∙ ap other_version (sym alike.version), (trace-parts copied.bytes (trace_with second copied.items) copied.is).counted);
-    written = subst (λ (l : List Output). AreWritten l before now) (whole second copied.items alike) written;
-  }
+  stopped_put = stopped_writing held name (output ∷ []) (conversion output) so_far (λ seen. refl) goes
 
   -- what the second reading says of its target
   module _ (v : Version) (is : v ≡ other_version first.version) (files : List TraceRecord → List Output)
-      (named : files ≡ conversion_so_far output v first.header) (read : Option Files) (same : read ≡ held) (before now : Outside)
+      (named : files ≡ conversion_so_far output v first.header) (read : Option Files) (same : read ≡ held) (before : Outside)
     where
       so_named : files ≡ so_far
       so_named = named ∙ (λ i seen. conversion_so_far output (is i) first.header seen)
 
-      pub stopped_again : (fault : CopyFault) → IsCutShort read name files before now fault
+      pub stopped_again : (now : Outside) (fault : CopyFault) → IsCutShort read name files before now fault
           → HasStopped held name (output ∷ []) (conversion output) before now fault
-      stopped_again fault short =
-          stopped_short before now fault
-          (subst (λ (h : Option Files). IsCutShort h name so_far before now fault) same
-          (subst (λ (f : List TraceRecord → List Output). IsCutShort read name f before now fault) so_named short))
+      stopped_again =
+          stopped_reading held name (output ∷ []) (conversion output) so_far (λ seen. refl) goes files so_named read same before
 
-      pub so_copied : (second : Passed) (has : List TraceRecord → Type 0) (waiting : List Waiting)
-          → IsCopied read name second files has waiting before now → IsCopied held name second so_far has waiting before now
-      so_copied second has waiting copied =
-          subst (λ (h : Option Files). IsCopied h name second so_far has waiting before now) same
-          (subst (λ (f : List TraceRecord → List Output). IsCopied read name second f has waiting before now) so_named copied)
+      -- once it is done
+      module _ (second : Passed) (alike : AreAlike first second) (has : List TraceRecord → Type 0) (waiting : List Waiting)
+          (mid : Outside) (copied : IsCopied read name second files has waiting before mid) (now : Outside)
+        where
+          abbrev trace : Trace
+          trace = trace_with second copied.items
+
+          told : Told held (λ fs. copied.bytes ≡ content fs name)
+          told = subst (λ (h : Option Files). Told h (λ fs. copied.bytes ≡ content fs name)) same copied.whole
+
+          pub copied_whole : AreWritten (files (all_records trace)) before now
+              → HasCopied held name (conversion output)
+              (λ t. (v ≡ other_version t.version) × (second.ending.accesses ≡ length (touches_in t.items))) before now
+          copied_whole written = record {
+            bytes = copied.bytes;
+            whole = told;
+            trace = trace;
+            is = copied.is;
+            told = (is ∙ ap other_version (sym alike.version), (trace-parts copied.bytes trace copied.is).counted);
+            written = subst (λ (l : List Output). AreWritten l before now)
+                (ap (λ (f : List TraceRecord → List Output). f (all_records trace)) so_named ∙ whole second copied.items alike) written;
+          }
+
+          -- what waits could not be written
+          pub stopped_ending : (error : ShelfError) → AreCut (files (all_records trace)) before now error
+              → HasStopped held name (output ∷ []) (conversion output) before now (write_fault error)
+          stopped_ending error cut =
+              stopped_put (all_records trace) (first_all held name copied.bytes trace told copied.is) before now error
+              (subst (λ (f : List TraceRecord → List Output). AreCut (f (all_records trace)) before now error) so_named cut)

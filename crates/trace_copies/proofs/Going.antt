@@ -7,8 +7,7 @@ use Rattle.outputs.specs.OneFile.{Waiting}
 use Rattle.outputs.specs.OnTheirWay.{IsOutputs}
 use Rattle.trace_grammar.specs.declared.record.TraceRecord.{TraceRecord}
 use Rattle.trace_grammar.specs.Reading.{read_on, reading_of}
-use Rattle.trace_passes.specs.declared.cursor.Cursor.{Cursor}
-use Rattle.trace_passes.specs.Cursors.{GoesOn, HasCome, records_at}
+use Rattle.trace_passes.specs.Cursors.{GoesOn, HasCome, Reached}
 use Rattle.trace_copies.specs.Copies.{any}
 use Rattle.trace_copies.specs.Copying.{IsUnderWay}
 
@@ -44,7 +43,7 @@ module _ {A : Type 0} (waiting : A → List Waiting) (files : A → List TraceRe
 
 -- Some bytes are read, and all their records came to the target.
 pub record IsAt {A : Type 0} (waiting : A → List Waiting) (files : A → List TraceRecord → List Output)
-    (has : A → List TraceRecord → Type 0) (held : Option Files) (name : List ℕ) (first now : A) (cursor : Cursor)
+    (has : A → List TraceRecord → Type 0) (held : Option Files) (name : List ℕ) (first now : A) (cursor : Reached)
     (old new : Outside) : Type 0 where
   pub bytes : List ℕ
   pub come : HasCome held name any bytes cursor
@@ -61,7 +60,7 @@ module _ {A : Type 0} (waiting : A → List Waiting) (files : A → List TraceRe
     unfolding read_on
     nothing_read = refl
 
-    pub at_first : (target : A) (cursor : Cursor) (old : Outside) → HasCome old.held name any [] cursor → has target []
+    pub at_first : (target : A) (cursor : Reached) (old : Outside) → HasCome old.held name any [] cursor → has target []
         → IsAt waiting files has old.held name target target cursor old old
     at_first target cursor old come none = record {
       bytes = [];
@@ -74,7 +73,7 @@ module _ {A : Type 0} (waiting : A → List Waiting) (files : A → List TraceRe
     }
 
     -- what the call may rest on, where it began with files on their way
-    pub way_at : (first now : A) (cursor : Cursor) (old new mid : Outside) (before : Outside)
+    pub way_at : (first now : A) (cursor : Reached) (old new mid : Outside) (before : Outside)
         → IsOutputs (waiting first) (files first []) before old
         → IsAt waiting files has old.held name first now cursor old new → mid ≡ new
         → IsUnderWay (waiting now) (files now) (has now) mid
@@ -88,20 +87,20 @@ module _ {A : Type 0} (waiting : A → List Waiting) (files : A → List TraceRe
     }
 
     -- one piece more
-    pub at_next : (first now later : A) (cursor next : Cursor) (old mid new : Outside) (before : Outside)
+    pub at_next : (first now later : A) (cursor next : Reached) (old mid new : Outside) (before : Outside)
         → IsOutputs (waiting first) (files first []) before old
         → (at : IsAt waiting files has old.held name first now cursor old mid)
         → (on : GoesOn old.held name any at.bytes next)
         → files later ≡ files now
-        → ((seen : List TraceRecord) → has now seen → has later (seen ++ records_at next))
+        → ((seen : List TraceRecord) → has now seen → has later (seen ++ next.items))
         → ((seen : List TraceRecord) (b : Outside) → has now seen → IsOutputs (waiting now) (files now seen) b mid
-        → IsOutputs (waiting later) (files now (seen ++ records_at next)) b new)
+        → IsOutputs (waiting later) (files now (seen ++ next.items)) b new)
         → IsAt waiting files has old.held name first later next old new
     at_next first now later cursor next old mid new before began at on files_stay came outputs =
         let seen = (reading_of at.bytes).0 in
         let put : (b : Outside) → IsOutputs (waiting first) (files first []) b old
-        → IsOutputs (waiting later) (files first (seen ++ records_at next)) b new =
-        λ b is. subst (λ (f : List TraceRecord → List Output). IsOutputs (waiting later) (f (seen ++ records_at next)) b new) at.files_stay
+        → IsOutputs (waiting later) (files first (seen ++ next.items)) b new =
+        λ b is. subst (λ (f : List TraceRecord → List Output). IsOutputs (waiting later) (f (seen ++ next.items)) b new) at.files_stay
         (outputs seen b at.came
         (subst (λ (f : List TraceRecord → List Output). IsOutputs (waiting now) (f seen) b mid) (sym at.files_stay) (at.outputs b is))) in
         record {

@@ -1,7 +1,10 @@
 pub mod Spelled
+pub mod Begun
 pub mod Readings
 pub mod Stopped
+pub mod Again
 pub mod Conversions
+pub mod Splittings
 pub mod Going
 pub mod Pieces
 pub mod Answering

@@ -11,12 +11,11 @@ use Rattle.trace_grammar.specs.declared.progress.Progress.{Progress}
 use Rattle.trace_grammar.specs.declared.record.TraceRecord.{TraceRecord}
 use Rattle.trace_grammar.specs.Reading.{reading_of}
 use Rattle.trace_grammar.specs.Rules.{IsWritable}
-use Rattle.trace_passes.specs.declared.cursor.Cursor.{Cursor}
 use Rattle.trace_passes.specs.declared.passes.PassFault.{PassFault}
 use Rattle.trace_passes.specs.declared.passes.PassFault.TheVariants as passes
 use Rattle.trace_passes.specs.declared.passes.Passed.{Passed}
 use Rattle.trace_passes.specs.CountLaws.{IsSoFar, so_far}
-use Rattle.trace_passes.specs.Cursors.{GoesOn, HasCome, HasEnded, records_at}
+use Rattle.trace_passes.specs.Cursors.{GoesOn, HasCome, HasEnded, Reached}
 use Rattle.trace_passes.specs.declared.wanted.Refusal.{Refusal}
 use Rattle.trace_passes.specs.declared.wanted.Wanted.{Wanted}
 use Rattle.trace_passes.specs.Passes.{HasPassCause, refusal_of, trace_with}
@@ -30,7 +29,7 @@ use Rattle.trace_copies.proofs.Readings.{first_none, first_of, first_read, same_
 
 -- ---- the records of a piece may be written
 
-all_behind : {A : Type 0} (P : A → Type 0) (xs ys : List A) → All P (xs ++ ys) → All P ys
+pub all_behind : {A : Type 0} (P : A → Type 0) (xs ys : List A) → All P (xs ++ ys) → All P ys
 all_behind P [] ys is = is
 all_behind P (x ∷ xs) ys is = all_behind P xs ys (All-tail P x (xs ++ ys) is)
 
@@ -39,17 +38,17 @@ writable_in None e items is = subst (All IsWritable) (sym is.0) (All-nil IsWrita
 writable_in (Some p) None items is = is.0.writable
 writable_in (Some p) (Some e) items is = is.0.writable
 
-pub piece_writable : (held : Option Files) (name bytes : List ℕ) (next : Cursor) → GoesOn held name any bytes next
-    → All IsWritable (records_at next)
+pub piece_writable : (held : Option Files) (name bytes : List ℕ) (next : Reached) → GoesOn held name any bytes next
+    → All IsWritable next.items
 piece_writable held name bytes next on =
     let whole = reading_of (bytes ++ on.more) in
-    all_behind IsWritable (reading_of bytes).0 (records_at next)
+    all_behind IsWritable (reading_of bytes).0 next.items
     (subst (All IsWritable) on.records (writable_in whole.1.progress whole.1.ending whole.0 (so_far (bytes ++ on.more))))
 
 -- ---- what stands where it gives up, and at its end
 
 module _ {A : Type 0} (waiting : A → List Waiting) (files : A → List TraceRecord → List Output) (has : A → List TraceRecord → Type 0)
-    (name : List ℕ) (first now : A) (cursor : Cursor) (old mid : Outside)
+    (name : List ℕ) (first now : A) (cursor : Reached) (old mid : Outside)
     (at : IsAt waiting files has old.held name first now cursor old mid)
   where
     -- the cursor reads on from there
@@ -58,7 +57,7 @@ module _ {A : Type 0} (waiting : A → List Waiting) (files : A → List TraceRe
         subst (λ (h : Option Files). HasCome h name w at.bytes cursor) (sym at.held_stay)
         (subst (λ (x : Wanted). HasCome old.held name x at.bytes cursor) (sym is) at.come)
 
-    pub on_at : (w : Wanted) → w ≡ any → (next : Cursor)
+    pub on_at : (w : Wanted) → w ≡ any → (next : Reached)
         → ((bytes : List ℕ) → HasCome mid.held name w bytes cursor → GoesOn mid.held name w bytes next)
         → GoesOn old.held name any at.bytes next
     on_at w is next goes =
@@ -104,7 +103,7 @@ module _ {A : Type 0} (waiting : A → List Waiting) (files : A → List TraceRe
         (first_read old.held name at.bytes cursor at.come) (at.outputs before began) only {T = T} fault cause
 
     -- after a piece was read, its records are put
-    module _ (next : Cursor) (read : Outside) (only : OnlyReads mid read) (quiet : read.read_faults ≡ mid.read_faults)
+    module _ (next : Reached) (read : Outside) (only : OnlyReads mid read) (quiet : read.read_faults ≡ mid.read_faults)
         (on : GoesOn old.held name any at.bytes next)
       where
         moved : (seen : List TraceRecord) (b : Outside) → IsOutputs (waiting now) (files now seen) b mid
@@ -113,9 +112,9 @@ module _ {A : Type 0} (waiting : A → List Waiting) (files : A → List TraceRe
 
         pub next_at : (later : A) (new before : Outside) → IsOutputs (waiting first) (files first []) before old
             → files later ≡ files now
-            → ((seen : List TraceRecord) → has now seen → has later (seen ++ records_at next))
+            → ((seen : List TraceRecord) → has now seen → has later (seen ++ next.items))
             → ((seen : List TraceRecord) (b : Outside) → has now seen → IsOutputs (waiting now) (files now seen) b read
-            → IsOutputs (waiting later) (files now (seen ++ records_at next)) b new)
+            → IsOutputs (waiting later) (files now (seen ++ next.items)) b new)
             → IsAt waiting files has old.held name first later next old new
         next_at later new before began files_stay came outputs =
             at_next waiting files has name first now later cursor next old mid new before began at on files_stay came
@@ -123,12 +122,12 @@ module _ {A : Type 0} (waiting : A → List Waiting) (files : A → List TraceRe
 
         pub cut_at : (new : Outside) (error : ShelfError)
             → (k : ℕ) × ((seen : List TraceRecord) (before : Outside) → has now seen → IsOutputs (waiting now) (files now seen) before read
-            → AreCut (files now (seen ++ take k (records_at next))) before new error)
+            → AreCut (files now (seen ++ take k next.items)) before new error)
             → (before : Outside) → IsOutputs (waiting first) (files first []) before old
             → IsCutShort old.held name (files first) before new (write_fault error)
         cut_at new error cut before began =
             let seen = (reading_of at.bytes).0 in
-            let items = records_at next in
+            let items = next.items in
             let put : IsOutputs (waiting now) (files now seen) before mid
             → AreCut (files now (seen ++ take cut.0 items)) before new error =
             λ is. cut.1 seen before at.came (moved seen before is) in

@@ -13,10 +13,9 @@ use Rattle.outputs.specs.Laws.{IsOutputs-cut, output_names}
 use Rattle.trace_grammar.specs.declared.record.TraceRecord.{TraceRecord}
 use Rattle.trace_grammar.specs.Reading.{Reading, reading_of}
 use Rattle.trace_grammar.specs.ReadingLaws.{read_on-pieces}
-use Rattle.trace_passes.specs.declared.cursor.Cursor.{Cursor}
 use Rattle.trace_passes.specs.declared.passes.PassFault.{PassFault}
 use Rattle.trace_passes.specs.declared.passes.PassFault.TheVariants as passes
-use Rattle.trace_passes.specs.Cursors.{HasCome}
+use Rattle.trace_passes.specs.Cursors.{HasCome, Reached}
 use Rattle.trace_passes.specs.Passes.{HasPassCause}
 use Rattle.trace_copies.specs.declared.fault.CopyFault.{CopyFault}
 use Rattle.trace_copies.specs.declared.fault.CopyFault.TheVariants.{Changed, ReadFault, WriteFault, NoMemory}
@@ -75,7 +74,7 @@ front_first file bytes front =
           ∙ ap (λ (x : List TraceRecord × Reading). x.0) (read_on-pieces bytes rest),
     )
 
-pub first_read : (held : Option Files) (name bytes : List ℕ) (now : Cursor) → HasCome held name any bytes now
+pub first_read : (held : Option Files) (name bytes : List ℕ) (now : Reached) → HasCome held name any bytes now
     → AreFirst held name (reading_of bytes).0
 first_read held name bytes now come = told_one held (λ files front. front_first (content files name) bytes front) come.front
 

@@ -47,12 +47,15 @@ pub begun-all : (v : Version) (h : Header) (items : List TraceRecord) (e : Endin
     → begun_with v h (items ++ records.End e ∷ []) ≡ spell v h items e
 begun-all v h items e = sym (begun-more v h items (records.End e)) ∙ begun-ended v h items e
 
--- ---- the file of a conversion
+-- what some records spell goes on to what all of them do, and their end
+pub begun_on : (v : Version) (h : Header) (items seen more : List TraceRecord) (e : Ending)
+    → items ++ records.End e ∷ [] ≡ seen ++ more → (rest : List ℕ) × (spell v h items e ≡ begun_with v h seen ++ rest)
+begun_on v h items seen more e is = (
+  spell_records v (last_behind 0 seen) more,
+  sym (begun-all v h items e) ∙ ap (begun_with v h) is ∙ begun-append v h seen more,
+)
 
-pub conversion-header : (name : List ℕ) (v : Version) (h : Header)
-    → outputs_with (record { name = name; bytes = [] } ∷ []) 0 (spell_header v h) ≡ conversion_so_far name v h []
-conversion-header name v h =
-    ap (λ (l : List ℕ). let o : List Output = record { name = name; bytes = l } ∷ [] in o) (sym (append-nil (spell_header v h)))
+-- ---- the file of a conversion
 
 pub conversion-more : (name : List ℕ) (v : Version) (h : Header) (seen : List TraceRecord) (item : TraceRecord)
     → outputs_with (conversion_so_far name v h seen) 0 (spell_record v (last_behind 0 seen) item)

@@ -9,19 +9,19 @@ use Rattle.outputs.specs.Files.{Output, AllMayStand, GoOn, MayStand, bytes_for}
 use Rattle.outputs.specs.OneFile.{Waiting}
 use Rattle.outputs.specs.OnTheirWay.{IsNew, IsOutputs}
 use Rattle.outputs.specs.Laws.{AreCut-longer, goes_by, output_names}
-use Rattle.trace_grammar.specs.declared.record.Header.{Header}
 use Rattle.trace_grammar.specs.declared.record.TraceRecord.{TraceRecord}
 use Rattle.trace_grammar.specs.Reading.{reading_of}
 use Rattle.trace_passes.specs.declared.passes.PassFault.{PassFault}
 use Rattle.trace_passes.specs.declared.passes.PassFault.TheVariants as passes
 use Rattle.trace_passes.specs.declared.passes.Passed.{Passed}
 use Rattle.trace_passes.specs.declared.wanted.Refusal.{Refusal}
-use Rattle.trace_passes.specs.Passes.{HasPassCause, Trace, all_records, head_of, header_refusal, refusal_of, trace_of, trace_with}
-use Rattle.trace_passes.specs.PassLaws.{accepted_at_end, trace-ending, trace-records}
+use Rattle.trace_passes.specs.Passes.{HasPassCause, Trace, all_records, refusal_of, trace_of, trace_with}
+use Rattle.trace_passes.specs.PassLaws.{trace-records}
 use Rattle.trace_copies.specs.declared.fault.CopyFault.{CopyFault}
 use Rattle.trace_copies.specs.declared.fault.CopyFault.TheVariants.{Refused, Changed, ReadFault, WriteFault, NoMemory}
-use Rattle.trace_copies.specs.Copies.{HasCopyCause, HasStopped, any}
+use Rattle.trace_copies.specs.Copies.{HasCopyCause, HasStopped, StaysWhereRefused, any}
 use Rattle.trace_copies.specs.Copying.{AreFirst, IsAccepted, IsCutShort, first_fault}
+use Rattle.trace_copies.specs.CopyLaws.{trace_unrefused}
 use Rattle.trace_copies.proofs.Readings.{same_at, short_read, told_any, told_both, told_one}
 
 -- ---- each other file
@@ -149,7 +149,7 @@ short_other held name files seen waiting before now refusal first on =
 
 -- ---- two readings of what is told
 
-same_trace : (a b : Trace) (x : Option Trace) → x ≡ Some a → x ≡ Some b → a ≡ b
+pub same_trace : (a b : Trace) (x : Option Trace) → x ≡ Some a → x ≡ Some b → a ≡ b
 same_trace a b x one two = let both : Some a ≡ Some b = sym one ∙ two in cc
 
 -- the parts of the trace that is told
@@ -179,16 +179,12 @@ untold (Some files) P told never = absurd (never told)
 
 -- ---- an accepted trace
 
-any_header : (h : Option Header) → header_refusal any h ≡ None
-any_header None = refl
-any_header (Some h) = refl
-
 pub told_accepted : (held : Option Files) (name : List ℕ) (first : Passed) → IsAccepted held name first
     → Told held (λ files. refusal_of any (content files name) ≡ None)
 told_accepted held name first accepted =
-    told_one held (λ files same. ap (refusal_of any) (sym same)
-    ∙ accepted_at_end any accepted.bytes first.ending (any_header (head_of (reading_of accepted.bytes).1.progress))
-    (trace-ending accepted.bytes (trace_with first accepted.items) accepted.is)) accepted.whole
+    told_one held
+    (λ files same. ap (refusal_of any) (sym same) ∙ trace_unrefused accepted.bytes (trace_with first accepted.items) accepted.is)
+    accepted.whole
 
 -- it isn't refused where its bytes are told
 pub never_refused : (held : Option Files) (name : List ℕ) (first : Passed) → IsAccepted held name first → (refusal : Refusal)
@@ -196,3 +192,21 @@ pub never_refused : (held : Option Files) (name : List ℕ) (first : Passed) →
 never_refused held name first accepted refusal told =
     untold held ⊥ (told_both held (λ files a b. let no : None ≡ Some refusal = sym a ∙ b in absurd cc)
     (told_accepted held name first accepted) told) (λ x. x)
+
+-- ---- a refused trace
+
+-- the first reading gave up, and wrote under no name
+pub refused_first : (held : Option Files) (name : List ℕ) (old new : Outside) (fault : CopyFault)
+    → ((names : List (List ℕ)) (outputs : Trace → List Output) → HasStopped held name names outputs old new fault)
+    → StaysWhereRefused held name old new
+refused_first held name old new fault stopped =
+    let others = (stopped [] (λ t. [])).others in
+    told_any held (λ files refusal is. goes_by (λ a b. (n : List ℕ) → IsNew n [] → b n ≡ a n) (λ a b. (n : List ℕ) → b n ≡ a n)
+    old.written new.written (λ a b i j same n. same n tt) others)
+
+-- the second one is made of accepted traces alone
+pub refused_never : (held : Option Files) (name : List ℕ) (first : Passed) (old new : Outside) → IsAccepted held name first
+    → StaysWhereRefused held name old new
+refused_never held name first old new accepted =
+    told_one held (λ files none refusal is. let no : None ≡ Some refusal = sym none ∙ is in absurd cc)
+    (told_accepted held name first accepted)

@@ -7,7 +7,8 @@ use Rattle.trace_grammar.specs.declared.record.Version.{Version}
 use Rattle.trace_grammar.specs.declared.record.Version.TheVariants.{One, Two}
 use Rattle.trace_grammar.specs.Spelling.{spell}
 use Rattle.trace_passes.specs.declared.wanted.Wanted.{Wanted}
-use Rattle.trace_passes.specs.Passes.{Trace, all_records, trace_of}
+use Rattle.trace_passes.specs.declared.wanted.Refusal.{Refusal}
+use Rattle.trace_passes.specs.Passes.{Trace, all_records, refusal_of, trace_of}
 use Rattle.trace_writer.specs.Splits.{begin_split, endings_of, halves_of, headers_of}
 use Rattle.trace_copies.specs.declared.fault.CopyFault.{CopyFault}
 use Rattle.trace_copies.specs.declared.fault.CopyFault.TheVariants.{ReadFault, WriteFault}
@@ -74,6 +75,17 @@ pub record HasCopied (held : Option Files) (name : List ℕ) (outputs : Trace �
   pub is : trace_of bytes ≡ Some trace
   pub told : says trace
   pub written : AreWritten (outputs trace) before now
+
+-- how the name's bytes are refused as a trace, if they are
+abbrev pub IsJudged : Option Files → List ℕ → Option Refusal → Type 0
+IsJudged held name judged =
+    Told held (λ files. refusal_of any (content files name) ≡ judged)
+
+-- where they are, each file is as it was
+abbrev pub StaysWhereRefused : Option Files → List ℕ → Outside → Outside → Type 0
+StaysWhereRefused held name before now = Told held (λ files. (refusal : Refusal)
+    → refusal_of any (content files name) ≡ Some refusal
+    → Goes before.written now.written (λ old new. (n : List ℕ) → new n ≡ old n))
 
 -- one of the numbers of faults rose that these names have
 abbrev pub RoseAt : List (List ℕ) → (List ℕ → ℕ) → (List ℕ → ℕ) → Type 0

@@ -16,7 +16,9 @@ use Rattle.trace_passes.specs.declared.passes.PassFault.{PassFault}
 use Rattle.trace_passes.specs.declared.passes.PassFault.TheVariants as passes
 use Rattle.trace_passes.specs.declared.passes.Passed.{Passed}
 use Rattle.trace_passes.specs.Passes.{all_records, trace_of, trace_with}
+use Rattle.trace_writer.specs.Splits.{HasSeen, Split, halves_of, headers_of}
 use Rattle.trace_copies.specs.declared.convert.Conversion.{Conversion}
+use Rattle.trace_copies.specs.declared.split.Splitting.{Splitting}
 use Rattle.trace_copies.specs.declared.fault.CopyFault.{CopyFault}
 use Rattle.trace_copies.specs.declared.fault.CopyFault.TheVariants.{Refused, Changed, ReadFault}
 use Rattle.trace_copies.specs.declared.fault.CopyFault.TheVariants.{WriteFault, NoMemory}
@@ -58,6 +60,28 @@ conversion_so_far name v header seen =
 pub record HasConverted (c : Conversion) (seen : List TraceRecord) : Type 0 where
   pub writer : c.writer ≡ record { version = c.version; last = last_behind 0 seen }
   pub count : length c.files.outputs ≡ 1
+
+-- ---- two halves on their way
+
+-- the files of two halves of a trace that is cut so, with these records
+abbrev pub halves_with : List ℕ → List ℕ → Version → Split
+    → List TraceRecord × List TraceRecord → List Output
+halves_with first second v s halves =
+    record { name = first; bytes = begun_with v (headers_of s).0 halves.0 }
+    ∷ record { name = second; bytes = begun_with v (headers_of s).1 halves.1 } ∷ []
+
+-- once these records of the whole came
+abbrev pub halves_so_far : List ℕ → List ℕ → Version → Split → List TraceRecord → List Output
+halves_so_far first second v s seen = halves_with first second v s (halves_of s.cut seen)
+
+-- its splitter is behind these records, and each writer behind those of its half
+pub record HasSplit (s : Splitting) (seen : List TraceRecord) : Type 0 where
+  pub splitter : HasSeen seen s.splitter
+  pub first : s.first_writer
+      ≡ record { version = s.version; last = last_behind 0 (halves_of s.splitter.cut seen).0 }
+  pub second : s.second_writer
+      ≡ record { version = s.version; last = last_behind 0 (halves_of s.splitter.cut seen).1 }
+  pub count : length s.files.outputs ≡ 2
 
 -- ---- two readings
 

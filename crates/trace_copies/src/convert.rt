@@ -1,7 +1,7 @@
 // A copy of a trace in the other version.
 ghost use Rattle.std.specs.Prelude.{◌≡◌, ◌≢◌, ◌∷◌, ◌++◌, ℕ, List, [], Err, None, Some, length};
 ghost use Rattle.std.specs.Prelude.{IfErr, IfOk, OnOk};
-ghost use Rattle.shelf.specs.Shelf.{Outside, Told, content};
+ghost use Rattle.shelf.specs.Shelf.{Outside};
 ghost use Rattle.outputs.specs.Files.{AreCut, Output};
 ghost use Rattle.outputs.specs.OneFile.{Waiting};
 ghost use Rattle.outputs.specs.OnTheirWay.{IsOutputs};
@@ -11,8 +11,9 @@ ghost use Rattle.trace_grammar.specs.declared.record.Version.TheVariants.{One, T
 ghost use Rattle.trace_grammar.specs.Rules.{IsGoodHeader, IsWritable, touches_in};
 ghost use Rattle.trace_passes.specs.declared.wanted.Refusal.{Refusal as Refused};
 ghost use Rattle.trace_passes.specs.declared.wanted.Refusal.TheVariants as refusals;
-ghost use Rattle.trace_passes.specs.Passes.{Trace, refusal_of};
-ghost use Rattle.trace_copies.specs.Copies.{HasCopied, HasStopped, any, conversion, other_version};
+ghost use Rattle.trace_passes.specs.Passes.{Trace};
+ghost use Rattle.trace_copies.specs.Copies.{HasCopied, HasStopped, IsJudged, StaysWhereRefused};
+ghost use Rattle.trace_copies.specs.Copies.{conversion, other_version};
 ghost use Rattle.trace_copies.specs.Copying.{HasConverted, IsAccepted, conversion_so_far};
 
 use crate::CopyFault;
@@ -20,7 +21,6 @@ use crate::copy::{accept, copy_again};
 use crate::fault::write_fault;
 use crate::part::Files;
 use crate::target::Target;
-use outputs::Outputs;
 use shelf::{Shelf, ShelfError};
 use std::alloc::Global;
 use trace_grammar::{Header, TraceRecord, Version};
@@ -85,17 +85,9 @@ fn begin<'a, S: Shelf>(
     ensures cut { IfErr result (λ error. AreCut (conversion_so_far name.now version header [])
         (S.outside shelf.old) (S.outside shelf.new) error) }
 {
-    let mut writer = TraceWriter::new(version);
-    let mut files = Files {
-        outputs: Outputs::new(alloc),
-        piece: Vec::new(alloc),
-    };
-    match files.outputs.begin(alloc, shelf, name) {
-        Ok(()) => {}
-        Err(error) => return Err(error),
-    }
-    match files.put_header(shelf, 0, &mut writer, header) {
-        Ok(()) => Ok(Conversion {
+    let mut files = Files::new(alloc);
+    match files.begin(alloc, shelf, 0, name, version, header) {
+        Ok(writer) => Ok(Conversion {
             name,
             header,
             version,
@@ -166,17 +158,17 @@ pub fn convert_trace<S: Shelf>(
         (S.outside shelf.old) (S.outside shelf.new)) }
     // At a refusal nothing is done.
     ensures refused { (refusal : Refused) → result ≡ Err (CopyFault.Refused refusal)
-        → Told (S.outside shelf.old).held
-        (λ files. refusal_of any (content files name.now) ≡ Some refusal) }
+        → IsJudged (S.outside shelf.old).held name.now (Some refusal) }
     ensures stays { (refusal : Refused) → result ≡ Err (CopyFault.Refused refusal)
         → S.outside shelf.new ≡ S.outside shelf.old }
     ensures memory { result ≢ Err (CopyFault.Refused (refusals.Trace trace_faults.NoMemory)) }
-    // What is told doesn't change.
     ensures changed { (refusal : Refused) → result ≡ Err (CopyFault.Changed refusal)
         → (S.outside shelf.old).held ≡ None }
-    // Only an accepted trace is written.
-    ensures accepted { result ≡ Err CopyFault.WriteFault → Told (S.outside shelf.old).held
-        (λ files. refusal_of any (content files name.now) ≡ None) }
+    // Only an accepted trace is written, whatever the fault.
+    ensures accepted { result ≡ Err CopyFault.WriteFault
+        → IsJudged (S.outside shelf.old).held name.now None }
+    ensures begun { IfErr result (λ fault. StaysWhereRefused (S.outside shelf.old).held name.now
+        (S.outside shelf.old) (S.outside shelf.new)) }
     ensures stopped { IfErr result (λ fault. HasStopped (S.outside shelf.old).held name.now
         (output.now ∷ []) (conversion output.now) (S.outside shelf.old)
         (S.outside shelf.new) fault) }

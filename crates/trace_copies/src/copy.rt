@@ -2,7 +2,7 @@
 ghost use Rattle.std.specs.Prelude.{◌≡◌, ◌≢◌, ◌++◌, ℕ, List, [], Err, None, Some, take, IfErr};
 ghost use Rattle.std.specs.Prelude.{IfOk, OnOk};
 ghost use Rattle.std.specs.List.{All};
-ghost use Rattle.shelf.specs.Shelf.{Outside, Told, content};
+ghost use Rattle.shelf.specs.Shelf.{Outside};
 ghost use Rattle.outputs.specs.Files.{AreCut, Output};
 ghost use Rattle.outputs.specs.OnTheirWay.{IsOutputs};
 ghost use Rattle.trace_grammar.specs.declared.fault.TraceFault.TheVariants as trace_faults;
@@ -10,8 +10,8 @@ ghost use Rattle.trace_grammar.specs.declared.record.TraceRecord.{TraceRecord as
 ghost use Rattle.trace_grammar.specs.Rules.{IsWritable};
 ghost use Rattle.trace_passes.specs.declared.wanted.Refusal.{Refusal as Refused};
 ghost use Rattle.trace_passes.specs.declared.wanted.Refusal.TheVariants as refusals;
-ghost use Rattle.trace_passes.specs.Passes.{Trace, refusal_of};
-ghost use Rattle.trace_copies.specs.Copies.{HasStopped, any};
+ghost use Rattle.trace_passes.specs.Passes.{Trace};
+ghost use Rattle.trace_copies.specs.Copies.{HasStopped, IsJudged, any};
 ghost use Rattle.trace_copies.specs.Copying.{AreAlike, IsAccepted, IsCopied, IsCutShort};
 ghost use Rattle.trace_copies.specs.Copying.{IsUnderWay};
 
@@ -56,8 +56,7 @@ pub(crate) fn accept<S: Shelf>(
         (S.outside shelf.old).held name.now passed) }
     ensures stays { OnOk result (S.outside shelf.new ≡ S.outside shelf.old) }
     ensures refused { (refusal : Refused) → result ≡ Err (CopyFault.Refused refusal)
-        → Told (S.outside shelf.old).held
-        (λ files. refusal_of any (content files name.now) ≡ Some refusal) }
+        → IsJudged (S.outside shelf.old).held name.now (Some refusal) }
     ensures refused_stays { (refusal : Refused) → result ≡ Err (CopyFault.Refused refusal)
         → S.outside shelf.new ≡ S.outside shelf.old }
     ensures memory { result ≢ Err (CopyFault.Refused (refusals.Trace trace_faults.NoMemory)) }
@@ -127,8 +126,7 @@ pub(crate) fn copy_records<S: Shelf, T: Target>(
         before (S.outside shelf.new) fault) }
     ensures unrefused { (refusal : Refused) → result ≢ Err (CopyFault.Refused refusal) }
     ensures changed { (refusal : Refused) → result ≡ Err (CopyFault.Changed refusal)
-        → Told (S.outside shelf.old).held
-        (λ files. refusal_of any (content files name.now) ≡ Some refusal) }
+        → IsJudged (S.outside shelf.old).held name.now (Some refusal) }
 {
     let mut cursor = match Cursor::new(alloc) {
         Ok(cursor) => cursor,

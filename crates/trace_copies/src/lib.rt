@@ -1,9 +1,8 @@
-//! A copy of a named trace in the other version. Its two halves are defined, with their law, and no
-//! call writes them yet.
+//! Copies of a named trace: in the other version, or cut in two at an access.
 //!
 //! A trace is read twice. A first reading judges it and tells how many accesses there are, and
 //! only where it is accepted are the outputs begun. The second reading copies each record to a
-//! [`Target`], which knows the file and the spelling. `specs/Copies.antt` says which traces are
+//! [`Target`], which knows the files and the spelling. `specs/Copies.antt` says which traces are
 //! written, and what stands where a copy gave up.
 #![tactic(auto)]
 
@@ -12,6 +11,7 @@ mod copy;
 mod fault;
 mod laws;
 mod part;
+mod split;
 mod target;
 #[cfg(test)]
 mod tests;
@@ -19,3 +19,4 @@ mod tests;
 pub use convert::{Converted, convert_trace};
 pub use fault::CopyFault;
 pub use laws::{a_trace_converted_twice_is_itself, the_halves_have_the_accesses_of_the_whole};
+pub use split::{Halves, split_trace};

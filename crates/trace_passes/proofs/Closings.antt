@@ -1,15 +1,14 @@
 -- What is said once no more bytes are there.
-use Rattle.std.proofs.Common.{◌≡◌, ℕ, List, Option, Some, None, Result, Ok, Err, IfOk, OnOk, sym, ap, subst, ◌∙◌}
+use Rattle.std.proofs.Common.{◌≡◌, ℕ, List, Option, Some, None, Ok, sym, ap, subst, ◌∙◌}
 use Rattle.shelf.specs.Shelf.{Files, Told, content}
 use Rattle.trace_grammar.specs.declared.progress.Progress.{Progress}
 use Rattle.trace_grammar.specs.declared.record.TraceRecord.{TraceRecord}
 use Rattle.trace_grammar.specs.Reading.{Reading, ending_of, reading_of}
 use Rattle.trace_grammar.specs.Rules.{IsGoodHeader}
-use Rattle.trace_passes.specs.declared.passes.PassFault.{PassFault}
 use Rattle.trace_passes.specs.declared.passes.Passed.{Passed}
 use Rattle.trace_passes.specs.declared.wanted.Refusal.{Refusal}
 use Rattle.trace_passes.specs.declared.wanted.Wanted.{Wanted}
-use Rattle.trace_passes.specs.Passes.{HasPassed, IsWanted, before_last, head_of, header_refusal, refusal_of, trace_of, trace_refusal}
+use Rattle.trace_passes.specs.Passes.{HasPassed, IsWanted, before_last, head_of, header_refusal, refusal_of, trace_refusal}
 use Rattle.trace_passes.specs.Passes.{trace_with}
 use Rattle.trace_passes.specs.CountLaws.{counted_so_far}
 use Rattle.trace_passes.specs.PassLaws.{accepted_at_end, is_wanted, refusal_at_end, trace-records, trace_there}

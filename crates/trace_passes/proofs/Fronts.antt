@@ -1,6 +1,6 @@
 -- The front of a file that a pass has read, and its end.
-use Rattle.std.proofs.Common.{◌≡◌, ◌≢◌, ◌^◌, ℕ, ◌+◌, ◌-◌, ◌≤◌, ◌<◌, List, [], ◌++◌, length, take, drop, Option, Some, None, refl, sym, ap}
-use Rattle.std.proofs.Common.{subst, ◌∙◌, arith}
+use Rattle.std.proofs.Common.{◌≡◌, ◌≢◌, ℕ, ◌+◌, ◌-◌, ◌≤◌, ◌<◌, List, [], ◌++◌, length, take, drop, Option, Some, None, refl, sym, ap}
+use Rattle.std.proofs.Common.{◌∙◌, arith}
 use Rattle.std.proofs.Math.Seq.{take-add}
 use Rattle.std.proofs.lemmas.List.{append-nil, drop_all, length-append, length-take-le, take-append-drop, take_all}
 use Rattle.shelf.specs.Shelf.{Files, OnlyReads, Outside, Reads, Told, content}
@@ -12,12 +12,11 @@ use Rattle.trace_passes.specs.Passes.{head_of, header_refusal, refusal_of}
 use Rattle.trace_passes.specs.CountLaws.{few_bytes}
 use Rattle.trace_passes.specs.declared.wanted.Refusal.{Refusal}
 use Rattle.trace_passes.specs.declared.wanted.Wanted.{Wanted}
-use Rattle.trace_passes.specs.declared.cursor.Cursor.{Cursor}
-use Rattle.trace_passes.specs.Cursors.{HasCome, IsRead}
+use Rattle.trace_passes.specs.Cursors.{HasCome, IsRead, Reached}
 
 -- no more bytes are read than a trace may have
-pub at_most : (held : Option Files) (name : List ℕ) (w : Wanted) (bytes : List ℕ) (now : Cursor) → HasCome held name w bytes now
-    → now.at ≤ longest_trace
+pub at_most : (held : Option Files) (name : List ℕ) (w : Wanted) (bytes : List ℕ) (now : Reached) → HasCome held name w bytes now
+    → now.count ≤ longest_trace
 at_most held name w bytes now come =
     let few = few_bytes bytes (ap (λ (r : Reading). r.fault) (sym come.read.reading) ∙ come.read.clean) in
     omega (arith, few, come.size)
@@ -39,10 +38,10 @@ unfolding read_on
 nothing_read = refl
 
 -- before the first byte
-pub first_come : (held : Option Files) (name : List ℕ) (w : Wanted) (now : Cursor) → now.reader ≡ begin → now.at ≡ 0
-    → 0 < length now.piece.items → HasCome held name w [] now
+pub first_come : (held : Option Files) (name : List ℕ) (w : Wanted) (now : Reached) → now.reading ≡ begin → now.count ≡ 0
+    → 0 < now.piece → HasCome held name w [] now
 first_come held name w now is at room =
-    let reading : now.reader ≡ (reading_of []).1 = is ∙ sym (ap (λ (x : List TraceRecord × Reading). x.1) nothing_read) in
+    let reading : now.reading ≡ (reading_of []).1 = is ∙ sym (ap (λ (x : List TraceRecord × Reading). x.1) nothing_read) in
     record {
       size = sym at;
       room = room;
@@ -101,10 +100,10 @@ only_both a b c first then =
     }
 
 -- one piece more is read
-pub next_come : (held : Option Files) (name : List ℕ) (w : Wanted) (bytes buffer : List ℕ) (at n : ℕ) (now : Cursor)
+pub next_come : (held : Option Files) (name : List ℕ) (w : Wanted) (bytes buffer : List ℕ) (at n : ℕ) (now : Reached)
     → length bytes ≡ at → n ≤ length buffer → Told held (λ files. IsFront (content files name) bytes)
-    → Told held (λ files. Reads (content files name) at n buffer) → IsRead w (bytes ++ take n buffer) now.reader
-    → now.at ≡ at + n → 0 < length now.piece.items → HasCome held name w (bytes ++ take n buffer) now
+    → Told held (λ files. Reads (content files name) at n buffer) → IsRead w (bytes ++ take n buffer) now.reading
+    → now.count ≡ at + n → 0 < now.piece → HasCome held name w (bytes ++ take n buffer) now
 next_come held name w bytes buffer at n now size fits front reads read is room =
     record {
       size = longer bytes buffer at n size fits ∙ sym is;

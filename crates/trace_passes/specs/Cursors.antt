@@ -6,7 +6,6 @@ use Rattle.trace_grammar.specs.declared.progress.Progress.{Progress}
 use Rattle.trace_grammar.specs.declared.record.TraceRecord.{TraceRecord}
 use Rattle.trace_grammar.specs.Reading.{Reading, reading_of}
 use Rattle.trace_grammar.specs.Rules.{IsGoodHeader, longest_trace}
-use Rattle.trace_passes.specs.declared.cursor.Cursor.{Cursor}
 use Rattle.trace_passes.specs.declared.passes.Passed.{Passed}
 use Rattle.trace_passes.specs.declared.wanted.Wanted.{Wanted}
 use Rattle.trace_passes.specs.Passes.{IsWanted, head_of, header_refusal, refusal_of, trace_of}
@@ -25,29 +24,36 @@ pub record IsHeadOf (progress : Option Progress) (passed : Passed) : Type 0 wher
   pub version : passed.version ≡ now.version
   pub header : passed.header ≡ now.header
 
--- the records of the last piece
-abbrev pub records_at : Cursor → List TraceRecord
-records_at now = now.items.items
+-- how far a cursor is
+pub record Reached : Type 0 where
+  -- what the bytes so far say
+  pub reading : Reading
+  -- how many they are
+  pub count : ℕ
+  -- the records that became whole in the last piece
+  pub items : List TraceRecord
+  -- how many bytes a piece has at most
+  pub piece : ℕ
 
 -- how many bytes a trace may have behind those that are read
-abbrev pub bytes_left : Cursor → ℕ
-bytes_left now = longest_trace - now.at
+abbrev pub bytes_left : Reached → ℕ
+bytes_left now = longest_trace - now.count
 
 -- The cursor has read these bytes, which the name's begin with where these are told. It has room
 -- for more.
 pub record HasCome (held : Option Files) (name : List ℕ) (w : Wanted) (bytes : List ℕ)
-    (now : Cursor) : Type 0 where
-  pub size : length bytes ≡ now.at
-  pub room : 0 < length now.piece.items
+    (now : Reached) : Type 0 where
+  pub size : length bytes ≡ now.count
+  pub room : 0 < now.piece
   pub front : Told held (λ files. IsFront (content files name) bytes)
-  pub read : IsRead w bytes now.reader
+  pub read : IsRead w bytes now.reading
 
 -- It has read more bytes than these, and holds the records that became whole in them.
 pub record GoesOn (held : Option Files) (name : List ℕ) (w : Wanted) (bytes : List ℕ)
-    (now : Cursor) : Type 0 where
+    (now : Reached) : Type 0 where
   pub more : List ℕ
   pub come : HasCome held name w (bytes ++ more) now
-  pub records : (reading_of (bytes ++ more)).0 ≡ (reading_of bytes).0 ++ records_at now
+  pub records : (reading_of (bytes ++ more)).0 ≡ (reading_of bytes).0 ++ now.items
 
 -- These bytes are all of the name's, where these are told, and they are a trace of these parts, as
 -- wanted.

@@ -1,5 +1,4 @@
 -- How far a pass is, in the clauses of this crate's own functions.
-use Rattle.std.specs.Prelude.{◌≡◌, ℕ, List}
 use Rattle.shelf.specs.declared.shelf.ShelfError.{ShelfError}
 use Rattle.shelf.specs.declared.shelf.ShelfError.TheVariants as errors
 use Rattle.trace_passes.specs.declared.passes.PassFault.{PassFault}

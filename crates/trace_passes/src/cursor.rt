@@ -6,7 +6,7 @@ ghost use Rattle.trace_grammar.specs.declared.fault.TraceFault.TheVariants as tr
 ghost use Rattle.trace_grammar.specs.declared.record.TraceRecord.{TraceRecord as Record};
 ghost use Rattle.trace_grammar.specs.Reading.{ending_of, reading_of};
 ghost use Rattle.trace_passes.specs.Cursors.{GoesOn, HasCome, HasEnded, IsHeadOf, IsRead};
-ghost use Rattle.trace_passes.specs.Cursors.{bytes_left, records_at};
+ghost use Rattle.trace_passes.specs.Cursors.{bytes_left};
 ghost use Rattle.trace_passes.specs.Passes.{HasPassCause, refusal_of, trace_refusal};
 ghost use Rattle.trace_passes.specs.declared.passes.Passed.{Passed as Parts};
 ghost use Rattle.trace_passes.specs.declared.wanted.Refusal.{Refusal as Refused};
@@ -15,6 +15,7 @@ ghost use Rattle.trace_passes.specs.declared.wanted.Refusal.TheVariants as refus
 use crate::{PassFault, Passed, Refusal, Wanted};
 use shelf::Shelf;
 use std::alloc::{AllocError, Global};
+use std::marker::Model;
 use trace_grammar::{TraceFault, TraceRecord};
 use trace_reader::TraceReader;
 
@@ -23,12 +24,29 @@ use trace_reader::TraceReader;
 const PIECE: usize = 16384;
 
 /// A place in a named trace that is read piece after piece, and the records of the last piece.
+///
+/// Contracts see what the bytes so far say, how many they are, those records, and how many bytes a
+/// piece has at most.
 #[derive(Drop)]
 pub struct Cursor {
     reader: TraceReader,
     piece: Vec<u8>,
     at: u64,
     items: Vec<TraceRecord>,
+}
+
+impl Model for Cursor {
+    ghost use Rattle.std.specs.Prelude.{length};
+    ghost use Rattle.trace_passes.specs.Cursors.{Reached};
+
+    ghost Value = { Reached };
+
+    ghost view = { λ c. record {
+      reading = c.reader;
+      count = c.at;
+      items = c.items.items;
+      piece = length c.piece.items;
+    } };
 }
 
 // A buffer of some bytes. (The length is a parameter, since a proof would write out a list of a
@@ -128,7 +146,7 @@ impl Cursor {
 
     /// The records that became whole in the last piece.
     pub fn items(&self) -> &[TraceRecord]
-        ensures { result.now ≡ records_at self.now }
+        ensures { result.now ≡ self.now.items }
     {
         &self.items
     }

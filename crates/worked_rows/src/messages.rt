@@ -1,8 +1,9 @@
 // What is said on standard error, as users would want it.
 use crate::runs::words;
+use advice::{WrongWord, wrong_word};
 use elf_loader::ElfFault;
 use hart_scheduler::ScheduleFault;
-use predator_cli::{Status, WrongWord, advice_on, wrong_word};
+use predator_cli::{Status, USAGE, advice_on};
 use settings::{Key, SettingsFault};
 use std::alloc::{AllocError, Global};
 use std::test::Fail;
@@ -10,7 +11,7 @@ use trace_grammar::TraceFault;
 
 fn is_wrong(alloc: Global, line: &str, wanted: &WrongWord<'_>) -> Result<bool, AllocError> {
     let words = words(alloc, line)?;
-    Ok(wrong_word(&words) == *wanted)
+    Ok(wrong_word(USAGE, &words) == *wanted)
 }
 
 #[test]
@@ -26,6 +27,7 @@ fn the_wrong_word_is_named(rt: HostRuntime) -> Result<(), Fail> {
         ("run p --trace", WrongWord::NoValue("--trace")),
         ("check p q", WrongWord::OneTooMany("q")),
         ("gen 3 f g", WrongWord::OneTooMany("g")),
+        ("split t 4 a b c", WrongWord::OneTooMany("c")),
     ] {
         assert!(rt; is_wrong(alloc, line, &wanted)?, "{line}");
     }
@@ -44,6 +46,11 @@ fn what_else_is_wrong_is_named(rt: HostRuntime) -> Result<(), Fail> {
         ("run --trace t", WrongWord::NoName("PROGRAM")),
         ("gen 3", WrongWord::NoName("FILE")),
         ("gen 03 f", WrongWord::NoCount),
+        ("split t 4 a", WrongWord::NoName("B")),
+        ("split -- t 04 a b", WrongWord::NoPlace),
+        ("split t 4 a t", WrongWord::SameName),
+        ("convert t", WrongWord::NoName("FILE")),
+        ("convert t t", WrongWord::SameName),
         ("replay t --size 48", WrongWord::NoLayout),
         ("run p --trace p", WrongWord::SameName),
         ("check p", WrongWord::Other),

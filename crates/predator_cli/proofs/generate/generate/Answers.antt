@@ -1,4 +1,4 @@
-use Rattle.std.proofs.Common.{◌∙◌, ap, sym, Some}
+use Rattle.std.proofs.Common.{Some}
 use Rattle.command_line.specs.Gen.{gen_meaning}
 use Rattle.command_line.specs.Words.{gen}
 use Rattle.predator_cli.proofs.GenEnds.{made_cut, made_worked}

@@ -1,15 +1,13 @@
-use Rattle.std.proofs.Common.{[], List, sym, subst}
-use Rattle.outputs.specs.Files.{AreCut, Output}
-use Rattle.outputs.specs.OnTheirWay.{IsOutputs}
+use Rattle.std.proofs.Common.{[], subst}
+use Rattle.outputs.specs.Files.{AreCut}
 use Rattle.outputs.specs.Laws.{IsOutputs-begun}
-use Rattle.trace_grammar.specs.declared.record.TraceRecord.{TraceRecord}
 use Rattle.trace_grammar.specs.declared.record.Version.{Version}
-use Rattle.trace_passes.specs.Passes.{all_records, trace_with}
+use Rattle.trace_passes.specs.Passes.{trace_with}
 use Rattle.trace_passes.specs.PassLaws.{trace-parts}
 use Rattle.trace_copies.specs.Copying.{HasConverted, conversion_so_far}
-use Rattle.trace_copies.proofs.Conversions.{copied_whole, so_copied, stopped_again, stopped_put}
+use Rattle.trace_copies.proofs.Again.{begun_as}
+use Rattle.trace_copies.proofs.Conversions.{copied_whole, stopped_again, stopped_ending, stopped_put}
 use Rattle.trace_copies.proofs.Readings.{first_none}
-use Rattle.trace_copies.proofs.Stopped.{first_all}
 use Rattle.trace_copies.proofs.convert.convert_accepted.Goals as goal
 
 pub begin-requires : goal.begin-requires
@@ -29,19 +27,14 @@ returns-in-Err-clause-stopped g c =
 
 pub copy_again-requires-clause-way : goal.copy_again-requires-clause-way
 copy_again-requires-clause-way g c =
-    let old = g.S.Shelf.outside c.args.shelf.now in (
-      old,
-      subst (λ (f : List TraceRecord → List Output). IsOutputs c.in-Ok.target.files.outputs (f []) old
-          (g.S.Shelf.outside c.begin.new.shelf)) (sym c.in-Ok.ensures.files) c.in-Ok.ensures.outputs,
-    )
+    (g.S.Shelf.outside c.args.shelf.now, begun_as c.in-Ok.ensures.files c.in-Ok.ensures.outputs)
 
 pub returns-in-Err-copy_again-clause-stopped : goal.returns-in-Err-copy_again-clause-stopped
 returns-in-Err-copy_again-clause-stopped g c =
     let old = g.S.Shelf.outside c.args.shelf.now in
     let mid = g.S.Shelf.outside c.begin.new.shelf in
     let to = c.in-Ok.target in
-    let way = subst (λ (f : List TraceRecord → List Output). IsOutputs to.files.outputs (f []) old mid)
-    (sym c.in-Ok.ensures.files) c.in-Ok.ensures.outputs in
+    let way = begun_as c.in-Ok.ensures.files c.in-Ok.ensures.outputs in
     stopped_again old.held c.args.name.now c.args.output.now c.args.first.now c.requires c.other_version-version.result
     c.other_version-version.ensures (conversion_so_far to.name.now to.version to.header) c.in-Ok.ensures.files mid.held
     c.in-Ok.ensures.outputs.only.held old (g.S.Shelf.outside c.copy_again.new.shelf) c.in-Err-copy_again.fault
@@ -50,9 +43,7 @@ returns-in-Err-copy_again-clause-stopped g c =
 pub finish-requires : goal.finish-requires
 finish-requires g c =
     let old = g.S.Shelf.outside c.args.shelf.now in
-    let mid = g.S.Shelf.outside c.begin.new.shelf in
-    let way = subst (λ (f : List TraceRecord → List Output). IsOutputs c.in-Ok.target.files.outputs (f []) old mid)
-    (sym c.in-Ok.ensures.files) c.in-Ok.ensures.outputs in
+    let way = begun_as c.in-Ok.ensures.files c.in-Ok.ensures.outputs in
     IsOutputs-begun c.copy_again.new.target.files.outputs _ old (g.S.Shelf.outside c.copy_again.new.shelf)
     (c.in-Ok-copy_again.ensures.copied old way).outputs
 
@@ -60,39 +51,25 @@ pub returns-in-Ok-finish-clause-copied : goal.returns-in-Ok-finish-clause-copied
 returns-in-Ok-finish-clause-copied g c =
     let a = c.args in
     let old = g.S.Shelf.outside a.shelf.now in
-    let mid = g.S.Shelf.outside c.begin.new.shelf in
-    let done = g.S.Shelf.outside c.copy_again.new.shelf in
     let to = c.in-Ok.target in
     let later = c.copy_again.new.target in
-    let second = c.in-Ok-copy_again.passed in
-    let way = subst (λ (f : List TraceRecord → List Output). IsOutputs to.files.outputs (f []) old mid)
-    (sym c.in-Ok.ensures.files) c.in-Ok.ensures.outputs in
-    let copied = so_copied old.held a.name.now a.output.now a.first.now c.requires c.other_version-version.result
-    c.other_version-version.ensures
-    (conversion_so_far to.name.now to.version to.header) c.in-Ok.ensures.files mid.held c.in-Ok.ensures.outputs.only.held old done
-    second (HasConverted later) later.files.outputs (c.in-Ok-copy_again.ensures.copied old way) in
-    copied_whole old.held a.name.now a.output.now a.first.now c.requires c.other_version-version.result
-    c.other_version-version.ensures second
-    (HasConverted later) later.files.outputs old done (g.S.Shelf.outside c.finish.new.shelf) c.in-Ok-copy_again.ensures.alike copied
+    let copied = c.in-Ok-copy_again.ensures.copied old (begun_as c.in-Ok.ensures.files c.in-Ok.ensures.outputs) in
+    copied_whole old.held a.name.now a.output.now a.first.now c.requires c.other_version-version.result c.other_version-version.ensures
+    (conversion_so_far to.name.now to.version to.header) c.in-Ok.ensures.files (g.S.Shelf.outside c.begin.new.shelf).held
+    c.in-Ok.ensures.outputs.only.held old c.in-Ok-copy_again.passed c.in-Ok-copy_again.ensures.alike (HasConverted later)
+    later.files.outputs (g.S.Shelf.outside c.copy_again.new.shelf) copied (g.S.Shelf.outside c.finish.new.shelf)
     (c.in-Ok-finish.ensures.written _ old copied.outputs)
 
 pub returns-clause-stopped : goal.returns-clause-stopped
 returns-clause-stopped g c =
     let a = c.args in
     let old = g.S.Shelf.outside a.shelf.now in
-    let mid = g.S.Shelf.outside c.begin.new.shelf in
-    let done = g.S.Shelf.outside c.copy_again.new.shelf in
     let to = c.in-Ok.target in
     let later = c.copy_again.new.target in
-    let second = c.in-Ok-copy_again.passed in
-    let way = subst (λ (f : List TraceRecord → List Output). IsOutputs to.files.outputs (f []) old mid)
-    (sym c.in-Ok.ensures.files) c.in-Ok.ensures.outputs in
-    let copied = so_copied old.held a.name.now a.output.now a.first.now c.requires c.other_version-version.result
-    c.other_version-version.ensures
-    (conversion_so_far to.name.now to.version to.header) c.in-Ok.ensures.files mid.held c.in-Ok.ensures.outputs.only.held old done
-    second (HasConverted later) later.files.outputs (c.in-Ok-copy_again.ensures.copied old way) in
-    let t = trace_with second copied.items in
+    let copied = c.in-Ok-copy_again.ensures.copied old (begun_as c.in-Ok.ensures.files c.in-Ok.ensures.outputs) in
     rw c.write_fault-in-Err-finish.ensures
-    (stopped_put old.held a.name.now a.output.now a.first.now c.requires (all_records t)
-    (first_all old.held a.name.now copied.bytes t copied.whole copied.is)
-    old (g.S.Shelf.outside c.finish.new.shelf) c.in-Err-finish.error (c.in-Err-finish.ensures.cut _ old copied.outputs))
+    (stopped_ending old.held a.name.now a.output.now a.first.now c.requires c.other_version-version.result
+    c.other_version-version.ensures (conversion_so_far to.name.now to.version to.header) c.in-Ok.ensures.files
+    (g.S.Shelf.outside c.begin.new.shelf).held c.in-Ok.ensures.outputs.only.held old c.in-Ok-copy_again.passed
+    c.in-Ok-copy_again.ensures.alike (HasConverted later) later.files.outputs (g.S.Shelf.outside c.copy_again.new.shelf) copied
+    (g.S.Shelf.outside c.finish.new.shelf) c.in-Err-finish.error (c.in-Err-finish.ensures.cut _ old copied.outputs))

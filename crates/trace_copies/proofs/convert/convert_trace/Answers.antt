@@ -5,7 +5,8 @@ use Rattle.trace_grammar.specs.Rules.{touches_in}
 use Rattle.trace_passes.specs.declared.wanted.Refusal.TheVariants as refusals
 use Rattle.trace_copies.specs.Copies.{HasCopied, HasStopped, conversion, other_version}
 use Rattle.trace_copies.specs.Copying.{IsAccepted}
-use Rattle.trace_copies.proofs.Stopped.{told_accepted}
+use Rattle.trace_copies.proofs.Answering.{if_err}
+use Rattle.trace_copies.proofs.Stopped.{refused_first, refused_never, told_accepted}
 use Rattle.trace_copies.proofs.convert.convert_trace.Goals as goal
 
 pub convert_accepted-requires : goal.convert_accepted-requires
@@ -43,3 +44,14 @@ returns-in-Ok-clause-stopped g c =
 
 pub returns-in-Err-clause-stopped : goal.returns-in-Err-clause-stopped
 returns-in-Err-clause-stopped g c = c.in-Err.ensures.stopped (c.args.output.now ∷ []) (conversion c.args.output.now)
+
+pub returns-in-Ok-clause-begun : goal.returns-in-Ok-clause-begun
+returns-in-Ok-clause-begun g c =
+    let old = g.S.Shelf.outside c.args.shelf.now in
+    if_err c.convert_accepted.result
+    (refused_never old.held c.args.name.now c.in-Ok.first old (g.S.Shelf.outside c.convert_accepted.new.shelf) c.in-Ok.ensures.accepted)
+
+pub returns-in-Err-clause-begun : goal.returns-in-Err-clause-begun
+returns-in-Err-clause-begun g c =
+    refused_first (g.S.Shelf.outside c.args.shelf.now).held c.args.name.now (g.S.Shelf.outside c.args.shelf.now)
+    (g.S.Shelf.outside c.accept.new.shelf) c.in-Err.fault c.in-Err.ensures.stopped

@@ -1,6 +1,5 @@
-use Rattle.std.proofs.Common.{◌≡◌, ◌++◌, List, [], None, Some, inl, inr, length, All, sym, ap, subst, ◌∙◌, arith}
+use Rattle.std.proofs.Common.{◌≡◌, List, [], None, Some, inl, inr, sym, ap, subst, ◌∙◌}
 use Rattle.trace_grammar.specs.declared.record.TraceRecord.{TraceRecord}
-use Rattle.trace_grammar.specs.Reading.{reading_of}
 use Rattle.trace_reader.specs.States.{ReadsOn}
 use Rattle.trace_passes.specs.declared.wanted.Refusal.{Refusal}
 use Rattle.trace_passes.specs.Passes.{head_of, header_refusal}

@@ -3,7 +3,7 @@ use Rattle.shelf.specs.Shelf.{Files, Told, content}
 use Rattle.trace_grammar.specs.declared.record.TraceRecord.{TraceRecord}
 use Rattle.trace_grammar.specs.Reading.{Reading, reading_of}
 use Rattle.trace_grammar.specs.Rules.{IsWritable}
-use Rattle.trace_passes.specs.Cursors.{GoesOn, HasCome, HasEnded, records_at}
+use Rattle.trace_passes.specs.Cursors.{GoesOn, HasCome, HasEnded}
 use Rattle.trace_passes.specs.Passes.{refusal_of}
 use Rattle.trace_passes.specs.Rooms.{HasRoom}
 use Rattle.trace_passes.proofs.Fronts.{nothing_read, only_both}
@@ -41,12 +41,12 @@ note_all-requires g c =
     let none = c.in_default.is in
     let come = subst (λ (h : Option Files). HasCome h name w bytes c.pieces.cursor) (sym x.only.held) x.way.come in
     let on : GoesOn (g.S.Shelf.outside c.pieces.shelf).held name w bytes next = c.in_ok-passed.ensures.more (cc) bytes come in
-    let items = records_at next in
+    let items = next.items in
     record {
       good = subst (All IsWritable) (sym c.items.ensures) (all_writable bytes on.more items on.records);
       room = λ some. subst (HasRoom g.O.Observer.begins g.O.Observer.given c.pieces.observer) (sym c.items.ensures)
           (room_for_all bytes on.more items on.records g.O.Observer.begins g.O.Observer.given w c.args.observer.now c.pieces.observer
-          next.reader c.requires.begins x.way.saw on.come.read (omega (arith, some, ap length c.items.ensures)));
+          next.reading c.requires.begins x.way.saw on.come.read (omega (arith, some, ap length c.items.ensures)));
     }
 
 pub pieces-preserved : goal.pieces-preserved

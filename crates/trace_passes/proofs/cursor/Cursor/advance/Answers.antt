@@ -1,45 +1,47 @@
-use Rattle.std.proofs.Common.{◌≡◌, ◌≢◌, ◌+◌, ◌≤◌, ◌<◌, ◌++◌, ℕ, List, Option, Some, length, take, refl, sym, ap, subst, ◌∙◌, arith}
-use Rattle.shelf.specs.Shelf.{Files, Told, content, Reads}
+use Rattle.std.proofs.Common.{◌≡◌, ◌+◌, ◌-◌, ◌≤◌, ◌<◌, ◌++◌, ℕ, List, Some, length, take, refl, sym, ap, subst, ◌∙◌, arith}
+use Rattle.shelf.specs.Shelf.{Told, content}
 use Rattle.shelf.specs.Fetch.{IsFront}
-use Rattle.trace_grammar.specs.declared.record.TraceRecord.{TraceRecord}
 use Rattle.trace_grammar.specs.Reading.{reading_of}
-use Rattle.trace_passes.specs.Cursors.{HasEnded, IsRead}
+use Rattle.trace_grammar.specs.Rules.{longest_trace}
+use Rattle.trace_passes.specs.Cursors.{HasCome, HasEnded, IsRead, Reached}
 use Rattle.trace_passes.specs.Passes.{refusal_of}
 use Rattle.trace_passes.proofs.Fronts.{at_most, falls, given_back, longer_front, next_come, refused_file, told_both, whole_front}
 use Rattle.trace_passes.proofs.Closings.{ended}
 use Rattle.trace_passes.proofs.cursor.Cursor.advance.Goals as goal
 
 pub returns-then-count-eq0-clause-ended : goal.returns-then-count-eq0-clause-ended
-returns-then-count-eq0-clause-ended g c = λ passed same bytes come.
+returns-then-count-eq0-clause-ended g c = λ passed same bytes reached.
+    let come = subst (HasCome (g.S.Shelf.outside c.args.shelf.now).held c.args.name.now c.args.wanted.now bytes) (sym c.self.view_is)
+    reached in
     let into = c.read_at.new.into in
-    let size : length c.args.self.now.piece.items ≡ c.args.self.now.piece.len = omega arith in
+    let size : length c.self.inside.piece.items ≡ c.self.inside.piece.len = omega arith in
     let some : 0 < length into = omega (arith, c.deref_mut.ensures.len, size, come.room) in
     let none : c.in_ok-count.count ≡ 0 = c.if-count-eq0.true in
     let held = (g.S.Shelf.outside c.args.shelf.now).held in
     let name = c.args.name.now in
     let w = c.args.wanted.now in
-    let at = c.args.self.now.at in
+    let at = c.self.inside.at in
     let count = c.in_ok-count.count in
     let whole : Told held (λ files. bytes ≡ content files name) =
     told_both held (λ files. whole_front (content files name) bytes into at count come.size none some) come.front
     c.in_ok-count.ensures.bytes in
     let is : c.in_ok-end_of.field-0 ≡ passed = cc in
     subst (HasEnded held name w bytes) is
-    (ended held name w c.args.self.now.reader bytes come.read whole c.in_ok-end_of.field-0 c.in_ok-end_of.ensures.ending
+    (ended held name w c.self.inside.reader bytes come.read whole c.in_ok-end_of.field-0 c.in_ok-end_of.ensures.ending
     c.in_ok-end_of.ensures.progress)
 
 pub returns-in_err-take_piece-clause-refused : goal.returns-in_err-take_piece-clause-refused
 returns-in_err-take_piece-clause-refused g c = λ refusal same.
     let into = c.read_at.new.into in
-    let was = c.args.self.now.piece.items in
-    let lent : length into ≡ c.args.self.now.piece.len = omega (arith, c.deref_mut.ensures.len) in
-    let size : length was ≡ c.args.self.now.piece.len = omega arith in
-    let back = given_back c.args.self.now.piece.len into was lent size in
+    let was = c.self.inside.piece.items in
+    let lent : length into ≡ c.self.inside.piece.len = omega (arith, c.deref_mut.ensures.len) in
+    let size : length was ≡ c.self.inside.piece.len = omega arith in
+    let back = given_back c.self.inside.piece.len into was lent size in
     let bytes = c.requires.0 in
-    let come = c.requires.1 in
     let held = (g.S.Shelf.outside c.args.shelf.now).held in
     let name = c.args.name.now in
-    let at = c.args.self.now.at in
+    let come = subst (HasCome held name c.args.wanted.now bytes) (sym c.self.view_is) c.requires.1 in
+    let at = c.self.inside.at in
     let count = c.in_ok-count.count in
     let fits : count ≤ length into = omega (arith, c.in_ok-count.ensures.bound) in
     let front : Told held (λ files. IsFront (content files name) (bytes ++ take count into)) =
@@ -52,12 +54,14 @@ returns-in_err-take_piece-clause-refused g c = λ refusal same.
     refused_file held name (bytes ++ take count into) c.args.wanted.now refusal front refused
 
 pub returns-clause-more : goal.returns-clause-more
-returns-clause-more g c = λ same bytes come.
+returns-clause-more g c = λ same bytes reached.
+    let come = subst (HasCome (g.S.Shelf.outside c.args.shelf.now).held c.args.name.now c.args.wanted.now bytes) (sym c.self.view_is)
+    reached in
     let into = c.read_at.new.into in
-    let was = c.args.self.now.piece.items in
-    let lent : length into ≡ c.args.self.now.piece.len = omega (arith, c.deref_mut.ensures.len) in
-    let size : length was ≡ c.args.self.now.piece.len = omega arith in
-    let back = given_back c.args.self.now.piece.len into was lent size in
+    let was = c.self.inside.piece.items in
+    let lent : length into ≡ c.self.inside.piece.len = omega (arith, c.deref_mut.ensures.len) in
+    let size : length was ≡ c.self.inside.piece.len = omega arith in
+    let back = given_back c.self.inside.piece.len into was lent size in
     let held = (g.S.Shelf.outside c.args.shelf.now).held in
     let count = c.in_ok-count.count in
     let w = c.args.wanted.now in
@@ -71,7 +75,7 @@ returns-clause-more g c = λ same bytes come.
     (c.in_ok-take_piece.ensures.records bytes come.read.reading) in
     record {
       more = take count into;
-      come = next_come held c.args.name.now w bytes into c.args.self.now.at count _ come.size
+      come = next_come held c.args.name.now w bytes into c.self.inside.at count _ come.size
           (omega (arith, c.in_ok-count.ensures.bound)) come.front c.in_ok-count.ensures.bytes read refl
           (omega (arith, ap length back, lent, size, come.room));
       records = records;
@@ -81,7 +85,8 @@ pub overflow_add-self : goal.overflow_add-self
 overflow_add-self g c =
     let held = (g.S.Shelf.outside c.args.shelf.now).held in
     let low = at_most held c.args.name.now c.args.wanted.now c.requires.0 c.args.self.now c.requires.1 in
-    let small : c.in_ok-count.count ≤ c.args.self.now.piece.len = omega (arith, c.in_ok-count.ensures.bound, c.deref_mut.ensures.len) in
+    let at = ap (λ (r : Reached). r.count) c.self.view_is in
+    let small : c.in_ok-count.count ≤ c.self.inside.piece.len = omega (arith, c.in_ok-count.ensures.bound, c.deref_mut.ensures.len) in
     omega arith
 
 pub returns-clause-fewer : goal.returns-clause-fewer
@@ -89,4 +94,5 @@ returns-clause-fewer g c = λ same.
     let held = (g.S.Shelf.outside c.args.shelf.now).held in
     let on = returns-clause-more g c same c.requires.0 c.requires.1 in
     let low = at_most held c.args.name.now c.args.wanted.now _ _ on.come in
-    falls c.args.self.now.at c.in_ok-count.count c.if-count-eq0.false low
+    subst (λ (n : ℕ). longest_trace - (c.self.inside.at + c.in_ok-count.count) < longest_trace - n)
+    (ap (λ (r : Reached). r.count) c.self.view_is) (falls c.self.inside.at c.in_ok-count.count c.if-count-eq0.false low)

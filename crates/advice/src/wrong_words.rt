@@ -1,6 +1,5 @@
 // What is wrong with words that are refused, as far as the usage lines tell it.
 
-use crate::faults::USAGE;
 use std::fmt;
 
 // What stands in front of each command's usage line.
@@ -27,6 +26,8 @@ pub enum WrongWord<'a> {
     NoLayout,
     /// The number of accesses is none that a trace may be asked to have.
     NoCount,
+    /// The place of a cut is no number.
+    NoPlace,
     /// A file that is written has the name of another one.
     SameName,
     /// Something else.
@@ -50,6 +51,7 @@ impl fmt::Display for WrongWord<'_> {
                 "--size is a power of two from 4 to 1024, --shift a multiple of 4 below the size"
             ),
             WrongWord::NoCount => write!(f, "N is a whole number up to 1000000000"),
+            WrongWord::NoPlace => write!(f, "K is a whole number up to 18446744073709551615"),
             WrongWord::SameName => write!(
                 f,
                 "a file that is written has the name of another one; each wants its own"
@@ -98,8 +100,8 @@ fn usage_in(line: &'static str, command: &str) -> Option<Usage> {
 }
 
 // The usage of a command.
-fn usage_of(command: &str) -> Option<Usage> {
-    for line in USAGE.lines() {
+fn usage_of(lines: &'static str, command: &str) -> Option<Usage> {
+    for line in lines.lines() {
         if let Some(usage) = usage_in(line, command) {
             return Some(usage);
         }
@@ -185,11 +187,26 @@ fn wrong_by<'a>(usage: Usage, words: &'a [String]) -> Option<WrongWord<'a>> {
     }
 }
 
+// Whether the words of a split name one file twice.
+fn names_one_twice(words: &[String]) -> bool {
+    let mut names = words.iter().filter(|word| word.as_str() != "--");
+    match (names.next(), names.nth(1), names.next()) {
+        (Some(trace), Some(first), Some(second)) => {
+            trace == first || trace == second || first == second
+        }
+        _ => false,
+    }
+}
+
 // What else is wrong with words that the usage line allows, by the command and the options that are
 // given.
 fn wrong_beside<'a>(command: &str, words: &'a [String]) -> WrongWord<'a> {
     if command == "gen" {
         WrongWord::NoCount
+    } else if command == "split" && !names_one_twice(words) {
+        WrongWord::NoPlace
+    } else if command == "split" || command == "convert" {
+        WrongWord::SameName
     } else if times_given(words, "--size") > 0 || times_given(words, "--shift") > 0 {
         WrongWord::NoLayout
     } else if times_given(words, "--trace") > 0 || times_given(words, "--output") > 0 {
@@ -200,8 +217,8 @@ fn wrong_beside<'a>(command: &str, words: &'a [String]) -> WrongWord<'a> {
 }
 
 // What is wrong with the words behind a command.
-fn wrong_behind<'a>(command: &'a str, words: &'a [String]) -> WrongWord<'a> {
-    let Some(usage) = usage_of(command) else {
+fn wrong_behind<'a>(lines: &'static str, command: &'a str, words: &'a [String]) -> WrongWord<'a> {
+    let Some(usage) = usage_of(lines, command) else {
         return WrongWord::UnknownCommand(command);
     };
     if let Some(wrong) = wrong_by(usage, words) {
@@ -210,10 +227,10 @@ fn wrong_behind<'a>(command: &'a str, words: &'a [String]) -> WrongWord<'a> {
     wrong_beside(command, words)
 }
 
-/// What is wrong with words that are refused.
-pub fn wrong_word(words: &[String]) -> WrongWord<'_> {
+/// What is wrong with words that are refused, by the usage lines, one for each command.
+pub fn wrong_word<'a>(lines: &'static str, words: &'a [String]) -> WrongWord<'a> {
     match words.split_first() {
-        Some((command, rest)) => wrong_behind(command.as_str(), rest),
+        Some((command, rest)) => wrong_behind(lines, command.as_str(), rest),
         None => WrongWord::NoCommand,
     }
 }

@@ -1,0 +1,27 @@
+-- The command `convert`: a trace in the other version.
+use Rattle.std.specs.Prelude.{ℕ, List, [], ◌∷◌, codes, length}
+use Rattle.command_line.specs.Convert.{ConvertDemand}
+use Rattle.shelf.specs.Shelf.{Files}
+use Rattle.trace_copies.specs.Copies.{conversion, other_version}
+use Rattle.trace_grammar.specs.Rules.{touches_in}
+use Rattle.trace_grammar.specs.declared.record.Version.{Version}
+use Rattle.trace_grammar.specs.declared.record.Version.TheVariants.{One, Two}
+use Rattle.trace_passes.specs.Passes.{Trace}
+use Rattle.predator_cli.specs.Copies.{copied_reading, copy_of, copy_text}
+use Rattle.predator_cli.specs.Readings.{Reading}
+use Rattle.predator_cli.specs.Works.{Work}
+
+abbrev pub convert_readings : ConvertDemand → List Reading
+convert_readings demand = copied_reading demand.trace ∷ []
+
+abbrev pub version_number : Version → ℕ
+version_number One = 1
+version_number Two = 2
+
+-- which version was written, and how many accesses there are
+abbrev pub convert_text : Trace → List ℕ
+convert_text t = copy_text (codes "convert") (version_number (other_version t.version))
+    (length (touches_in t.items))
+
+abbrev pub convert_work : ConvertDemand → Files → Work
+convert_work demand files = copy_of convert_text (conversion demand.file) demand.trace files

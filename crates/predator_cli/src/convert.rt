@@ -1,0 +1,39 @@
+// The command `convert`.
+ghost use Rattle.std.specs.Prelude.{◌≡◌, Some};
+ghost use Rattle.command_line.specs.Convert.{convert_meaning};
+ghost use Rattle.command_line.specs.Words.{convert as asks};
+ghost use Rattle.predator_cli.specs.Convert.{version_number};
+ghost use Rattle.predator_cli.specs.Meets.{Meets};
+
+use crate::Status;
+use crate::copies::tell;
+use crate::endings::refuse;
+use command_line::ConvertOptions;
+use shelf::Shelf;
+use std::alloc::Global;
+use trace_copies::convert_trace;
+use trace_grammar::Version;
+
+fn version_number(version: Version) -> u64
+    ensures { result ≡ version_number version }
+{
+    match version {
+        Version::One => 1,
+        Version::Two => 2,
+    }
+}
+
+/// Writes the trace of a name in the other version under another name, and prints which version
+/// that is and how many accesses there are.
+pub fn convert<S: Shelf>(alloc: Global, options: &ConvertOptions<'_>, shelf: &mut S) -> Status
+    ensures { Meets (Some (asks (convert_meaning options.now)))
+        (S.outside shelf.old) (S.outside shelf.new) result }
+{
+    match convert_trace(alloc, shelf, options.trace, options.file) {
+        Ok(made) => {
+            let version = version_number(made.version);
+            tell(alloc, shelf, "convert", version, made.accesses)
+        }
+        Err(fault) => refuse(alloc, shelf, Status::from(fault)),
+    }
+}

@@ -1,0 +1,34 @@
+// The command `split`.
+ghost use Rattle.std.specs.Prelude.{◌≡◌, Some};
+ghost use Rattle.command_line.specs.Split.{split_meaning, split_outputs};
+ghost use Rattle.command_line.specs.Words.{split as asks};
+ghost use Rattle.outputs.specs.OnTheirWay.{AreApart};
+ghost use Rattle.predator_cli.specs.Meets.{Meets};
+
+use crate::Status;
+use crate::copies::tell;
+use crate::endings::refuse;
+use command_line::SplitOptions;
+use shelf::Shelf;
+use std::alloc::Global;
+use trace_copies::split_trace;
+
+/// Cuts the trace of a name in two, writes each half under a name of its own, and prints how many
+/// accesses each has.
+pub fn split<S: Shelf>(alloc: Global, options: &SplitOptions<'_>, shelf: &mut S) -> Status
+    requires { AreApart (split_outputs (split_meaning options.now)) }
+    ensures { Meets (Some (asks (split_meaning options.now)))
+        (S.outside shelf.old) (S.outside shelf.new) result }
+{
+    match split_trace(
+        alloc,
+        shelf,
+        options.trace,
+        options.at,
+        options.first,
+        options.second,
+    ) {
+        Ok(made) => tell(alloc, shelf, "split", made.cut, made.rest),
+        Err(fault) => refuse(alloc, shelf, Status::from(fault)),
+    }
+}
