@@ -17,3 +17,4 @@ pub mod AfterLaws
 pub mod StandsLaws
 pub mod AmountLaws
 pub mod QuietLaws
+mod SaveLaws

@@ -10,3 +10,4 @@ pub mod Pairs
 pub mod Turns
 pub mod Amounts
 pub mod Quiet
+pub mod Saving

@@ -1,18 +1,24 @@
 // The tracks, and the index of all lines.
 ghost use Rattle.std.specs.Prelude.{◌≡◌, ◌+◌, ◌*◌, ◌/◌, ◌<◌, ◌≤◌, ◌^◌, [], ◌∷◌, ◌++◌};
-ghost use Rattle.std.specs.Prelude.{if◌then◌else◌, IsOk, IsTrue, IsFalse, OnOk, OnErr};
+ghost use Rattle.std.specs.Prelude.{if◌then◌else◌, length, IfOk, IsOk, IsTrue, IsFalse, OnOk};
+ghost use Rattle.std.specs.Prelude.{OnErr};
 ghost use Rattle.sharing_rules.specs.AccessLists.{AccessList};
 ghost use Rattle.line_counters.specs.Entries.{no_entries};
 ghost use Rattle.sharing_rules.specs.Listed.{may_predict};
+ghost use Rattle.state_grammar.specs.OfLists.{state_of_list};
+ghost use Rattle.state_grammar.specs.Spelling.{spell_state};
 ghost use Rattle.detector.specs.Amounts.{HasFewAtEach, HasFewEntries, HasFewWords, HasFewerShifted};
-ghost use Rattle.detector.specs.Amounts.{HasHalfDoubled, IsSmallUnpredicted};
+ghost use Rattle.detector.specs.Amounts.{HasHalfDoubled, IsSmallUnpredicted, word_count};
 ghost use Rattle.detector.specs.Quiet.{AreQuietWhereFalse};
+ghost use Rattle.detector.specs.Saving.{line_count, state_of};
 ghost use Rattle.detector.specs.Standing.{StandsFor};
 ghost use Rattle.detector.specs.Watch.{nothing_seen, searches_at, takes_memory, watched};
 
+use crate::save::written_lines;
 use crate::touch::touch;
 use line_counters::LineIndex;
 use predator_base::{Access, Layout, NoMemory, Steps, Thresholds};
+use state_grammar::{StateParts, write_state};
 use std::alloc::Global;
 use std::marker::Model;
 use std::sync::ledger::Ledger;
@@ -171,5 +177,33 @@ impl<I: LineIndex> Detector<I> {
         ensures quiet { (t : AccessList) → StandsFor t self.now → AreQuietWhereFalse t self.now }
     {
         self.tracks.all()
+    }
+
+    /// Its state as bytes, with a number of harts: what `state_grammar` says.
+    ///
+    /// NoMemory comes only where there is no memory for these bytes, for 16 bytes a written line,
+    /// for 8 bytes a track, or for the sort of the tracks.
+    pub fn save(&self, alloc: Global, harts: u16) -> Result<Vec<u8>, NoMemory>
+        ensures state { IfOk result (λ bytes. bytes.items ≡ spell_state (state_of harts self.now)) }
+        ensures length { IfOk result (λ bytes. length bytes.items ≡ 64 + 16 * line_count self.now
+            + 32 * length self.now.tracks + 20 * word_count self.now) }
+        // for each list that it stands for, it is the state of the list
+        ensures of_list { (t : AccessList) → StandsFor t self.now → IfOk result (λ bytes.
+            bytes.items ≡ state_of_list self.now.grid self.now.levels harts t) }
+    {
+        let lines = written_lines(alloc, &self.index)?;
+        // A layout has whole words, as its size says.
+        let _size = self.layout.size();
+        write_state(
+            alloc,
+            &StateParts {
+                layout: self.layout,
+                thresholds: self.thresholds,
+                harts,
+                position: self.position,
+                lines: &lines,
+                tracks: self.tracks.all(),
+            },
+        )
     }
 }

@@ -12,6 +12,9 @@ mod detector;
 mod one_access;
 mod openings;
 mod places;
+mod save;
+#[cfg(test)]
+mod save_tests;
 #[cfg(test)]
 mod tests;
 mod touch;

@@ -1,13 +1,12 @@
 -- How an index of a list's live items goes on where an item is put behind the list, or dies.
-use Rattle.std.proofs.Common.{◌≡◌, ◌≢◌, ℕ, zero, suc, ◌<◌, Bool, true, false, cond, ◌||◌, List, [], ◌∷◌, ◌++◌}
+use Rattle.std.proofs.Common.{◌≡◌, ◌≢◌, ℕ, zero, suc, ◌<◌, Bool, true, false, ◌||◌, List, [], ◌∷◌, ◌++◌}
 use Rattle.std.proofs.Common.{length, get_or, map, Option, None, Some, refl, sym, ◌∙◌, ap, inl, inr, ◌⊎◌, arith, true≢false}
 use Rattle.std.specs.Prelude.{slice_set, slice_get, ◌==◌, if◌then◌else◌, IfSome}
 use Rattle.std.specs.List.{find, list_any}
 use Rattle.std.specs.Ordering.{nat_cmp, is_eq}
 use Rattle.std.specs.Cmp.{unsigned_tied}
-use Rattle.std.proofs.Math.Option.{some-injective}
 use Rattle.std.proofs.lemmas.Bool.{cases_Bool}
-use Rattle.std.proofs.lemmas.Bool.Decides.{eqb_tells, nat_tests}
+use Rattle.std.proofs.lemmas.Bool.Decides.{nat_tests}
 use Rattle.heap_objects.specs.Indexes.{IsIndex, passes_in}
 
 pub not_same : (a b : ℕ) → a ≢ b → (a == b) ≡ false
@@ -67,6 +66,11 @@ module _ {X : Type 0} where
   passes_item p (x ∷ xs) zero d h = h
   passes_item p (x ∷ xs) (suc i) d h = passes_item p xs i d h
 
+  pub passes_at : (p : X → Bool) (xs : List X) (i : ℕ) (d : X) → i < length xs → p (get_or xs i d) ≡ true → passes_in p xs i ≡ true
+  passes_at p [] i d within h = absurd (omega arith)
+  passes_at p (x ∷ xs) zero d within h = h
+  passes_at p (x ∷ xs) (suc i) d within h = passes_at p xs i d (omega arith) h
+
   pub any_passes : (p : X → Bool) (xs : List X) (i : ℕ) → passes_in p xs i ≡ true → list_any p xs ≡ true
   any_passes p [] i h = h
   any_passes p (x ∷ xs) zero h = rw h refl
@@ -115,30 +119,44 @@ module _ {X : Type 0} where
   no_place lives f xs k index is i = never (passes_in (lives k) xs i) (λ h. (let there : Some i ≡ None = sym (index.has k i h) ∙ is in cc))
 
 module _ {X : Type 0} (lives : ℕ → X → Bool) (f g : ℕ → Option ℕ) (xs : List X) (k : ℕ) where
-  -- an item that lives at an address where none lived
-  pub index-push : (x : X) → ((q : ℕ) → lives q x ≡ true → q ≡ k) → lives k x ≡ true
-      → f k ≡ None → g k ≡ Some (length xs) → ((q : ℕ) → q ≢ k → g q ≡ f q)
+  -- an item that lives at most where none lived
+  pub index-join : (x : X) → ((q : ℕ) → lives q x ≡ true → f q ≡ None)
+      → ((q : ℕ) → g q ≡ (if lives q x then Some (length xs) else f q))
       → IsIndex lives f xs → IsIndex lives g (xs ++ x ∷ [])
-  index-push x only here fresh new others index = record { found = found; has = has }
+  index-join x free is index = record { found = found; has = has }
     where
-      at_last : (q i : ℕ) → q ≡ k → i ≡ length xs → passes_in (lives q) (xs ++ x ∷ []) i ≡ true
-      at_last q i a e = rw (a, e) (last_passes (lives k) xs x here)
-
       found : (q i : ℕ) → g q ≡ Some i → passes_in (lives q) (xs ++ x ∷ []) i ≡ true
       found q i e =
-          elim (eqb_tells q k) [
-            | inl same ↦ let a = same.1 in let b : g k ≡ Some i = rw (sym a) e in at_last q i a (cc)
-            | inr apart ↦ early_passes (lives q) xs x i (index.found q i (sym (others q apart.1) ∙ e))
+          elim (cases_Bool (lives q x)) [
+            | inl here ↦
+                let there : g q ≡ Some (length xs) = rw here at (is q) in
+                let told : Some (length xs) ≡ Some i = sym there ∙ e in
+                let last : length xs ≡ i = cc in
+                rw (← last) (last_passes (lives q) xs x here)
+            | inr away ↦ let old : g q ≡ f q = rw away at (is q) in early_passes (lives q) xs x i (index.found q i (sym old ∙ e))
           ]
 
       has : (q i : ℕ) → passes_in (lives q) (xs ++ x ∷ []) i ≡ true → g q ≡ Some i
       has q i e =
           elim (either_passes (lives q) xs x i e) [
-            | inl old ↦
-                let was : f q ≡ Some i = index.has q i old in
-                let apart : q ≢ k = λ same. (let b : f k ≡ Some i = rw (sym same) was in let no : Some i ≡ None = sym b ∙ fresh in cc) in
-                others q apart ∙ was
-            | inr here ↦ rw (only q here.1, here.0) new
+            | inl was ↦ elim (cases_Bool (lives q x)) [
+              | inl here ↦ let no : Some i ≡ None = sym (index.has q i was) ∙ free q here in absurd cc
+              | inr away ↦ let old : g q ≡ f q = rw away at (is q) in old ∙ index.has q i was
+            ]
+            | inr here ↦ let there : g q ≡ Some (length xs) = rw here.1 at (is q) in there ∙ ap Some (sym here.0)
+          ]
+
+  -- an item that lives at an address where none lived
+  pub index-push : (x : X) → ((q : ℕ) → lives q x ≡ true → q ≡ k) → lives k x ≡ true
+      → f k ≡ None → g k ≡ Some (length xs) → ((q : ℕ) → q ≢ k → g q ≡ f q)
+      → IsIndex lives f xs → IsIndex lives g (xs ++ x ∷ [])
+  index-push x only here fresh new others = index-join x (λ q lives_there. rw (only q lives_there) fresh) is
+    where
+      is : (q : ℕ) → g q ≡ (if lives q x then Some (length xs) else f q)
+      is q =
+          elim (cases_Bool (lives q x)) [
+            | inl there ↦ rw there (rw (only q there) new)
+            | inr away ↦ rw away (others q (λ same. (let a : lives k x ≡ false = rw same at away in true≢false (sym here ∙ a))))
           ]
 
   -- the item that lives at an address dies

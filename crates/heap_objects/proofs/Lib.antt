@@ -2,6 +2,7 @@ pub mod Places
 pub mod SymbolLaws
 pub mod IndexLaws
 pub mod Lives
+pub mod LiveLaws
 pub mod TableLaws
 pub mod HeapLaws
 pub mod HeapItems

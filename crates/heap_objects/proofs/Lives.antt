@@ -1,7 +1,6 @@
 -- Where the blocks of a table and of a heap live.
 use Rattle.std.proofs.Common.{◌≡◌, ℕ, Bool, true, false, ◌&&◌, List, sym, ◌∙◌, ap, refl, true≢false}
-use Rattle.std.specs.Prelude.{◌==◌}
-use Rattle.std.proofs.lemmas.Bool.{eqb-true, eq-eqb}
+use Rattle.std.proofs.lemmas.Bool.{eqb-true}
 use Rattle.heap_objects.specs.declared.block.Block.{Block}
 use Rattle.heap_objects.specs.declared.heap.HeapBlock.{HeapBlock}
 use Rattle.heap_objects.specs.Blocks.{is_live_at}

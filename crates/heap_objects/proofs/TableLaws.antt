@@ -1,11 +1,11 @@
 -- What a table's blocks and their index are once a block died, or one was made.
-use Rattle.std.proofs.Common.{◌≡◌, ◌≢◌, ℕ, List, [], ◌∷◌, ◌++◌, length, get_or, map, Option, None, Some, refl, sym, ◌∙◌, ap, inl, inr}
+use Rattle.std.proofs.Common.{◌≡◌, ◌≢◌, ℕ, List, [], ◌∷◌, ◌++◌, length, get_or, Option, None, Some, refl, sym, ◌∙◌, ap, inl, inr}
 use Rattle.std.specs.Prelude.{slice_set, ◌==◌, if◌then◌else◌, MatchOption}
 use Rattle.std.proofs.lemmas.Bool.{cond-false, cond-true, eqb-true, eq-eqb}
 use Rattle.std.proofs.lemmas.List.{length-map}
 use Rattle.std.proofs.lemmas.Bool.Decides.{eqb_tells}
 use Rattle.heap_objects.specs.declared.block.Block.{Block}
-use Rattle.heap_objects.specs.Blocks.{blocks_after_alloc, blocks_after_free, is_live_at, newborn}
+use Rattle.heap_objects.specs.Blocks.{blocks_after_free, is_live_at, newborn}
 use Rattle.heap_objects.specs.Indexes.{IsIndex}
 use Rattle.heap_objects.proofs.IndexLaws.{index-die, index-push, index-same, map_none, map_one, no_place, not_same, only_place}
 use Rattle.heap_objects.proofs.Lives.{one_address}

@@ -1,7 +1,5 @@
 -- Worked examples, closed by computing the definitions.
-use Rattle.std.proofs.Common.{◌≡◌, true, false, List, [], ◌∷◌, None, Some, refl}
-use Rattle.heap_objects.specs.declared.block.Block.{Block}
-use Rattle.heap_objects.specs.declared.heap.HeapBlock.{HeapBlock}
+use Rattle.std.proofs.Common.{◌≡◌, true, false, [], ◌∷◌, None, Some, refl}
 use Rattle.heap_objects.specs.declared.symbol.SymbolKind.TheVariants.{Object, Function}
 use Rattle.heap_objects.specs.Blocks.{blocks_after_alloc, blocks_after_free, newborn}
 use Rattle.heap_objects.specs.Heaps.{Heap, after_alloc, after_free, can_stand, rounded}

@@ -1,7 +1,7 @@
 -- The symbols of a program, in first-seen order. One in the place of an earlier one is dropped.
 use Rattle.std.specs.Prelude.{◌≡◌, ℕ, ◌+◌, List, [], ◌∷◌, Bool, true, false, not, ◌&&◌, ◌==◌}
 use Rattle.std.specs.Prelude.{nat_le, nat_lt, Option}
-use Rattle.std.specs.List.{filter, find}
+use Rattle.std.specs.List.{AllPairs, filter, find}
 use Rattle.std.specs.Option.{option_map}
 use Rattle.heap_objects.specs.declared.symbol.SymbolKind.{SymbolKind}
 use Rattle.heap_objects.specs.declared.symbol.SymbolKind.TheVariants.{Object, Function}
@@ -36,6 +36,10 @@ symbols_of (s ∷ others) = s ∷ filter (λ t. not (is_in_place_of t s)) (symbo
 -- no symbol is in the place of an earlier one
 abbrev pub NoTwoAlike : List Symbol → Type 0
 NoTwoAlike symbols = symbols_of symbols ≡ symbols
+
+-- which is to say that each is in another place than every earlier one
+abbrev pub EachApart : List Symbol → Type 0
+EachApart symbols = AllPairs (λ old new. is_in_place_of new old ≡ false) symbols
 
 -- whether a symbol is a function whose bytes hold an address
 abbrev pub is_function_at : ℕ → Symbol → Bool

@@ -2,12 +2,17 @@
 ghost use Rattle.std.specs.Prelude.{◌≡◌, ◌<◌, ◌↔◌, ◌++◌, [], ◌∷◌, List, length, IsTrue, Some};
 ghost use Rattle.std.specs.Prelude.{slice_get, slice_index_or, slice_set, vec_capacity, vec_len};
 ghost use Rattle.std.specs.Prelude.{option_map, IsSome, IfSome, IsOk, OnOk, OnErr, MatchOption};
+ghost use Rattle.std.specs.Prelude.{ℕ, IsFalse, Option, if◌then◌else◌};
 ghost use Rattle.heap_objects.specs.declared.block.Block.{Block};
 ghost use Rattle.std.specs.List.{list_any};
-ghost use Rattle.heap_objects.specs.Symbols.{Symbol, NoTwoAlike, function_at, symbols_of};
+ghost use Rattle.std.specs.Ordering.{nat_cmp};
+ghost use Rattle.std.specs.BTreeMap as tree;
+ghost use Rattle.heap_objects.specs.Symbols.{Symbol, EachApart, NoTwoAlike, function_at};
+ghost use Rattle.heap_objects.specs.Symbols.{symbols_of};
 ghost use Rattle.heap_objects.specs.Symbols.{is_in_place_of, is_same_kind, kept_symbol};
 ghost use Rattle.heap_objects.specs.declared.symbol.SymbolKind.TheVariants.{Function};
-ghost use Rattle.heap_objects.specs.Blocks.{blocks_after_alloc, blocks_after_free};
+ghost use Rattle.heap_objects.specs.Blocks.{NoTwoLive, blocks_after_alloc, blocks_after_free};
+ghost use Rattle.heap_objects.specs.Blocks.{is_live_at, meets_live};
 ghost use Rattle.heap_objects.specs.Objects.{no_objects};
 
 use crate::block::Block;
@@ -126,6 +131,10 @@ impl ObjectTable {
             → OnOk result (self.new.symbols
             ≡ symbols_of (seen ++ kept_symbol kind addr size name.now ∷ [])) }
         ensures refused { OnErr result (self.new ≡ self.old) }
+        // one in a new place goes behind the others
+        ensures fresh { let new = kept_symbol kind addr size name.now in
+            IsFalse (list_any (is_in_place_of new) self.old.symbols)
+            → OnOk result (self.new.symbols ≡ self.old.symbols ++ new ∷ []) }
         // for a symbol that is dropped it needs no memory
         ensures known { let new = kept_symbol kind addr size name.now in
             IsTrue (list_any (is_in_place_of new) self.old.symbols) → IsOk result }
@@ -181,11 +190,48 @@ impl ObjectTable {
         end_life(&mut self.blocks, old, position);
     }
 
+    /// Whether it has a symbol of this kind, address and size.
+    pub fn has_symbol(&self, kind: SymbolKind, addr: u32, size: u32) -> bool
+        ensures { result ≡ list_any (is_in_place_of (kept_symbol kind addr size []))
+            self.now.symbols }
+    {
+        self.symbols.contains_key(&Place { kind, addr, size })
+    }
+
+    /// Whether a block lives at the address of one of the live blocks here.
+    pub fn meets_live(&self, block: &Block) -> bool
+        ensures { result ≡ meets_live self.now.blocks block.now }
+    {
+        block.died.is_none() && self.live.contains_key(&block.addr)
+    }
+
+    /// Puts a block with its life, as a saved state has it, behind the others: one that lives at an
+    /// address where no other lives, or one that died. It takes memory; where there is none,
+    /// nothing changes.
+    pub fn note_saved_block(&mut self, block: Block) -> Result<(), NoMemory>
+        requires { IsFalse (meets_live self.old.blocks block) }
+        ensures noted { OnOk result (self.new ≡ record self.old {
+          blocks = self.old.blocks ++ block ∷ [];
+        }) }
+        ensures refused { OnErr result (self.new ≡ self.old) }
+    {
+        self.blocks.reserve(1)?;
+        note_life(&mut self.live, &block, self.blocks.len())?;
+        self.blocks.push_reserved(block);
+        Ok(())
+    }
+
+    /// Where its memory comes from.
+    pub fn allocator(&self) -> Global {
+        *self.symbols.allocator()
+    }
+
     /// How many symbols it has.
     pub fn symbol_count(&self) -> usize
         ensures value { result ≡ length self.now.symbols }
         // and no two of them have the same kind, address and size
         ensures distinct { NoTwoAlike self.now.symbols }
+        ensures apart { EachApart self.now.symbols }
     {
         self.symbols.len()
     }
@@ -207,7 +253,9 @@ impl ObjectTable {
 
     /// The blocks that were ever made, live or dead, in order of making.
     pub fn blocks(&self) -> &[Block]
-        ensures { result.now ≡ self.now.blocks }
+        ensures value { result.now ≡ self.now.blocks }
+        // and no two of them live at one address
+        ensures lone { NoTwoLive self.now.blocks }
     {
         self.blocks.as_slice()
     }
@@ -225,6 +273,18 @@ impl ObjectTable {
         }
         None
     }
+}
+
+// Notes the number of a block that lives at its address. At `NoMemory` nothing changes.
+fn note_life(live: &mut BTreeMap<u32, usize>, block: &Block, number: usize) -> Result<(), NoMemory>
+    ensures noted { OnOk result ((q : ℕ) → tree.get nat_cmp live.new q
+        ≡ (if is_live_at q block.now then Some number else tree.get nat_cmp live.old q)) }
+    ensures refused { OnErr result (live.new.entries ≡ live.old.entries) }
+{
+    if block.died.is_none() {
+        live.insert(block.addr, number)?;
+    }
+    Ok(())
 }
 
 // Lets the block of a number die at a position.

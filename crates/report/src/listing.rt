@@ -1,16 +1,14 @@
 // The listed tracks in their order.
-ghost use Rattle.std.specs.Prelude.{◌≡◌, ◌++◌, ◌||◌, ◌&&◌, ◌==◌, nat_lt, int_lt, filter};
+ghost use Rattle.std.specs.Prelude.{◌≡◌, ◌++◌, filter};
 ghost use Rattle.std.specs.Prelude.{filter_map, map, option_to_list, IfOk, OnOk};
 ghost use Rattle.std.specs.Ordering.{is_lt};
-ghost use Rattle.sharing_rules.specs.Listed.{rank as rank_of};
 ghost use Rattle.report.specs.Shown.{is_shown_before, listed_tracks, reaches, shown_of};
 ghost use Rattle.report.specs.Rows.{row_shown};
 
 use predator_base::NoMemory;
-use sharing_rules::LineKind;
 use std::alloc::Global;
 use std::cmp::Ordering;
-use virtual_lines::Track;
+use virtual_lines::{Track, order_by_kind};
 
 /// A track that has a start.
 #[derive(Clone, Copy)]
@@ -19,29 +17,6 @@ pub struct Row<'a> {
     pub start: u64,
     /// The track.
     pub track: &'a Track,
-}
-
-// The place of a kind in the order.
-fn rank(kind: LineKind) -> u8
-    ensures { result ≡ rank_of kind }
-{
-    match kind {
-        LineKind::Observed => 0,
-        LineKind::Shifted => 1,
-        LineKind::Doubled => 2,
-    }
-}
-
-// By kind, then by base rising.
-fn order_by_kind(one: &Track, other: &Track) -> Ordering
-    ensures { is_lt result ≡ (nat_lt (rank_of one.now.kind) (rank_of other.now.kind)
-        || ((rank_of one.now.kind == rank_of other.now.kind)
-        && int_lt one.now.range.base other.now.range.base)) }
-{
-    match rank(one.kind()).cmp(&rank(other.kind())) {
-        Ordering::Equal => one.range().base.cmp(&other.range().base),
-        by_kind => by_kind,
-    }
 }
 
 // By count falling, then by kind, then by base rising.

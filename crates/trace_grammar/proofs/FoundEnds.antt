@@ -25,7 +25,7 @@ use Rattle.trace_grammar.specs.Tags.{number_of}
 use Rattle.trace_grammar.specs.Rules.{FitsFields, IsAllowedEnd, IsGoodEnding, IsGoodHeader, last_position}
 use Rattle.trace_grammar.specs.Judging.{begun, cause_of, end_with, fields_judged, header_judged, number_at, outcome_judged, plain_judged}
 use Rattle.trace_grammar.specs.Judging.{plain_outcome_of, plain_with, trap_for, trap_judged, version_at}
-use Rattle.trace_grammar.proofs.Bytes.{IsBytes, below_32, below_64, from_part, last_part, part, spelled_16, spelled_32, spelled_64}
+use Rattle.trace_grammar.specs.ByteLaws.{IsBytes, below_32, below_64, from_part, last_part, part, spelled_16, spelled_32, spelled_64}
 use Rattle.trace_grammar.proofs.FoundRecords.{chosen, granted, passed, same_Ok}
 
 find_passes : {A : Type 0} (p : A → Bool) (xs : List A) (x : A) → find p xs ≡ Some x → p x ≡ true

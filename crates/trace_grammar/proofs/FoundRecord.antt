@@ -20,7 +20,7 @@ use Rattle.trace_grammar.specs.Found.{IsFound}
 use Rattle.trace_grammar.specs.Judging.{alloc_at, end_counted, end_with, extent_if, extent_of, number_at, outcome_judged, record_extent}
 use Rattle.trace_grammar.specs.Judging.{record_judged, step_judged, symbol_judged, symbol_kind_of, tagged_if, tagged_judged, touch_counted}
 use Rattle.trace_grammar.specs.Judging.{touch_judged}
-use Rattle.trace_grammar.proofs.Bytes.{IsBytes}
+use Rattle.trace_grammar.specs.ByteLaws.{IsBytes}
 use Rattle.trace_grammar.proofs.FoundRecords.{IsTagAt, StepIn, TouchIn, alloc_found, free_found, granted, same_Ok, step_found, symbol_found}
 use Rattle.trace_grammar.proofs.FoundRecords.{tag_found, touch_found}
 use Rattle.trace_grammar.proofs.FoundEnds.{ending_found}

@@ -27,7 +27,7 @@ use Rattle.trace_grammar.specs.Rules.{IsGoodRecord, IsGoodSymbol, IsGoodTouch}
 use Rattle.trace_grammar.specs.Judging.{alloc_at, number_at, step_judged, symbol_extent, symbol_kind_of, symbol_with, touch_judged}
 use Rattle.trace_grammar.specs.declared.progress.Progress.{Progress}
 use Rattle.trace_grammar.specs.AgainLaws.{ComesAt}
-use Rattle.trace_grammar.proofs.Bytes.{IsBytes, IsBytes-drop, below_32, bytes_all, from_part, last_part, part, spelled_16, spelled_32}
+use Rattle.trace_grammar.specs.ByteLaws.{IsBytes, IsBytes-drop, below_32, bytes_all, from_part, last_part, part, spelled_16, spelled_32}
 use Rattle.trace_grammar.proofs.FoundSteps.{address_below, distance_again, groups_found}
 
 -- ---- tests that a good record passes

@@ -3,7 +3,7 @@ use Rattle.std.proofs.Common.{◌≡◌, ℕ, zero, suc, ◌+◌, ◌*◌, ◌/�
 use Rattle.std.proofs.Common.{arith}
 use Rattle.std.proofs.lemmas.Bool.Decides.{nat_tests}
 use Rattle.trace_grammar.specs.Numbers.{address_at, are_groups, distance, group_count, groups, groups_in, number_in}
-use Rattle.trace_grammar.proofs.Bytes.{IsBytes}
+use Rattle.trace_grammar.specs.ByteLaws.{IsBytes}
 
 pub distance_again : (last z : ℕ) → last < 2 ^ 32 → z < 2 ^ 32 → distance last (address_at last z) ≡ z
 distance_again last z low small = grind (arith, nat_tests)

@@ -21,7 +21,7 @@ use Rattle.trace_grammar.specs.ReadingLaws.{waiting}
 use Rattle.trace_grammar.specs.ExtentLaws.{extent_is_some, fronts_wait_at}
 use Rattle.trace_grammar.specs.AgainLaws.{ComesAt}
 use Rattle.trace_grammar.specs.Found.{IsFound, IsTraceOf}
-use Rattle.trace_grammar.proofs.Bytes.{bytes_of}
+use Rattle.trace_grammar.specs.ByteLaws.{bytes_of}
 use Rattle.trace_grammar.proofs.FoundEnds.{header_found}
 use Rattle.trace_grammar.proofs.FoundRecord.{record_found}
 

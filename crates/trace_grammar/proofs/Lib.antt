@@ -1,5 +1,4 @@
 pub mod Worked
-pub mod Bytes
 pub mod FoundSteps
 pub mod FoundRecords
 pub mod FoundEnds

@@ -4,6 +4,7 @@ pub mod Spelling
 pub mod Rules
 pub mod Judging
 pub mod Reading
+pub mod ByteLaws
 pub mod ReadingLaws
 pub mod ExtentLaws
 pub mod SpellingLaws

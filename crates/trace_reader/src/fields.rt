@@ -11,8 +11,9 @@ pub(crate) fn u16_at(bytes: &[u8], place: usize) -> u16
     u16::from_le_bytes([bytes[place], bytes[place + 1]])
 }
 
+/// The number in the 4 bytes at a place.
 #[inline(always)]
-pub(crate) fn u32_at(bytes: &[u8], place: usize) -> u32
+pub fn u32_at(bytes: &[u8], place: usize) -> u32
     requires { place + 4 ≤ length bytes.now }
     ensures { result ≡ number_at w32 place bytes.now }
 {
@@ -24,7 +25,8 @@ pub(crate) fn u32_at(bytes: &[u8], place: usize) -> u32
     ])
 }
 
-pub(crate) fn u64_at(bytes: &[u8], place: usize) -> u64
+/// The number in the 8 bytes at a place.
+pub fn u64_at(bytes: &[u8], place: usize) -> u64
     requires { place + 8 ≤ length bytes.now }
     ensures { result ≡ number_at w64 place bytes.now }
 {

@@ -30,9 +30,10 @@ fn has_zero(name: &[u8]) -> bool
     name.iter().any(|byte| 0 == *byte)
 }
 
-// How many bytes a symbol has, as far as they are there.
+/// How many bytes the symbol has that begins here, as far as they tell: 12, and those of its name
+/// once its length is there and at most 1024.
 #[tactic(auto, using(std::proofs::lemmas::Bool::Decides::nat_tests), unfolding(trace_grammar::specs::Judging::symbol_extent))]
-pub(crate) fn symbol_extent(bytes: &[u8]) -> usize
+pub fn symbol_extent(bytes: &[u8]) -> usize
     ensures { result ≡ symbol_extent bytes.now }
 {
     if bytes.len() < NAME_PLACE {
@@ -46,9 +47,11 @@ pub(crate) fn symbol_extent(bytes: &[u8]) -> usize
     }
 }
 
-// The symbol in the bytes of a record, which are all there. It takes memory for the name.
+/// The symbol in the bytes of a record, which are all there; its tag isn't looked at. BadField has
+/// the place of the first field that breaks its rule, for a record that begins at a place of at
+/// most 2^44. It takes memory for the name.
 #[tactic(auto, using(std::proofs::lemmas::Bool::Decides::nat_tests), unfolding(trace_grammar::specs::Judging::symbol_judged, trace_grammar::specs::Judging::symbol_extent))]
-pub(crate) fn symbol_of(alloc: Global, bytes: &[u8], place: u64) -> Result<TraceRecord, TraceFault>
+pub fn symbol_of(alloc: Global, bytes: &[u8], place: u64) -> Result<TraceRecord, TraceFault>
     requires long { length bytes.now ≡ symbol_extent bytes.now }
     requires low { place ≤ 2 ^ 44 }
     ensures { result ≢ Err TraceFault.NoMemory → result ≡ symbol_judged place bytes.now }

@@ -12,5 +12,6 @@ mod splitter;
 mod writer;
 
 pub use laws::a_trace_is_cut_in_two;
+pub use record::{alloc_bytes, symbol_bytes};
 pub use splitter::{Side, Splitter};
 pub use writer::{TraceWriter, header_bytes, record_bytes};

@@ -26,8 +26,14 @@ fn site_bytes(sites: &[u32; 4]) -> [u8; 16]
     ]
 }
 
+/// Appends the 25 bytes that tell that a block is made. At `NoMemory` nothing is appended.
 #[tactic(auto, unfolding(trace_grammar::specs::Spelling::spell_alloc))]
-fn put_alloc(addr: u32, size: u32, sites: &[u32; 4], into: &mut Vec<u8>) -> Result<(), NoMemory>
+pub fn alloc_bytes(
+    addr: u32,
+    size: u32,
+    sites: &[u32; 4],
+    into: &mut Vec<u8>,
+) -> Result<(), NoMemory>
     ensures ok { OnOk result (into.new.items ≡ into.old.items ++ spell_alloc addr size sites.now) }
     ensures err { OnErr result (into.new.items ≡ into.old.items) }
 {
@@ -73,8 +79,9 @@ pub(crate) fn put_both(front: &[u8], back: &[u8], into: &mut Vec<u8>) -> Result<
     }
 }
 
+/// Appends the 12 bytes of a symbol and its name. At `NoMemory` nothing is appended.
 #[tactic(auto, unfolding(trace_grammar::specs::Spelling::spell_symbol))]
-fn put_symbol(
+pub fn symbol_bytes(
     kind: SymbolKind,
     addr: u32,
     size: u32,
@@ -105,7 +112,7 @@ pub(crate) fn put_record(
 {
     match item {
         TraceRecord::Touch(access) => put_touch(version, last, access, into),
-        TraceRecord::Alloc { addr, size, sites } => put_alloc(*addr, *size, sites, into),
+        TraceRecord::Alloc { addr, size, sites } => alloc_bytes(*addr, *size, sites, into),
         TraceRecord::Free { addr } => {
             into.extend_from_slice(&free_bytes(*addr))?;
             Ok(())
@@ -115,7 +122,7 @@ pub(crate) fn put_record(
             addr,
             size,
             name,
-        } => put_symbol(*kind, *addr, *size, name, into),
+        } => symbol_bytes(*kind, *addr, *size, name, into),
         TraceRecord::End(ending) => {
             into.extend_from_slice(&ending_bytes(ending))?;
             Ok(())

@@ -6,6 +6,7 @@
 #![tactic(auto)]
 
 mod laws;
+mod order;
 mod ranges;
 #[cfg(test)]
 mod tests;
@@ -13,6 +14,7 @@ mod track;
 mod tracks;
 
 pub use laws::at_most_four_lines_hold_an_address;
+pub use order::{order_by_kind, rank};
 pub use ranges::{doubled_range, shifted_range};
 pub use sharing_rules::LineKind;
 pub use track::{Mark, Track};

@@ -262,7 +262,8 @@ impl Track {
 
     /// The first two harts since its last write: None exactly where it has no start.
     pub fn history(&self) -> Option<History>
-        ensures { result ≡ option_map (λ s. self.now.entries) self.now.start }
+        ensures value { result ≡ option_map (λ s. self.now.entries) self.now.start }
+        ensures none { self.now.start ≡ None → self.now.entries ≡ [] }
     {
         match self.begun {
             Some(begun) => Some(begun.history),

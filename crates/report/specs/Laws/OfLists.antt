@@ -1,28 +1,27 @@
 -- The tracks that a list keeps have the report of the list.
 use Rattle.std.proofs.Common.{◌≡◌, ℕ, Bool, true, false, not, eqb, ltb, leb, ◌&&◌, ◌||◌, ℤ, List}
-use Rattle.std.proofs.Common.{[], ◌∷◌, None, Some, map, filter, IsTrue, ◌<◌, ◌%◌, refl, sym, ap}
+use Rattle.std.proofs.Common.{[], ◌∷◌, None, Some, map, filter, IsTrue, refl, sym, ap}
 use Rattle.std.proofs.Common.{◌∙◌, inl, inr, arith}
-use Rattle.std.proofs.lemmas.Bool.{cases_Bool, false≢true, and_parts}
-use borrow.Author.Tests.{ltb-true}
+use Rattle.std.proofs.lemmas.Bool.{cases_Bool, false≢true}
 use Rattle.std.proofs.lemmas.Bool.Decides.{nat_tests}
 use Rattle.std.proofs.lemmas.Int.{ints}
 use Rattle.std.proofs.lemmas.List.Sorted.{IsPermutation-sym}
 use Rattle.std.proofs.lemmas.Map.Keys.{IsDistinct-IsPermutation}
 use Rattle.std.proofs.lemmas.Option.{same_Some}
 use Rattle.std.proofs.Math.Bool.{or_comm}
-use Rattle.std.specs.Prelude.{int_lt, filter_map, option_map}
-use Rattle.std.specs.List.{AllByRecursion, IsDistinct}
+use Rattle.std.specs.Prelude.{filter_map, option_map}
+use Rattle.std.specs.List.{IsDistinct}
 use Rattle.std.specs.List.Sorted.{IsPermutation}
 use Rattle.predator_base.specs.Levels.{Levels}
-use Rattle.predator_base.specs.Lines.{Grid, is_layout, is_line_size}
+use Rattle.predator_base.specs.Lines.{Grid, is_layout}
 use Rattle.sharing_rules.specs.AccessLists.{AccessList}
 use Rattle.sharing_rules.specs.Lines.{is_inside}
 use Rattle.sharing_rules.specs.Listed.{in_order, listed, may_predict, rank, tracked}
 use Rattle.sharing_rules.specs.Members.{Member, ties}
 use Rattle.sharing_rules.specs.Observed.{first_write_from}
-use Rattle.sharing_rules.specs.Opened.{Opened, finding_of, is_placed_before as is_opened_before}
+use Rattle.sharing_rules.specs.Opened.{Opened, finding_of}
 use Rattle.sharing_rules.specs.Opened.{opened}
-use Rattle.sharing_rules.specs.Laws.Kept.{opened-apart, tracked-opened}
+use Rattle.sharing_rules.specs.Laws.Kept.{tracked-opened}
 use Rattle.sharing_rules.specs.Laws.Lists.{slice_cases, Member-filter, Member-filter_map}
 use Rattle.sharing_rules.specs.Laws.Lists.{Member-permutation, all_at, all_from_members}
 use Rattle.sharing_rules.specs.Laws.Lists.{filter-Member, filter-distinct, filter_map-Member}
@@ -30,6 +29,8 @@ use Rattle.sharing_rules.specs.Laws.Orders.{in_order-from_members, in_order-perm
 use Rattle.sharing_rules.specs.Laws.Orders.{in_order-rises}
 use Rattle.virtual_lines.specs.Kept.{Kept}
 use Rattle.virtual_lines.specs.KeptIn.{kept_in}
+use Rattle.virtual_lines.specs.Placed.{is_placed_before}
+use Rattle.virtual_lines.specs.PlacedLaws.{kept-apart, placed}
 use Rattle.report.specs.Shown.{ShownLine, is_shown_before, listed_of, listed_tracks, shown_of}
 use Rattle.report.specs.OfLists.{shown_in}
 use Rattle.report.specs.Laws.Shown.{in_order-map, is_shown_before-ranks}
@@ -49,13 +50,6 @@ shown_of-all t (o ∷ os) =
       | inl none ↦ rw none (shown_of-all t os)
       | inr s ↦ rw s.1 (ap (λ ls. shown_in t s.0 ∷ ls) (shown_of-all t os))
     ])
-
--- by kind, then by base
-abbrev placed : ℕ → ℤ → ℕ → ℤ → Bool
-placed k b l e = ltb k l || (eqb k l && int_lt b e)
-
-abbrev is_placed_before : Kept → Kept → Bool
-is_placed_before x y = placed (rank x.kind) x.range.base (rank y.kind) y.range.base
 
 abbrev keyed : ℕ → ℕ → ℤ → ℕ → ℕ → ℤ → Bool
 keyed c k b d l e = ltb d c || (eqb c d && placed k b l e)
@@ -145,22 +139,6 @@ listed-permutation r xs ys perm apart =
     (in_order-permutes is_shown_before (filter reaches mine)))
     (filter-Member reaches mine z (shown-members xs ys perm z w.0) w.1))
 
-all_map : {X Y : Type 0} (h : X → Y) (P : X → Type 0) (Q : Y → Type 0)
-    → ((x : X) → P x → Q (h x)) → (xs : List X) → AllByRecursion P xs → AllByRecursion Q (map h xs)
-all_map h P Q f [] all = tt
-all_map h P Q f (x ∷ xs) all = (f x all.0, all_map h P Q f xs all.1)
-
-distinct_map : {X Y : Type 0} (h : X → Y) (e : X → X → Bool) (d : Y → Y → Bool)
-    → ((x y : X) → d (h x) (h y) ≡ e x y) → (xs : List X) → IsDistinct e xs
-    → IsDistinct d (map h xs)
-unfolding IsDistinct
-distinct_map h e d same [] apart = tt
-distinct_map h e d same (x ∷ xs) apart = (
-  all_map h (λ y. e x y ≡ false) (λ y. d (h x) y ≡ false)
-      (λ y a. same x y ∙ a) xs apart.0,
-  distinct_map h e d same xs apart.1,
-)
-
 filter-map : {X Y : Type 0} (h : X → Y) (p : Y → Bool) (xs : List X)
     → map h (filter (λ x. p (h x)) xs) ≡ filter p (map h xs)
 filter-map h p [] = refl
@@ -170,13 +148,6 @@ filter-map h p (x ∷ xs) =
       | inr drops ↦ rw drops (filter-map h p xs)
     ]
 
-layout-some : (n o : ℕ) → is_layout n o ≡ true → 0 < n
-layout-some n o e =
-    let below = and_parts (is_line_size n) (ltb o n) (and_parts (is_line_size n && ltb o n) (eqb
-    (o % 4) 0) e).0 in
-    let least : o < n = ltb-true o n below.1 in
-    omega arith
-
 -- the listed lines of the tracks that a list keeps, in any order
 pub listed_tracks-kept : (g : Grid) (v : Levels) (t : AccessList) (xs : List Kept)
     → is_layout g.size g.offset ≡ true → IsTrue (may_predict g v)
@@ -184,8 +155,7 @@ pub listed_tracks-kept : (g : Grid) (v : Levels) (t : AccessList) (xs : List Kep
     → listed_tracks v.report xs ≡ map (shown_in t) (listed g v t)
 listed_tracks-kept g v t xs good native perm =
     listed-permutation v.report xs (map (kept_in t) (opened g v t)) perm
-    (distinct_map (kept_in t) (ties is_opened_before) (ties is_placed_before) (λ x y. refl)
-    (opened g v t) (opened-apart g v t (layout-some g.size g.offset good) native))
+    (kept-apart g v t good native)
     ∙ ap (listed_of v.report) (shown_of-all t (opened g v t) ∙ ap (map (shown_in t)) (sym
     (tracked-opened g v t)))
     ∙ ap (in_order is_shown_before) (sym (filter-map (shown_in t) (λ l. leb v.report l.count)

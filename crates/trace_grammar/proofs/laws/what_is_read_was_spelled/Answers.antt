@@ -1,4 +1,4 @@
-use Rattle.trace_grammar.proofs.Bytes.{bytes_of}
+use Rattle.trace_grammar.specs.ByteLaws.{bytes_of}
 use Rattle.trace_grammar.proofs.FoundRecord as one
 use Rattle.trace_grammar.proofs.FoundTrace as all
 use Rattle.trace_grammar.proofs.laws.what_is_read_was_spelled.Goals as goal

@@ -1,8 +1,8 @@
-use Rattle.std.proofs.Common.{◌≡◌, ◌∙◌, sym, map}
+use Rattle.std.proofs.Common.{◌≡◌, ◌∙◌, sym, map, true≢false}
 use Rattle.heap_objects.specs.Symbols.{kept_symbol}
 use Rattle.heap_objects.proofs.Lives.{other_symbols}
-use Rattle.heap_objects.proofs.Places.{entry_of, kept, noted, symbol_in, unknown}
-use Rattle.heap_objects.proofs.SymbolLaws.{added, still, symbols_after, whole}
+use Rattle.heap_objects.proofs.Places.{entry_of, kept, noted, seen, symbol_in, unknown}
+use Rattle.heap_objects.proofs.SymbolLaws.{added, behind, still, symbols_after, whole}
 use Rattle.heap_objects.proofs.table.ObjectTable.note_symbol.Goals as goal
 
 pub returns-then-contains_key-clause-noted : goal.returns-then-contains_key-clause-noted
@@ -52,3 +52,18 @@ returns-clause-whole c =
     rw (c.in_ok-insert.ensures.entries, c.in-Ok.ensures) (noted (entry_of c.args.kind c.args.addr c.args.size c.args.name.now)
     c.self.inside.symbols.entries (sym c.contains_key.ensures ∙ c.if-contains_key.false)) in
     rw (← c.self.view_is) (λ list same. whole _ _ (kept_symbol c.args.kind c.args.addr c.args.size c.args.name.now) new list same)
+
+pub returns-then-contains_key-clause-fresh : goal.returns-then-contains_key-clause-fresh
+returns-then-contains_key-clause-fresh c =
+    let e = entry_of c.args.kind c.args.addr c.args.size c.args.name.now in
+    let known = seen e c.self.inside.symbols.entries ∙ sym c.contains_key.ensures ∙ c.if-contains_key.true in
+    rw (← c.self.view_is) (λ fresh. absurd (true≢false (sym known ∙ fresh)))
+
+pub returns-clause-fresh : goal.returns-clause-fresh
+returns-clause-fresh c =
+    let new : map symbol_in c.insert.new.self.entries ≡ symbols_after (map symbol_in c.self.inside.symbols.entries) (kept_symbol
+    c.args.kind c.args.addr c.args.size c.args.name.now) =
+    rw (c.in_ok-insert.ensures.entries, c.in-Ok.ensures) (noted (entry_of c.args.kind c.args.addr c.args.size c.args.name.now)
+    c.self.inside.symbols.entries (sym c.contains_key.ensures ∙ c.if-contains_key.false)) in
+    rw (← c.self.view_is) (λ fresh. behind _ _ (kept_symbol c.args.kind c.args.addr c.args.size c.args.name.now) new c.self.invariant.0
+    fresh)

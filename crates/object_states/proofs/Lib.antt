@@ -1,0 +1,5 @@
+pub mod UnitLaws
+pub mod SymbolUnits
+pub mod BlockUnits
+pub mod PartLaws
+pub mod Worked

@@ -1,0 +1,13 @@
+use Rattle.object_states.specs.Judging.{block_form}
+use Rattle.object_states.proofs.UnitLaws.{ends, stops}
+use Rattle.object_states.proofs.blocks.read_blocks.Goals as goal
+
+pub returns-in-Err-clause-refused : goal.returns-in-Err-clause-refused
+returns-in-Err-clause-refused c = λ memory.
+    stops (block_form c.args.position) c.args.end c.args.count c.args.table.now.blocks c.args.bytes.now c.loop.counter c.loop.table.blocks
+    c.loop.rest.now c.in-Err.fault c.loop-test.true c.loop.invariant.on (λ more. c.in-Err.ensures.refused more memory)
+
+pub returns-clause-read : goal.returns-clause-read
+returns-clause-read c =
+    ends (block_form c.args.position) c.args.end c.args.count c.args.table.now.blocks c.args.bytes.now c.loop.counter c.loop.table.blocks
+    c.loop.rest.now c.loop-test.false c.loop.invariant.on

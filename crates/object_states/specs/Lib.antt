@@ -1,0 +1,4 @@
+pub mod Units
+pub mod Spelling
+pub mod Judging
+pub mod Rules

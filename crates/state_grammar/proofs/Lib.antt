@@ -1,0 +1,4 @@
+mod Appended
+mod Sorted
+mod Worked
+mod WorkedReading

@@ -1,0 +1,5 @@
+pub mod Counted
+pub mod OfLists
+pub mod Lengths
+pub mod Reading
+pub mod Again

@@ -1,0 +1,7 @@
+pub mod Counted
+pub mod Spelling
+pub mod OfLists
+pub mod Rows
+pub mod Units
+pub mod Reading
+pub mod Laws
