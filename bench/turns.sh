@@ -1,24 +1,33 @@
 #!/usr/bin/env bash
-# How many machine instructions the built program takes for a step of a guest whose harts do nothing but jump to themselves: one
-# hart of 8, one of 256, 8 harts in turn and 256 in turn. Counted by valgrind over 400,000 steps, the start of the program with
-# them, so that a busy machine makes no difference. A benchmark, no test.
+# How many machine instructions a step takes of a guest whose harts do nothing but jump to themselves: one hart of 8, one of 256,
+# 8 harts in turn and 256 in turn. First of turn_bench, which makes turns alone: 50,000 steps without the start. Then of the built
+# program, if it is there: 400,000 steps and the start. Counted by valgrind, so that a busy machine makes no difference. A
+# benchmark, no test.
 set -eu
 top=$(cd "$(dirname "$0")/.." && pwd)
+turns=$top/crates/turn_bench/out/turn_bench
+[ -x "$turns" ] || (cd "$top/crates/turn_bench" && rt run) >/dev/null 2>&1
+[ -x "$turns" ] || { echo "bench: turn_bench was not built" >&2; exit 1; }
 program=$top/crates/predator/out/predator
-[ -x "$program" ] || { echo "bench: build the program first: bin/predator replay examples/counters.trace" >&2; exit 1; }
 command -v valgrind >/dev/null || { echo "bench: valgrind is missing" >&2; exit 1; }
 work=$(mktemp -d)
 trap 'rm -rf "$work"' EXIT
-python3 - "$program" "$work" <<'PY'
-import re, struct, subprocess, sys
+python3 - "$turns" "$program" "$work" <<'PY'
+import os, re, struct, subprocess, sys
 
-program, work = sys.argv[1:]
+turns, program, work = sys.argv[1:]
 steps = 400_000
 
 # j 0, and: li a7, 1026; lui t0, 0x10; addi a0, t0, 20; ecall; bgez a0, -8; j 0, so that harts are spawned until none is free
 LONE = [0x0000006F]
 ALL = [0x40200893, 0x000102B7, 0x01428513, 0x00000073, 0xFE055CE3, 0x0000006F]
-RUNS = [("one hart of 8", LONE, 8, 100), ("one hart of 256", LONE, 256, 100), ("8 harts in turn", ALL, 8, 1), ("256 harts in turn", ALL, 256, 1)]
+RUNS = [
+    ("one hart of 8", LONE, 8, 100),
+    ("one hart of 256", LONE, 256, 100),
+    ("8 harts in turn", ALL, 8, 1),
+    ("256 harts in turn", ALL, 256, 1),
+    ("8 harts, 100 turns each", ALL, 8, 100),
+]
 
 
 def program_of(code):
@@ -27,14 +36,26 @@ def program_of(code):
     return header + struct.pack("<IIIIIIII", 1, 84, 0x10000, 0, len(words), len(words), 7, 4) + words
 
 
+def counted(*words, status):
+    valgrind = ["valgrind", "--tool=callgrind", f"--callgrind-out-file={work}/out"]
+    told = subprocess.run([*valgrind, *map(str, words)], capture_output=True, text=True)
+    assert told.returncode == status, (words, told.returncode)
+    return int(re.search(r"Collected : (\d+)", told.stderr).group(1))
+
+
+for what, code, harts, quantum in RUNS:
+    running = 1 if code is LONE else harts
+    few, many = (counted(turns, made, harts, running, quantum, status=0) for made in (10_000, 60_000))
+    print(f"turns alone, {what}: {(many - few) / 50_000:.0f} instructions a step")
+
+if not os.path.exists(program):
+    sys.exit("the built program isn't there: bin/predator replay examples/counters.trace builds it")
+
 for what, code, harts, quantum in RUNS:
     with open(f"{work}/guest", "wb") as out:
         out.write(program_of(code))
     with open(f"{work}/settings", "w") as out:
         out.write(f"budget = {steps}\nharts = {harts}\nquantum = {quantum}\nstack = 4096\nmemory = 4194304\n")
-    words = ["valgrind", "--tool=callgrind", f"--callgrind-out-file={work}/out", program, "run", f"{work}/guest", "--settings", f"{work}/settings"]
-    told = subprocess.run(words, capture_output=True, text=True)
-    assert told.returncode == 10, (what, told.returncode)
-    count = int(re.search(r"Collected : (\d+)", told.stderr).group(1))
-    print(f"{what}: {count / steps:.0f} instructions a step")
+    count = counted(program, "run", f"{work}/guest", "--settings", f"{work}/settings", status=10)
+    print(f"the program, {what}: {count / steps:.0f} instructions a step")
 PY

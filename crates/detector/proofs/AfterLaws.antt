@@ -34,7 +34,11 @@ use Rattle.detector.proofs.SettleLaws.{counted-names, counted-writes}
 use Rattle.detector.proofs.TouchLaws.{indexed-touched}
 use Rattle.detector.proofs.ChangeLaws.{layout-small}
 
-begins-is : (m : Entries) (k : ℕ) (v : Levels) (a : Touch) (turn : Turn) → is_write a.kind ≡ true → IsTurnOf (entry_at m) k v turn
+-- the turn by an entry that was lent
+pub turn-lent : (f : ℕ → LineEntry) (k : ℕ) (e : LineEntry) (v : Levels) (turn : Turn) → e ≡ f k → IsTurnOf e v turn → IsTurnOf (f k) v turn
+turn-lent f k e v turn same t = subst (λ (x : LineEntry). IsTurnOf x v turn) same t
+
+begins-is : (m : Entries) (k : ℕ) (v : Levels) (a : Touch) (turn : Turn) → is_write a.kind ≡ true → IsTurnOf (entry_at m k) v turn
     → turn.begins ≡ begins_track v.tracking (counts_of m) k a
 begins-is m k v a turn writes t =
     t.begins ∙ ap (λ n. eqb (n + 1) v.tracking) (sym (count_at-counts_of m k))
@@ -45,14 +49,14 @@ searched : (o : Option ℕ) (n c : ℕ) (w : Bool) → n ≡ c → w ≡ true �
 searched None n c w e h = refl
 searched (Some P) n c w e h = ap (λ z. eqb ((z + 1) % P) 0) e ∙ sym (ap (λ b. b && eqb ((c + 1) % P) 0) h)
 
-pub searches-is : (m : Entries) (k : ℕ) (v : Levels) (a : Touch) (turn : Turn) → is_write a.kind ≡ true → IsTurnOf (entry_at m) k v turn
+pub searches-is : (m : Entries) (k : ℕ) (v : Levels) (a : Touch) (turn : Turn) → is_write a.kind ≡ true → IsTurnOf (entry_at m k) v turn
     → turn.searches ≡ is_search v.prediction (counts_of m) k a
 searches-is m k v a turn writes t = t.searches ∙ searched v.prediction (entry_at m k).writes (count_at (counts_of m) k) (is_write a.kind)
     (sym (count_at-counts_of m k)) writes
 
 -- the tracks after a write
 pub after-turn : (m : Entries) (xs : List Kept) (g : Grid) (v : Levels) (p k : ℕ) (a : Touch) (turn : Turn) → is_write a.kind ≡ true
-    → IsTurnOf (entry_at m) k v turn
+    → IsTurnOf (entry_at m k) v turn
     → tracks_turned g k p a turn.begins turn.searches (map (touched p a) xs) ≡ tracks_after (watch_of m xs g v p) k a
 after-turn m xs g v p k a turn writes t =
     ap (λ b. tracks_turned g k p a b turn.searches (map (touched p a) xs)) (begins-is m k v a turn writes t)
@@ -68,7 +72,7 @@ after-plain m xs g v p k a quiet unsearched =
     ∙ ap (λ s. tracks_turned g k p a false s (map (touched p a) xs)) unsearched)
 
 pub after-write : (m : Entries) (xs : List Kept) (g : Grid) (v : Levels) (p k : ℕ) (a : Touch) (turn : Turn) → is_write a.kind ≡ true
-    → IsTurnOf (entry_at m) k v turn → turn.begins ≡ false → turn.searches ≡ false
+    → IsTurnOf (entry_at m k) v turn → turn.begins ≡ false → turn.searches ≡ false
     → map (touched p a) xs ≡ tracks_after (watch_of m xs g v p) k a
 after-write m xs g v p k a turn writes t quiet unsearched =
     after-plain m xs g v p k a (sym (begins-is m k v a turn writes t) ∙ quiet) (sym (searches-is m k v a turn writes t) ∙ unsearched)
@@ -115,7 +119,7 @@ levels-positive v P h is =
     let some = levels-some v h in
     omega arith
 
-pub native-grid : (f : ℕ → LineEntry) (k : ℕ) (g : Grid) (v : Levels) (turn : Turn) → may_predict g v ≡ true → IsTurnOf f k v turn
+pub native-grid : (f : ℕ → LineEntry) (k : ℕ) (g : Grid) (v : Levels) (turn : Turn) → may_predict g v ≡ true → IsTurnOf (f k) v turn
     → turn.searches ≡ true → IsNativeGrid g
 native-grid f k g v turn may t searches = by_prediction v.prediction refl
   where
@@ -128,12 +132,19 @@ native-grid f k g v turn may t searches = by_prediction v.prediction refl
         record { size = parts.0; offset = eqb-true g.offset 0 parts.1 }
 
 pub due-at : (f : ℕ → LineEntry) (g : Grid) (xs : List Kept) (k : ℕ) (v : Levels) (turn : Turn) (p : ℕ) → IsIndexed f g xs v.tracking p
-    → 1 ≤ v.tracking → IsTurnOf f k v turn → IsDueAt f g xs k turn p v.tracking
+    → 1 ≤ v.tracking → IsTurnOf (f k) v turn → IsDueAt f g xs k turn p v.tracking
 due-at f g xs k v turn p indexed some t = record {
   indexed = indexed;
   positive = some;
   due = λ b. eqb-true ((f k).writes + 1) v.tracking (sym t.begins ∙ b);
 }
+
+-- the same, where an entry was lent and left as it was
+pub due-lent : (m n : Entries) (g : Grid) (xs : List Kept) (k : ℕ) (v : Levels) (turn : Turn) (p : ℕ) → n ≡ m
+    → IsIndexed (entry_at m) g xs v.tracking p → 1 ≤ v.tracking → IsTurnOf (entry_at m k) v turn
+    → IsDueAt (entry_at n) g xs k turn p v.tracking
+due-lent m n g xs k v turn p same indexed some t =
+    subst (λ (z : Entries). IsDueAt (entry_at z) g xs k turn p v.tracking) (sym same) (due-at (entry_at m) g xs k v turn p indexed some t)
 
 -- a plain write
 pub plain-indexed : (f h : ℕ → LineEntry) (g : Grid) (xs ys : List Kept) (T p k : ℕ) (a : Touch) → IsIndexed f g xs T p
@@ -201,8 +212,18 @@ pub record IsQuiet (m : Entries) (xs : List Kept) (g : Grid) (p k : ℕ) (a : To
   pub begins : turn.begins ≡ false
   pub opens : turn_opens g k turn.searches (tracks_begun g k p a turn.begins (map (touched p a) xs)) ≡ nothing_opens
 
+-- the line of a write that takes no memory was written
+pub first-written : (m : Entries) (xs : List Kept) (g : Grid) (v : Levels) (p k : ℕ) (a : Touch) → is_write a.kind ≡ true
+    → may_take_memory (watch_of m xs g v p) k a ≡ false → 0 < (entry_at m k).writes
+first-written m xs g v p k a writes none =
+    let outer = or_parts (is_first_write (counts_of m) k a || begins_track v.tracking (counts_of m) k a)
+    (ltb 0 (length (opened_tracks (opens_at (watch_of m xs g v p) k a (tracks_noted (watch_of m xs g v p) k a))))) none in
+    let inner = or_parts (is_first_write (counts_of m) k a) (begins_track v.tracking (counts_of m) k a) outer.0 in
+    let counted_none : eqb (count_at (counts_of m) k) 0 ≡ false = sym (ap (λ z. z && eqb (count_at (counts_of m) k) 0) writes) ∙ inner.0 in
+    some_writes (entry_at m k).writes (ap (λ n. eqb n 0) (sym (count_at-counts_of m k)) ∙ counted_none)
+
 pub quiet : (m : Entries) (xs : List Kept) (g : Grid) (v : Levels) (p k : ℕ) (a : Touch) (turn : Turn) → is_write a.kind ≡ true
-    → IsTurnOf (entry_at m) k v turn → may_take_memory (watch_of m xs g v p) k a ≡ false → IsQuiet m xs g p k a turn
+    → IsTurnOf (entry_at m k) v turn → may_take_memory (watch_of m xs g v p) k a ≡ false → IsQuiet m xs g p k a turn
 quiet m xs g v p k a turn writes t none =
     let w : Watch = watch_of m xs g v p in
     let outer = or_parts (is_first_write (counts_of m) k a || begins_track v.tracking (counts_of m) k a)
@@ -210,9 +231,8 @@ quiet m xs g v p k a turn writes t none =
     let inner = or_parts (is_first_write (counts_of m) k a) (begins_track v.tracking (counts_of m) k a) outer.0 in
     let b = begins-is m k v a turn writes t in
     let s = searches-is m k v a turn writes t in
-    let counted_none : eqb (count_at (counts_of m) k) 0 ≡ false = sym (ap (λ z. z && eqb (count_at (counts_of m) k) 0) writes) ∙ inner.0 in
     record {
-      written = some_writes (entry_at m k).writes (ap (λ n. eqb n 0) (sym (count_at-counts_of m k)) ∙ counted_none);
+      written = first-written m xs g v p k a writes none;
       begins = b ∙ inner.1;
       opens =
           ap (λ z. turn_opens g k turn.searches (tracks_begun g k p a z (map (touched p a) xs))) b

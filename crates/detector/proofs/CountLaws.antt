@@ -121,3 +121,8 @@ count_at-with_write writes k q =
         else count_at writes q)
     through true = refl
     through false = refl
+
+-- an entry that was lent and left as it was leaves all
+pub left-alone : (m n : Entries) (k : ℕ) (e : LineEntry) → ((q : ℕ) → IfSome (finite.get m q) (IsEntry q)) → n ≡ with_entry m k e
+    → e ≡ entry_at m k → n ≡ m
+left-alone m n k e only is same = is ∙ ap (with_entry m k) same ∙ with_entry-same m k only

@@ -25,6 +25,11 @@ with_place-writes e Observed o = refl
 with_place-writes e Shifted o = refl
 with_place-writes e Doubled o = refl
 
+-- an entry that was lent was counted
+pub counted-lent : (f h : ℕ → LineEntry) (k : ℕ) (e : LineEntry) → e ≡ f k → ((q : ℕ) → h q ≡ (if eqb q k then counted e else f q))
+    → (q : ℕ) → h q ≡ (if eqb q k then counted (f k) else f q)
+counted-lent f h k e same each q = each q ∙ ap (λ (x : LineEntry). if eqb q k then counted x else f q) same
+
 -- a count leaves the names
 pub counted-names : (f h : ℕ → LineEntry) (k : ℕ) → ((q : ℕ) → h q ≡ (if eqb q k then counted (f k) else f q)) → names_in h ≡ names_in f
 counted-names f h k each = λ i kind q. by_kind kind q i

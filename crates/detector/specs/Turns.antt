@@ -112,6 +112,6 @@ pub record IsDueAt (entry_of : ℕ → LineEntry) (g : Grid) (xs : List Kept) (k
   pub due : IsTrue turn.begins → (entry_of k).writes + 1 ≡ T
 
 -- a write's turn, by the entry of its line
-pub record IsTurnOf (f : ℕ → LineEntry) (k : ℕ) (v : Levels) (turn : Turn) : Type 0 where
-  pub begins : turn.begins ≡ ((f k).writes + 1 == v.tracking)
-  pub searches : turn.searches ≡ option_map_or (λ P. ((f k).writes + 1) % P == 0) v.prediction false
+pub record IsTurnOf (e : LineEntry) (v : Levels) (turn : Turn) : Type 0 where
+  pub begins : turn.begins ≡ (e.writes + 1 == v.tracking)
+  pub searches : turn.searches ≡ option_map_or (λ P. (e.writes + 1) % P == 0) v.prediction false

@@ -3,7 +3,7 @@ ghost use Rattle.std.specs.Prelude.{◌≡◌, ℕ, ◌+◌, ◌≤◌, ◌<◌,
 ghost use Rattle.line_counters.specs.Entries.{entry_at};
 ghost use Rattle.detector.specs.Noting.{CanTouch, CanTouchAll, places, touched_at, touched_places};
 
-use line_counters::LineIndex;
+use line_counters::{LineEntry, LineIndex};
 use predator_base::{Access, Steps};
 use std::sync::ledger::Ledger;
 use virtual_lines::Tracks;
@@ -24,7 +24,16 @@ pub fn places_of<I: LineIndex>(index: &I, line: u64) -> Places
     requires { line ≤ 2 ^ 30 }
     ensures { result ≡ places (entry_at (I.entries index.now)) line }
 {
-    let here = index.peek(line);
+    places_beside(index, line, index.peek(line))
+}
+
+/// The same, where the line's own entry was looked up.
+#[inline(always)]
+pub fn places_beside<I: LineIndex>(index: &I, line: u64, here: LineEntry) -> Places
+    requires small { line ≤ 2 ^ 30 }
+    requires here { here ≡ entry_at (I.entries index.now) line }
+    ensures { result ≡ places (entry_at (I.entries index.now)) line }
+{
     let below = index.peek(line.saturating_sub(1));
     let doubled = if line % 2 == 1 {
         here.doubled

@@ -13,10 +13,9 @@ ghost use Rattle.detector.specs.Turns.{IsTurnOf};
 ghost use Rattle.detector.specs.Watch.{is_search, may_take_memory, touched, tracks_after, watch_of};
 ghost use Rattle.detector.specs.Watch.{writes_after};
 
-use crate::count::count;
-use crate::places::{note_places, places_of};
+use crate::places::{note_places, places_beside};
 use crate::turn::{Turn, take_turn};
-use line_counters::LineIndex;
+use line_counters::{LineEntry, LineIndex};
 use predator_base::{Access, Kind, Layout, NoMemory, Steps, Thresholds};
 use std::sync::ledger::Ledger;
 use virtual_lines::Tracks;
@@ -32,34 +31,36 @@ fn is_multiple(n: u64, of: Option<u64>) -> bool
     }
 }
 
-// Notes the tracks that hold the address of an access of a line.
+// Notes the tracks that hold the address of an access of a line with this entry.
 #[inline(always)]
 fn note<I: LineIndex, L: Ledger>(
     index: &I,
     tracks: &mut Tracks,
     line: u64,
+    here: LineEntry,
     position: u64,
     access: Access,
     steps: &mut Steps<L>,
 )
     requires small { line ≤ 2 ^ 30 }
+    requires here { here ≡ entry_at (I.entries index.now) line }
     requires early { position < 2 ^ 40 }
     requires notable { (g : Grid) × IsNotable (entry_at (I.entries index.now)) g tracks.old line
         position access }
     ensures tracks { tracks.new ≡ map (touched position access) tracks.old }
     ensures steps { steps.new ≤ steps.old + 4 }
 {
-    note_places(tracks, places_of(index, line), position, access, steps);
+    let places = places_beside(index, line, here);
+    note_places(tracks, places, position, access, steps);
 }
 
-// What a write of a line may do beside being noted.
+// What a write of a line with this entry may do beside being noted.
 #[inline(always)]
-fn turn_of<I: LineIndex>(index: &I, thresholds: Thresholds, line: u64) -> Turn
-    requires small { line ≤ 2 ^ 30 }
-    requires few { (entry_at (I.entries index.now) line).writes < 2 ^ 40 }
-    ensures { IsTurnOf (entry_at (I.entries index.now)) line thresholds result }
+fn turn_of(entry: &LineEntry, thresholds: Thresholds) -> Turn
+    requires few { entry.now.writes < 2 ^ 40 }
+    ensures { IsTurnOf entry.now thresholds result }
 {
-    let writes = index.peek(line).writes + 1;
+    let writes = entry.writes + 1;
     let begins = writes == thresholds.tracking();
     let searches = is_multiple(writes, thresholds.prediction());
     Turn { begins, searches }
@@ -109,21 +110,23 @@ pub fn touch<I: LineIndex, L: Ledger>(
 {
     match access.kind() {
         Kind::Read => {
-            note(index, tracks, line, position, access, steps);
+            let here = index.peek(line);
+            note(index, tracks, line, here, position, access, steps);
             Ok(())
         }
-        Kind::Write => {
-            let turn = turn_of(index, thresholds, line);
-            if turn.begins || turn.searches {
-                return take_turn(index, tracks, layout, line, turn, position, access, steps);
-            }
-            match count(index, line) {
-                Ok(()) => {
-                    note(index, tracks, line, position, access, steps);
-                    Ok(())
+        // The line is looked up once: the entry says what is due, and counts the write.
+        Kind::Write => match index.entry(line) {
+            Ok(entry) => {
+                let turn = turn_of(entry, thresholds);
+                if turn.is_due() {
+                    return take_turn(index, tracks, layout, line, turn, position, access, steps);
                 }
-                Err(refused) => Err(refused),
+                entry.writes += 1;
+                let here = *entry;
+                note(index, tracks, line, here, position, access, steps);
+                Ok(())
             }
-        }
+            Err(refused) => Err(refused),
+        },
     }
 }

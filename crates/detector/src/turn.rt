@@ -1,6 +1,6 @@
 // A write at which a track may begin, or a predicted line may open.
 ghost use Rattle.std.specs.Prelude.{◌≡◌, ◌≢◌, ℕ, ◌+◌, ◌*◌, ◌/◌, ◌%◌, ◌≤◌, ◌<◌, ◌^◌, ◌-◌, ◌∷◌, []};
-ghost use Rattle.std.specs.Prelude.{◌++◌, ◌==◌, List, Option, IsOk, IsFalse, IsTrue, OnOk, OnErr};
+ghost use Rattle.std.specs.Prelude.{◌++◌, ◌==◌, ◌||◌, List, Option, IsOk, IsFalse, IsTrue, OnOk, OnErr};
 ghost use Rattle.std.specs.Prelude.{IfOk, None, Some, length, map, take, option_map, if◌then◌else◌};
 ghost use Rattle.line_counters.specs.Entries.{blank_entry, entry_at};
 ghost use Rattle.predator_base.specs.declared.layout.Range.{Range as Span};
@@ -36,6 +36,16 @@ use virtual_lines::{LineKind, Tracks};
 pub struct Turn {
     pub begins: bool,
     pub searches: bool,
+}
+
+impl Turn {
+    /// Whether it does anything.
+    #[inline(always)]
+    pub fn is_due(self) -> bool
+        ensures { result ≡ (self.begins || self.searches) }
+    {
+        self.begins || self.searches
+    }
 }
 
 // The places of the tracks that were opened.
@@ -355,6 +365,7 @@ fn count_of(tracks: &Tracks) -> u32
 /// counted, and what is due begins and opens.
 ///
 /// NoMemory leaves all as it was.
+#[inline(never)]
 pub fn take_turn<I: LineIndex, L: Ledger>(
     index: &mut I,
     tracks: &mut Tracks,

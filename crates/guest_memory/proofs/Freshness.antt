@@ -1,7 +1,6 @@
 -- A memory of zeros.
-use Rattle.std.proofs.Common.{◌≡◌, ℕ, zero, suc, ◌-◌, ◌/◌, ◌<◌, Bool, true, false, cond, replicate, get_or, refl, nat_lt}
+use Rattle.std.proofs.Common.{◌≡◌, ℕ, zero, suc, ◌-◌, ◌/◌, Bool, true, false, cond, replicate, get_or, refl, nat_lt}
 use Rattle.std.proofs.lemmas.List.{length-replicate}
-use Rattle.guest_memory.specs.declared.page.Page.{Page}
 use Rattle.guest_memory.specs.Space.{IsFresh, no_page}
 
 -- copies of the default, wherever they are read

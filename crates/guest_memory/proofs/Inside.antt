@@ -1,7 +1,8 @@
 -- A mapped and aligned access lies in the memory, and a store keeps what every memory keeps.
 use Rattle.std.proofs.Common.{◌≡◌, ℕ, zero, suc, ◌+◌, ◌-◌, ◌*◌, ◌/◌, ◌%◌, ◌<◌, ◌≤◌, ◌∙◌, Bool, true, false, cond, List, [], ◌∷◌, length}
-use Rattle.std.proofs.Common.{get_or, refl, ap, sym, subst, arith, inl, inr, nat_lt}
-use Rattle.std.proofs.lemmas.Bool.{ltb-false}
+use Rattle.std.proofs.Common.{◌^◌, get_or, refl, ap, sym, subst, arith, inl, inr, nat_lt}
+use Rattle.std.proofs.lemmas.Bool.{cases_lt, le-ltb, lt-ltb, ltb-false}
+use Rattle.std.proofs.lemmas.List.{get_or_past}
 use Rattle.guest_memory.specs.declared.page.Page.{Page}
 use Rattle.guest_memory.specs.Bytes.{IsSize}
 use Rattle.guest_memory.specs.Space.{Space, IsSpace, page_at, no_page}
@@ -37,3 +38,20 @@ inside m a size k s e h =
         ]
       ],
     )
+
+below_base : (a b n p : ℕ) → a < b → n ≡ 4096 * p → b + n ≤ 0xfffff000 → p ≤ (a + (2 ^ 32 - b)) % 2 ^ 32 / 4096
+below_base a b n p h i j = omega arith
+
+at_base : (a b : ℕ) → b ≤ a → a < 2 ^ 32 → (a + (2 ^ 32 - b)) % 2 ^ 32 ≡ a - b
+at_base a b h i = omega arith
+
+-- an address's page, by its distance from the base, which wraps
+pub page_by_place : (m : Space) (a : ℕ) → IsSpace m → a < 2 ^ 32
+    → get_or m.pages ((a + (2 ^ 32 - m.base)) % 2 ^ 32 / 4096) no_page ≡ page_at m a
+page_by_place m a k fits =
+    elim (cases_lt a m.base) [
+      | inl below ↦ rw (lt-ltb a m.base below)
+          (get_or_past m.pages _ no_page (below_base a m.base _ _ below k.whole k.room))
+      | inr above ↦ rw (le-ltb a m.base above)
+          (ap (λ d. get_or m.pages (d / 4096) no_page) (at_base a m.base above fits))
+    ]

@@ -150,13 +150,13 @@ fn are_mapped(pages: &[Page], first: usize, end: usize) -> bool
 
 // Rights.
 impl Memory {
+    #[inline]
+    #[tactic(auto, using(crate::proofs::Inside::page_by_place))]
     fn page_of(&self, addr: u32) -> Page
         ensures { result ≡ page_at self.now addr }
     {
-        if addr < self.base {
-            return Page::NONE;
-        }
-        page_in(&self.pages, ((addr - self.base) / 4096) as usize)
+        // Below the base this is past the last page.
+        page_in(&self.pages, (addr.wrapping_sub(self.base) / 4096) as usize)
     }
 
     /// Whether the address's page is mapped and executable.
@@ -269,6 +269,7 @@ impl Memory {
     /// The number that the `size` bytes at `addr` make, the low byte first; `size` is 1, 2 or 4.
     /// Refused as Misaligned and Outside.
     #[tactic(auto, using(crate::proofs::Numbers::number_at_place))]
+    #[inline(always)]
     pub fn load(&self, addr: u32, size: u8) -> Result<u32, MemFault>
         requires { IsSize size }
         ensures value { result ≡ loaded self.now addr size }
@@ -297,6 +298,7 @@ impl Memory {
     /// Stores the low `size` bytes of the value at `addr`, the lowest first; `size` is 1, 2 or 4.
     /// Refused as Misaligned, Outside and ReadOnly.
     #[tactic(auto, using(crate::proofs::Stores::keeps_others, crate::proofs::Stores::gives_stored, crate::proofs::Stores::above_base))]
+    #[inline(always)]
     pub fn store(&mut self, addr: u32, size: u8, value: u32) -> Result<(), MemFault>
         requires { IsSize size }
 

@@ -160,6 +160,13 @@ impl Guest {
         self.config.steps
     }
 
+    /// How many steps the run may make, from 1 to 2^36.
+    pub fn budget(&self) -> u64
+        ensures { result ≡ self.now.setup.budget }
+    {
+        self.setup.budget
+    }
+
     /// How many accesses the run has made: as many as steps at most.
     pub fn accesses(&self) -> u64
         ensures value { result ≡ self.now.config.accesses }

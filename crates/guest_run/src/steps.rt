@@ -3,9 +3,7 @@ ghost use Rattle.std.specs.Prelude.{◌≡◌, ℕ, ◌≤◌, length, IfOk, IsO
 ghost use Rattle.std.specs.Option.{option_map_or};
 ghost use Rattle.thread_calls.specs.Calls.{finished_code};
 ghost use Rattle.guest_run.specs.Configs.{CanStep, Fits, noted};
-ghost use Rattle.guest_run.specs.Calls.{over};
 ghost use Rattle.guest_run.specs.Runs.{ending_with};
-ghost use Rattle.guest_run.specs.declared.setup.Setup.{Setup};
 ghost use Rattle.guest_run.specs.Turns.{IsNext, chosen, hart_turn, made, makes_block, turn_of};
 ghost use Rattle.guest_run.specs.Inside.{config_of};
 ghost use Rattle.guest_run.specs.Facts.{IsEndOf, IsSeen, turn_seen};
@@ -42,8 +40,8 @@ impl Configuration {
             → Fits harts (config_of self.new) }
         ensures seen { result ≡ Turn.Ran (option_map_or Event.Touch access Event.Quiet) }
     {
-        self.take_turn(hart);
         self.note_call(hart, instr, pc);
+        self.take_turn(hart);
         self.steps += 1;
         match access {
             None => Turn::Ran(Event::Quiet),
@@ -85,6 +83,7 @@ impl Configuration {
     }
 
     // The end of the run where no hart can run.
+    #[cold]
     fn rest(&self) -> Outcome
         ensures outcome { result ≡ option_map_or Outcome.Exit (finished_code self.now.threads)
             Outcome.Deadlock }
@@ -93,20 +92,6 @@ impl Configuration {
         match self.threads.finished() {
             Some(code) => Outcome::Exit(code),
             None => Outcome::Deadlock,
-        }
-    }
-
-    // The end of the run where all steps of the budget are taken. No hart is taken from the
-    // schedule.
-    fn budget_end(&self) -> Outcome
-        requires fits { Fits self.now.schedule.harts (config_of self.now) }
-        ensures outcome { (s : Setup) → s.budget ≤ self.now.steps
-            → over result (config_of self.now) ≡ turn_of s (config_of self.now) }
-        ensures end { (harts : ℕ) → IsEndOf harts result }
-    {
-        match self.next_hart() {
-            None => self.rest(),
-            Some(_) => Outcome::Budget,
         }
     }
 
@@ -123,13 +108,15 @@ impl Configuration {
         ensures settled { IsFalse (makes_block (turn_of setup.now (config_of self.old)))
             → IsOk result }
     {
-        if self.steps < setup.budget {
-            match self.next_hart() {
-                None => Ok(Turn::Ended(self.rest())),
-                Some(hart) => self.run(setup, hart),
+        match self.next_hart() {
+            None => Ok(Turn::Ended(self.rest())),
+            Some(hart) => {
+                if self.steps < setup.budget {
+                    self.run(setup, hart)
+                } else {
+                    Ok(Turn::Ended(Outcome::Budget))
+                }
             }
-        } else {
-            Ok(Turn::Ended(self.budget_end()))
         }
     }
 }

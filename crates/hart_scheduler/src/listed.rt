@@ -85,6 +85,9 @@ impl Listed {
         ensures after { self.new ≡ after_first (is_runnable runnable.now) self.old }
         ensures taken { result ≡ is_some (find (is_runnable runnable.now) self.old) }
     {
+        if self.place >= self.entries.len() {
+            return false;
+        }
         let place = first_able(self.entries.as_slice(), self.place, runnable);
         self.place = place;
         if place < self.entries.len() {

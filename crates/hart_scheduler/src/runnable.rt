@@ -1,5 +1,5 @@
 // Which harts are runnable, by a slice with one entry for each hart.
-ghost use Rattle.std.specs.Prelude.{◌≡◌, ◌≤◌, ◌-◌, length};
+ghost use Rattle.std.specs.Prelude.{◌≡◌, ◌≤◌, ◌<◌, ◌-◌, length};
 ghost use Rattle.std.specs.List.{find, range_with_len};
 ghost use Rattle.hart_scheduler.specs.Choices.{is_runnable};
 
@@ -17,6 +17,17 @@ pub(crate) fn is_runnable(runnable: &[bool], hart: Hart) -> bool
     }
 }
 
+// The hart of a number.
+fn hart_at(number: u16) -> Hart
+    requires { number < 256 }
+    ensures { result ≡ number }
+{
+    match Hart::new(number) {
+        Some(hart) => hart,
+        None => unreachable!(),
+    }
+}
+
 // The lowest runnable hart of those from `from` on and below `end`.
 pub(crate) fn lowest_runnable(runnable: &[bool], from: u16, end: u16) -> Option<Hart>
     requires ordered { from ≤ end }
@@ -26,7 +37,7 @@ pub(crate) fn lowest_runnable(runnable: &[bool], from: u16, end: u16) -> Option<
 {
     for number in from..end {
         if runnable[usize::from(number)] {
-            return Hart::new(number);
+            return Some(hart_at(number));
         }
     }
     None

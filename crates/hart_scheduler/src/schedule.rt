@@ -1,5 +1,5 @@
 // A schedule, and the choices that it makes.
-ghost use Rattle.std.specs.Prelude.{◌≡◌, ◌≤◌, ◌^◌, ◌↔◌, length, None, Some, IfSome, IsTrue};
+ghost use Rattle.std.specs.Prelude.{◌≡◌, ◌≤◌, ◌<◌, ◌^◌, ◌↔◌, length, None, Some, IfSome, IsTrue};
 ghost use Rattle.hart_scheduler.specs.Choices.{is_runnable, NoneRunnable, choice, choice_in_turn};
 ghost use Rattle.hart_scheduler.specs.Choices.{plan_after, streak_with};
 ghost use Rattle.hart_scheduler.specs.Texts.{plan_of};
@@ -58,15 +58,16 @@ impl Schedule {
         }
     }
 
-    // The streak once a hart was chosen in turn.
-    fn streak_with(&self, hart: Hart) -> Streak
-        ensures { result ≡ streak_with hart self.now }
+    // A hart that was chosen in turn has its turn.
+    fn take_in_turn(&mut self, hart: Hart)
+        requires { hart < self.old.harts }
+        ensures { self.new ≡ record self.old { streak = Some (streak_with hart self.old) } }
     {
-        let left = match self.streak {
-            Some(streak) => streak.left_with(hart, self.quantum),
-            None => self.quantum.saturating_sub(1),
-        };
-        Streak::new(hart, left)
+        let quantum = self.quantum;
+        match &mut self.streak {
+            Some(streak) => streak.take_turn(hart, quantum),
+            None => self.streak = Some(Streak::new(hart, quantum.saturating_sub(1))),
+        }
     }
 
     // The hart that is chosen: from the list, or else in turn.
@@ -127,7 +128,7 @@ impl Schedule {
         ensures quantum { self.new.quantum ≡ self.old.quantum }
     {
         if !self.listed.take(runnable) {
-            self.streak = Some(self.streak_with(hart));
+            self.take_in_turn(hart);
         }
     }
 }

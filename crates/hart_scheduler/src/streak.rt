@@ -50,17 +50,21 @@ impl Streak {
             return Some(hart);
         }
         let next = hart.number() + 1;
-        lowest_runnable(runnable, next, harts).or(lowest_runnable(runnable, 0, next))
+        match lowest_runnable(runnable, next, harts) {
+            Some(after) => Some(after),
+            None => lowest_runnable(runnable, 0, next),
+        }
     }
 
-    // How many turns in a row a hart has left once it was chosen.
-    pub(crate) fn left_with(self, hart: Hart, quantum: u32) -> u32
-        ensures { result ≡ left_with quantum hart self }
+    // A turn of the hart that was chosen.
+    pub(crate) fn take_turn(&mut self, hart: Hart, quantum: u32)
+        ensures { self.new ≡ record { hart = hart; left = left_with quantum hart self.old } }
     {
         if self.hart == hart {
-            self.left.saturating_sub(1)
+            self.left = self.left.saturating_sub(1);
         } else {
-            quantum.saturating_sub(1)
+            self.hart = hart;
+            self.left = quantum.saturating_sub(1);
         }
     }
 }

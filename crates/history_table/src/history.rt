@@ -105,7 +105,8 @@ impl History {
             → self.old ≡ take 2 (arrivals (λ addr. line_of addr == r) t)
             → result ≡ is_held_by_another line_of t hart r }
     {
-        let is_shared = self.second.is_some() || self.first != hart;
+        let is_other = self.first != hart;
+        let is_shared = self.second.is_some() || is_other;
         *self = History::one(hart);
         is_shared
     }

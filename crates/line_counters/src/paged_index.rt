@@ -9,7 +9,7 @@ ghost use Rattle.line_counters.specs.PagedEntries.{paged_entries, paged_entry, p
 use crate::line_entry::{BLANK, LAST_LINE, LineEntry};
 use crate::line_index::LineIndex;
 use crate::pages::{
-    DIRECTORIES, DIRECTORY_LINES, Directory, PAGE_LINES, make_page, next_in_directory, reach,
+    self, DIRECTORIES, DIRECTORY_LINES, Directory, PAGE_LINES, next_in_directory, reach,
 };
 use predator_base::NoMemory;
 use std::alloc::Global;
@@ -43,9 +43,39 @@ impl PagedIndex {
         page.get(place % PAGE_LINES)
     }
 
+    // Whether the page of a line is there.
+    #[inline(always)]
+    fn has_page(&self, line: u64) -> bool
+        ensures { result ≡ paged_place self.now line }
+    {
+        let place = (line % DIRECTORY_LINES) as usize;
+        match self.directories.get((line / DIRECTORY_LINES) as usize) {
+            Some(directory) => match directory.get(place / PAGE_LINES) {
+                Some(page) => place % PAGE_LINES < page.len(),
+                None => false,
+            },
+            None => false,
+        }
+    }
+
     // Gives a line a place, with a blank entry where it had none.
     #[inline(always)]
     fn make_place(&mut self, line: u64) -> Result<(), NoMemory>
+        ensures same { (q : ℕ) → paged_entry self.new q ≡ paged_entry self.old q }
+        ensures keeps { KeepsPlaces (paged_place self.old) (paged_place self.new) }
+        ensures placed { OnOk result (IsTrue (paged_place self.new line)) }
+        ensures unplaced { OnErr result (paged_place self.old line ≡ false) }
+        ensures blank { OnErr result (paged_entry self.old line ≡ blank_entry) }
+    {
+        if self.has_page(line) {
+            return Ok(());
+        }
+        self.make_page(line)
+    }
+
+    // The same, once for each page, and so apart from the way of each access.
+    #[inline(never)]
+    fn make_page(&mut self, line: u64) -> Result<(), NoMemory>
         ensures same { (q : ℕ) → paged_entry self.new q ≡ paged_entry self.old q }
         ensures keeps { KeepsPlaces (paged_place self.old) (paged_place self.new) }
         ensures placed { OnOk result (IsTrue (paged_place self.new line)) }
@@ -57,7 +87,7 @@ impl PagedIndex {
         match reach(&mut self.directories, number, alloc) {
             Ok(()) => {
                 let place = (line % DIRECTORY_LINES) as usize;
-                make_page(&mut self.directories[number], place, alloc)
+                pages::make_page(&mut self.directories[number], place, alloc)
             }
             Err(refused) => Err(refused),
         }

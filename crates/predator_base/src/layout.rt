@@ -85,7 +85,9 @@ impl Layout {
         ensures small { result ≤ 2 ^ 30 }
     {
         let size = u64::from(self.size);
-        (u64::from(addr) + size - u64::from(self.offset)) / size
+        let place = u64::from(addr) + size - u64::from(self.offset);
+        // Most lines have 64 bytes, and a shift takes less time than a division.
+        if size == 64 { place / 64 } else { place / size }
     }
 
     /// The range of an address's line.

@@ -105,6 +105,7 @@ fn cause_of_store(fault: MemFault) -> Cause
 }
 
 /// A value into a register, and on to the next instruction.
+#[inline(always)]
 pub fn give(instr: Instr, rd: Reg, value: u32, state: &mut HartState) -> StepEnd
     ensures end { result ≡ StepEnd.Next instr None }
     ensures state { state.new ≡ advanced (with_reg state.old rd value) }
@@ -114,6 +115,7 @@ pub fn give(instr: Instr, rd: Reg, value: u32, state: &mut HartState) -> StepEnd
     StepEnd::Next(instr, None)
 }
 
+#[inline(always)]
 pub fn branch(test: Test, rs1: Reg, rs2: Reg, offset: i32, state: &mut HartState) -> StepEnd
     ensures { (m : Space) (h : List (Option ℕ))
         → outcome result (machine state.new m h) ≡ branch_effect test rs1 rs2 offset
@@ -137,6 +139,7 @@ pub fn branch(test: Test, rs1: Reg, rs2: Reg, offset: i32, state: &mut HartState
     StepEnd::Next(instr, None)
 }
 
+#[inline(always)]
 pub fn load(
     hart: Hart,
     kind: LoadKind,
@@ -169,6 +172,7 @@ pub fn load(
     }
 }
 
+#[inline(always)]
 pub fn store(
     hart: Hart,
     kind: StoreKind,
@@ -204,6 +208,7 @@ pub fn store(
     }
 }
 
+#[inline(always)]
 pub fn jump(instr: Instr, rd: Reg, target: u32, state: &mut HartState) -> StepEnd
     ensures { (m : Space) (h : List (Option ℕ))
         → outcome result (machine state.new m h) ≡ jumps instr rd ((state.old.pc + 4) % 2 ^ 32)
@@ -218,6 +223,7 @@ pub fn jump(instr: Instr, rd: Reg, target: u32, state: &mut HartState) -> StepEn
     StepEnd::Next(instr, None)
 }
 
+#[inline(always)]
 pub fn amo(
     hart: Hart,
     op: AmoOp,
@@ -258,6 +264,7 @@ pub fn amo(
     }
 }
 
+#[inline(always)]
 pub fn load_reserved(
     hart: Hart,
     rd: Reg,
@@ -286,6 +293,7 @@ pub fn load_reserved(
     }
 }
 
+#[inline(always)]
 pub fn store_conditional(
     hart: Hart,
     rd: Reg,

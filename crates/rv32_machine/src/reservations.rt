@@ -70,6 +70,7 @@ impl Reservations {
     }
 
     /// Ends the reservations of a word that harts other than its writer have.
+    #[inline(always)]
     #[tactic(auto, using(crate::proofs::Releases::released_none))]
     pub(crate) fn release(&mut self, hart: Hart, word: u32)
         requires { hart < length self.old }
@@ -80,6 +81,7 @@ impl Reservations {
         }
     }
 
+    #[inline(never)]
     #[tactic(auto, using(crate::proofs::Releases::released_by_hart))]
     fn end_others(&mut self, writer: usize, word: u32)
         requires { writer < length self.old }

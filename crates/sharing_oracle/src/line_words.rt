@@ -18,7 +18,7 @@ pub fn word_since(line: &CacheLine, start: usize, accesses: &[Access], place: us
     for i in start..accesses.len() {
         let access = &accesses[i];
         if is_of_word(line, access, place) {
-            word = word.noted(access);
+            word.note(access);
         }
     }
     word

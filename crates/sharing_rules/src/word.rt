@@ -16,20 +16,20 @@ pub enum Owner {
 }
 
 impl Owner {
-    /// The owner after an access by a hart.
-    pub fn noted(self, hart: Hart) -> Owner
-        ensures { result ≡ note_owner self hart }
+    /// One access by a hart more.
+    #[inline(always)]
+    pub fn note(&mut self, hart: Hart)
+        ensures { self.new ≡ note_owner self.old hart }
     {
-        match self {
-            Owner::None => Owner::One(hart),
+        let owner = *self;
+        match owner {
+            Owner::None => *self = Owner::One(hart),
             Owner::One(one) => {
-                if hart.number() == one.number() {
-                    Owner::One(one)
-                } else {
-                    Owner::Many
+                if hart.number() != one.number() {
+                    *self = Owner::Many;
                 }
             }
-            Owner::Many => Owner::Many,
+            Owner::Many => {}
         }
     }
 }
@@ -66,24 +66,17 @@ impl Word {
         self.reads + self.writes
     }
 
-    /// The word after one access of it more.
-    pub fn noted(&self, access: &Access) -> Word
-        requires { accesses self.now < 2 ^ 63 }
-        ensures value { result ≡ note_word self.now access.now }
-        ensures more { accesses result ≡ accesses self.now + 1 }
+    /// One access of it more.
+    #[inline(always)]
+    pub fn note(&mut self, access: &Access)
+        requires { accesses self.old < 2 ^ 63 }
+        ensures value { self.new ≡ note_word self.old access.now }
+        ensures more { accesses self.new ≡ accesses self.old + 1 }
     {
-        let owner = self.owner.noted(access.hart());
+        self.owner.note(access.hart());
         match access.kind() {
-            Kind::Read => Word {
-                reads: self.reads + 1,
-                writes: self.writes,
-                owner,
-            },
-            Kind::Write => Word {
-                reads: self.reads,
-                writes: self.writes + 1,
-                owner,
-            },
+            Kind::Read => self.reads += 1,
+            Kind::Write => self.writes += 1,
         }
     }
 }

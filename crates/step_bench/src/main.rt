@@ -3,11 +3,15 @@
 //! so many harts, and prints what it did. Without words it makes 1,000 steps with one hart.
 #![tactic(auto)]
 
+mod program;
+
 ghost use Rattle.std.specs.Prelude.{◌<◌, ◌≡◌, ◌%◌, IfOk, length};
 ghost use Rattle.guest_memory.specs.Space.{IsRange};
 
+use crate::program::program;
 use guest_memory::Memory;
 use predator_base::{Hart, NoMemory};
+use rv32_decode::encode;
 use rv32_machine::{HartState, Reservations, StepEnd, step};
 use std::alloc::Global;
 use std::{env, io};
@@ -15,23 +19,6 @@ use std::{env, io};
 const CODE: u32 = 0x10000;
 
 const DATA: u32 = 0x11000;
-
-// The loop: its words are those of an assembler.
-const LOOP: [u32; 13] = [
-    0x00128293, // addi x5, x5, 1
-    0x00530333, // add  x6, x6, x5
-    0x005343b3, // xor  x7, x6, x5
-    0x00329e13, // slli x28, x5, 3
-    0x40730eb3, // sub  x29, x6, x7
-    0x005eef33, // or   x30, x29, x5
-    0x006f7fb3, // and  x31, x30, x6
-    0x002fd613, // srli x12, x31, 2
-    0x005636b3, // sltu x13, x12, x5
-    0x01f68733, // add  x14, x13, x31
-    0x00052783, // lw   x15, 0(x10)
-    0x00e52223, // sw   x14, 4(x10)
-    0xfd1ff06f, // jal  x0, -48
-];
 
 // Makes steps until there are so many, or one is a call or a trap, and says how many it made.
 fn run(hart: Hart, steps: u64, memory: &mut Memory, held: &mut Reservations) -> u64
@@ -54,8 +41,12 @@ fn memory_of(alloc: Global) -> Result<Memory, NoMemory> {
     memory.map(CODE, 4096, false, true);
     memory.map(DATA, 4096, true, false);
     let mut code = Vec::new(alloc);
-    for word in LOOP {
-        code.extend_from_slice(&word.to_le_bytes())?;
+    for line in program() {
+        if let Some(instr) = line
+            && instr.is_valid()
+        {
+            code.extend_from_slice(&encode(instr).to_le_bytes())?;
+        }
     }
     if code.len() == 52 {
         memory.fill(CODE, &code);

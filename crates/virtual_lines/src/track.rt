@@ -197,7 +197,7 @@ impl Track {
         ensures exact { self.new ≡ note_kept self.old position access }
         ensures in_time { IsInTime self.new (position + 1) }
     {
-        match self.begun {
+        match &mut self.begun {
             None => {
                 if access.kind().is_write() {
                     self.begun = Some(Begun {
@@ -208,12 +208,7 @@ impl Track {
                 }
             }
             Some(begun) => {
-                let mut history = begun.history;
-                let is_invalidation = meet(&mut history, access);
-                self.begun = Some(Begun {
-                    start: begun.start,
-                    history,
-                });
+                let is_invalidation = meet(&mut begun.history, access);
                 self.count += u64::from(is_invalidation);
                 self.shadow.note(access);
             }

@@ -102,8 +102,8 @@ impl Shadow {
             → self.new.words ≡ words_since l s (t ++ access ∷ []) }
     {
         let place = place_in(self.range, access.addr()) as usize;
-        let word = self.words[place];
-        self.words[place] = word.noted(&access);
+        let word = &mut self.words[place];
+        word.note(&access);
         self.total += 1;
     }
 

@@ -1,12 +1,16 @@
-use Rattle.std.proofs.Common.{◌≡◌, ◌+◌, ◌*◌, ◌/◌, ◌≤◌, refl, sym, ap, ◌∙◌, subst, arith}
+use Rattle.std.proofs.Common.{◌≡◌, ◌+◌, ◌*◌, ◌/◌, ◌<◌, ◌≤◌, refl, sym, ap, ◌∙◌, subst, arith}
+use Rattle.std.proofs.lemmas.Bool.{or_parts}
 use Rattle.std.proofs.lemmas.Result.{on_ok_weaker}
-use Rattle.std.specs.Prelude.{if◌then◌else◌}
+use Rattle.std.specs.Prelude.{if◌then◌else◌, is_ok, OnErr}
 use Rattle.predator_base.specs.Touch.{is_write}
-use Rattle.line_counters.specs.Entries.{entry_at}
+use Rattle.line_counters.specs.Entries.{Entries, entry_at}
 use Rattle.line_counters.specs.declared.line_entry.LineEntry.{LineEntry}
-use Rattle.detector.proofs.AfterLaws.{after-read, after-turn, after-write, counts-read, counts-write, due-at, native-grid, notable}
-use Rattle.detector.proofs.AfterLaws.{plain-indexed, quiet, read-indexed, searches-is}
-use Rattle.detector.proofs.SettleLaws.{counted-names}
+use Rattle.detector.specs.Counts.{counts_of, with_write}
+use Rattle.detector.specs.Turns.{counted}
+use Rattle.detector.proofs.AfterLaws.{after-read, after-turn, after-write, counts-read, counts-write, due-lent, first-written, native-grid}
+use Rattle.detector.proofs.AfterLaws.{notable, plain-indexed, quiet, read-indexed, searches-is, turn-lent}
+use Rattle.detector.proofs.CountLaws.{counts-with_entry, left-alone}
+use Rattle.detector.proofs.SettleLaws.{counted-lent, counted-names}
 use Rattle.detector.proofs.touch.touch.Goals as goal
 
 pub note-requires-clause-notable : goal.note-requires-clause-notable
@@ -34,112 +38,134 @@ returns-in-Read-clause-indexed g c =
 pub returns-in-Read-clause-steps : goal.returns-in-Read-clause-steps
 returns-in-Read-clause-steps g c = let s = c.note.ensures.steps in omega (arith, s)
 
-pub turn_of-turn-requires-clause-few : goal.turn_of-turn-requires-clause-few
-turn_of-turn-requires-clause-few g c =
-    let d = c.requires.indexed.written c.args.line in
-    let e = c.requires.early in
-    omega (arith, d, e)
-
-pub take_turn-requires-clause-reached : goal.take_turn-requires-clause-reached
-take_turn-requires-clause-reached g c = c.requires.reached
-
 pub take_turn-requires-clause-turn : goal.take_turn-requires-clause-turn
 take_turn-requires-clause-turn g c =
-    let f = entry_at (g.I.LineIndex.entries c.args.index.now) in (
-      c.args.thresholds.tracking,
-      due-at f c.args.layout c.args.tracks.now c.args.line c.args.thresholds c.turn_of-turn.result
-          c.args.position c.requires.indexed c.requires.some c.turn_of-turn.ensures,
-    )
+    let m = g.I.LineIndex.entries c.args.index.now in
+    let same = left-alone m (g.I.LineIndex.entries (c.entry.follows.lender c.in-Ok.entry.now)) c.args.line c.in-Ok.entry.now
+    (g.met.I.LineIndex.only_entries c.args.index.now) (c.entry.follows.holds c.in-Ok.entry.now (ap is_ok c.in-Ok.is)).0.whole
+    c.in-Ok.ensures.value in
+    let turn = turn-lent (entry_at m) c.args.line c.in-Ok.entry.now c.args.thresholds c.turn_of-turn.result c.in-Ok.ensures.value
+    c.turn_of-turn.ensures in
+    let due = due-lent m _ c.args.layout c.args.tracks.now c.args.line c.args.thresholds c.turn_of-turn.result c.args.position same
+    c.requires.indexed c.requires.some turn in
+    (c.args.thresholds.tracking, due)
 
 pub take_turn-requires-clause-native : goal.take_turn-requires-clause-native
-take_turn-requires-clause-native g c = λ s.
-    native-grid (entry_at (g.I.LineIndex.entries c.args.index.now)) c.args.line c.args.layout c.args.thresholds c.turn_of-turn.result
-    c.requires.native c.turn_of-turn.ensures s
+take_turn-requires-clause-native g c =
+    λ s.
+    native-grid (λ q. c.in-Ok.entry.now) c.args.line c.args.layout c.args.thresholds c.turn_of-turn.result c.requires.native
+    c.turn_of-turn.ensures s
 
-pub returns-then-turn-clause-tracks : goal.returns-then-turn-clause-tracks
-returns-then-turn-clause-tracks g c =
-    on_ok_weaker c.take_turn.result
-    (λ e. e ∙ after-turn (g.I.LineIndex.entries c.args.index.now) c.args.tracks.now c.args.layout c.args.thresholds c.args.position
-    c.args.line c.args.access c.turn_of-turn.result (ap is_write (sym c.kind.ensures ∙ c.in-Write.is)) c.turn_of-turn.ensures)
+pub returns-then-is_due-clause-tracks : goal.returns-then-is_due-clause-tracks
+returns-then-is_due-clause-tracks g c =
+    let m = g.I.LineIndex.entries c.args.index.now in
+    let turn = turn-lent (entry_at m) c.args.line c.in-Ok.entry.now c.args.thresholds c.turn_of-turn.result c.in-Ok.ensures.value
+    c.turn_of-turn.ensures in
+    on_ok_weaker c.take_turn.result (λ e. e ∙ after-turn m c.args.tracks.now c.args.layout c.args.thresholds c.args.position
+    c.args.line c.args.access c.turn_of-turn.result (ap is_write (sym c.kind.ensures ∙ c.in-Write.is)) turn)
     c.take_turn.ensures.tracks
 
-pub returns-then-turn-clause-counts : goal.returns-then-turn-clause-counts
-returns-then-turn-clause-counts g c =
+pub returns-then-is_due-clause-counts : goal.returns-then-is_due-clause-counts
+returns-then-is_due-clause-counts g c =
+    let m = g.I.LineIndex.entries c.args.index.now in
+    let same = left-alone m (g.I.LineIndex.entries (c.entry.follows.lender c.in-Ok.entry.now)) c.args.line c.in-Ok.entry.now
+    (g.met.I.LineIndex.only_entries c.args.index.now) (c.entry.follows.holds c.in-Ok.entry.now (ap is_ok c.in-Ok.is)).0.whole
+    c.in-Ok.ensures.value in
     on_ok_weaker c.take_turn.result
-    (λ e. counts-write (g.I.LineIndex.entries c.args.index.now) (g.I.LineIndex.entries c.take_turn.new.index) c.args.line c.args.access
-    (ap is_write (sym c.kind.ensures ∙ c.in-Write.is)) e) c.take_turn.ensures.counts
+    (λ e. counts-write m (g.I.LineIndex.entries c.take_turn.new.index) c.args.line c.args.access (ap is_write (sym c.kind.ensures ∙
+    c.in-Write.is))
+    (e ∙ ap (λ (z : Entries). with_write (counts_of z) c.args.line) same)) c.take_turn.ensures.counts
 
-pub returns-then-turn-clause-indexed : goal.returns-then-turn-clause-indexed
-returns-then-turn-clause-indexed g c =
-    let f = entry_at (g.I.LineIndex.entries c.args.index.now) in
-    on_ok_weaker c.take_turn.result
-    (λ e. e c.args.thresholds.tracking
-    (due-at f c.args.layout c.args.tracks.now c.args.line c.args.thresholds c.turn_of-turn.result c.args.position c.requires.indexed
-    c.requires.some c.turn_of-turn.ensures))
-    c.take_turn.ensures.indexed
+pub returns-then-is_due-clause-indexed : goal.returns-then-is_due-clause-indexed
+returns-then-is_due-clause-indexed g c =
+    let m = g.I.LineIndex.entries c.args.index.now in
+    let same = left-alone m (g.I.LineIndex.entries (c.entry.follows.lender c.in-Ok.entry.now)) c.args.line c.in-Ok.entry.now
+    (g.met.I.LineIndex.only_entries c.args.index.now) (c.entry.follows.holds c.in-Ok.entry.now (ap is_ok c.in-Ok.is)).0.whole
+    c.in-Ok.ensures.value in
+    let turn = turn-lent (entry_at m) c.args.line c.in-Ok.entry.now c.args.thresholds c.turn_of-turn.result c.in-Ok.ensures.value
+    c.turn_of-turn.ensures in
+    let due = due-lent m _ c.args.layout c.args.tracks.now c.args.line c.args.thresholds c.turn_of-turn.result c.args.position same
+    c.requires.indexed c.requires.some turn in
+    on_ok_weaker c.take_turn.result (λ e. e c.args.thresholds.tracking due) c.take_turn.ensures.indexed
 
-pub returns-then-turn-clause-same : goal.returns-then-turn-clause-same
-returns-then-turn-clause-same g c = c.take_turn.ensures.same
+pub returns-then-is_due-clause-same : goal.returns-then-is_due-clause-same
+returns-then-is_due-clause-same g c =
+    let m = g.I.LineIndex.entries c.args.index.now in
+    let same = left-alone m (g.I.LineIndex.entries (c.entry.follows.lender c.in-Ok.entry.now)) c.args.line c.in-Ok.entry.now
+    (g.met.I.LineIndex.only_entries c.args.index.now) (c.entry.follows.holds c.in-Ok.entry.now (ap is_ok c.in-Ok.is)).0.whole
+    c.in-Ok.ensures.value in
+    subst (λ (z : Entries). OnErr c.take_turn.result (g.I.LineIndex.entries c.take_turn.new.index ≡ z)) same c.take_turn.ensures.same
 
-pub returns-then-turn-clause-same_tracks : goal.returns-then-turn-clause-same_tracks
-returns-then-turn-clause-same_tracks g c = c.take_turn.ensures.same_tracks
+pub returns-then-is_due-clause-known : goal.returns-then-is_due-clause-known
+returns-then-is_due-clause-known g c =
+    λ none.
+    let m = g.I.LineIndex.entries c.args.index.now in
+    let same = left-alone m (g.I.LineIndex.entries (c.entry.follows.lender c.in-Ok.entry.now)) c.args.line c.in-Ok.entry.now
+    (g.met.I.LineIndex.only_entries c.args.index.now) (c.entry.follows.holds c.in-Ok.entry.now (ap is_ok c.in-Ok.is)).0.whole
+    c.in-Ok.ensures.value in
+    let turn = turn-lent (entry_at m) c.args.line c.in-Ok.entry.now c.args.thresholds c.turn_of-turn.result c.in-Ok.ensures.value
+    c.turn_of-turn.ensures in
+    let q = quiet m c.args.tracks.now c.args.layout c.args.thresholds c.args.position c.args.line c.args.access
+    c.turn_of-turn.result (ap is_write (sym c.kind.ensures ∙ c.in-Write.is))
+    turn none in
+    c.take_turn.ensures.known q.begins (subst (λ (z : Entries). 0 < (entry_at z c.args.line).writes) (sym same) q.written) q.opens
 
-pub returns-then-turn-clause-known : goal.returns-then-turn-clause-known
-returns-then-turn-clause-known g c = λ none.
-    let q = quiet (g.I.LineIndex.entries c.args.index.now) c.args.tracks.now c.args.layout c.args.thresholds c.args.position c.args.line
-    c.args.access c.turn_of-turn.result (ap is_write (sym c.kind.ensures ∙ c.in-Write.is)) c.turn_of-turn.ensures none in
-    c.take_turn.ensures.known q.begins q.written q.opens
-
-pub returns-then-turn-clause-steps : goal.returns-then-turn-clause-steps
-returns-then-turn-clause-steps g c =
+pub returns-then-is_due-clause-steps : goal.returns-then-is_due-clause-steps
+returns-then-is_due-clause-steps g c =
+    let m = g.I.LineIndex.entries c.args.index.now in
+    let turn = turn-lent (entry_at m) c.args.line c.in-Ok.entry.now c.args.thresholds c.turn_of-turn.result c.in-Ok.ensures.value
+    c.turn_of-turn.ensures in
     subst (λ b. c.take_turn.new.steps ≤ c.args.steps.now + 4 + (if b then 3 * (c.args.layout.size / 4 * (c.args.layout.size / 4)) else 0))
-    (searches-is (g.I.LineIndex.entries c.args.index.now) c.args.line c.args.thresholds c.args.access c.turn_of-turn.result
-    (ap is_write (sym c.kind.ensures ∙ c.in-Write.is)) c.turn_of-turn.ensures) c.take_turn.ensures.steps
-
-pub count-requires-clause-few : goal.count-requires-clause-few
-count-requires-clause-few g c =
-    let d = c.requires.indexed.written c.args.line in
-    let e = c.requires.early in
-    omega (arith, d, e)
+    (searches-is m c.args.line c.args.thresholds c.args.access c.turn_of-turn.result (ap is_write (sym c.kind.ensures ∙
+    c.in-Write.is)) turn)
+    c.take_turn.ensures.steps
 
 pub note-requires-in-Ok-clause-notable : goal.note-requires-in-Ok-clause-notable
 note-requires-in-Ok-clause-notable g c =
-    let f = entry_at (g.I.LineIndex.entries c.args.index.now) in
-    let h = entry_at (g.I.LineIndex.entries c.count.new.index) in (
+    let m = g.I.LineIndex.entries c.args.index.now in
+    let e = counted c.in-Ok.entry.now in
+    let change = (c.entry.follows.holds e (ap is_ok c.in-Ok.is)).0 in
+    let n = g.I.LineIndex.entries (c.entry.follows.lender e) in
+    let each = counted-lent (entry_at m) (entry_at n) c.args.line c.in-Ok.entry.now c.in-Ok.ensures.value change.each in (
       c.args.layout,
-      notable f h c.args.layout c.args.tracks.now c.args.thresholds.tracking c.args.position c.args.line c.args.access
-          c.requires.indexed (counted-names f h c.args.line c.in-Ok.ensures.each) c.requires.layout c.requires.line,
+      notable (entry_at m) (entry_at n) c.args.layout c.args.tracks.now c.args.thresholds.tracking c.args.position c.args.line c.args.access
+          c.requires.indexed (counted-names (entry_at m) (entry_at n) c.args.line each) c.requires.layout c.requires.line,
     )
 
-pub returns-in-Ok-clause-tracks : goal.returns-in-Ok-clause-tracks
-returns-in-Ok-clause-tracks g c =
+pub returns-else-is_due-clause-tracks : goal.returns-else-is_due-clause-tracks
+returns-else-is_due-clause-tracks g c =
+    let m = g.I.LineIndex.entries c.args.index.now in
+    let turn = turn-lent (entry_at m) c.args.line c.in-Ok.entry.now c.args.thresholds c.turn_of-turn.result c.in-Ok.ensures.value
+    c.turn_of-turn.ensures in
+    let plain = or_parts c.turn_of-turn.result.begins c.turn_of-turn.result.searches (sym c.is_due.ensures ∙ c.if-is_due.false) in
     c.note-in-Ok.ensures.tracks
-    ∙ after-write (g.I.LineIndex.entries c.args.index.now) c.args.tracks.now c.args.layout c.args.thresholds c.args.position c.args.line
-    c.args.access c.turn_of-turn.result (ap is_write (sym c.kind.ensures ∙ c.in-Write.is)) c.turn_of-turn.ensures c.if-turn.false c.if-turn-2.false
+    ∙ after-write m c.args.tracks.now c.args.layout c.args.thresholds c.args.position c.args.line c.args.access c.turn_of-turn.result
+    (ap is_write (sym c.kind.ensures ∙ c.in-Write.is)) turn plain.0 plain.1
 
-pub returns-in-Ok-clause-counts : goal.returns-in-Ok-clause-counts
-returns-in-Ok-clause-counts g c =
-    counts-write (g.I.LineIndex.entries c.args.index.now) (g.I.LineIndex.entries c.count.new.index) c.args.line c.args.access
-    (ap is_write (sym c.kind.ensures ∙ c.in-Write.is)) c.in-Ok.ensures.counts
+pub returns-else-is_due-clause-counts : goal.returns-else-is_due-clause-counts
+returns-else-is_due-clause-counts g c =
+    let m = g.I.LineIndex.entries c.args.index.now in
+    let e = counted c.in-Ok.entry.now in
+    let change = (c.entry.follows.holds e (ap is_ok c.in-Ok.is)).0 in
+    let n = g.I.LineIndex.entries (c.entry.follows.lender e) in
+    counts-write m n c.args.line c.args.access (ap is_write (sym c.kind.ensures ∙ c.in-Write.is))
+    (ap counts_of change.whole ∙ counts-with_entry m c.args.line e (ap (λ (x : LineEntry). x.writes + 1) c.in-Ok.ensures.value))
 
-pub returns-in-Ok-clause-indexed : goal.returns-in-Ok-clause-indexed
-returns-in-Ok-clause-indexed g c =
-    let f = entry_at (g.I.LineIndex.entries c.args.index.now) in
-    let h = entry_at (g.I.LineIndex.entries c.count.new.index) in
-    plain-indexed f h c.args.layout c.args.tracks.now c.note-in-Ok.new.tracks c.args.thresholds.tracking c.args.position c.args.line c.args.access
-    c.requires.indexed c.in-Ok.ensures.each c.note-in-Ok.ensures.tracks
-
-pub returns-in-Ok-clause-steps : goal.returns-in-Ok-clause-steps
-returns-in-Ok-clause-steps g c = let s = c.note-in-Ok.ensures.steps in omega (arith, s)
-
-pub returns-in-Err-clause-same : goal.returns-in-Err-clause-same
-returns-in-Err-clause-same g c = c.in-Err.ensures.same
+pub returns-else-is_due-clause-indexed : goal.returns-else-is_due-clause-indexed
+returns-else-is_due-clause-indexed g c =
+    let m = g.I.LineIndex.entries c.args.index.now in
+    let e = counted c.in-Ok.entry.now in
+    let change = (c.entry.follows.holds e (ap is_ok c.in-Ok.is)).0 in
+    let n = g.I.LineIndex.entries (c.entry.follows.lender e) in
+    let each = counted-lent (entry_at m) (entry_at n) c.args.line c.in-Ok.entry.now c.in-Ok.ensures.value change.each in
+    plain-indexed (entry_at m) (entry_at n) c.args.layout c.args.tracks.now c.note-in-Ok.new.tracks c.args.thresholds.tracking
+    c.args.position c.args.line c.args.access c.requires.indexed each c.note-in-Ok.ensures.tracks
 
 pub returns-in-Err-clause-known : goal.returns-in-Err-clause-known
-returns-in-Err-clause-known g c = λ none.
-    let q = quiet (g.I.LineIndex.entries c.args.index.now) c.args.tracks.now c.args.layout c.args.thresholds c.args.position c.args.line
-    c.args.access c.turn_of-turn.result (ap is_write (sym c.kind.ensures ∙ c.in-Write.is)) c.turn_of-turn.ensures none in
-    let w = q.written in
-    let zero : (entry_at (g.I.LineIndex.entries c.args.index.now) c.args.line).writes ≡ 0 =
-    ap (λ (e : LineEntry). e.writes) c.in-Err.ensures.blank in
+returns-in-Err-clause-known g c =
+    λ none.
+    let m = g.I.LineIndex.entries c.args.index.now in
+    let w = first-written m c.args.tracks.now c.args.layout c.args.thresholds c.args.position c.args.line c.args.access (ap is_write
+    (sym c.kind.ensures ∙ c.in-Write.is)) none in
+    let zero : (entry_at m c.args.line).writes ≡ 0 = ap (λ (e : LineEntry). e.writes) c.in-Err.ensures.blank in
     absurd (omega (arith, w, zero))

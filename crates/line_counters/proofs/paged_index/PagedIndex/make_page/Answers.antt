@@ -4,7 +4,7 @@ use Rattle.line_counters.specs.Entries.{blank_entry}
 use Rattle.line_counters.specs.Lending.{KeepsPlaces}
 use Rattle.line_counters.specs.Pages.{directory_entry, has_line, items_at}
 use Rattle.line_counters.proofs.PageLaws.{items_at-held, items_at-past, items_at-set_same, related-set}
-use Rattle.line_counters.proofs.paged_index.PagedIndex.make_place.Goals as goal
+use Rattle.line_counters.proofs.paged_index.PagedIndex.make_page.Goals as goal
 
 none_below : (a : ℕ) → nat_lt a 0 ≡ false
 none_below a = grind (arith, nat_tests)

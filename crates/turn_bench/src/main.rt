@@ -1,0 +1,130 @@
+//! What a turn of a run costs: `turn_bench STEPS HARTS RUNNING QUANTUM` makes so many steps of a
+//! guest with so many harts, of which so many run, with so many turns in a row for each. They
+//! do nothing but jump to themselves. It prints how many steps were made. Without words it makes
+//! 1,000 steps of 8 harts in turn.
+#![tactic(auto)]
+
+mod program;
+
+ghost use Rattle.std.specs.Prelude.{◌≡◌, ◌+◌, ◌*◌, ◌≤◌};
+
+use crate::program::{CODE, program};
+use elf_loader::Image;
+use guest_memory::Memory;
+use guest_run::{Guest, RunSettings, Turn};
+use hart_scheduler::Schedule;
+use predator_base::NoMemory;
+use rv32_decode::encode;
+use std::alloc::Global;
+use std::{env, io};
+
+// Bytes of each stack.
+const STACK: u32 = 4096;
+
+// Makes turns until there are so many, or the run has ended, or memory ran out, and says how many
+// it made.
+fn run(steps: u64, guest: &mut Guest) -> u64 {
+    for _step in 0..steps {
+        match guest.step() {
+            Ok(Turn::Ran(_)) => {}
+            Ok(Turn::Ended(_)) | Err(NoMemory) => break,
+        }
+    }
+    guest.steps()
+}
+
+// Where the stacks of so many harts end: they lie behind the page of the program.
+fn top_of(harts: u16) -> u32
+    requires { harts ≤ 256 }
+    ensures { result ≡ 69632 + harts * 4096 }
+{
+    CODE + STACK + u32::from(harts) * STACK
+}
+
+// The program in its page, and the stacks.
+fn memory_of(alloc: Global, harts: u16, running: u16) -> Result<Memory, NoMemory>
+    requires some { 1 ≤ harts }
+    requires most { harts ≤ 256 }
+    requires running { 1 ≤ running }
+    requires few { running ≤ 256 }
+{
+    let mut memory = Memory::new(alloc, CODE, top_of(harts) - CODE)?;
+    memory.map(CODE, 4096, false, true);
+    let mut code = Vec::new(alloc);
+    for line in program(i32::from(running) - 1) {
+        if let Some(instr) = line
+            && instr.is_valid()
+        {
+            code.extend_from_slice(&encode(instr).to_le_bytes())?;
+        }
+    }
+    if code.len() == 36 {
+        memory.fill(CODE, &code);
+    }
+    Ok(memory)
+}
+
+// The guest before its first turn.
+fn guest_of(
+    alloc: Global,
+    memory: Memory,
+    schedule: Schedule,
+    settings: RunSettings,
+) -> Result<Guest, NoMemory>
+    requires some { 1 ≤ settings.harts }
+    requires most { settings.harts ≤ 256 }
+    requires schedule { schedule.harts ≡ settings.harts }
+    requires quantum { schedule.quantum ≡ settings.quantum }
+{
+    let image = Image {
+        memory,
+        entry: CODE,
+        heap_start: CODE + STACK,
+        heap_end: CODE + STACK,
+        top: top_of(settings.harts),
+        stack: STACK,
+        harts: settings.harts,
+    };
+    Guest::new(alloc, image, schedule, settings)
+}
+
+// Makes so many turns of a guest with so many harts, and says how many steps it made.
+fn steps_of(alloc: Global, settings: RunSettings, running: u16) -> Result<u64, NoMemory>
+    requires some { 1 ≤ settings.harts }
+    requires most { settings.harts ≤ 256 }
+    requires running { 1 ≤ running }
+    requires few { running ≤ 256 }
+{
+    let Ok(schedule) = Schedule::read(alloc, b"", settings.harts, settings.quantum) else {
+        return Err(NoMemory);
+    };
+    let memory = memory_of(alloc, settings.harts, running)?;
+    let mut guest = guest_of(alloc, memory, schedule, settings)?;
+    Ok(run(settings.budget, &mut guest))
+}
+
+fn main(rt: HostRuntime) -> io::Result<()> {
+    let mut words = env::args(&rt)?.skip(1);
+    let steps = words
+        .next()
+        .and_then(|word| word.parse().ok())
+        .unwrap_or(1000);
+    let harts = words
+        .next()
+        .and_then(|word| word.parse().ok())
+        .unwrap_or(8u16);
+    let running = words
+        .next()
+        .and_then(|word| word.parse().ok())
+        .unwrap_or(8u16);
+    let quantum = words.next().and_then(|word| word.parse().ok()).unwrap_or(1);
+    let settings = RunSettings {
+        harts: harts.clamp(1, 256),
+        quantum,
+        budget: steps,
+    };
+    match steps_of(rt.alloc(), settings, running.clamp(1, 256)) {
+        Ok(made) => println!(rt; "steps {made}"),
+        Err(NoMemory) => println!(rt; "no memory"),
+    }
+}
