@@ -213,4 +213,8 @@ impl<R: Files + Print + Eprint + Clock + AllocGlobal> Shelf for DiskShelf<'_, R>
             }
         }
     }
+
+    fn show_steps(&mut self, made: u64, most: u64) {
+        self.progress.show_steps(self.runtime, made, most);
+    }
 }

@@ -4,6 +4,8 @@ use std::time::{Clock, Instant};
 
 const MIB: u64 = 1 << 20;
 
+const MILLION: u64 = 1_000_000;
+
 // As long as the longest line, and shorter than a terminal is wide.
 const BLANK: &str = "                                                ";
 
@@ -63,6 +65,18 @@ impl Progress {
             self.clear(runtime);
             let written = done / MIB;
             self.stands = eprint!(runtime; "\rpredator: {written} MiB written").is_ok();
+        }
+    }
+
+    /// Shows how many steps of a run are made, of at most so many, if it is time to.
+    pub fn show_steps<R: Eprint + Clock>(&mut self, runtime: &R, made: u64, most: u64) {
+        if self.is_due(runtime) {
+            self.clear(runtime);
+            let done = made / MILLION;
+            let all = most / MILLION;
+            self.stands = eprint!(runtime;
+                "\rpredator: {done} of at most {all} million steps"
+            ).is_ok();
         }
     }
 

@@ -183,12 +183,21 @@ fn has_no_room(view: &ElfView<'_>, memory: u32, stacks: u32) -> bool
     top > 0xffff_f000 || heap_start + u64::from(stacks) > top
 }
 
-// The first fault of a file that is placed.
-fn place_fault(view: &ElfView<'_>, memory: u32, stacks: u32) -> Option<ElfFault>
-    requires { memory < 2 ^ 31 }
-    ensures { result ≡ first_fault (place_faults memory stacks) view.now }
+// How many bytes all stacks have.
+fn stacks_of(space: Space) -> u32
+    requires { IsAllowedSpace space }
+    ensures { result ≡ space.harts * space.stack }
 {
-    if has_no_room(view, memory, stacks) {
+    u32::from(space.harts) * space.stack
+}
+
+/// The first of `SegmentOutsideMemory`, `EntryMisaligned` and `EntryNotExecutable` that a program
+/// file has in a space, for which `place` refuses it. It takes no memory.
+pub fn place_fault(view: &ElfView<'_>, space: Space) -> Option<ElfFault>
+    requires { IsAllowedSpace space }
+    ensures { result ≡ place_fault space view.now }
+{
+    if has_no_room(view, space.memory, stacks_of(space)) {
         Some(ElfFault::SegmentOutsideMemory)
     } else if view.entry() % 4 != 0 {
         Some(ElfFault::EntryMisaligned)
@@ -273,10 +282,10 @@ pub fn place(alloc: Global, view: &ElfView<'_>, space: Space) -> Result<Image, P
     ensures heap { IfOk result (λ image. image.heap_start ≤ image.heap_end) }
     ensures stacks { IfOk result (λ image. image.heap_end + image.harts * image.stack ≡ image.top) }
 {
-    let stacks = u32::from(space.harts) * space.stack;
-    if let Some(fault) = place_fault(view, space.memory, stacks) {
+    if let Some(fault) = place_fault(view, space) {
         return Err(PlaceFault::Refused(fault));
     }
+    let stacks = stacks_of(space);
     let entry = view.entry();
     let (base, heap_start) = places_of(view, space.memory, stacks);
     let memory = match image_memory(alloc, view, base, space.memory, heap_start) {

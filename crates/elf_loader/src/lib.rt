@@ -15,7 +15,7 @@ mod symbol;
 mod view;
 
 pub use fault::ElfFault;
-pub use image::{Image, PlaceFault, Space, place};
+pub use image::{Image, PlaceFault, Space, place, place_fault};
 pub use program::{Segment, Segments};
 pub use symbol::{SymbolView, Symbols};
 pub use view::ElfView;

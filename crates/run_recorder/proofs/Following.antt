@@ -45,6 +45,13 @@ pub record Follows {A : Type 0} (given : A → A → List TraceRecord → Type 0
   pub count : length two ≡ length one
   pub begun : AreBegun (waiting_names two) new
 
+-- what a shelf hears changes nothing outside
+pub shown : {A : Type 0} {given : A → A → List TraceRecord → Type 0} {start guest : Progress} {first now : A} {files : List RunFile}
+    {one two : List Waiting} {old new later : Outside} → Follows given start guest first now files one two old new → later ≡ new
+    → Follows given start guest first now files one two old later
+shown {A} {given} {start} {guest} {first} {now} {files} {one} {two} {old} on same =
+    subst (Follows given start guest first now files one two old) (sym same) on
+
 pub follows_start : {A : Type 0} (given : A → A → List TraceRecord → Type 0) (start : Progress) (first : A) (files : List RunFile)
     (one : List Waiting) (outside : Outside) → AreBegun (waiting_names one) outside
     → Follows given start start first first files one one outside outside

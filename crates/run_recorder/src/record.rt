@@ -85,6 +85,20 @@ fn note_symbols<S: Shelf, O: Observer>(
     Ok(())
 }
 
+// After how many steps the shelf hears of them again.
+const STRIDE: u64 = 1 << 20;
+
+// Lets the shelf hear now and then how many steps are made.
+#[inline]
+fn show_steps<S: Shelf>(shelf: &mut S, guest: &Guest)
+    ensures { S.outside shelf.new ≡ S.outside shelf.old }
+{
+    let made = guest.steps();
+    if made % STRIDE == 0 {
+        shelf.show_steps(made, guest.budget());
+    }
+}
+
 // Runs the guest to its end, and notes each step after the records that were noted before, which
 // have no access.
 fn follow<S: Shelf, O: Observer>(
@@ -121,6 +135,7 @@ fn follow<S: Shelf, O: Observer>(
     ensures count { length outputs.new ≡ length outputs.old }
 {
     'turns: loop {
+        show_steps(shelf, guest);
         match guest.step() {
             Ok(Turn::Ran(event)) => match note_event(
                 shelf, files, outputs, observer, guest, event,

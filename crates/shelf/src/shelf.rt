@@ -92,4 +92,10 @@ pub trait Shelf {
         ensures cause { HasCause (outside self.old).print_faults (outside self.new).print_faults
             result }
         ensures only { OnlyPrints (outside self.old) (outside self.new) };
+
+    /// Hears how far long work is: so many steps are made, of at most `most`. A shelf may show
+    /// that to whoever waits. It changes nothing outside, and is no call that can fail.
+    fn show_steps(&mut self, _made: u64, _most: u64)
+        ensures { outside self.new ≡ outside self.old }
+    {}
 }

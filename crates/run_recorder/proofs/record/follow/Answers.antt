@@ -11,7 +11,7 @@ use Rattle.trace_grammar.specs.Rules.{IsGoodRecord}
 use Rattle.run_recorder.specs.Recorded.{outputs_of, record_in, records_in}
 use Rattle.run_recorder.specs.Recording.{AreNoted, bytes_so_far}
 use Rattle.run_recorder.proofs.Following.{IsGivenOn, all_seen, cut_event, cut_seen, follows_start, given_more, good_more, more_early}
-use Rattle.run_recorder.proofs.Following.{noted_event, room_for_event, seen_longer}
+use Rattle.run_recorder.proofs.Following.{noted_event, room_for_event, seen_longer, shown}
 use Rattle.run_recorder.proofs.Records.{records-more}
 use Rattle.run_recorder.proofs.record.follow.Goals as goal
 
@@ -22,7 +22,7 @@ turns-init g c =
 
 pub note_event-requires-clause-room : goal.note_event-requires-clause-room
 note_event-requires-clause-room g c =
-    let x = c.turns.invariant in
+    let x = shown c.turns.invariant c.show_steps.ensures in
     let after = c.step.new.self in
     let e : RunEvent = seen after.config.memory c.in-Ok-Ran.event in
     let counts : after.config.accesses ≡ c.turns.guest.config.accesses + accesses_in c.in-Ok-Ran.event =
@@ -35,7 +35,7 @@ note_event-requires-clause-room g c =
 
 pub turns-preserved : goal.turns-preserved
 turns-preserved g c =
-    let x = c.turns.invariant in
+    let x = shown c.turns.invariant c.show_steps.ensures in
     let after = c.step.new.self in
     let given = g.O.Observer.given in
     let e : RunEvent = seen after.config.memory c.in-Ok-Ran.event in
@@ -63,7 +63,7 @@ turns-preserved g c =
 
 pub returns-in-Err-note_event-clause-cut : goal.returns-in-Err-note_event-clause-cut
 returns-in-Err-note_event-clause-cut g c = λ earlier before on.
-    let x = c.turns.invariant in
+    let x = shown c.turns.invariant c.show_steps.ensures in
     let after = c.step.new.self in
     let harts = c.args.guest.now.setup.harts in
     let new = g.S.Shelf.outside c.note_event.new.shelf in
@@ -77,22 +77,22 @@ returns-in-Err-note_event-clause-cut g c = λ earlier before on.
 
 pub returns-in-Ok-Ended-clause-noted : goal.returns-in-Ok-Ended-clause-noted
 returns-in-Ok-Ended-clause-noted g c = λ earlier before on.
-    let x = c.turns.invariant in
+    let x = shown c.turns.invariant c.show_steps.ensures in
     let end : Ending = ending_with c.in-Ok-Ended.outcome c.step.new.self.config in
     let ends : rest_of c.turns.guest ≡ ended_run end = rw c.in-Ok-Ended.field-0-is at c.in-Ok-Ended.ensures.run in
     let same : (rest_of c.args.guest.now).events ≡ x.events = all_seen x.events (rest_of c.args.guest.now) (rest_of c.turns.guest) end
     x.goes ends in
     subst (λ (l : List RunEvent). AreNoted c.args.guest.now.setup.harts (earlier ++ records_in l) (output_in l) c.args.files.now
     c.turns.outputs before
-    (g.S.Shelf.outside c.turns.shelf)) (sym same) (x.noted earlier before on)
+    (g.S.Shelf.outside c.show_steps.new.shelf)) (sym same) (x.noted earlier before on)
 
 -- where the guest finds no memory, what was put stands but for what waits
 pub returns-in-Err-clause-cut : goal.returns-in-Err-clause-cut
 returns-in-Err-clause-cut g c = λ earlier before on.
-    let x = c.turns.invariant in
+    let x = shown c.turns.invariant c.show_steps.ensures in
     let harts = c.args.guest.now.setup.harts in
     let files = c.args.files.now in
-    let now = g.S.Shelf.outside c.turns.shelf in
+    let now = g.S.Shelf.outside c.show_steps.new.shelf in
     cut_seen harts earlier files x.events (rest_of c.args.guest.now) (rest_of c.turns.guest) before now NoMemory x.goes
     (IsOutputs-cut c.turns.outputs (outputs_of files (bytes_so_far harts (earlier ++ records_in x.events) (output_in x.events))) before
     now NoMemory (λ same. cc) (x.noted earlier before on))

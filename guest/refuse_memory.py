@@ -1,0 +1,148 @@
+#!/usr/bin/env python3
+"""Refuses memory to the built program, one allocation of a call after the other, and looks at how the call ends.
+
+usage: guest/refuse_memory.py
+
+Each call is made once with all memory, and then with its first allocation refused, with its second one, and so on. It must end with
+status 9, print nothing but `predator: no memory` behind a front of what it prints else, and leave a front of each file that it writes;
+or it goes on without that memory, and ends, prints and writes as before. It wants a C compiler, and is no part of the gate."""
+
+import os
+import subprocess
+import sys
+import tempfile
+
+TOP = os.path.join(os.path.dirname(os.path.abspath(__file__)), "..")
+PROGRAM = os.path.join(TOP, "crates/predator/out/predator")
+DATA = os.path.join(TOP, "crates/worked_runs/data")
+LINE = b"predator: no memory\n"
+
+# What stands before the C library: the calls are counted, and one of them fails.
+SHIM = r"""
+#define _GNU_SOURCE
+#include <dlfcn.h>
+#include <stdio.h>
+#include <stdlib.h>
+#include <unistd.h>
+
+static long made, refused;
+
+static int is_refused(void)
+{
+    if (refused == 0) {
+        const char *word = getenv("REFUSED");
+        refused = word ? atol(word) : -1;
+    }
+    return ++made == refused;
+}
+
+void *malloc(size_t size)
+{
+    static void *(*real)(size_t);
+    if (!real)
+        real = (void *(*)(size_t))dlsym(RTLD_NEXT, "malloc");
+    return is_refused() ? NULL : real(size);
+}
+
+void *realloc(void *old, size_t size)
+{
+    static void *(*real)(void *, size_t);
+    if (!real)
+        real = (void *(*)(void *, size_t))dlsym(RTLD_NEXT, "realloc");
+    return is_refused() ? NULL : real(old, size);
+}
+
+__attribute__((destructor)) static void tell(void)
+{
+    const char *name = getenv("TOLD");
+    FILE *out = name ? fopen(name, "w") : NULL;
+    if (out) {
+        fprintf(out, "%ld", made);
+        fclose(out);
+    }
+}
+"""
+
+CALLS = [
+    ("run", "allocates.elf", "--settings", "S", "--trace", "t", "--output", "o"),
+    ("run", "queue.elf", "--trace", "t"),
+    ("run", "words.elf", "--schedule", "C", "--output", "o"),
+    ("replay", "given.trace", "--settings", "S"),
+    ("check", "symbols.elf"),
+    ("gen", "2000", "f"),
+    ("split", "given.trace", "40", "a", "b"),
+    ("convert", "given.trace", "c"),
+]
+WRITTEN = ("t", "o", "f", "a", "b", "c")
+
+
+def files():
+    found = {}
+    for name in WRITTEN:
+        if os.path.exists(name):
+            with open(name, "rb") as file:
+                found[name] = file.read()
+            os.remove(name)
+    return found
+
+
+def call(words, refused):
+    """How the call ends, what it prints and writes, and how many allocations it made."""
+    chosen = dict(os.environ, LD_PRELOAD=os.path.abspath("shim.so"), REFUSED=str(refused), TOLD=os.path.abspath("told"))
+    told = subprocess.run([PROGRAM, *words], env=chosen, capture_output=True)
+    with open("told") as made:
+        return told.returncode, told.stdout, files(), int(made.read())
+
+
+def is_front(part, whole):
+    return all(name in whole and whole[name].startswith(content) for name, content in part.items())
+
+
+def judge(status, text, written, good):
+    """Whether a call to which memory was refused ended well: None, or what is wrong."""
+    if status == 9:
+        front = text.removesuffix(LINE)
+        if front == text or not good[1].startswith(front):
+            return f"it printed {text[-80:]!r}"
+        return None if is_front(written, good[2]) else "a file is no front of what it would be"
+    if (status, text, written) == good[:3]:
+        return None
+    return f"it ended with {status} and another text or file"
+
+
+def try_call(words):
+    good = call(words, -1)
+    ended, went_on, wrong = 0, 0, 0
+    for number in range(1, good[3] + 1):
+        status, text, written, _ = call(words, number)
+        fault = judge(status, text, written, good)
+        if fault:
+            wrong += 1
+            print(f"{' '.join(words)}, allocation {number}: {fault}")
+        elif status == 9:
+            ended += 1
+        else:
+            went_on += 1
+    print(f"{' '.join(words)}: status {good[0]}, {good[3]} allocations; refused, {ended} ended with 9 and {went_on} went on")
+    return wrong
+
+
+def main():
+    with tempfile.TemporaryDirectory() as work:
+        os.chdir(work)
+        for name in ("allocates.elf", "queue.elf", "words.elf", "symbols.elf"):
+            os.symlink(os.path.join(DATA, name), name)
+        with open("S", "w") as out:
+            out.write("tracking = 1\nprediction = 1\nreport = 1\n")
+        with open("C", "w") as out:
+            out.write("0 50\n1 30\n")
+        with open("shim.c", "w") as out:
+            out.write(SHIM)
+        subprocess.run(["cc", "-shared", "-fPIC", "-O1", "-o", "shim.so", "shim.c", "-ldl"], check=True)
+        subprocess.run([PROGRAM, "gen", "200", "given.trace"], check=True, stdout=subprocess.DEVNULL)
+        sys.exit(1 if sum(try_call(words) for words in CALLS) else 0)
+
+
+if not os.access(PROGRAM, os.X_OK):
+    sys.exit("refuse_memory.py: build the program first: bin/predator replay examples/counters.trace")
+main()
