@@ -222,12 +222,12 @@ pub fn split_trace<S: Shelf>(
         (λ t. (made.cut ≡ min at (length (touches_in t.items)))
         × (made.rest ≡ length (touches_in t.items) - made.cut))
         (S.outside shelf.old) (S.outside shelf.new)) }
+    ensures memory { result ≢ Err (CopyFault.Refused (refusals.Trace trace_faults.NoMemory)) }
     // At a refusal neither half is begun.
     ensures refused { (refusal : Refused) → result ≡ Err (CopyFault.Refused refusal)
         → IsJudged (S.outside shelf.old).held name.now (Some refusal) }
     ensures stays { (refusal : Refused) → result ≡ Err (CopyFault.Refused refusal)
         → S.outside shelf.new ≡ S.outside shelf.old }
-    ensures memory { result ≢ Err (CopyFault.Refused (refusals.Trace trace_faults.NoMemory)) }
     ensures changed { (refusal : Refused) → result ≡ Err (CopyFault.Changed refusal)
         → (S.outside shelf.old).held ≡ None }
     // Only an accepted trace is written, whatever the fault.
