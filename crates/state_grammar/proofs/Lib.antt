@@ -1,4 +1,7 @@
+mod Alone
 mod Appended
 mod Sorted
+mod Spelled
+mod Words
 mod Worked
 mod WorkedReading

@@ -3,3 +3,10 @@ pub mod OfLists
 pub mod Lengths
 pub mod Reading
 pub mod Again
+pub mod Parts
+pub mod Turns
+pub mod GoodWords
+pub mod GoodTracks
+pub mod DueTracks
+pub mod Predicted
+pub mod GoodLists

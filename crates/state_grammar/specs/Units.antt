@@ -223,6 +223,11 @@ abbrev pub is_placed : Header → List CountedLine → List Kept → Kept → Bo
 is_placed h lines before x = list_all (λ y. is_placed_before y x) before
     && is_kind_placed h lines before x x.kind
 
+-- a track by what it has by itself, wherever it stands
+unfoldable pub track_alone : Header → List ℕ → Option Kept
+track_alone h bytes =
+    if_spelled spell_track (is_good_track h (track_at h.grid bytes)) (track_at h.grid bytes) bytes
+
 unfoldable pub track_in : Header → List CountedLine → List Kept → List ℕ → Option Kept
 track_in h lines before bytes =
     if_spelled spell_track (is_good_track h (track_at h.grid bytes) && is_placed h lines before

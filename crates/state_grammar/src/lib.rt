@@ -1,7 +1,8 @@
 //! The state of a detector as bytes: a header, the lines that were written, and the tracks.
 //!
 //! With a saved state a long replay is carried on. `specs/Spelling.antt` says which bytes each part
-//! has, and `write_state` writes them. Numbers are little endian.
+//! has, and `write_state` writes them. `read_header`, `read_line` and `read_track` read them again,
+//! one unit at a time; `specs/Units.antt` says which bytes are at fault. Numbers are little endian.
 //!
 //! | Place | What |
 //! |---|---|
@@ -19,14 +20,23 @@
 //! and two zero bytes. No hart is 0xffff, many are 0xfffe, and no start is 2^64 - 1.
 #![tactic(auto)]
 
+mod fields;
+mod header_read;
 mod laws;
+mod line_read;
 mod order;
 mod parts;
 #[cfg(test)]
+mod read_tests;
+#[cfg(test)]
 mod tests;
 mod track;
+mod track_read;
 mod write;
 
-pub use laws::what_is_read_was_spelled;
-pub use parts::{CountedLine, StateParts};
-pub use write::write_state;
+pub use header_read::read_header;
+pub use laws::{the_state_of_a_list_is_good, what_is_read_was_spelled};
+pub use line_read::{number_of_base, read_line};
+pub use parts::{CountedLine, SavedTrack, StateHeader, StateParts};
+pub use track_read::read_track;
+pub use write::{base_of, write_state};

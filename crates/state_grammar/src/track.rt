@@ -1,8 +1,12 @@
 // The bytes of a track.
-ghost use Rattle.std.specs.Prelude.{◌≡◌, ◌++◌, [], flat_map, get_or, length, unwrap_or, OnOk};
+ghost use Rattle.std.specs.Prelude.{◌≡◌, ◌++◌, [], flat_map, get_or, length, option_map};
+ghost use Rattle.std.specs.Prelude.{unwrap_or, OnOk};
+ghost use Rattle.std.specs.Option.{option_map_or};
+ghost use Rattle.state_grammar.specs.Parts.{head_meant};
 ghost use Rattle.state_grammar.specs.Spelling.{no_hart, no_start, owner_number, spell_head};
 ghost use Rattle.state_grammar.specs.Spelling.{spell_track, spell_word};
 
+use crate::parts::TrackHead;
 use history_table::History;
 use predator_base::NoMemory;
 use sharing_rules::{Owner, Word};
@@ -10,10 +14,10 @@ use virtual_lines::{Track, rank};
 use word_shadow::Shadow;
 
 // What stands for no hart.
-const NO_HART: u16 = 0xffff;
+pub(crate) const NO_HART: u16 = 0xffff;
 
 // What stands for many of them.
-const MANY_HARTS: u16 = 0xfffe;
+pub(crate) const MANY_HARTS: u16 = 0xfffe;
 
 fn owner_number(owner: Owner) -> u16
     ensures { result ≡ owner_number owner }
@@ -26,8 +30,8 @@ fn owner_number(owner: Owner) -> u16
 }
 
 #[tactic(auto, unfolding(crate::specs::Spelling::spell_word))]
-fn word_bytes(word: Word) -> [u8; 20]
-    ensures { result ≡ spell_word word }
+pub(crate) fn word_bytes(word: &Word) -> [u8; 20]
+    ensures { result ≡ spell_word word.now }
 {
     let [r0, r1, r2, r3, r4, r5, r6, r7] = word.reads.to_le_bytes();
     let [w0, w1, w2, w3, w4, w5, w6, w7] = word.writes.to_le_bytes();
@@ -67,44 +71,75 @@ fn entries_of(history: History) -> Entries
 }
 
 // The entries of a track, which has none before its start.
-fn entries_in(track: &Track) -> Entries
-    ensures count { result.count ≡ length track.now.entries }
-    ensures first { result.first ≡ get_or track.now.entries 0 no_hart }
-    ensures second { result.second ≡ get_or track.now.entries 1 no_hart }
+fn entries_in(head: &TrackHead) -> Entries
+    ensures count { result.count ≡ length (head_meant head.now).entries }
+    ensures first { result.first ≡ get_or (head_meant head.now).entries 0 no_hart }
+    ensures second { result.second ≡ get_or (head_meant head.now).entries 1 no_hart }
 {
-    match track.history() {
+    match head.start {
         None => Entries {
             count: 0,
             first: NO_HART,
             second: NO_HART,
         },
-        Some(history) => entries_of(history),
+        Some((_, history)) => entries_of(history),
     }
 }
 
 // The start of a track, as a number.
-fn start_number(track: &Track) -> u64
-    ensures { result ≡ unwrap_or track.now.start no_start }
+fn start_number(head: &TrackHead) -> u64
+    ensures { result ≡ unwrap_or (head_meant head.now).start no_start }
 {
-    track.start().unwrap_or(u64::MAX)
+    match head.start {
+        None => u64::MAX,
+        Some((start, _)) => start,
+    }
 }
 
 #[tactic(auto, unfolding(crate::specs::Spelling::spell_head))]
-fn head_bytes(track: &Track) -> [u8; 32]
-    ensures { result ≡ spell_head track.now }
+pub(crate) fn head_bytes(head: &TrackHead) -> [u8; 32]
+    ensures { result ≡ spell_head (head_meant head.now) }
 {
-    let entries = entries_in(track);
+    let entries = entries_in(head);
     let [f0, f1] = entries.first.to_le_bytes();
     let [s0, s1] = entries.second.to_le_bytes();
-    let [b0, b1, b2, b3, b4, b5, b6, b7] = track.range().base.to_le_bytes();
-    let [p0, p1, p2, p3, p4, p5, p6, p7] = start_number(track).to_le_bytes();
-    let [c0, c1, c2, c3, c4, c5, c6, c7] = track.count().to_le_bytes();
-    let kind = rank(track.kind());
+    let [b0, b1, b2, b3, b4, b5, b6, b7] = head.range.base.to_le_bytes();
+    let [p0, p1, p2, p3, p4, p5, p6, p7] = start_number(head).to_le_bytes();
+    let [c0, c1, c2, c3, c4, c5, c6, c7] = head.count.to_le_bytes();
+    let kind = rank(head.kind);
     let count = entries.count;
     [
         kind, count, f0, f1, s0, s1, 0, 0, b0, b1, b2, b3, b4, b5, b6, b7, p0, p1, p2, p3, p4, p5,
         p6, p7, c0, c1, c2, c3, c4, c5, c6, c7,
     ]
+}
+
+// The start of a track with its history.
+fn start_of(track: &Track) -> Option<(u64, History)>
+    ensures start { option_map (λ s. s.0) result ≡ track.now.start }
+    ensures entries { option_map_or (λ s. s.1) result [] ≡ track.now.entries }
+{
+    let history = track.history();
+    let Some(start) = track.start() else {
+        return None;
+    };
+    let Some(history) = history else {
+        return None;
+    };
+    Some((start, history))
+}
+
+// What a track tells before its words.
+#[tactic(auto, unfolding(crate::specs::Spelling::spell_head))]
+fn head_of(track: &Track) -> TrackHead
+    ensures { spell_head (head_meant result) ≡ spell_head track.now }
+{
+    TrackHead {
+        kind: track.kind(),
+        range: track.range(),
+        start: start_of(track),
+        count: track.count(),
+    }
 }
 
 // Appends the words of a track.
@@ -113,7 +148,7 @@ fn push_words(bytes: &mut Vec<u8>, shadow: &Shadow) -> Result<(), NoMemory>
         ≡ bytes.old.items ++ flat_map spell_word shadow.now.words) }
 {
     for i in 0..shadow.range().size / 4 {
-        bytes.extend_from_slice(&word_bytes(shadow.word(i)))?;
+        bytes.extend_from_slice(&word_bytes(&shadow.word(i)))?;
     }
     Ok(())
 }
@@ -122,6 +157,6 @@ fn push_words(bytes: &mut Vec<u8>, shadow: &Shadow) -> Result<(), NoMemory>
 pub fn push_track(bytes: &mut Vec<u8>, track: &Track) -> Result<(), NoMemory>
     ensures { OnOk result (bytes.new.items ≡ bytes.old.items ++ spell_track track.now) }
 {
-    bytes.extend_from_slice(&head_bytes(track))?;
+    bytes.extend_from_slice(&head_bytes(&head_of(track)))?;
     push_words(bytes, track.shadow())
 }

@@ -4,12 +4,13 @@ ghost use Rattle.std.specs.Prelude.{IfOk, OnOk, unwrap_or};
 ghost use Rattle.predator_base.specs.Ranges.{line_range};
 ghost use Rattle.virtual_lines.specs.Placed.{AreApart};
 ghost use Rattle.state_grammar.specs.Counted.{AreInRange};
+ghost use Rattle.state_grammar.specs.Parts.{header_meant};
 ghost use Rattle.state_grammar.specs.Spelling.{header_of, spell_header, spell_line, spell_state};
 ghost use Rattle.state_grammar.specs.Spelling.{spell_track};
 ghost use Rattle.state_grammar.specs.Rows.{state_of, track_of};
 
 use crate::order::{Row, in_order};
-use crate::parts::{CountedLine, StateParts};
+use crate::parts::{CountedLine, StateHeader, StateParts};
 use crate::track::push_track;
 use predator_base::{Layout, NoMemory, Thresholds};
 use std::alloc::Global;
@@ -21,18 +22,32 @@ fn prediction_number(thresholds: Thresholds) -> u64
     thresholds.prediction().unwrap_or(0)
 }
 
-#[tactic(auto, unfolding(crate::specs::Spelling::spell_header))]
-fn header_bytes(state: &StateParts<'_>) -> [u8; 64]
-    ensures { result ≡ spell_header (header_of (state_of state.now)) }
+// What is told before the lines and the tracks.
+fn header_of(state: &StateParts<'_>) -> StateHeader
+    ensures { header_meant result ≡ header_of (state_of state.now) }
 {
-    let [l0, l1, l2, l3] = state.layout.size().to_le_bytes();
-    let [o0, o1, o2, o3] = state.layout.offset().to_le_bytes();
-    let [t0, t1, t2, t3, t4, t5, t6, t7] = state.thresholds.tracking().to_le_bytes();
-    let [p0, p1, p2, p3, p4, p5, p6, p7] = prediction_number(state.thresholds).to_le_bytes();
-    let [h0, h1] = state.harts.to_le_bytes();
-    let [a0, a1, a2, a3, a4, a5, a6, a7] = state.position.to_le_bytes();
-    let [n0, n1, n2, n3, n4, n5, n6, n7] = (state.lines.len() as u64).to_le_bytes();
-    let [m0, m1, m2, m3, m4, m5, m6, m7] = (state.tracks.len() as u64).to_le_bytes();
+    StateHeader {
+        layout: state.layout,
+        thresholds: state.thresholds,
+        harts: state.harts,
+        position: state.position,
+        lines: state.lines.len() as u64,
+        tracks: state.tracks.len() as u64,
+    }
+}
+
+#[tactic(auto, unfolding(crate::specs::Spelling::spell_header))]
+pub(crate) fn header_bytes(header: &StateHeader) -> [u8; 64]
+    ensures { result ≡ spell_header (header_meant header.now) }
+{
+    let [l0, l1, l2, l3] = header.layout.size().to_le_bytes();
+    let [o0, o1, o2, o3] = header.layout.offset().to_le_bytes();
+    let [t0, t1, t2, t3, t4, t5, t6, t7] = header.thresholds.tracking().to_le_bytes();
+    let [p0, p1, p2, p3, p4, p5, p6, p7] = prediction_number(header.thresholds).to_le_bytes();
+    let [h0, h1] = header.harts.to_le_bytes();
+    let [a0, a1, a2, a3, a4, a5, a6, a7] = header.position.to_le_bytes();
+    let [n0, n1, n2, n3, n4, n5, n6, n7] = header.lines.to_le_bytes();
+    let [m0, m1, m2, m3, m4, m5, m6, m7] = header.tracks.to_le_bytes();
     [
         b'P', b'R', b'D', b'S', b'T', b'A', b'0', b'1', l0, l1, l2, l3, o0, o1, o2, o3, t0, t1, t2,
         t3, t4, t5, t6, t7, p0, p1, p2, p3, p4, p5, p6, p7, h0, h1, 0, 0, 0, 0, 0, 0, a0, a1, a2,
@@ -40,8 +55,8 @@ fn header_bytes(state: &StateParts<'_>) -> [u8; 64]
     ]
 }
 
-// The first address of a line.
-fn base_of(layout: Layout, number: u64) -> i64
+/// The first address of a line, of a number up to 2^30.
+pub fn base_of(layout: Layout, number: u64) -> i64
     requires { number ≤ 2 ^ 30 }
     ensures { result ≡ (line_range layout.size layout.offset number).base }
 {
@@ -51,7 +66,7 @@ fn base_of(layout: Layout, number: u64) -> i64
 }
 
 #[tactic(auto, unfolding(crate::specs::Spelling::spell_line))]
-fn line_bytes(layout: Layout, line: CountedLine) -> [u8; 16]
+pub(crate) fn line_bytes(layout: Layout, line: CountedLine) -> [u8; 16]
     requires { line.number ≤ 2 ^ 30 }
     ensures { result ≡ spell_line layout line }
 {
@@ -99,7 +114,7 @@ pub fn write_state(alloc: Global, state: &StateParts<'_>) -> Result<Vec<u8>, NoM
 {
     let rows = in_order(alloc, state.tracks)?;
     let mut bytes = Vec::new(alloc);
-    bytes.extend_from_slice(&header_bytes(state))?;
+    bytes.extend_from_slice(&header_bytes(&header_of(state)))?;
     push_lines(&mut bytes, state.layout, state.lines)?;
     push_tracks(&mut bytes, &rows)?;
     Ok(bytes)

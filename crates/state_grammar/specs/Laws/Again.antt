@@ -81,7 +81,7 @@ layout_small n o h =
     below_size : (o n : ℕ) → ltb o n ≡ true → n < 2 ^ 32 → o < 2 ^ 32
     below_size o n h small = grind (arith, nat_tests)
 
-in_range : (low high n : ℕ) → is_from_to low high n ≡ true → (low ≤ n) × (n ≤ high)
+pub in_range : (low high n : ℕ) → is_from_to low high n ≡ true → (low ≤ n) × (n ≤ high)
 in_range low high n h = (grind (arith, nat_tests), grind (arith, nat_tests))
 
 -- a prediction threshold isn't 0
@@ -99,14 +99,14 @@ prediction_again tracking (Some P) some bounds =
     above t P some low = grind (arith, nat_tests)
 
 -- the rules of a header, one by one
-record KeepsRules (h : Header) : Type 0 where
+pub record KeepsRules (h : Header) : Type 0 where
   pub layout : is_layout h.grid.size h.grid.offset ≡ true
   pub tracking : is_from_to 1 (2 ^ 32) h.tracking ≡ true
   pub prediction : option_map_or (is_prediction h) h.prediction true ≡ true
   pub harts : is_from_to 1 256 h.harts ≡ true
   pub position : h.position ≤ 2 ^ 40
 
-rules_of : (h : Header) → is_good_header h ≡ true → KeepsRules h
+pub rules_of : (h : Header) → is_good_header h ≡ true → KeepsRules h
 rules_of h good =
     let p4 = and_parts _ (leb h.position (2 ^ 40)) good in
     let p3 = and_parts _ (is_from_to 1 256 h.harts) p4.0 in
@@ -218,7 +218,7 @@ integer_again b fits =
     ap (cast_signed w64) (from_le_bytes-to_le_bytes_8 (cast_unsigned w64 b) (below_word b fits))
     ∙ to_z-of_z w64 b fits
 
-size_some : (n : ℕ) → is_line_size n ≡ true → (0 < n) × (n ≤ 1024)
+pub size_some : (n : ℕ) → is_line_size n ≡ true → (0 < n) × (n ≤ 1024)
 size_some n h = (grind (arith, nat_tests), grind (arith, nat_tests))
 
 lower_by : (o n : ℕ) → ltb o n ≡ true → o < n
@@ -230,7 +230,7 @@ upper_by k m h = grind (arith, nat_tests)
 times_up : (k q n a : ℕ) → k ≤ q → q * n ≤ a → k * n ≤ a
 times_up k q n a h e = grind arith
 
-line_fits : (n o k : ℕ) → is_layout n o ≡ true → k ≤ line_number n o (2 ^ 32 - 1)
+pub line_fits : (n o k : ℕ) → is_layout n o ≡ true → k ≤ line_number n o (2 ^ 32 - 1)
     → (0 < n) × FitsSigned w64 (line_range n o k).base
 line_fits n o k allowed low =
     let parts = and_parts (is_line_size n) (ltb o n)

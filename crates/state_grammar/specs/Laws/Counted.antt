@@ -9,6 +9,7 @@ use Rattle.sharing_rules.specs.Members.{IsRising, Member}
 use Rattle.sharing_rules.specs.Laws.Kinds.{Member-append, append-Member_left, append-Member_right}
 use Rattle.sharing_rules.specs.Laws.Lists.{all_at, all_from_members}
 use Rattle.sharing_rules.specs.Laws.Orders.{same_rising}
+use Rattle.state_grammar.specs.Laws.Turns.{Member-map, map-Member, rising-map}
 use Rattle.state_grammar.specs.declared.parts.CountedLine.{CountedLine}
 use Rattle.state_grammar.specs.Counted.{AreCounted, count_below, counted_line, has_lower_number}
 
@@ -144,44 +145,26 @@ counted-whole count from lines none counted =
     counted_alike (count_below from count) count lines
     (λ k. below_all from count k (λ late. none k late)) counted
 
-Member-map : (count : ℕ → ℕ) (ks : List ℕ) (l : CountedLine)
+-- a line of some numbers is the line of its own
+of_number : (count : ℕ → ℕ) (ks : List ℕ) (l : CountedLine)
     → Member l (map (counted_line count) ks)
     → Member l.number ks × (l ≡ counted_line count l.number)
-Member-map count [] l m = absurd m
-Member-map count (k ∷ ks) l m = elim m [
-  | inl is ↦
-      let number : l.number ≡ k = ap (λ (z : CountedLine). z.number) is in
-      (inl number, is ∙ ap (counted_line count) (sym number))
-  | inr later ↦ let w = Member-map count ks l later in (inr w.0, w.1)
-]
-
-map-Member : (count : ℕ → ℕ) (ks : List ℕ) (k : ℕ) → Member k ks
-    → Member (counted_line count k) (map (counted_line count) ks)
-map-Member count [] k m = absurd m
-map-Member count (j ∷ ks) k m = elim m [
-  | inl is ↦ inl (ap (counted_line count) is)
-  | inr later ↦ inr (map-Member count ks k later)
-]
-
-rising-map : (count : ℕ → ℕ) (ks : List ℕ) → IsRising nat_lt ks
-    → IsRising has_lower_number (map (counted_line count) ks)
-rising-map count [] rising = tt
-rising-map count (k ∷ ks) rising = (
-  all_from_members (λ l. has_lower_number (counted_line count k) l ≡ true)
-      (map (counted_line count) ks)
-      (λ l m. all_at (λ j. nat_lt k j ≡ true) ks l.number rising.0 (Member-map count ks l m).0),
-  rising-map count ks rising.1,
-)
+of_number count ks l m =
+    let w = Member-map (counted_line count) ks l m in
+    let number : l.number ≡ w.0 = ap (λ (z : CountedLine). z.number) w.2 in (
+      subst (λ k. Member k ks) (sym number) w.1,
+      w.2 ∙ ap (counted_line count) (sym number),
+    )
 
 -- the lines of numbers that rise, which are those of the written lines
 pub counted-map : (count : ℕ → ℕ) (ks : List ℕ) → IsRising nat_lt ks
     → ((k : ℕ) → Member k ks → 0 < count k) → ((k : ℕ) → 0 < count k → Member k ks)
     → AreCounted count (map (counted_line count) ks)
 counted-map count ks rising written all = record {
-  rising = rising-map count ks rising;
+  rising = rising-map (counted_line count) nat_lt has_lower_number (λ x y less. less) ks rising;
   counted = λ l m.
-      let w = Member-map count ks l m in
+      let w = of_number count ks l m in
       let is : l.writes ≡ count l.number = ap (λ (z : CountedLine). z.writes) w.1 in
       (subst (λ n. 0 < n) (sym is) (written l.number w.0), is);
-  all = λ k some. map-Member count ks k (all k some);
+  all = λ k some. map-Member (counted_line count) ks k (all k some);
 }

@@ -20,7 +20,7 @@ pub length-header : (h : Header) → length (spell_header h) ≡ 64
 unfolding spell_header
 length-header h = refl
 
-length-line : (g : Grid) (l : CountedLine) → length (spell_line g l) ≡ 16
+pub length-line : (g : Grid) (l : CountedLine) → length (spell_line g l) ≡ 16
 unfolding spell_line
 length-line g l = refl
 
@@ -28,11 +28,11 @@ length-word : (w : Word) → length (spell_word w) ≡ 20
 unfolding spell_word
 length-word w = refl
 
-length-head : (x : Kept) → length (spell_head x) ≡ 32
+pub length-head : (x : Kept) → length (spell_head x) ≡ 32
 unfolding spell_head
 length-head x = refl
 
-length-words : (ws : List Word) → length (flat_map spell_word ws) ≡ 20 * length ws
+pub length-words : (ws : List Word) → length (flat_map spell_word ws) ≡ 20 * length ws
 length-words [] = refl
 length-words (w ∷ ws) = omega (
   arith,
@@ -55,7 +55,7 @@ length-lines g (l ∷ ls) = omega (
 abbrev pub all_words : List Kept → ℕ
 all_words xs = sum_by (λ x. length x.words) xs
 
-length-track : (x : Kept) → length (spell_track x) ≡ 32 + 20 * length x.words
+pub length-track : (x : Kept) → length (spell_track x) ≡ 32 + 20 * length x.words
 length-track x = omega (
   arith,
   length-append (spell_head x) (flat_map spell_word x.words),

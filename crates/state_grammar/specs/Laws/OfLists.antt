@@ -1,7 +1,7 @@
 -- The state of what stands for a list is the state of the list.
 use Rattle.std.proofs.Common.{◌≡◌, ℕ, ◌+◌, ◌<◌, Bool, true, false, eqb, List, [], ◌∷◌}
-use Rattle.std.proofs.Common.{◌++◌, length, map, sym, ap, ◌∙◌, subst, arith, inl, inr, IsTrue}
-use Rattle.std.proofs.lemmas.Bool.{cases_Bool, eq-eqb, false≢true, or_right}
+use Rattle.std.proofs.Common.{◌++◌, length, map, refl, sym, ap, ◌∙◌, subst, arith, inl, inr, IsTrue}
+use Rattle.std.proofs.lemmas.Bool.{cases_Bool, eq-eqb, false≢true}
 use Rattle.std.proofs.lemmas.Bool.Decides.{nat_tests}
 use Rattle.std.proofs.lemmas.List.Sorted.{IsPermutation-sym, length_permutation}
 use Rattle.std.proofs.lemmas.List.Sums.{sum_by-cons}
@@ -14,7 +14,7 @@ use Rattle.predator_base.specs.Lines.{Grid, is_layout}
 use Rattle.sharing_rules.specs.AccessLists.{AccessList, writes_to}
 use Rattle.sharing_rules.specs.Lines.{grid_line, is_inside}
 use Rattle.sharing_rules.specs.Listed.{in_order, may_predict}
-use Rattle.sharing_rules.specs.Members.{Member, ties}
+use Rattle.sharing_rules.specs.Members.{ties}
 use Rattle.sharing_rules.specs.Observed.{written_lines}
 use Rattle.sharing_rules.specs.Opened.{opened}
 use Rattle.sharing_rules.specs.Laws.Arrivals.{each_once-distinct}
@@ -27,6 +27,7 @@ use Rattle.virtual_lines.specs.Placed.{AreApart, is_placed_before}
 use Rattle.virtual_lines.specs.PlacedLaws.{is_placed_before-ranks, kept-apart}
 use Rattle.state_grammar.specs.Counted.{AreCounted}
 use Rattle.state_grammar.specs.Laws.Counted.{counted-map, same_counted}
+use Rattle.state_grammar.specs.Laws.Turns.{one_passes}
 use Rattle.state_grammar.specs.OfLists.{counted_in, state_in, state_of_list, writes_of}
 use Rattle.state_grammar.specs.declared.parts.CountedLine.{CountedLine}
 use Rattle.state_grammar.specs.Spelling.{Header, State, header_of, spell_header, spell_line}
@@ -66,7 +67,8 @@ some_from_any p (x ∷ xs) h =
       )
     ]
 
-any_from_some : {X : Type 0} (p : X → Bool) (xs : List X) → 0 < count_by p xs → list_any p xs ≡ true
+pub any_from_some : {X : Type 0} (p : X → Bool) (xs : List X) → 0 < count_by p xs
+    → list_any p xs ≡ true
 any_from_some p [] h = absurd (omega arith)
 any_from_some p (x ∷ xs) h =
     elim (cases_Bool (p x)) [
@@ -74,13 +76,6 @@ any_from_some p (x ∷ xs) h =
       | inr fails ↦ rw fails
           (any_from_some p xs (omega (arith, h, count_by-cons p x xs false fails)))
     ]
-
-any_from_Member : (k : ℕ) (ks : List ℕ) → Member k ks → list_any (eqb k) ks ≡ true
-any_from_Member k [] m = absurd m
-any_from_Member k (j ∷ ks) m = elim m [
-  | inl is ↦ rw (eq-eqb k j is)
-  | inr later ↦ or_right (eqb k j) (list_any (eqb k) ks) (any_from_Member k ks later)
-]
 
 -- the written lines of a list are those that its count of writes gives
 pub counted_in-counted : (g : Grid) (t : AccessList) → AreCounted (writes_of g t) (counted_in g t)
@@ -94,7 +89,8 @@ counted_in-counted g t =
     (λ k m.
     some_from_any (writes_to (is_inside (grid_line g k))) t
     (sym (written_lines-any g t k)
-    ∙ any_from_Member k ks (Member-permutation ks (in_order nat_lt ks) k perm m)))
+    ∙ one_passes (eqb k) ks k (Member-permutation ks (in_order nat_lt ks) k perm m)
+    (eq-eqb k k refl)))
     (λ k some.
     Member-permutation (in_order nat_lt ks) ks k (IsPermutation-sym ks (in_order nat_lt ks) perm)
     (Member-from_any k ks

@@ -45,7 +45,7 @@ never_Ok : {A E : Type 0} (e : E) (x : A) → ◌≡◌ {A = Result A E} (Err e)
 never_Ok e x is = cc
 
 -- a unit that was read is good, and the bytes begin with its spelling
-record IsUnit {X : Type 0} (spell : X → List ℕ) (good : X → Bool) (bytes : List ℕ) (x : X) :
+pub record IsUnit {X : Type 0} (spell : X → List ℕ) (good : X → Bool) (bytes : List ℕ) (x : X) :
     Type 0 where
   pub is_good : good x ≡ true
   pub begins : bytes ≡ spell x ++ drop (length (spell x)) bytes
@@ -65,21 +65,21 @@ unit_is spell good x y bytes is =
       | inr fails ↦ let never : None ≡ Some y = rw fails at is in absurd (none-some y never)
     ]
 
-header_is : (bytes : List ℕ) (h : Header) → header_in bytes ≡ Some h
+pub header_is : (bytes : List ℕ) (h : Header) → header_in bytes ≡ Some h
     → IsUnit spell_header is_good_header bytes h
 unfolding header_in
 header_is bytes h is = unit_is spell_header is_good_header (header_at bytes) h bytes is
 
-line_is : (h : Header) (before : List CountedLine) (bytes : List ℕ) (l : CountedLine)
+pub line_is : (h : Header) (before : List CountedLine) (bytes : List ℕ) (l : CountedLine)
     → line_in h before bytes ≡ Some l → IsUnit (spell_line h.grid) (is_good_line h before) bytes l
 unfolding line_in
 line_is h before bytes l is = unit_is (spell_line h.grid) (is_good_line h before)
     (line_at h.grid bytes) l bytes is
 
-abbrev fits : Header → List CountedLine → List Kept → Kept → Bool
+abbrev pub fits : Header → List CountedLine → List Kept → Kept → Bool
 fits h lines before x = is_good_track h x && is_placed h lines before x
 
-track_is : (h : Header) (lines : List CountedLine) (before : List Kept) (bytes : List ℕ) (x : Kept)
+pub track_is : (h : Header) (lines : List CountedLine) (before : List Kept) (bytes : List ℕ) (x : Kept)
     → track_in h lines before bytes ≡ Some x → IsUnit spell_track (fits h lines before) bytes x
 unfolding track_in
 track_is h lines before bytes x is = unit_is spell_track (fits h lines before)

@@ -1,0 +1,62 @@
+// Little-endian numbers at their places in a unit.
+ghost use Rattle.std.specs.Prelude.{◌≡◌, ◌+◌, ◌≤◌, drop, length};
+ghost use Rattle.std.specs.Int.{w16, w32, w64};
+ghost use Rattle.state_grammar.specs.Units.{integer_at, number_at, some_unless};
+
+pub(crate) fn u16_at(bytes: &[u8], place: usize) -> u16
+    requires { place + 2 ≤ length bytes.now }
+    ensures { result ≡ number_at w16 place bytes.now }
+{
+    u16::from_le_bytes([bytes[place], bytes[place + 1]])
+}
+
+pub(crate) fn u32_at(bytes: &[u8], place: usize) -> u32
+    requires { place + 4 ≤ length bytes.now }
+    ensures { result ≡ number_at w32 place bytes.now }
+{
+    u32::from_le_bytes([
+        bytes[place],
+        bytes[place + 1],
+        bytes[place + 2],
+        bytes[place + 3],
+    ])
+}
+
+pub(crate) fn u64_at(bytes: &[u8], place: usize) -> u64
+    requires { place + 8 ≤ length bytes.now }
+    ensures { result ≡ number_at w64 place bytes.now }
+{
+    u64::from_le_bytes([
+        bytes[place],
+        bytes[place + 1],
+        bytes[place + 2],
+        bytes[place + 3],
+        bytes[place + 4],
+        bytes[place + 5],
+        bytes[place + 6],
+        bytes[place + 7],
+    ])
+}
+
+pub(crate) fn i64_at(bytes: &[u8], place: usize) -> i64
+    requires { place + 8 ≤ length bytes.now }
+    ensures { result ≡ integer_at place bytes.now }
+{
+    u64_at(bytes, place).cast_signed()
+}
+
+// A number, unless it stands for none.
+pub(crate) fn some_unless(none: u64, n: u64) -> Option<u64>
+    ensures { result ≡ some_unless none n }
+{
+    if n == none { None } else { Some(n) }
+}
+
+// The bytes from a place on.
+pub(crate) fn behind(bytes: &[u8], place: usize) -> &[u8]
+    requires { place ≤ length bytes.now }
+    ensures value { result.now ≡ drop place bytes.now }
+    ensures size { length result.now + place ≡ length bytes.now }
+{
+    bytes.split_at(place).1
+}
