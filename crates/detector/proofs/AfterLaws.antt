@@ -249,9 +249,9 @@ watched-is m n xs ys g v p k a line tracks counts =
     let cs : counts_of n ≡ writes_after (number_of g a) a (counts_of m) = counts ∙ ap (λ q. writes_after q a (counts_of m)) line in
     λ i. record { position = p + 1; grid = g; levels = v; writes = cs i; tracks = ks i }
 
--- before the first access
-pub indexed-empty : (m : Entries) (g : Grid) (T : ℕ) → m ≡ no_entries → IsIndexed (entry_at m) g [] T 0
-indexed-empty m g T is = record {
+-- where nothing is kept yet
+pub indexed-empty : (m : Entries) (g : Grid) (T p : ℕ) → m ≡ no_entries → IsIndexed (entry_at m) g [] T p
+indexed-empty m g T p is = record {
   names = record {
     placed = λ i x e. absurd (none-some x e);
     named = λ kind k i e. absurd (none-some i (sym (none kind k) ∙ e));

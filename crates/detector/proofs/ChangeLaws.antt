@@ -1,7 +1,7 @@
 -- What a turn leaves of the tracks and of the entries.
-use Rattle.std.proofs.Common.{◌≡◌, ◌≢◌, ℕ, ◌+◌, ◌-◌, ◌%◌, ◌<◌, ◌≤◌, ◌^◌, Bool, true, false, eqb, ltb, ◌&&◌, List, [], ◌∷◌, ◌++◌, Option}
+use Rattle.std.proofs.Common.{◌≡◌, ◌≢◌, ℕ, ◌+◌, ◌-◌, ◌%◌, ◌<◌, ◌≤◌, ◌^◌, Bool, true, false, eqb, leb, ltb, ◌&&◌, List, [], ◌∷◌, ◌++◌, Option}
 use Rattle.std.proofs.Common.{Some, None, length, take, refl, sym, ap, ◌∙◌, subst, arith, inl, inr}
-use Rattle.std.proofs.lemmas.Bool.{false≢true, and_parts, ltb-true, or_cases, eqb-true}
+use Rattle.std.proofs.lemmas.Bool.{false≢true, and_parts, leb-true, ltb-true, or_cases, eqb-true}
 use Rattle.std.specs.Prelude.{if◌then◌else◌, not}
 use Rattle.std.specs.List.{list_all, list_any}
 use Rattle.predator_base.specs.Lines.{Grid, is_layout, is_line_size}
@@ -25,21 +25,21 @@ pub not_false : (b : Bool) → not b ≡ false → b ≡ true
 not_false true e = refl
 not_false false e = absurd (false≢true (sym e))
 
-multiple : (n : ℕ) (ns : List ℕ) → list_all (λ m. eqb (m % 4) 0) ns ≡ true → list_any (eqb n) ns ≡ true → n % 4 ≡ 0
-multiple n [] all h = absurd (false≢true h)
-multiple n (m ∷ ms) all h =
-    let k = and_parts (eqb (m % 4) 0) (list_all (λ m. eqb (m % 4) 0) ms) all in
-    elim (or_cases (eqb n m) (list_any (eqb n) ms) h) [
-      | inl e ↦ ap (λ z. z % 4) (eqb-true n m e) ∙ eqb-true (m % 4) 0 k.0
-      | inr e ↦ multiple n ms k.1 e
-    ]
+listed : (test : ℕ → Bool) (n : ℕ) (ns : List ℕ) → list_all test ns ≡ true → list_any (eqb n) ns ≡ true → test n ≡ true
+listed test n [] all h = absurd (false≢true h)
+listed test n (m ∷ ms) all h =
+    let k = and_parts (test m) (list_all test ms) all in
+    elim (or_cases (eqb n m) (list_any (eqb n) ms) h) [ inl e ↦ ap test (eqb-true n m e) ∙ k.0 | inr e ↦ listed test n ms k.1 e ]
 
--- a layout's offset is below its size, which is that of whole words
-pub layout-small : (g : Grid) → is_layout g.size g.offset ≡ true → (g.offset < g.size) × (g.size % 4 ≡ 0)
+-- a layout's offset is below its size, which is that of whole words and at most 1024
+pub layout-small : (g : Grid) → is_layout g.size g.offset ≡ true → (g.offset < g.size) × (g.size % 4 ≡ 0) × (g.size ≤ 1024)
 layout-small g h =
     let outer = and_parts (is_line_size g.size && ltb g.offset g.size) (eqb (g.offset % 4) 0) h in
-    let inner = and_parts (is_line_size g.size) (ltb g.offset g.size) outer.0 in
-    (ltb-true g.offset g.size inner.1, multiple g.size (4 ∷ 8 ∷ 16 ∷ 32 ∷ 64 ∷ 128 ∷ 256 ∷ 512 ∷ 1024 ∷ []) refl inner.0)
+    let inner = and_parts (is_line_size g.size) (ltb g.offset g.size) outer.0 in (
+      ltb-true g.offset g.size inner.1,
+      eqb-true (g.size % 4) 0 (listed (λ m. eqb (m % 4) 0) g.size (4 ∷ 8 ∷ 16 ∷ 32 ∷ 64 ∷ 128 ∷ 256 ∷ 512 ∷ 1024 ∷ []) refl inner.0),
+      leb-true g.size 1024 (listed (λ m. leb m 1024) g.size (4 ∷ 8 ∷ 16 ∷ 32 ∷ 64 ∷ 128 ∷ 256 ∷ 512 ∷ 1024 ∷ []) refl inner.0),
+    )
 
 -- the names after all were written, one after the other
 pub settle-names : (N N₀ N₁ N₂ N₃ N₄ : Names) (k b l : ℕ) (own : Option ℕ) (o : Opened) → N₀ ≡ N → N₁ ≡ with_name N₀ Observed k own

@@ -30,6 +30,11 @@ count_at-counts_of m k = ap (λ o. unwrap_or o 0) (get-counts_of m k) ∙ throug
     through None = refl
     through (Some e) = refl
 
+-- the same for all lines
+pub counts-as : (m : Entries) (writes : Counts) → counts_of m ≡ writes
+    → ◌≡◌ {A = ℕ → ℕ} (λ k. (entry_at m k).writes) (count_at writes)
+counts-as m writes is = λ i k. (sym (count_at-counts_of m k) ∙ ap (λ (w : Counts). count_at w k) is) i
+
 above_zero : (n m : ℕ) → n ≡ m + 1 → eqb n 0 ≡ false
 above_zero n m h = grind (arith, nat_tests)
 
@@ -39,21 +44,29 @@ kept-written e n h =
     (and_left _ (is_none e.shifted) (and_left (eqb e.writes 0) (is_none e.track) (above_zero e.writes n h))) in
     ap (λ b. if b then None else Some e) there
 
--- an entry with one write more counts one write more
-pub counts-with_entry : (m : Entries) (k : ℕ) (e : LineEntry) → e.writes ≡ (entry_at m k).writes + 1
-    → counts_of (with_entry m k e) ≡ with_write (counts_of m) k
-counts-with_entry m k e h =
+-- an entry with some writes counts them
+pub counts-written : (m : Entries) (k n : ℕ) (e : LineEntry) → e.writes ≡ n → 0 < n
+    → counts_of (with_entry m k e) ≡ finite.insert (counts_of m) k n
+counts-written m k n e h some =
     finite.same_map nat_cmp_total finite.nat_cmp-IsAntisymmetric _ _
     (λ q.
     get-counts_of (with_entry m k e) q ∙ ap (option_map (λ (x : LineEntry). x.writes)) (get-with_entry m k e q) ∙ picked q (eqb q k)
-    ∙ sym (finite.get-insert nat_cmp_total (counts_of m) k (count_at (counts_of m) k + 1) q
-    ∙ ap (λ t. cond t (Some (count_at (counts_of m) k + 1)) (finite.get (counts_of m) q)) (unsigned_tied q k)))
+    ∙ sym (finite.get-insert nat_cmp_total (counts_of m) k n q
+    ∙ ap (λ t. cond t (Some n) (finite.get (counts_of m) q)) (unsigned_tied q k)))
   where
+    up : e.writes ≡ e.writes - 1 + 1
+    up = omega arith
+
     picked : (q : ℕ) (t : Bool) → option_map (λ (x : LineEntry). x.writes) (if t then kept e else finite.get m q) ≡
-        (if t then Some (count_at (counts_of m) k + 1) else finite.get (counts_of m) q)
-    picked q true = ap (option_map (λ (x : LineEntry). x.writes)) (kept-written e (entry_at m k).writes h)
-        ∙ ap Some (h ∙ ap (λ n. n + 1) (sym (count_at-counts_of m k)))
+        (if t then Some n else finite.get (counts_of m) q)
+    picked q true = ap (option_map (λ (x : LineEntry). x.writes)) (kept-written e (e.writes - 1) up) ∙ ap Some h
     picked q false = sym (get-counts_of m q)
+
+-- an entry with one write more counts one write more
+pub counts-with_entry : (m : Entries) (k : ℕ) (e : LineEntry) → e.writes ≡ (entry_at m k).writes + 1
+    → counts_of (with_entry m k e) ≡ with_write (counts_of m) k
+counts-with_entry m k e h = counts-written m k (count_at (counts_of m) k + 1) e
+    (h ∙ ap (λ n. n + 1) (sym (count_at-counts_of m k))) (omega arith)
 
 -- an entry with as many writes, of which there are some, counts the same
 pub counts-same : (m : Entries) (k : ℕ) (e : LineEntry) → e.writes ≡ (entry_at m k).writes → 0 < (entry_at m k).writes

@@ -17,4 +17,6 @@ pub mod AfterLaws
 pub mod StandsLaws
 pub mod AmountLaws
 pub mod QuietLaws
-mod SaveLaws
+pub mod AddLaws
+mod ApartLaws
+pub mod WatchLaws

@@ -12,7 +12,7 @@ use Rattle.sharing_rules.specs.declared.line_kind.LineKind.{LineKind}
 use Rattle.sharing_rules.specs.declared.line_kind.LineKind.TheVariants.{Observed, Shifted, Doubled}
 use Rattle.virtual_lines.specs.Kept.{Kept}
 use Rattle.detector.specs.declared.openings.Openings.{Openings}
-use Rattle.detector.specs.Index.{IsIndexed, IsNamed, IsReached, Names, names_in}
+use Rattle.detector.specs.Index.{IsIndexed, IsNamed, IsReached, Names, names_in, place_in}
 use Rattle.detector.specs.Openings.{opened_tracks}
 use Rattle.detector.specs.Pairs.{AreShaped, IsNativeGrid}
 use Rattle.detector.specs.Turns.{counted, opened_places, settled, turn_opens, with_name, with_place}
@@ -30,17 +30,28 @@ pub counted-lent : (f h : ℕ → LineEntry) (k : ℕ) (e : LineEntry) → e ≡
     → (q : ℕ) → h q ≡ (if eqb q k then counted (f k) else f q)
 counted-lent f h k e same each q = each q ∙ ap (λ (x : LineEntry). if eqb q k then counted x else f q) same
 
+-- a change that leaves the places of an entry leaves the names
+pub changed-names : (f h : ℕ → LineEntry) (k : ℕ) (e : LineEntry) → ((q : ℕ) → h q ≡ (if eqb q k then e else f q))
+    → ((kind : LineKind) → place_in e kind ≡ place_in (f k) kind) → names_in h ≡ names_in f
+changed-names f h k e each places = λ i kind q. by_line kind q i
+  where
+    by_line : (kind : LineKind) (q : ℕ) → place_in (h q) kind ≡ place_in (f q) kind
+    by_line kind q =
+        ap (λ (x : LineEntry). place_in x kind) (each q)
+        ∙ elim (cases_Bool (eqb q k)) [
+          | inl here ↦ ap (λ b. place_in (if b then e else f q) kind) here ∙ places kind ∙ ap (λ z. place_in (f z) kind)
+              (sym (eqb-true q k here))
+          | inr other ↦ ap (λ b. place_in (if b then e else f q) kind) other
+        ]
+
 -- a count leaves the names
 pub counted-names : (f h : ℕ → LineEntry) (k : ℕ) → ((q : ℕ) → h q ≡ (if eqb q k then counted (f k) else f q)) → names_in h ≡ names_in f
-counted-names f h k each = λ i kind q. by_kind kind q i
+counted-names f h k each = changed-names f h k (counted (f k)) each places
   where
-    by_kind : (kind : LineKind) (q : ℕ) → names_in h kind q ≡ names_in f kind q
-    by_kind Observed q = ap (λ (e : LineEntry). e.track) (each q)
-        ∙ elim (cases_Bool (eqb q k)) [ inl here ↦ rw here (ap (λ z. (f z).track) (sym (eqb-true q k here))) | inr other ↦ rw other ]
-    by_kind Shifted q = ap (λ (e : LineEntry). e.shifted) (each q)
-        ∙ elim (cases_Bool (eqb q k)) [ inl here ↦ rw here (ap (λ z. (f z).shifted) (sym (eqb-true q k here))) | inr other ↦ rw other ]
-    by_kind Doubled q = ap (λ (e : LineEntry). e.doubled) (each q)
-        ∙ elim (cases_Bool (eqb q k)) [ inl here ↦ rw here (ap (λ z. (f z).doubled) (sym (eqb-true q k here))) | inr other ↦ rw other ]
+    places : (kind : LineKind) → place_in (counted (f k)) kind ≡ place_in (f k) kind
+    places Observed = refl
+    places Shifted = refl
+    places Doubled = refl
 
 pub counted-writes : (f h : ℕ → LineEntry) (k : ℕ) → ((q : ℕ) → h q ≡ (if eqb q k then counted (f k) else f q)) → (q : ℕ)
     → (h q).writes ≡ (if eqb q k then (f k).writes + 1 else (f q).writes)

@@ -78,7 +78,7 @@ waiting-named N g xs kind k (Some r) named some opens =
     let w = opens r refl in
     named-more-as N g xs (waiting kind r) kind k named refl (shaped-line g k kind r some w.1) w.0 w.1
 
-none_from : (o : Option ℕ) → is_some o ≡ false → o ≡ None
+pub none_from : (o : Option ℕ) → is_some o ≡ false → o ≡ None
 none_from None e = refl
 none_from (Some x) e = absurd (false≢true (sym e))
 

@@ -2,6 +2,9 @@ pub mod Counts
 pub mod Named
 pub mod Openings
 pub mod Watch
+pub mod Adding
+pub mod Changes
+pub mod Added
 pub mod WatchCode
 pub mod Index
 pub mod Noting
@@ -10,4 +13,3 @@ pub mod Pairs
 pub mod Turns
 pub mod Amounts
 pub mod Quiet
-pub mod Saving

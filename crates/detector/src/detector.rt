@@ -1,28 +1,36 @@
 // The tracks, and the index of all lines.
 ghost use Rattle.std.specs.Prelude.{◌≡◌, ◌+◌, ◌*◌, ◌/◌, ◌<◌, ◌≤◌, ◌^◌, [], ◌∷◌, ◌++◌};
 ghost use Rattle.std.specs.Prelude.{if◌then◌else◌, length, IfOk, IsOk, IsTrue, IsFalse, OnOk};
-ghost use Rattle.std.specs.Prelude.{OnErr};
+ghost use Rattle.std.specs.Prelude.{OnErr, ℕ, IfSome, IfNone, Some, is_some, slice_get};
 ghost use Rattle.sharing_rules.specs.AccessLists.{AccessList};
 ghost use Rattle.line_counters.specs.Entries.{no_entries};
 ghost use Rattle.sharing_rules.specs.Listed.{may_predict};
-ghost use Rattle.state_grammar.specs.OfLists.{state_of_list};
-ghost use Rattle.state_grammar.specs.Spelling.{spell_state};
+ghost use Rattle.virtual_lines.specs.Kept.{Kept, saved};
+ghost use Rattle.virtual_lines.specs.Placed.{AreApart};
+ghost use Rattle.detector.specs.Adding.{CanAddLine, CanAddTrack, nothing_kept, with_track};
+ghost use Rattle.detector.specs.Adding.{with_written};
 ghost use Rattle.detector.specs.Amounts.{HasFewAtEach, HasFewEntries, HasFewWords, HasFewerShifted};
-ghost use Rattle.detector.specs.Amounts.{HasHalfDoubled, IsSmallUnpredicted, word_count};
+ghost use Rattle.detector.specs.Amounts.{HasHalfDoubled, IsSmallUnpredicted};
+ghost use Rattle.detector.specs.Counts.{count_at};
+ghost use Rattle.detector.specs.Index.{IsShaped};
+ghost use Rattle.detector.specs.Named.{line_of_base, track_named};
 ghost use Rattle.detector.specs.Quiet.{AreQuietWhereFalse};
-ghost use Rattle.detector.specs.Saving.{line_count, state_of};
 ghost use Rattle.detector.specs.Standing.{StandsFor};
 ghost use Rattle.detector.specs.Watch.{nothing_seen, searches_at, takes_memory, watched};
 
-use crate::save::written_lines;
+use crate::adding::{add_saved, place_of, set_writes};
 use crate::touch::touch;
+use history_table::History;
 use line_counters::LineIndex;
 use predator_base::{Access, Layout, NoMemory, Steps, Thresholds};
-use state_grammar::{StateParts, write_state};
 use std::alloc::Global;
 use std::marker::Model;
 use std::sync::ledger::Ledger;
-use virtual_lines::{Track, Tracks};
+use virtual_lines::{LineKind, Track, Tracks};
+use word_shadow::Shadow;
+
+// The greatest line number.
+const LAST_LINE: u64 = 1 << 30;
 
 /// What is known of the accesses so far, under a layout and thresholds, over an index of lines.
 ///
@@ -74,15 +82,73 @@ impl<I: LineIndex> Detector<I> {
         ensures blank { result ≡ nothing_seen layout thresholds }
         ensures stands { StandsFor [] result }
     {
+        Detector::at(alloc, index, layout, thresholds, 0)
+    }
+
+    /// A detector at a position, of whose accesses nothing is kept yet, over an index with no
+    /// entry: `add_written` and `add_track` add what was kept of them. It keeps the allocator.
+    /// Lines are predicted only under a native layout, as in `new`.
+    pub fn at(
+        alloc: Global,
+        index: I,
+        layout: Layout,
+        thresholds: Thresholds,
+        position: u64,
+    ) -> Detector<I>
+        requires empty { I.entries index ≡ no_entries }
+        requires native { IsTrue (may_predict layout thresholds) }
+        ensures { result ≡ nothing_kept layout thresholds position }
+    {
         // A layout has whole words, as its size says.
         let _size = layout.size();
         Detector {
             index,
             tracks: Tracks::new(alloc),
-            position: 0,
+            position,
             layout,
             thresholds,
         }
+    }
+
+    /// Adds a line that wasn't written yet, at most 2^30, with how often it was written: at least
+    /// once, and no more often than there were accesses.
+    ///
+    /// NoMemory leaves the detector as it was.
+    pub fn add_written(&mut self, line: u64, writes: u64) -> Result<(), NoMemory>
+        requires { CanAddLine self.old line writes }
+        ensures added { OnOk result (self.new ≡ with_written self.old line writes) }
+        ensures same { OnErr result (self.new ≡ self.old) }
+    {
+        set_writes(&mut self.index, line, writes)
+    }
+
+    /// Adds a track behind the others, as it was saved: of a line that was added before, and has
+    /// none of its kind yet. Without a start its count is 0, and no word was accessed.
+    ///
+    /// NoMemory leaves the detector as it was. It comes too where there are 2^31 tracks.
+    pub fn add_track(
+        &mut self,
+        kind: LineKind,
+        shadow: Shadow,
+        start: Option<(u64, History)>,
+        count: u64,
+    ) -> Result<(), NoMemory>
+        requires { CanAddTrack self.old (saved kind shadow start count) }
+        ensures added { OnOk result
+            (self.new ≡ with_track self.old (saved kind shadow start count)) }
+        ensures same { OnErr result (self.new ≡ self.old) }
+    {
+        add_saved(
+            &mut self.index,
+            &mut self.tracks,
+            self.layout,
+            self.thresholds,
+            self.position,
+            kind,
+            shadow,
+            start,
+            count,
+        )
     }
 
     /// One access more. It takes memory only where a counter begins, a track begins or a predicted
@@ -146,11 +212,46 @@ impl<I: LineIndex> Detector<I> {
         self.layout
     }
 
-    /// Its thresholds.
+    /// Its thresholds. Lines are predicted only under a native layout.
     pub fn thresholds(&self) -> Thresholds
-        ensures { result ≡ self.now.levels }
+        ensures value { result ≡ self.now.levels }
+        ensures native { IsTrue (may_predict self.now.grid self.now.levels) }
     {
         self.thresholds
+    }
+
+    /// How often a line was written.
+    pub fn writes_of(&self, line: u64) -> u64
+        requires { line ≤ 2 ^ 30 }
+        ensures { result ≡ count_at self.now.writes line }
+    {
+        self.index.peek(line).writes
+    }
+
+    /// The least line at or above `from` that was written: None exactly where there is none. No
+    /// line has a number above 2^30.
+    pub fn next_written(&self, from: u64) -> Option<u64>
+        ensures written { IfSome result (λ n. 0 < count_at self.now.writes n) }
+        ensures at_or_above { IfSome result (λ n. from ≤ n) }
+        ensures in_range { IfSome result (λ n. n ≤ 2 ^ 30) }
+        ensures least { IfSome result (λ n.
+            (q : ℕ) → from ≤ q → q < n → count_at self.now.writes q ≡ 0) }
+        ensures none { IfNone result ((q : ℕ) → from ≤ q → count_at self.now.writes q ≡ 0) }
+    {
+        let index = &self.index;
+        if from > LAST_LINE {
+            return None;
+        }
+        index.next_from(from)
+    }
+
+    /// Whether a line has a track of a kind: its own, the shifted one of its pair with the line
+    /// above, or the doubled one of the even pair whose lower line it is.
+    pub fn has_track(&self, kind: LineKind, line: u64) -> bool
+        requires { line ≤ 2 ^ 30 }
+        ensures { result ≡ is_some (track_named self.now.grid kind line self.now.tracks) }
+    {
+        place_of(&self.index.peek(line), kind).is_some()
     }
 
     /// All that is kept, in the order in which it came to be kept: a track for each line that was
@@ -166,6 +267,10 @@ impl<I: LineIndex> Detector<I> {
     /// word of it from a hart if each word had a line of its own.
     pub fn tracks(&self) -> &[Track]
         ensures value { result.now ≡ self.now.tracks }
+        // no two have one kind and one base, and each lies as its kind says
+        ensures apart { AreApart self.now.tracks }
+        ensures shaped { (i : ℕ) (x : Kept) → slice_get self.now.tracks i ≡ Some x
+            → IsShaped self.now.grid (line_of_base self.now.grid x.range) x.kind x.range }
         // for each list that it stands for
         ensures shifted { (t : AccessList) → StandsFor t self.now → HasFewerShifted self.now }
         ensures doubled { (t : AccessList) → StandsFor t self.now → HasHalfDoubled self.now }
@@ -177,33 +282,5 @@ impl<I: LineIndex> Detector<I> {
         ensures quiet { (t : AccessList) → StandsFor t self.now → AreQuietWhereFalse t self.now }
     {
         self.tracks.all()
-    }
-
-    /// Its state as bytes, with a number of harts: what `state_grammar` says.
-    ///
-    /// NoMemory comes only where there is no memory for these bytes, for 16 bytes a written line,
-    /// for 8 bytes a track, or for the sort of the tracks.
-    pub fn save(&self, alloc: Global, harts: u16) -> Result<Vec<u8>, NoMemory>
-        ensures state { IfOk result (λ bytes. bytes.items ≡ spell_state (state_of harts self.now)) }
-        ensures length { IfOk result (λ bytes. length bytes.items ≡ 64 + 16 * line_count self.now
-            + 32 * length self.now.tracks + 20 * word_count self.now) }
-        // for each list that it stands for, it is the state of the list
-        ensures of_list { (t : AccessList) → StandsFor t self.now → IfOk result (λ bytes.
-            bytes.items ≡ state_of_list self.now.grid self.now.levels harts t) }
-    {
-        let lines = written_lines(alloc, &self.index)?;
-        // A layout has whole words, as its size says.
-        let _size = self.layout.size();
-        write_state(
-            alloc,
-            &StateParts {
-                layout: self.layout,
-                thresholds: self.thresholds,
-                harts,
-                position: self.position,
-                lines: &lines,
-                tracks: self.tracks.all(),
-            },
-        )
     }
 }

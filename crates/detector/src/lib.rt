@@ -7,14 +7,13 @@
 //! threshold, the pairs of the line are searched, and what opens has a track from then on.
 #![tactic(auto)]
 
+mod adding;
 mod count;
 mod detector;
+mod laws;
 mod one_access;
 mod openings;
 mod places;
-mod save;
-#[cfg(test)]
-mod save_tests;
 #[cfg(test)]
 mod tests;
 mod touch;
@@ -22,6 +21,7 @@ mod turn;
 mod undo;
 
 pub use detector::Detector;
+pub use laws::an_access_changes_what_it_meets;
 pub use line_counters::{LineIndex, MapIndex, PagedIndex};
 pub use one_access::see;
-pub use virtual_lines::Track;
+pub use virtual_lines::{LineKind, Track};

@@ -26,6 +26,8 @@ fn is_multiple(n: u64, of: Option<u64>) -> bool
     ensures { result ≡ option_map_or (λ m. n % m == 0) of false }
 {
     match of {
+        // The usual threshold, by which no division is made.
+        Some(64) => n % 64 == 0,
         Some(of) => n % of == 0,
         None => false,
     }

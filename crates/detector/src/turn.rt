@@ -244,8 +244,8 @@ fn set_place(entry: &mut LineEntry, kind: LineKind, place: u32)
     }
 }
 
-// Names a track of a written line, if a place is given.
-fn name<I: LineIndex>(index: &mut I, line: u64, kind: LineKind, place: Option<u32>)
+/// Names a track of a written line, if a place is given.
+pub fn name<I: LineIndex>(index: &mut I, line: u64, kind: LineKind, place: Option<u32>)
     requires small { line ≤ 2 ^ 30 }
     requires written { (p : ℕ) → place ≡ Some p → 0 < (entry_at (I.entries index.old) line).writes }
     ensures names { names_in (entry_at (I.entries index.new)) ≡ with_name

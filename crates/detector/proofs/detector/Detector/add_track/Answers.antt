@@ -1,0 +1,36 @@
+use Rattle.std.proofs.Common.{List, ap, sym, subst, ◌∙◌}
+use Rattle.virtual_lines.specs.Kept.{Kept, saved}
+use Rattle.detector.specs.Adding.{CanAddTrack, with_track}
+use Rattle.detector.specs.Counts.{Counts, counts_of}
+use Rattle.detector.specs.Watch.{Watch}
+use Rattle.detector.proofs.AddLaws.{on_ok}
+use Rattle.detector.proofs.detector.Detector.add_track.Goals as goal
+
+pub add_saved-requires : goal.add_saved-requires
+add_saved-requires g c = record {
+  indexed = c.self.invariant.0;
+  can = subst (λ (w : Watch). CanAddTrack w (saved c.args.kind c.args.shadow c.args.start c.args.count)) (sym c.self.view_is) c.requires;
+}
+
+pub invariant_of-self : goal.invariant_of-self
+invariant_of-self g c = (c.add_saved.ensures.indexed, c.self.invariant.1, c.self.invariant.2)
+
+pub returns-clause-added : goal.returns-clause-added
+returns-clause-added g c = on_ok c.add_saved.result _ _
+    (λ added.
+    ap (λ (ws : Counts). record {
+      position = c.self.inside.position;
+      grid = c.self.inside.layout;
+      levels = c.self.inside.thresholds;
+      writes = ws;
+      tracks = c.add_saved.new.tracks;
+    }) c.add_saved.ensures.counts
+    ∙ ap (λ (xs : List Kept). record {
+      position = c.self.inside.position;
+      grid = c.self.inside.layout;
+      levels = c.self.inside.thresholds;
+      writes = counts_of (g.I.LineIndex.entries c.self.inside.index);
+      tracks = xs;
+    }) added
+    ∙ ap (λ (w : Watch). with_track w (saved c.args.kind c.args.shadow c.args.start c.args.count)) c.self.view_is)
+    c.add_saved.ensures.tracks

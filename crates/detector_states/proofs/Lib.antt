@@ -1,0 +1,7 @@
+mod SaveLaws
+mod LineLaws
+mod PlaceLaws
+mod AddLaws
+mod LoopLaws
+mod ResumeLaws
+mod ListLaws

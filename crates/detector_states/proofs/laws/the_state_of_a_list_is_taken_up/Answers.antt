@@ -1,0 +1,8 @@
+use Rattle.detector_states.proofs.ListLaws.{kept_stands, list_taken_up}
+use Rattle.detector_states.proofs.laws.the_state_of_a_list_is_taken_up.Goals as goal
+
+pub returns-clause-taken : goal.returns-clause-taken
+returns-clause-taken c = list_taken_up
+
+pub returns-clause-stands : goal.returns-clause-stands
+returns-clause-stands c = λ g v harts t may. kept_stands g v harts t

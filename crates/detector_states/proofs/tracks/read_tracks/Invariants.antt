@@ -1,0 +1,20 @@
+-- So many tracks are read.
+use Rattle.std.proofs.Common.{◌≡◌, ◌+◌, length}
+use Rattle.state_grammar.specs.Parts.{header_meant}
+use Rattle.state_grammar.specs.Spelling.{spell_track}
+use Rattle.state_grammar.specs.Units.{track_in}
+use Rattle.detector_states.specs.Ready.{IsReady, tracks_at}
+use Rattle.detector_states.specs.Saving.{counted_lines}
+use Rattle.detector_states.proofs.LoopLaws.{GoesOn}
+use Rattle.detector_states.proofs.tracks.read_tracks.Given as goal
+
+abbrev pub invariant-loop : goal.invariant-loop
+invariant-loop g l = record {
+  on : GoesOn (track_in (header_meant l.header) (counted_lines l.initial.detector.writes)) spell_track l.header.tracks
+      (tracks_at l.initial.detector l.initial.rest.place l.initial.rest.bytes.now) l.counter
+      (tracks_at l.detector l.rest.place l.rest.bytes.now);
+  few : l.rest.place + length l.rest.bytes.now ≡ l.initial.rest.place + length l.initial.rest.bytes.now;
+  ready : IsReady (header_meant l.header) l.detector;
+  writes : l.detector.writes ≡ l.initial.detector.writes;
+  levels : l.detector.levels ≡ l.initial.detector.levels;
+}
