@@ -7,7 +7,7 @@ _predator() {
     fi
     case ${COMP_WORDS[1]} in
         run) options="--settings --schedule --trace --output" ;;
-        replay) options="--settings --size --shift" ;;
+        replay) options="--settings --size --shift --save --resume" ;;
         check) options="--settings" ;;
         split | gen | convert) options="" ;;
         *) return ;;

@@ -1,5 +1,5 @@
 -- The command `gen N FILE`.
-use Rattle.std.specs.Prelude.{ℕ, ◌^◌, ◌≤◌, nat_le, if◌then◌else◌, List, [], ◌∷◌, Option, Some, None}
+use Rattle.std.specs.Prelude.{ℕ, ◌^◌, nat_le, if◌then◌else◌, List, [], ◌∷◌, Option, Some, None}
 use Rattle.std.specs.Prelude.{codes, option_map, option_and_then}
 use Rattle.clap.specs.Words.{App, Row, Text, first_of}
 use Rattle.command_line.specs.Apps.{plain_app, with_word}

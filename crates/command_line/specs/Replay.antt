@@ -1,4 +1,4 @@
--- The command `replay TRACE [--settings F] [--size N] [--shift N]`.
+-- The command `replay TRACE [--settings F] [--size N] [--shift N] [--save F] [--resume F]`.
 use Rattle.std.specs.Prelude.{List, [], ◌∷◌, Option, option_map, option_and_then, codes}
 use Rattle.clap.specs.Words.{App, Row, Text, first_of}
 use Rattle.predator_base.specs.Lines.{Grid}
@@ -10,20 +10,28 @@ use Rattle.command_line.specs.Names.{given}
 use Rattle.command_line.specs.declared.replay.ReplayOptions.{ReplayOptions}
 
 -- count the accesses of a trace, with the settings of a file, if one is named, and under a layout,
--- if one is named
+-- if one is named; go on from a saved state, and save the state at the end, each if it is named
 pub record ReplayDemand : Type 0 where
   pub trace : Text
   pub settings : Option Text
   pub layout : Option Grid
+  pub save : Option Text
+  pub resume : Option Text
 
 abbrev pub replay_app : App
 replay_app =
-    with_option (with_option (with_option (with_word (plain_app (codes "replay"))
-    (codes "trace")) (codes "settings")) (codes "size")) (codes "shift")
+    with_option (with_option (with_option (with_option (with_option (with_word
+    (plain_app (codes "replay")) (codes "trace")) (codes "settings")) (codes "size"))
+    (codes "shift")) (codes "save")) (codes "resume")
 
 abbrev pub replay_under : List Row → Text → Option Grid → ReplayDemand
-replay_under rows trace layout =
-    record { trace = trace; settings = first_of (codes "settings") rows; layout = layout }
+replay_under rows trace layout = record {
+  trace = trace;
+  settings = first_of (codes "settings") rows;
+  layout = layout;
+  save = first_of (codes "save") rows;
+  resume = first_of (codes "resume") rows;
+}
 
 -- what its values ask for, unless its layout is none that is allowed
 abbrev pub replay_of : List Row → Option ReplayDemand
@@ -37,17 +45,17 @@ asked_of_replay words = asked replay_app replay_of words
 
 -- the files that are read, in the order in which they are, and those that are written
 abbrev pub replay_inputs : ReplayDemand → List Text
-replay_inputs demand = given demand.settings (demand.trace ∷ [])
+replay_inputs demand = given demand.settings (given demand.resume (demand.trace ∷ []))
 
 abbrev pub replay_outputs : ReplayDemand → List Text
-replay_outputs demand = []
+replay_outputs demand = given demand.save []
 
 -- what the code's options ask for
 abbrev pub replay_meaning : ReplayOptions → ReplayDemand
-replay_meaning options =
-    record {
-      trace = options.trace.now;
-      settings = text_of options.settings;
-      layout =
-          options.layout;
-    }
+replay_meaning options = record {
+  trace = options.trace.now;
+  settings = text_of options.settings;
+  layout = options.layout;
+  save = text_of options.save;
+  resume = text_of options.resume;
+}

@@ -12,7 +12,8 @@ use std::alloc::AllocError;
 /// What the words ask for: a command, with its options.
 #[derive(Clone, Copy, PartialEq, Eq, Debug)]
 pub enum Demand<'a> {
-    /// Count a trace's accesses, and report.
+    /// Count a trace's accesses, and report. The file that it writes has the name of none that it
+    /// reads.
     Replay(ReplayOptions<'a>),
     /// Load and place a program, and tell of it.
     Check(CheckOptions<'a>),

@@ -1,18 +1,21 @@
 // The command `replay`.
 ghost use Rattle.std.specs.Prelude.{◌≡◌, IfOk, IfErr, Some, None, option_map};
 ghost use Rattle.clap.specs.Words.{app_of, found_of, rows_of};
-ghost use Rattle.command_line.specs.Replay.{asked_of_replay, replay_app, replay_meaning, replay_of};
+ghost use Rattle.command_line.specs.Replay.{asked_of_replay, replay_app, replay_inputs};
+ghost use Rattle.command_line.specs.Replay.{replay_meaning, replay_of, replay_outputs};
 ghost use Rattle.command_line.specs.Demands.{texts, UnlessMemory};
+ghost use Rattle.command_line.specs.Names.{are_apart, is_named};
 
 use crate::demand::WordsFault;
 use crate::forms::{matches_by, plain_command, value_of, with_option, with_word};
 use crate::layout::read_layout;
+use crate::names::is_given;
 use clap::{ArgMatches, Command};
 use predator_base::Layout;
 use std::alloc::{AllocError, Global};
 
-/// `replay TRACE [--settings F] [--size N] [--shift N]`. A name is a text as it stands in the
-/// words.
+/// `replay TRACE [--settings F] [--size N] [--shift N] [--save F] [--resume F]`. A name is a text
+/// as it stands in the words.
 #[derive(Clone, Copy, PartialEq, Eq, Debug)]
 pub struct ReplayOptions<'a> {
     /// The name of the trace.
@@ -21,6 +24,28 @@ pub struct ReplayOptions<'a> {
     pub settings: Option<&'a str>,
     /// The layout, where a size or a shift is given. A missing size is 64 bytes, a missing shift 0.
     pub layout: Option<Layout>,
+    /// The name under which the state at the trace's end is written, where one is given.
+    pub save: Option<&'a str>,
+    /// The name of the saved state from which the trace goes on, where one is given.
+    pub resume: Option<&'a str>,
+}
+
+// Whether a name is one of the files that are read.
+fn is_input(options: &ReplayOptions<'_>, name: &str) -> bool
+    ensures { result ≡ is_named name.now (replay_inputs (replay_meaning options.now)) }
+{
+    is_given(name, options.settings) || is_given(name, options.resume) || name == options.trace
+}
+
+// Whether the file that is written has the name of none that is read.
+pub fn has_names_apart(options: &ReplayOptions<'_>) -> bool
+    ensures { result ≡ are_apart (replay_outputs (replay_meaning options.now))
+        (replay_inputs (replay_meaning options.now)) }
+{
+    match options.save {
+        None => true,
+        Some(name) => !is_input(options, name),
+    }
 }
 
 // The command, as `clap` knows it.
@@ -31,7 +56,9 @@ fn replay_command<'a>(alloc: Global) -> Result<Command<'a>, AllocError>
     let with_trace = with_word(alloc, plain, "trace")?;
     let with_settings = with_option(alloc, with_trace, "settings")?;
     let with_size = with_option(alloc, with_settings, "size")?;
-    with_option(alloc, with_size, "shift")
+    let with_shift = with_option(alloc, with_size, "shift")?;
+    let with_save = with_option(alloc, with_shift, "save")?;
+    with_option(alloc, with_save, "resume")
 }
 
 // What the values of a `replay` ask for, unless its layout is none that is allowed.
@@ -44,6 +71,8 @@ fn options_in<'a>(matches: &ArgMatches<'a>) -> Option<ReplayOptions<'a>>
         trace,
         settings: value_of(matches, "settings"),
         layout,
+        save: value_of(matches, "save"),
+        resume: value_of(matches, "resume"),
     })
 }
 

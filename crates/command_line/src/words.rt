@@ -9,7 +9,7 @@ use crate::check::read_check;
 use crate::convert::{self, read_convert};
 use crate::demand::{Demand, WordsFault};
 use crate::generate::read_gen;
-use crate::replay::read_replay;
+use crate::replay::{self, read_replay};
 use crate::run::{self, read_run};
 use crate::split::{self, read_split};
 use std::alloc::Global;
@@ -61,7 +61,8 @@ fn are_names_apart(demand: &Demand<'_>) -> bool
     ensures { result ≡ are_apart (outputs (meaning demand.now)) (inputs (meaning demand.now)) }
 {
     match demand {
-        Demand::Replay(_) | Demand::Check(_) | Demand::Gen(_) => true,
+        Demand::Check(_) | Demand::Gen(_) => true,
+        Demand::Replay(options) => replay::has_names_apart(options),
         Demand::Run(options) => run::has_names_apart(options),
         Demand::Split(options) => split::has_names_apart(options),
         Demand::Convert(options) => convert::has_names_apart(options),

@@ -14,3 +14,7 @@ mod RunEnds
 mod SummaryLaws
 mod GenEnds
 mod CopyEnds
+mod StateFiles
+mod ReplayEnds
+mod SaveLaws
+mod ReplayLaws

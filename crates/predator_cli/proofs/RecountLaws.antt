@@ -13,7 +13,7 @@ pub report_is_recounted : (asked : Option Demand) (files : Files) → ReportIsRe
 report_is_recounted None files = tt
 report_is_recounted (Some (replay d)) files =
     let s = chosen_settings d.settings files in
-    λ t read. listed_are_recounted (layout_of d.layout s) (levels_of d.layout s) (touches_in (all_records t))
+    λ alone t read. listed_are_recounted (layout_of d.layout s) (levels_of d.layout s) (touches_in (all_records t))
 report_is_recounted (Some (check d)) files = tt
 report_is_recounted (Some (split d)) files = tt
 report_is_recounted (Some (gen d)) files = tt

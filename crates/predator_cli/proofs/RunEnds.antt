@@ -9,8 +9,8 @@ use Rattle.std.specs.Str.{bytes_eq}
 use Rattle.shelf.specs.Shelf.{Files, Outside, Told, content}
 use Rattle.shelf.specs.declared.shelf.ShelfError.{ShelfError}
 use Rattle.command_line.specs.Names.{are_apart, given, is_named}
-use Rattle.command_line.specs.Replay.{ReplayDemand}
 use Rattle.command_line.specs.Demands.{text_of}
+use Rattle.command_line.specs.Replay.{ReplayDemand}
 use Rattle.command_line.specs.Run.{RunDemand, run_meaning, run_outputs}
 use Rattle.command_line.specs.Split.{SplitDemand, split_outputs}
 use Rattle.command_line.specs.declared.run.RunOptions.{RunOptions}
@@ -26,17 +26,18 @@ use Rattle.outputs.specs.OnTheirWay.{AreApart, IsNew}
 use Rattle.run_recorder.specs.Recorded.{IsKept, names_of, outputs_for, spell_trace, trace_for}
 use Rattle.run_recorder.specs.declared.file.Content.TheVariants as Content
 use Rattle.run_recorder.specs.declared.file.RunFile.{RunFile}
-use Rattle.predator_cli.specs.Again.{RepeatsReport, RunRepeats}
+use Rattle.predator_cli.specs.Again.{RepeatsReport, RunRepeats, whole_replay}
 use Rattle.predator_cli.specs.Answer.{answer_of}
 use Rattle.predator_cli.specs.Commands.{work_of}
 use Rattle.predator_cli.specs.Meets.{IsFaulty, IsWorked}
 use Rattle.predator_cli.specs.Readings.{first_refusal}
-use Rattle.predator_cli.specs.Replay.{replay_readings, report_of, trace_reading, whole}
-use Rattle.predator_cli.specs.Run.{IsReady, file_for, output_for, outputs_of_run, run_for_demand, run_readings, status_for}
+use Rattle.predator_cli.specs.Replay.{begun_in, grid_in, levels_in, refuses_trace, replay_readings, report_of, state_readings, trace_reading}
+use Rattle.predator_cli.specs.Replay.{wanted_after, whole}
+use Rattle.predator_cli.specs.Run.{IsReady, file_for, outputs_of_run, run_for_demand, run_readings, status_for}
 use Rattle.predator_cli.specs.Run.{trace_for_demand, work_of_run}
 use Rattle.predator_cli.specs.SettingsFiles.{levels_of, native_of, settings_in, settings_readings}
 use Rattle.predator_cli.specs.Statuses.{status_of_refusal, status_of_writing}
-use Rattle.predator_cli.specs.Works.{Work, done_with}
+use Rattle.predator_cli.specs.Works.{Work, done_with, output_for}
 use Rattle.predator_cli.specs.declared.status.Status.{Status}
 use Rattle.predator_cli.specs.declared.status.Status.TheVariants as status
 use Rattle.predator_cli.proofs.FileLaws.{settings_chosen, settings_pass}
@@ -155,26 +156,30 @@ works d s o t r read traced same =
 found_bytes : (n bytes : List ℕ) (rest : List Output) → bytes_for (record { name = n; bytes = bytes } ∷ rest) n ≡ Some bytes
 found_bytes n bytes rest = rw ((bytes_eq-Decides n n).1 refl) refl
 
--- the replay of a trace with the settings of a run and no layout named
-abbrev pub replay_of_trace : RunDemand → List ℕ → ReplayDemand
-replay_of_trace d name = record { trace = name; settings = d.settings; layout = None }
+all_pass : (d : ReplayDemand) (later : Files) (s : Settings) → settings_in d.settings later ≡ Ok s
+    → first_refusal (state_readings (grid_in d) (levels_in d) d.resume) later ≡ None
+    → refusal_of (wanted_after (begun_in d later)) (content later d.trace) ≡ None → first_refusal (replay_readings d) later ≡ None
+all_pass d later s is states none =
+    let traces = trace_reading (λ files. wanted_after (begun_in d files)) d.trace ∷ [] in
+    passed (settings_readings d.settings) (state_readings (grid_in d) (levels_in d) d.resume ++ traces) later
+    (settings_pass d.settings later s is)
+    ∙ passed (state_readings (grid_in d) (levels_in d) d.resume) traces later states
+    ∙ none_alone (refuses_trace (wanted_after (begun_in d later)) d.trace later) (ap (option_map status_of_refusal) none)
 
-replay_passes : (d : ReplayDemand) (later : Files) (s : Settings) → settings_in d.settings later ≡ Ok s
-    → refusal_of whole (content later d.trace) ≡ None → first_refusal (replay_readings d) later ≡ None
-replay_passes d later s is none =
-    passed (settings_readings d.settings) (trace_reading d.trace ∷ []) later (settings_pass d.settings later s is)
-    ∙ none_alone (option_map status_of_refusal (refusal_of whole (content later d.trace))) (ap (option_map status_of_refusal) none)
+replay_passes : (settings : Option (List ℕ)) (name : List ℕ) (later : Files) (s : Settings) → settings_in settings later ≡ Ok s
+    → refusal_of whole (content later name) ≡ None → first_refusal (replay_readings (whole_replay settings name)) later ≡ None
+replay_passes settings name later s is none = all_pass (whole_replay settings name) later s is refl none
 
 replay_work : (d : RunDemand) (name : List ℕ) (later : Files) (s : Settings) (t : Trace) → settings_in d.settings later ≡ Ok s
     → trace_of (content later name) ≡ Some t
-    → work_of (replay (replay_of_trace d name)) later ≡ done_with (report_of (levels_of None s) (native_of s) t)
+    → work_of (replay (whole_replay d.settings name)) later ≡ done_with (report_of (levels_of None s) (native_of s) t)
 replay_work d name later s t is read = rw (read, is) refl
 
 replay_answer : (d : RunDemand) (name : List ℕ) (later : Files) (s : Settings) (t : Trace) → settings_in d.settings later ≡ Ok s
     → refusal_of whole (content later name) ≡ None → trace_of (content later name) ≡ Some t
-    → answer_of (Some (replay (replay_of_trace d name))) later ≡ done_with (report_of (levels_of None s) (native_of s) t)
+    → answer_of (Some (replay (whole_replay d.settings name))) later ≡ done_with (report_of (levels_of None s) (native_of s) t)
 replay_answer d name later s t is none read =
-    accepted_answer (replay (replay_of_trace d name)) later (replay_passes (replay_of_trace d name) later s is none)
+    accepted_answer (replay (whole_replay d.settings name)) later (replay_passes d.settings name later s is none)
     ∙ replay_work d name later s t is read
 
 -- of files that hold what was written

@@ -8,8 +8,9 @@ use Rattle.trace_passes.specs.declared.passes.PassFault.{PassFault}
 use Rattle.trace_passes.specs.declared.passes.PassFault.TheVariants.{NoMemory, ReadFault, Refused}
 use Rattle.trace_passes.specs.declared.wanted.Refusal.{Refusal}
 use Rattle.trace_passes.specs.declared.wanted.Refusal.TheVariants as refusals
+use Rattle.trace_passes.specs.declared.wanted.Wanted.{Wanted}
 use Rattle.predator_cli.specs.Readings.{IsRefusal, IsStopped, first_refusal}
-use Rattle.predator_cli.specs.Replay.{refuses_trace, trace_reading, whole}
+use Rattle.predator_cli.specs.Replay.{refuses_trace, trace_reading}
 use Rattle.predator_cli.specs.Statuses.{status_of_pass, status_of_refusal}
 use Rattle.predator_cli.proofs.ReadingLaws.{accepted_alone, fault_stopped, memory_stopped, refused_stopped}
 use Rattle.predator_cli.proofs.Told.{told_map}
@@ -31,18 +32,18 @@ refusal_cases (refusals.Position saved first) = inr (record { kind = refl; words
 is_refusal : (r : Refusal) → r ≢ refusals.Trace trace.NoMemory → IsRefusal (status_of_refusal r)
 is_refusal r other = elim (refusal_cases r) [ inl is ↦ absurd (other is) | inr judged ↦ judged ]
 
-pub pass_accepted : (name : List ℕ) (o : Option Files) → Told o (λ files. refusal_of whole (content files name) ≡ None)
-    → Told o (λ files. first_refusal (trace_reading name ∷ []) files ≡ None)
-pass_accepted name o none =
-    accepted_alone name (refuses_trace whole name) o (told_map o (λ files is. ap (option_map status_of_refusal) is) none)
+pub pass_accepted : (w : Wanted) (name : List ℕ) (o : Option Files) → Told o (λ files. refusal_of w (content files name) ≡ None)
+    → Told o (λ files. first_refusal (trace_reading (λ _. w) name ∷ []) files ≡ None)
+pass_accepted w name o none =
+    accepted_alone name (refuses_trace w name) o (told_map o (λ files is. ap (option_map status_of_refusal) is) none)
 
-pub pass_stopped : {T : Type 0} (name : List ℕ) (a b : Outside) (fault : PassFault)
-    → ((r : Refusal) → fault ≡ Refused r → Told a.held (λ files. refusal_of whole (content files name) ≡ Some r))
+pub pass_stopped : {T : Type 0} (w : Wanted) (name : List ℕ) (a b : Outside) (fault : PassFault)
+    → ((r : Refusal) → fault ≡ Refused r → Told a.held (λ files. refusal_of w (content files name) ≡ Some r))
     → fault ≢ Refused (refusals.Trace trace.NoMemory) → HasPassCause {T = T} name a b (Err fault) → OnlyReads a b
-    → IsStopped (trace_reading name ∷ []) a b (status_of_pass fault)
-pass_stopped {T} name a b (Refused r) told memory cause only =
-    refused_stopped name (refuses_trace whole name) a b (status_of_refusal r) (is_refusal r (λ e. memory (ap Refused e)))
+    → IsStopped (trace_reading (λ _. w) name ∷ []) a b (status_of_pass fault)
+pass_stopped {T} w name a b (Refused r) told memory cause only =
+    refused_stopped name (refuses_trace w name) a b (status_of_refusal r) (is_refusal r (λ e. memory (ap Refused e)))
     (told_map a.held (λ files is. ap (option_map status_of_refusal) is) (told r refl)) (cause.quiet (λ e. cc)) only
-pass_stopped {T} name a b ReadFault told memory cause only =
-    fault_stopped name (refuses_trace whole name) a b (cause.failed refl) only
-pass_stopped {T} name a b NoMemory told memory cause only = memory_stopped (trace_reading name ∷ []) a b only
+pass_stopped {T} w name a b ReadFault told memory cause only =
+    fault_stopped name (refuses_trace w name) a b (cause.failed refl) only
+pass_stopped {T} w name a b NoMemory told memory cause only = memory_stopped (trace_reading (λ _. w) name ∷ []) a b only

@@ -1,5 +1,6 @@
 -- What is promised of a run: the replay of the trace that it wrote, and the steps that it made.
 use Rattle.std.specs.Prelude.{◌≡◌, ℕ, List, Option, Some, None}
+use Rattle.command_line.specs.Replay.{ReplayDemand}
 use Rattle.command_line.specs.Run.{RunDemand}
 use Rattle.command_line.specs.Words.{Demand, replay, check, run, split, gen, convert}
 use Rattle.outputs.specs.Files.{bytes_for}
@@ -10,6 +11,16 @@ use Rattle.predator_cli.specs.SettingsFiles.{settings_in}
 use Rattle.predator_cli.specs.Statuses.{Kind, done, refusal, read_fault, write_fault, no_memory}
 use Rattle.predator_cli.specs.Works.{done_with}
 
+-- the replay of a whole trace with no layout named, which saves nothing
+abbrev pub whole_replay : Option (List ℕ) → List ℕ → ReplayDemand
+whole_replay settings trace = record {
+  trace = trace;
+  settings = settings;
+  layout = None;
+  save = None;
+  resume = None;
+}
+
 -- Where files hold the trace that a run wrote under a name, and the same settings, its replay with
 -- no layout named is done and prints what the run printed.
 abbrev pub RunRepeats : RunDemand → Files → Type 0
@@ -18,8 +29,7 @@ RunRepeats demand files =
     (name : List ℕ) (later : Files) → demand.trace ≡ Some name
     → later name ≡ bytes_for answer.outputs name
     → settings_in demand.settings later ≡ settings_in demand.settings files
-    → answer_of (Some (replay (record { trace = name; settings = demand.settings; layout = None })))
-    later ≡ done_with answer.text
+    → answer_of (Some (replay (whole_replay demand.settings name))) later ≡ done_with answer.text
 
 -- the same of what was asked for
 abbrev pub RepeatsReport : Demand → Files → Type 0

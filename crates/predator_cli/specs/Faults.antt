@@ -68,15 +68,17 @@ trace_text trace.TooLong = codes "TooLong"
 trace_text trace.NoMemory = codes "NoMemory"
 
 abbrev pub state_text : StateFault → List ℕ
+state_text (state.BadState place) = codes "BadState " ++ decimal place
 state_text (state.WrongSettings place) = codes "WrongSettings " ++ decimal place
 state_text (state.WrongPosition saved first) = codes "WrongPosition " ++
     (decimal saved ++ (codes " " ++ decimal first))
+state_text state.TooLong = codes "TooLong"
 
 -- a line for each command
 abbrev pub usage_text : List ℕ
 usage_text =
     line (codes "usage: predator run PROGRAM [--settings F] [--schedule F] [--trace F] [--output F]")
-    ++ line (codes "usage: predator replay TRACE [--settings F] [--size N] [--shift N]")
+    ++ line (codes "usage: predator replay TRACE [--settings F] [--size N] [--shift N] [--save F] [--resume F]")
     ++ line (codes "usage: predator check PROGRAM [--settings F]")
     ++ line (codes "usage: predator split TRACE K A B")
     ++ line (codes "usage: predator gen N FILE")

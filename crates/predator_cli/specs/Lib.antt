@@ -6,6 +6,7 @@ pub mod Texts
 pub mod Faults
 pub mod SettingsFiles
 pub mod ProgramFiles
+pub mod States
 pub mod Replay
 pub mod Check
 pub mod Run

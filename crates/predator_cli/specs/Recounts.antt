@@ -25,11 +25,11 @@ AreRecounted g v t = All (IsRecounted t) (listed g v t)
 abbrev pub IsRecountedIn : Grid → Levels → Trace → Type 0
 IsRecountedIn g v t = AreRecounted g v (touches_in (all_records t))
 
--- of the trace that a replay reads, under the layout and the thresholds of its report
+-- of the whole trace that a replay reads, under the layout and the thresholds of its report
 abbrev pub ReplayIsRecounted : ReplayDemand → Files → Type 0
 ReplayIsRecounted demand files =
     let settings = chosen_settings demand.settings files in
-    (t : Trace) → trace_of (content files demand.trace) ≡ Some t
+    demand.resume ≡ None → (t : Trace) → trace_of (content files demand.trace) ≡ Some t
     → IsRecountedIn (layout_of demand.layout settings) (levels_of demand.layout settings) t
 
 -- and of the trace of a run

@@ -1,49 +1,120 @@
--- The command `replay`: what it reads, and the report that it gives of a trace.
+-- The command `replay`: what it reads, the report that it gives of a trace, and the state that it
+-- saves. A trace is a whole one, or goes on from a saved state.
 use Rattle.std.specs.Prelude.{ℕ, List, [], ◌∷◌, ◌++◌, ◌≡◌, Option, Some, None}
-use Rattle.std.specs.Option.{option_map, option_map_or}
+use Rattle.std.specs.Option.{option_and_then, option_map, option_map_or}
+use Rattle.std.specs.Result.{result_ok}
 use Rattle.command_line.specs.Replay.{ReplayDemand}
 use Rattle.predator_base.specs.Lines.{Grid}
 use Rattle.predator_base.specs.Levels.{Levels}
-use Rattle.shelf.specs.Shelf.{Files, content}
+use Rattle.predator_base.specs.declared.ending.Ending.{Ending}
+use Rattle.shelf.specs.Shelf.{Files, Outside, Told, content}
 use Rattle.sightings.specs.Seen.{report_of_records}
+use Rattle.sightings.specs.Sights.{report_of_sighted, sighted_after}
 use Rattle.trace_passes.specs.Passes.{Trace, all_records, refusal_of, trace_of}
 use Rattle.trace_passes.specs.declared.wanted.Wanted.{Wanted}
-use Rattle.predator_cli.specs.Readings.{Reading, reading}
+use Rattle.predator_cli.specs.Readings.{IsAccepted, Reading, reading}
 use Rattle.predator_cli.specs.SettingsFiles.{chosen_settings, layout_of, levels_of}
 use Rattle.predator_cli.specs.SettingsFiles.{settings_readings}
+use Rattle.predator_cli.specs.States.{judged_state, state_of_records, state_of_sighted}
+use Rattle.predator_cli.specs.States.{state_refusal}
 use Rattle.predator_cli.specs.Statuses.{status_of_refusal}
-use Rattle.predator_cli.specs.Works.{Work, done_with}
+use Rattle.predator_cli.specs.Works.{Work, done_with, output_for}
+use Rattle.predator_cli.specs.declared.state_file.Begun.{Begun}
 use Rattle.predator_cli.specs.declared.status.Status.{Status}
+use Rattle.predator_cli.specs.declared.status.Status.TheVariants as status
+
+-- ---- what is read
+
+-- the layout and the thresholds of a replay
+abbrev pub grid_in : ReplayDemand → Files → Grid
+grid_in demand files = layout_of demand.layout (chosen_settings demand.settings files)
+
+abbrev pub levels_in : ReplayDemand → Files → Levels
+levels_in demand files = levels_of demand.layout (chosen_settings demand.settings files)
+
+-- the state of a name, under a layout and thresholds, each beside the contents of all files
+abbrev pub state_reading : (Files → Grid) → (Files → Levels) → List ℕ → Reading
+state_reading grid levels name =
+    reading name
+    (λ files. state_refusal (judged_state (grid files) (levels files) (content files name)))
+
+abbrev pub state_readings : (Files → Grid) → (Files → Levels) → Option (List ℕ) → List Reading
+state_readings grid levels name = option_map_or (λ n. state_reading grid levels n ∷ []) name []
+
+-- what was seen before the trace, where a state is named
+abbrev pub begun_under : Grid → Levels → Option (List ℕ) → Files → Option Begun
+begun_under g v name files =
+    option_and_then (λ n. result_ok (judged_state g v (content files n))) name
+
+abbrev pub begun_in : ReplayDemand → Files → Option Begun
+begun_in demand files =
+    begun_under (grid_in demand files) (levels_in demand files) demand.resume files
 
 -- a whole trace is wanted: one of any number of harts, whose first access has position 0
 abbrev pub whole : Wanted
 whole = record { harts = None; first = Some 0 }
+
+-- behind a state one of its harts, from its position on
+abbrev pub wanted_after : Option Begun → Wanted
+wanted_after None = whole
+wanted_after (Some begun) =
+    record { harts = Some begun.harts; first = Some begun.sightings.watch.position }
 
 -- how a file is refused that is no trace as it is wanted
 abbrev pub refuses_trace : Wanted → List ℕ → Files → Option Status
 refuses_trace wanted name files =
     option_map status_of_refusal (refusal_of wanted (content files name))
 
-abbrev pub trace_reading : List ℕ → Reading
-trace_reading name = reading name (refuses_trace whole name)
+abbrev pub trace_reading : (Files → Wanted) → List ℕ → Reading
+trace_reading wanted name = reading name (λ files. refuses_trace (wanted files) name files)
 
+-- the settings, the state, and the trace
 abbrev pub replay_readings : ReplayDemand → List Reading
-replay_readings demand = settings_readings demand.settings ++ trace_reading demand.trace ∷ []
+replay_readings demand =
+    settings_readings demand.settings
+    ++ (state_readings (grid_in demand) (levels_in demand) demand.resume
+    ++ trace_reading (λ files. wanted_after (begun_in demand files)) demand.trace ∷ [])
+
+-- ---- what is given
+
+-- a report, and a state where it is saved
+abbrev pub shown : Option (List ℕ) → List ℕ → List ℕ → Work
+shown save text state =
+    record { status = status.Done; text = text; outputs = output_for save state }
 
 -- the report of a trace under thresholds and a layout
 abbrev pub report_of : Levels → Grid → Trace → List ℕ
 report_of levels layout t = report_of_records t.ending layout levels (all_records t)
 
--- a text is the report of the trace that the bytes are
-abbrev pub IsReported : Levels → Grid → List ℕ → List ℕ → Type 0
-IsReported levels layout bytes text = (t : Trace) × (trace_of bytes ≡ Some t)
-    × (text ≡ report_of levels layout t)
+-- an end at which so many accesses were counted
+abbrev pub ended_at : ℕ → Ending → Ending
+ended_at position ending = record ending { accesses = position }
 
-abbrev pub replayed : ReplayDemand → Files → Trace → List ℕ
-replayed demand files t =
-    let settings = chosen_settings demand.settings files in
-    report_of (levels_of demand.layout settings) (layout_of demand.layout settings) t
+-- What a trace gives. Of a whole one the report is by the definitions. One that goes on from a
+-- state has each of its records noted behind what was seen before.
+abbrev pub work_after : Option (List ℕ) → Grid → Levels → Option Begun → Trace → Work
+work_after save g v None t =
+    shown save (report_of v g t) (state_of_records g v t.header.harts (all_records t))
+work_after save g v (Some begun) t =
+    let now = sighted_after begun.sightings (all_records t) in
+    shown save (report_of_sighted (ended_at now.watch.position t.ending) now)
+    (state_of_sighted t.header.harts now)
 
 abbrev pub replay_work : ReplayDemand → Files → Work
 replay_work demand files =
-    done_with (option_map_or (replayed demand files) (trace_of (content files demand.trace)) [])
+    option_map_or
+    (work_after demand.save (grid_in demand files) (levels_in demand files)
+    (begun_in demand files)) (trace_of (content files demand.trace)) (done_with [])
+
+-- ---- how far it is
+
+-- a text and a state are those of the trace that the bytes are
+abbrev pub IsCounted : Option (List ℕ) → Grid → Levels → Option Begun → List ℕ → List ℕ → List ℕ
+    → Type 0
+IsCounted save g v begun bytes text state = (t : Trace) × (trace_of bytes ≡ Some t)
+    × (work_after save g v begun t ≡ shown save text state)
+
+-- what was read for a replay: all of it is accepted, nothing was changed, and this is to be shown
+pub record IsToShow (demand : ReplayDemand) (old now : Outside) (text state : List ℕ) : Type 0 where
+  pub accepted : IsAccepted (replay_readings demand) old now
+  pub work : Told old.held (λ files. replay_work demand files ≡ shown demand.save text state)

@@ -34,7 +34,7 @@ use Rattle.predator_cli.specs.SettingsFiles.{chosen_settings, levels_of, native_
 use Rattle.predator_cli.specs.SettingsFiles.{settings_readings}
 use Rattle.predator_cli.specs.ProgramFiles.{IsStartable, program_reading, space_of}
 use Rattle.predator_cli.specs.Replay.{report_of}
-use Rattle.predator_cli.specs.Works.{Work}
+use Rattle.predator_cli.specs.Works.{Work, output_for}
 use Rattle.predator_cli.specs.declared.run.Loading.{Loading}
 use Rattle.predator_cli.specs.declared.status.Status.{Status}
 use Rattle.predator_cli.specs.declared.status.Status.TheVariants as status
@@ -103,11 +103,6 @@ status_for Budget = status.Budget
 status_for Deadlock = status.Deadlock
 status_for (Trap hart pc cause) = status.Trapped
 status_for Part = status.Done
-
--- the file of a name, if one is given
-abbrev pub output_for : Option (List ℕ) → List ℕ → List Output
-output_for None bytes = []
-output_for (Some name) bytes = record { name = name; bytes = bytes } ∷ []
 
 -- a symbol has bytes, and no zero byte in its name
 pub record HasNameAndSize (s : Symbol) : Type 0 where

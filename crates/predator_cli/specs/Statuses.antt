@@ -7,6 +7,8 @@ use Rattle.elf_loader.specs.declared.image.PlaceFault.{PlaceFault}
 use Rattle.elf_loader.specs.declared.image.PlaceFault.TheVariants as place
 use Rattle.hart_scheduler.specs.declared.fault.ScheduleFault.{ScheduleFault}
 use Rattle.hart_scheduler.specs.declared.fault.ScheduleFault.TheVariants as schedule
+use Rattle.predator_base.specs.declared.faults.ResumeFault.{ResumeFault}
+use Rattle.predator_base.specs.declared.faults.ResumeFault.TheVariants as resume
 use Rattle.settings.specs.declared.fault.SettingsFault.{SettingsFault}
 use Rattle.settings.specs.declared.fault.SettingsFault.TheVariants as settings
 use Rattle.shelf.specs.declared.shelf.ShelfError.{ShelfError}
@@ -71,6 +73,10 @@ status_of_settings settings.BadToml = status.Settings settings.BadToml
 status_of_settings (settings.UnknownKey name) = status.Settings (settings.UnknownKey name)
 status_of_settings (settings.OutOfRange key) = status.Settings (settings.OutOfRange key)
 status_of_settings settings.NoMemory = status.NoMemory
+
+abbrev pub status_of_resume : ResumeFault → Status
+status_of_resume (resume.BadState place) = status.State (state.BadState place)
+status_of_resume resume.NoMemory = status.NoMemory
 
 abbrev pub status_of_trace : TraceFault → Status
 status_of_trace trace.BadMagic = status.Trace trace.BadMagic

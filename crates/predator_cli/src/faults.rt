@@ -16,7 +16,7 @@ pub const NO_MEMORY_LINE: &str = "predator: no memory\n";
 
 /// A line for each command.
 pub const USAGE: &str =
-    "usage: predator run PROGRAM [--settings F] [--schedule F] [--trace F] [--output F]\nusage: predator replay TRACE [--settings F] [--size N] [--shift N]\nusage: predator check PROGRAM [--settings F]\nusage: predator split TRACE K A B\nusage: predator gen N FILE\nusage: predator convert TRACE FILE\n";
+    "usage: predator run PROGRAM [--settings F] [--schedule F] [--trace F] [--output F]\nusage: predator replay TRACE [--settings F] [--size N] [--shift N] [--save F] [--resume F]\nusage: predator check PROGRAM [--settings F]\nusage: predator split TRACE K A B\nusage: predator gen N FILE\nusage: predator convert TRACE FILE\n";
 
 fn elf_name(fault: ElfFault) -> &'static str
     ensures { result.now ≡ elf_text fault }
@@ -96,15 +96,17 @@ fn trace_name(alloc: Global, fault: TraceFault) -> Result<String, AllocError>
     }
 }
 
-// What it is called that a trace doesn't go on.
+// What a fault of a saved state is called, and that a trace doesn't go on.
 fn state_name(alloc: Global, fault: StateFault) -> Result<String, AllocError>
     ensures { IfOk result (λ text. string_bytes text ≡ state_text fault) }
 {
     match fault {
+        StateFault::BadState(place) => format!(in alloc; "BadState {place}"),
         StateFault::WrongSettings(place) => format!(in alloc; "WrongSettings {place}"),
         StateFault::WrongPosition { saved, first } => {
             format!(in alloc; "WrongPosition {saved} {first}")
         }
+        StateFault::TooLong => String::from_str(alloc, "TooLong"),
     }
 }
 

@@ -6,8 +6,14 @@ use advice::{elf_advice, schedule_advice, settings_advice, trace_advice, wrong_w
 
 fn state_advice(fault: StateFault) -> &'static str {
     match fault {
-        StateFault::WrongSettings(_) =>
-            "the trace has another number of harts than what was counted",
+        StateFault::BadState(_) => "this is no saved state, or not the whole of one",
+        StateFault::TooLong => "a saved state has at most 1099511627776 bytes",
+        StateFault::WrongSettings(32) => {
+            "the trace has another number of harts than what was counted"
+        }
+        StateFault::WrongSettings(_) => {
+            "the state was saved under another layout or with other thresholds"
+        }
         StateFault::WrongPosition { .. } => {
             "this is a later part of a trace, and the parts before it are to be counted first"
         }

@@ -1,21 +1,39 @@
 // The command `replay`.
-ghost use Rattle.std.specs.Prelude.{IfErr, IfOk, OnOk, Some, IsTrue, [], ◌∷◌};
+ghost use Rattle.std.specs.Prelude.{◌≡◌, ℕ, ◌∷◌, [], IfErr, IfOk, IsTrue, List, None, OnOk, Some};
+ghost use Rattle.command_line.specs.Demands.{text_of};
 ghost use Rattle.command_line.specs.Replay.{replay_meaning};
 ghost use Rattle.command_line.specs.Words.{replay as asks};
+ghost use Rattle.predator_base.specs.Levels.{Levels};
+ghost use Rattle.predator_base.specs.Lines.{Grid};
 ghost use Rattle.sharing_rules.specs.Listed.{may_predict};
-ghost use Rattle.predator_cli.specs.Meets.{IsAnswered, Meets};
+ghost use Rattle.shelf.specs.Shelf.{Outside};
+ghost use Rattle.sightings.specs.Seen.{HasSeen, begins_at, report_of_records};
+ghost use Rattle.sightings.specs.Sights.{nothing_sighted, report_of_sighted};
+ghost use Rattle.trace_grammar.specs.Rules.{IsGoodHeader};
+ghost use Rattle.trace_grammar.specs.declared.record.Header.{Header as Head};
+ghost use Rattle.trace_grammar.specs.declared.record.TraceRecord.{TraceRecord as Record};
+ghost use Rattle.trace_passes.specs.Passes.{HasPassed, IsWanted};
+ghost use Rattle.predator_cli.specs.Meets.{Meets};
 ghost use Rattle.predator_cli.specs.Readings.{IsAccepted, IsReadFrom, IsStopped};
-ghost use Rattle.predator_cli.specs.Replay.{IsReported, replay_readings, trace_reading};
+ghost use Rattle.predator_cli.specs.Replay.{IsCounted, IsToShow, replay_readings, shown};
+ghost use Rattle.predator_cli.specs.Replay.{trace_reading, wanted_after};
+ghost use Rattle.predator_cli.specs.States.{state_of_records, state_of_sighted};
+ghost use Rattle.predator_cli.specs.Works.{output_for};
+ghost use Rattle.predator_cli.specs.declared.state_file.Begun.{Begun as Before};
 
 use crate::Status;
-use crate::endings::{answer, stop};
+use crate::endings::{finish, refuse, stop};
+use crate::save::save;
 use crate::settings_file::{native_layout, read_settings, thresholds_of};
+use crate::state_file::{Begun, read_state};
 use command_line::ReplayOptions;
-use predator_base::{Layout, NoMemory, Thresholds};
+use detector_states::save_detector;
+use object_states::save_objects;
+use predator_base::{Ending, Layout, NoMemory, Thresholds};
 use shelf::Shelf;
 use sightings::Sightings;
 use std::alloc::Global;
-use trace_passes::{Wanted, pass};
+use trace_passes::{Passed, Wanted, pass};
 
 // A whole trace: of any number of harts, from position 0 on.
 const WHOLE: Wanted = Wanted {
@@ -23,40 +41,205 @@ const WHOLE: Wanted = Wanted {
     first: Some(0),
 };
 
-// The report of the trace of a name under a layout and thresholds, or why there is none.
-fn report_trace<S: Shelf>(
+// What a replay gives: its report, and its state, where one is saved.
+#[derive(Drop)]
+struct Counted {
+    text: Vec<u8>,
+    state: Vec<u8>,
+}
+
+// The state of what was seen of a trace of so many harts.
+fn state_bytes(alloc: Global, sightings: &Sightings, harts: u16) -> Result<Vec<u8>, NoMemory>
+    ensures of_held { IfOk result (λ bytes. bytes.items ≡ state_of_sighted harts sightings.now) }
+    ensures of_records { (g : Grid) (v : Levels) (items : List Record)
+        → HasSeen (nothing_sighted g v) sightings.now items
+        → IfOk result (λ bytes. bytes.items ≡ state_of_records g v harts items) }
+{
+    let mut bytes = save_detector(alloc, sightings.detector(), harts)?;
+    let objects = save_objects(sightings.objects())?;
+    bytes.extend_from_slice(&objects)?;
+    Ok(bytes)
+}
+
+// The same, where a name is given for it.
+fn state_for(
+    alloc: Global,
+    name: Option<&str>,
+    sightings: &Sightings,
+    harts: u16,
+) -> Result<Vec<u8>, NoMemory>
+    ensures of_held { IfOk result (λ bytes. output_for (text_of name.entry) bytes.items
+        ≡ output_for (text_of name.entry) (state_of_sighted harts sightings.now)) }
+    ensures of_records { (g : Grid) (v : Levels) (items : List Record)
+        → HasSeen (nothing_sighted g v) sightings.now items
+        → IfOk result (λ bytes. output_for (text_of name.entry) bytes.items
+        ≡ output_for (text_of name.entry) (state_of_records g v harts items)) }
+{
+    match name {
+        Some(_) => state_bytes(alloc, sightings, harts),
+        None => Ok(Vec::new(alloc)),
+    }
+}
+
+// What a replay gives of what was seen, with an end.
+fn counted_of(
+    alloc: Global,
+    name: Option<&str>,
+    sightings: &Sightings,
+    harts: u16,
+    ending: &Ending,
+) -> Result<Counted, NoMemory>
+    ensures of_held { IfOk result (λ counted.
+        shown (text_of name.entry) (report_of_sighted ending.now sightings.now)
+        (state_of_sighted harts sightings.now)
+        ≡ shown (text_of name.entry) counted.text.items counted.state.items) }
+    ensures of_records { (g : Grid) (v : Levels) (items : List Record)
+        → HasSeen (nothing_sighted g v) sightings.now items → IfOk result (λ counted.
+        shown (text_of name.entry) (report_of_records ending.now g v items)
+        (state_of_records g v harts items)
+        ≡ shown (text_of name.entry) counted.text.items counted.state.items) }
+{
+    let text = sightings.report(alloc, ending)?;
+    let state = state_for(alloc, name, sightings, harts)?;
+    Ok(Counted { text, state })
+}
+
+// Sees the trace of a name, or says why it is not taken.
+fn see_trace<S: Shelf>(
     alloc: Global,
     shelf: &mut S,
     name: &str,
-    layout: Layout,
-    thresholds: Thresholds,
-) -> Result<Vec<u8>, Status>
-    requires { IsTrue (may_predict layout thresholds) }
-    ensures text { IfOk result (λ text. IsReadFrom (S.outside shelf.old).held name.now
-        (λ bytes. IsReported thresholds layout bytes text.items)) }
-    ensures accepted { OnOk result (IsAccepted (trace_reading name.now ∷ [])
+    wanted: &Wanted,
+    sightings: &mut Sightings,
+) -> Result<Passed, Status>
+    requires begins { (header : Head) → IsGoodHeader header → IsWanted wanted.now header
+        → begins_at sightings.old header.first }
+    requires fresh { HasSeen sightings.old sightings.old [] }
+    ensures passed { IfOk result (λ passed. HasPassed (S.outside shelf.old).held name.now passed
+        (HasSeen sightings.old sightings.new)) }
+    ensures accepted { OnOk result (IsAccepted (trace_reading (λ _. wanted.now) name.now ∷ [])
         (S.outside shelf.old) (S.outside shelf.new)) }
-    ensures stopped { IfErr result (IsStopped (trace_reading name.now ∷ [])
+    ensures stopped { IfErr result (IsStopped (trace_reading (λ _. wanted.now) name.now ∷ [])
         (S.outside shelf.old) (S.outside shelf.new)) }
 {
-    let mut sightings = Sightings::new(alloc, layout, thresholds);
-    match pass(alloc, shelf, name, &WHOLE, &mut sightings) {
-        Ok(passed) => match sightings.report(alloc, &passed.ending) {
-            Ok(text) => Ok(text),
-            Err(NoMemory) => Err(Status::NoMemory),
-        },
+    match pass(alloc, shelf, name, wanted, sightings) {
+        Ok(passed) => Ok(passed),
         Err(fault) => Err(Status::from(fault)),
     }
 }
 
-// The report of a trace under the settings, or why there is none.
-fn replay_text<S: Shelf>(
+// What the replay of a whole trace gives.
+fn count_whole<S: Shelf>(
     alloc: Global,
     options: &ReplayOptions<'_>,
     shelf: &mut S,
-) -> Result<Vec<u8>, Status>
-    ensures answered { IfOk result (λ text. IsAnswered (asks (replay_meaning options.now))
-        (S.outside shelf.old) (S.outside shelf.new) text.items) }
+    layout: Layout,
+    thresholds: Thresholds,
+) -> Result<Counted, Status>
+    requires { IsTrue (may_predict layout thresholds) }
+    ensures counted { IfOk result (λ counted.
+        IsReadFrom (S.outside shelf.old).held options.now.trace.now (λ bytes.
+        IsCounted (text_of options.now.save) layout thresholds None bytes
+        counted.text.items counted.state.items)) }
+    ensures accepted { OnOk result (IsAccepted
+        (trace_reading (λ _. wanted_after None) options.now.trace.now ∷ [])
+        (S.outside shelf.old) (S.outside shelf.new)) }
+    ensures stopped { IfErr result (IsStopped
+        (trace_reading (λ _. wanted_after None) options.now.trace.now ∷ [])
+        (S.outside shelf.old) (S.outside shelf.new)) }
+{
+    let mut sightings = Sightings::new(alloc, layout, thresholds);
+    match see_trace(alloc, shelf, options.trace, &WHOLE, &mut sightings) {
+        Ok(passed) => {
+            let (harts, ending) = (passed.header.harts, passed.ending);
+            match counted_of(alloc, options.save, &sightings, harts, &ending) {
+                Ok(counted) => Ok(counted),
+                Err(NoMemory) => Err(Status::NoMemory),
+            }
+        }
+        Err(status) => Err(status),
+    }
+}
+
+// What the replay of a trace gives that goes on from a state. It is reported with all accesses,
+// those before the trace with its own.
+fn count_on<S: Shelf>(
+    alloc: Global,
+    options: &ReplayOptions<'_>,
+    shelf: &mut S,
+    begun: Begun,
+) -> Result<Counted, Status>
+    ensures counted { IfOk result (λ counted. (g : Grid) (v : Levels)
+        → IsReadFrom (S.outside shelf.old).held options.now.trace.now (λ bytes.
+        IsCounted (text_of options.now.save) g v (Some begun) bytes
+        counted.text.items counted.state.items)) }
+    ensures accepted { OnOk result (IsAccepted
+        (trace_reading (λ _. wanted_after (Some begun)) options.now.trace.now ∷ [])
+        (S.outside shelf.old) (S.outside shelf.new)) }
+    ensures stopped { IfErr result (IsStopped
+        (trace_reading (λ _. wanted_after (Some begun)) options.now.trace.now ∷ [])
+        (S.outside shelf.old) (S.outside shelf.new)) }
+{
+    let Begun {
+        mut sightings,
+        harts,
+    } = begun;
+    let wanted = Wanted {
+        harts: Some(harts),
+        first: Some(sightings.position()),
+    };
+    match see_trace(alloc, shelf, options.trace, &wanted, &mut sightings) {
+        Ok(passed) => {
+            let harts = passed.header.harts;
+            let ending = Ending {
+                accesses: sightings.position(),
+                ..passed.ending
+            };
+            match counted_of(alloc, options.save, &sightings, harts, &ending) {
+                Ok(counted) => Ok(counted),
+                Err(NoMemory) => Err(Status::NoMemory),
+            }
+        }
+        Err(status) => Err(status),
+    }
+}
+
+// What the replay of a trace gives, which goes on from a state where there is one.
+fn count_from<S: Shelf>(
+    alloc: Global,
+    options: &ReplayOptions<'_>,
+    shelf: &mut S,
+    layout: Layout,
+    thresholds: Thresholds,
+    begun: Option<Begun>,
+) -> Result<Counted, Status>
+    requires { IsTrue (may_predict layout thresholds) }
+    ensures counted { IfOk result (λ counted.
+        IsReadFrom (S.outside shelf.old).held options.now.trace.now (λ bytes.
+        IsCounted (text_of options.now.save) layout thresholds begun bytes
+        counted.text.items counted.state.items)) }
+    ensures accepted { OnOk result (IsAccepted
+        (trace_reading (λ _. wanted_after begun) options.now.trace.now ∷ [])
+        (S.outside shelf.old) (S.outside shelf.new)) }
+    ensures stopped { IfErr result (IsStopped
+        (trace_reading (λ _. wanted_after begun) options.now.trace.now ∷ [])
+        (S.outside shelf.old) (S.outside shelf.new)) }
+{
+    match begun {
+        None => count_whole(alloc, options, shelf, layout, thresholds),
+        Some(begun) => count_on(alloc, options, shelf, begun),
+    }
+}
+
+// What a replay gives under the settings and behind the state that are named, or why there is
+// nothing.
+fn count_trace<S: Shelf>(
+    alloc: Global,
+    options: &ReplayOptions<'_>,
+    shelf: &mut S,
+) -> Result<Counted, Status>
+    ensures counted { IfOk result (λ counted. IsToShow (replay_meaning options.now)
+        (S.outside shelf.old) (S.outside shelf.new) counted.text.items counted.state.items) }
     ensures stopped { IfErr result (IsStopped (replay_readings (replay_meaning options.now))
         (S.outside shelf.old) (S.outside shelf.new)) }
 {
@@ -66,20 +249,42 @@ fn replay_text<S: Shelf>(
     };
     let layout = options.layout.unwrap_or(native_layout(&settings));
     let thresholds = thresholds_of(&settings, options.layout);
-    match report_trace(alloc, shelf, options.trace, layout, thresholds) {
-        Ok(text) => Ok(text),
+    let begun = match read_state(alloc, shelf, options.resume, layout, thresholds) {
+        Ok(begun) => begun,
+        Err(status) => return Err(status),
+    };
+    match count_from(alloc, options, shelf, layout, thresholds, begun) {
+        Ok(counted) => Ok(counted),
         Err(status) => Err(status),
     }
 }
 
-/// Replays the trace of a name: counts its accesses under the settings and the layout, and prints
-/// the report.
+// Saves the state of a replay where it is named, and prints the report.
+fn show<S: Shelf>(
+    alloc: Global,
+    options: &ReplayOptions<'_>,
+    counted: &Counted,
+    shelf: &mut S,
+) -> Status
+    ensures { (old : Outside) → IsToShow (replay_meaning options.now) old (S.outside shelf.old)
+        counted.now.text.items counted.now.state.items
+        → Meets (Some (asks (replay_meaning options.now))) old (S.outside shelf.new) result }
+{
+    match save(alloc, shelf, options.save, &counted.state) {
+        Ok(()) => finish(shelf, Status::Done, &counted.text),
+        Err(error) => refuse(alloc, shelf, Status::from(error)),
+    }
+}
+
+/// Replays the trace of a name: counts its accesses under the settings and the layout, behind a
+/// saved state where one is named, saves the state at its end where a name is given for it, and
+/// prints the report.
 pub fn replay<S: Shelf>(alloc: Global, options: &ReplayOptions<'_>, shelf: &mut S) -> Status
     ensures { Meets (Some (asks (replay_meaning options.now)))
         (S.outside shelf.old) (S.outside shelf.new) result }
 {
-    match replay_text(alloc, options, shelf) {
-        Ok(text) => answer(shelf, &text),
+    match count_trace(alloc, options, shelf) {
+        Ok(counted) => show(alloc, options, &counted, shelf),
         Err(status) => stop(alloc, shelf, status),
     }
 }

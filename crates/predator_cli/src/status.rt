@@ -5,7 +5,7 @@ ghost use Rattle.predator_cli.specs.Numbers.{number_of};
 use command_line::WordsFault;
 use elf_loader::{ElfFault, PlaceFault};
 use hart_scheduler::ScheduleFault;
-use predator_base::NoMemory;
+use predator_base::{NoMemory, ResumeFault};
 use settings::SettingsFault;
 use shelf::ShelfError;
 use trace_copies::CopyFault;
@@ -15,11 +15,14 @@ use trace_passes::{PassFault, Refusal};
 // Where a saved state tells how many harts there are.
 const HARTS_PLACE: u64 = 32;
 
-/// Why a trace doesn't go on from where the count of it stands.
+/// Why a saved state isn't taken up again, or a trace doesn't go on from where the count of it
+/// stands.
 #[derive(Clone, Copy, Debug, PartialEq, Eq)]
 pub enum StateFault {
-    /// The trace's header differs from what was counted before, in the field that stands at this
-    /// place of a saved state.
+    /// The first unit of the state that is at fault, by its place in bytes.
+    BadState(u64),
+    /// The layout, the thresholds or the trace's harts differ from those that were counted before,
+    /// first in the field that stands at this place of the state.
     WrongSettings(u64),
     /// The trace's first access has another position than the next one to count.
     WrongPosition {
@@ -28,6 +31,8 @@ pub enum StateFault {
         /// The position of the trace's first access.
         first: u64,
     },
+    /// The state has more than 2^40 bytes.
+    TooLong,
 }
 
 /// How the program ends.
@@ -45,7 +50,8 @@ pub enum Status {
     Settings(SettingsFault),
     /// The trace has this fault, which is never want of memory.
     Trace(TraceFault),
-    /// The trace doesn't go on from where the count of it stands.
+    /// The saved state has this fault, or the trace doesn't go on from where the count of it
+    /// stands.
     State(StateFault),
     /// A file could not be read.
     ReadFault,
@@ -152,6 +158,19 @@ impl From<SettingsFault> for Status {
         match fault {
             SettingsFault::NoMemory => Status::NoMemory,
             fault => Status::Settings(fault),
+        }
+    }
+}
+
+impl From<ResumeFault> for Status {
+    ghost use Rattle.predator_cli.specs.Statuses.{status_of_resume};
+
+    ghost from_gives = { λ fault s. s ≡ status_of_resume fault };
+
+    fn from(fault: ResumeFault) -> Self {
+        match fault {
+            ResumeFault::BadState(place) => Status::State(StateFault::BadState(place)),
+            ResumeFault::NoMemory => Status::NoMemory,
         }
     }
 }

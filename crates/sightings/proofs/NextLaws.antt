@@ -32,7 +32,12 @@ use Rattle.trace_passes.specs.Rooms.{HasRoom}
 use Rattle.sightings.specs.Lives.{lived, made_by, objects_after, symbol_in, symbols_in}
 use Rattle.report.specs.OfLists.{report_of}
 use Rattle.sightings.specs.Seen.{HasSeen, begins_at, SeesNext, report_of_records}
-use Rattle.sightings.specs.Sights.{Sighted, nothing_sighted, objects_noted}
+use Rattle.report.specs.Reports.{report_lines}
+use Rattle.report.specs.Shown.{listed_tracks}
+use Rattle.text_forms.specs.Lines.{text_of}
+use Rattle.virtual_lines.specs.Kept.{Kept}
+use Rattle.sightings.specs.Sights.{Sighted, noted, nothing_sighted, objects_noted, report_of_sighted, sighted_after, watch_noted}
+use Rattle.sightings.specs.SeenLaws.{sighted_after-push}
 use Rattle.sightings.specs.LifeLaws.{blocks_behind, blocks_behind-push, ended, none_ended, position_after}
 
 -- one record more at a position, over any blocks
@@ -47,6 +52,7 @@ blocks_noted before q (records.End e) = append-nil _ ∙ none_ended q (records.E
 
 -- what one record changed
 pub record IsNext (old new : Sighted) (x : TraceRecord) : Type 0 where
+  pub value : new ≡ noted old x
   pub stands : (t : AccessList) → StandsFor t old.watch → StandsFor (t ++ touches_in (x ∷ [])) new.watch
   pub position : new.watch.position ≡ counted_after old.watch.position x
   pub symbols : (list : List Symbol) → old.objects.symbols ≡ symbols_of list
@@ -71,6 +77,9 @@ same_objects a b symbols blocks =
 
 module _ (begun old new : Sighted) (xs : List TraceRecord) (x : TraceRecord) (one : IsNext old new x) (so_far : HasSeen begun old xs)
   where
+    next_value : new ≡ sighted_after begun (xs ++ x ∷ [])
+    next_value = one.value ∙ ap (λ (s : Sighted). noted s x) so_far.value ∙ sym (sighted_after-push begun xs x)
+
     next_stands : (t : AccessList) → StandsFor t begun.watch → StandsFor (t ++ touches_in (xs ++ x ∷ [])) new.watch
     next_stands t stood =
         let P : AccessList → Type 0 = λ list. StandsFor list new.watch in
@@ -100,6 +109,7 @@ module _ (begun old new : Sighted) (xs : List TraceRecord) (x : TraceRecord) (on
 
     next : HasSeen begun new (xs ++ x ∷ [])
     next = record {
+      value = next_value;
       stands = next_stands;
       position = next_position;
       objects = same_objects new.objects (objects_after begun.objects begun.watch.position (xs ++ x ∷ [])) next_symbols next_blocks;
@@ -122,6 +132,7 @@ pub next_access : (o : Objects) (old new : Watch) (a : Touch) → new ≡ watche
     → SeesNext (sighted old o) (sighted new o) (records.Touch a)
 next_access o old new a is stands =
     sees_next (sighted old o) (sighted new o) (records.Touch a) (record {
+      value = ap (λ (w : Watch). sighted w o) is;
       stands = stands;
       position = ap (λ (w : Watch). w.position) is;
       symbols = λ list was. no_symbol o.symbols o.symbols list refl was;
@@ -133,15 +144,17 @@ next_access o old new a is stands =
 -- a record that is no access, over anything that the accesses show
 module _ (w : Watch) (old new : Objects) where
   another : (x : TraceRecord) → touches_in (x ∷ []) ≡ [] → counted_after w.position x ≡ w.position
+      → watch_noted w x ≡ w → new ≡ objects_noted old x w.position
       → ((list : List Symbol) → old.symbols ≡ symbols_of list → new.symbols ≡ symbols_of (list ++ symbols_in (x ∷ [])))
-      → new.blocks ≡ (objects_noted old x w.position).blocks
       → SeesNext (sighted w old) (sighted w new) x
-  another x none stays symbols blocks =
+  another x none stays unseen is symbols =
       sees_next (sighted w old) (sighted w new) x (record {
+        value = ap (λ (o : Objects). sighted w o) is
+            ∙ ap (λ (v : Watch). sighted v (objects_noted old x w.position)) (sym unseen);
         stands = λ t stood. subst (λ (list : AccessList). StandsFor list w) (same_list t) stood;
         position = sym stays;
         symbols = symbols;
-        blocks = blocks;
+        blocks = ap (λ (o : Objects). o.blocks) is;
         grid = refl;
         levels = refl;
       })
@@ -153,27 +166,27 @@ module _ (w : Watch) (old new : Objects) where
       → new ≡ record old { blocks = blocks_after_alloc old.blocks w.position addr size sites }
       → SeesNext (sighted w old) (sighted w new) (records.Alloc addr size sites)
   next_alloc addr size sites is =
-      another (records.Alloc addr size sites) refl refl
-      (λ list was. no_symbol old.symbols new.symbols list (ap (λ (o : Objects). o.symbols) is) was) (ap (λ (o : Objects). o.blocks) is)
+      another (records.Alloc addr size sites) refl refl refl is
+      (λ list was. no_symbol old.symbols new.symbols list (ap (λ (o : Objects). o.symbols) is) was)
 
   pub next_free : (addr : ℕ) → new ≡ record old { blocks = blocks_after_free old.blocks w.position addr }
       → SeesNext (sighted w old) (sighted w new) (records.Free addr)
   next_free addr is =
-      another (records.Free addr) refl refl
-      (λ list was. no_symbol old.symbols new.symbols list (ap (λ (o : Objects). o.symbols) is) was) (ap (λ (o : Objects). o.blocks) is)
+      another (records.Free addr) refl refl refl is
+      (λ list was. no_symbol old.symbols new.symbols list (ap (λ (o : Objects). o.symbols) is) was)
 
   pub next_symbol : (kind : SymbolKind) (addr size : ℕ) (name : List ℕ)
       → new ≡ record old { symbols = symbols_of (old.symbols ++ kept_symbol kind addr size name ∷ []) }
       → ((list : List Symbol) → old.symbols ≡ symbols_of list → new.symbols ≡ symbols_of (list ++ kept_symbol kind addr size name ∷ []))
       → SeesNext (sighted w old) (sighted w new) (records.Symbol kind addr size name)
   next_symbol kind addr size name is whole =
-      another (records.Symbol kind addr size name) refl refl whole (ap (λ (o : Objects). o.blocks) is)
+      another (records.Symbol kind addr size name) refl refl refl is whole
 
 -- an end changes nothing
 pub next_end : (s : Sighted) (e : Ending) → SeesNext s s (records.End e)
 next_end s e =
-    another s.watch s.objects s.objects (records.End e) refl refl
-    (λ list was. no_symbol s.objects.symbols s.objects.symbols list refl was) refl
+    another s.watch s.objects s.objects (records.End e) refl refl refl refl
+    (λ list was. no_symbol s.objects.symbols s.objects.symbols list refl was)
 
 -- two facts about a call that ended well
 pub on_both : {T E P Q R : Type 0} (r : Result T E) → (P → Q → R) → OnOk r P → OnOk r Q → OnOk r R
@@ -183,6 +196,7 @@ on_both (Err e) f p q = tt
 -- before any record
 pub seen_nothing : (s : Sighted) → NoTwoAlike s.objects.symbols → HasSeen s s []
 seen_nothing s apart = record {
+  value = refl;
   stands = λ t stood. subst (λ (list : AccessList). StandsFor list s.watch) (sym (append-nil t)) stood;
   position = sym (add-zero s.watch.position);
   objects = same_objects s.objects (objects_after s.objects s.watch.position [])
@@ -221,6 +235,15 @@ reported e g v now items so_far =
     ap (λ (q : Grid). report_of e q now.watch.levels now.objects (touches_in items)) so_far.grid
     ∙ ap (λ (q : Levels). report_of e g q now.objects (touches_in items)) so_far.levels
     ∙ ap (λ (o : Objects). report_of e g v o (touches_in items)) so_far.objects
+
+-- the report of what is held
+pub reported_held : (e : Ending) (g : Grid) (v : Levels) (tracks : List Kept) (s : Sighted) → g ≡ s.watch.grid → v ≡ s.watch.levels
+    → tracks ≡ s.watch.tracks → text_of (report_lines e g v s.objects (listed_tracks v.report tracks)) ≡ report_of_sighted e s
+unfolding report_of_sighted
+reported_held e g v tracks s grid levels kept =
+    ap (λ (q : Grid). text_of (report_lines e q v s.objects (listed_tracks v.report tracks))) grid
+    ∙ ap (λ (q : Levels). text_of (report_lines e s.watch.grid q s.objects (listed_tracks q.report tracks))) levels
+    ∙ ap (λ (q : List Kept). text_of (report_lines e s.watch.grid s.watch.levels s.objects (listed_tracks s.watch.levels.report q))) kept
 
 -- where a list has room for one record more, the position that is next has
 pub room_for_one : (now : Sighted) (x : TraceRecord) → HasRoom begins_at HasSeen now (x ∷ [])

@@ -9,10 +9,12 @@ use Rattle.report.specs.OfLists.{report_of}
 use Rattle.trace_grammar.specs.Rules.{touches_in}
 use Rattle.trace_grammar.specs.declared.record.TraceRecord.{TraceRecord}
 use Rattle.sightings.specs.Lives.{objects_after, objects_of}
-use Rattle.sightings.specs.Sights.{Sighted}
+use Rattle.sightings.specs.Sights.{Sighted, sighted_after}
 
 -- from what was seen first, what is seen now came by these records
 pub record HasSeen (begun now : Sighted) (items : List TraceRecord) : Type 0 where
+  -- each of them was noted, in order
+  pub value : now ≡ sighted_after begun items
   -- for each list that it stood for, it stands for the list with their accesses
   pub stands : (t : AccessList) → StandsFor t begun.watch
       → StandsFor (t ++ touches_in items) now.watch

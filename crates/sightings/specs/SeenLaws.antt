@@ -16,7 +16,13 @@ use Rattle.trace_grammar.specs.declared.record.TraceRecord.TheVariants as record
 use Rattle.sightings.specs.LifeLaws.{blocks_behind, blocks_behind-push, none_ended, position_after}
 use Rattle.sightings.specs.Lives.{objects_after, symbol_in, symbols_in}
 use Rattle.sightings.specs.Seen.{HasSeen, report_of_records}
-use Rattle.sightings.specs.Sights.{Sighted}
+use Rattle.sightings.specs.Sights.{Sighted, noted, sighted_after}
+
+-- one record more is noted last
+pub sighted_after-push : (s : Sighted) (items : List TraceRecord) (x : TraceRecord)
+    → sighted_after s (items ++ x ∷ []) ≡ noted (sighted_after s items) x
+sighted_after-push s [] x = refl
+sighted_after-push s (item ∷ items) x = sighted_after-push (noted s item) items x
 
 module _ (items : List TraceRecord) (e : Ending) where
   touches-end : touches_in (items ++ records.End e ∷ []) ≡ touches_in items
@@ -53,6 +59,7 @@ module _ (items : List TraceRecord) (e : Ending) where
   pub HasSeen-end : (begun now : Sighted) → HasSeen begun now (items ++ records.End e ∷ [])
       → HasSeen begun now items
   HasSeen-end begun now seen = record {
+    value = seen.value ∙ sighted_after-push begun items (records.End e);
     stands = λ t stood. subst (λ (list : AccessList). StandsFor (t ++ list) now.watch) touches-end
         (seen.stands t stood);
     position = seen.position ∙ ap (λ (list : AccessList). begun.watch.position + length list)

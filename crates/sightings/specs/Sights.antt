@@ -1,12 +1,16 @@
 -- What is seen of trace records: what the accesses show, and what stands in memory.
-use Rattle.std.specs.Prelude.{ℕ, [], ◌∷◌, ◌++◌, Bool, true, false, not}
+use Rattle.std.specs.Prelude.{ℕ, List, [], ◌∷◌, ◌++◌, Bool, true, false, not}
 use Rattle.std.specs.List.{list_any}
 use Rattle.predator_base.specs.Levels.{Levels}
 use Rattle.predator_base.specs.Lines.{Grid}
+use Rattle.predator_base.specs.declared.ending.Ending.{Ending}
 use Rattle.heap_objects.specs.Blocks.{blocks_after_alloc, blocks_after_free}
 use Rattle.heap_objects.specs.Objects.{Objects, no_objects}
 use Rattle.heap_objects.specs.Symbols.{is_in_place_of, kept_symbol, symbols_of}
 use Rattle.detector.specs.Watch.{Watch, nothing_seen, takes_memory, watched}
+use Rattle.report.specs.Reports.{report_lines}
+use Rattle.report.specs.Shown.{listed_tracks}
+use Rattle.text_forms.specs.Lines.{text_of}
 use Rattle.trace_grammar.specs.declared.record.TraceRecord.{TraceRecord}
 use Rattle.trace_grammar.specs.declared.record.TraceRecord.TheVariants as records
 
@@ -39,6 +43,17 @@ noted s item = record {
   watch = watch_noted s.watch item;
   objects = objects_noted s.objects item s.watch.position;
 }
+
+-- some records more, one after the other
+abbrev pub sighted_after : Sighted → List TraceRecord → Sighted
+sighted_after s [] = s
+sighted_after s (item ∷ items) = sighted_after (noted s item) items
+
+-- the report of what is seen, with an end: the tracks that reach the report threshold
+unfoldable pub report_of_sighted : Ending → Sighted → List ℕ
+report_of_sighted ending s =
+    text_of (report_lines ending s.watch.grid s.watch.levels s.objects
+    (listed_tracks s.watch.levels.report s.watch.tracks))
 
 -- whether a record may want memory
 abbrev pub wants_memory : Sighted → TraceRecord → Bool

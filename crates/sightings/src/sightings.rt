@@ -8,9 +8,9 @@ ghost use Rattle.report.specs.OfLists.{report_of};
 ghost use Rattle.sharing_rules.specs.AccessLists.{AccessList};
 ghost use Rattle.sharing_rules.specs.Listed.{may_predict};
 ghost use Rattle.trace_grammar.specs.Reading.{counted_after};
-ghost use Rattle.trace_grammar.specs.Rules.{last_position};
+ghost use Rattle.trace_grammar.specs.Rules.{last_position, touches_in};
 ghost use Rattle.trace_grammar.specs.declared.record.TraceRecord.{TraceRecord as Record};
-ghost use Rattle.sightings.specs.Sights.{noted, nothing_sighted, wants_memory};
+ghost use Rattle.sightings.specs.Sights.{noted, nothing_sighted, report_of_sighted, wants_memory};
 ghost use Rattle.sightings.specs.Seen.{HasSeen, SeesNext, report_of_records};
 
 use detector::{Detector, PagedIndex, see};
@@ -170,6 +170,9 @@ impl Sightings {
     pub fn detector(&self) -> &Detector<PagedIndex>
         ensures value { result.now ≡ self.now.watch }
         ensures native { IsTrue (may_predict self.now.watch.grid self.now.watch.levels) }
+        // where it has seen these records from the beginning, it stands for their accesses
+        ensures stands { (g : Grid) (v : Levels) (items : List Record)
+            → HasSeen (nothing_sighted g v) self.now items → StandsFor (touches_in items) result.now }
     {
         &self.detector
     }
@@ -183,6 +186,9 @@ impl Sightings {
 
     /// The report of what was seen, with this end.
     pub fn report(&self, alloc: Global, ending: &Ending) -> Result<Vec<u8>, NoMemory>
+        // by the tracks and the objects that are held
+        ensures of_held { IfOk result (λ text. text.items
+            ≡ report_of_sighted ending.now self.now) }
         // where it has seen these records from the beginning, it is the report of the records
         ensures of_records { (g : Grid) (v : Levels) (items : List Record)
             → HasSeen (nothing_sighted g v) self.now items

@@ -26,6 +26,13 @@ fn blank(alloc: Global) -> Result<Sightings, Fail> {
     Ok(Sightings::new(alloc, layout, thresholds))
 }
 
+// What a record of the trace tells.
+enum Told {
+    Symbol(SymbolKind, u32, u32, &'static [u8]),
+    Made(u32, u32, [u32; 4]),
+    Wrote(u16, u32),
+}
+
 fn write(hart: u16, addr: u32) -> Result<TraceRecord, Fail> {
     let hart = Hart::new(hart).ok_or("a hart")?;
     let access = Access::new(hart, addr, Write, 4).ok_or("a word")?;
@@ -48,9 +55,43 @@ fn symbol(
     })
 }
 
+fn record_of(alloc: Global, told: &Told) -> Result<TraceRecord, Fail> {
+    match told {
+        Told::Symbol(kind, addr, size, name) => symbol(alloc, *kind, *addr, *size, name),
+        Told::Made(addr, size, sites) => Ok(TraceRecord::Alloc {
+            addr: *addr,
+            size: *size,
+            sites: *sites,
+        }),
+        Told::Wrote(hart, addr) => write(*hart, *addr),
+    }
+}
+
 fn note(rt: &impl Abort, sightings: &mut Sightings, item: &TraceRecord) -> Result<(), Fail> {
     assert!(rt; sightings.position() < 1 << 40);
     sightings.note(item)?;
+    Ok(())
+}
+
+fn note_told(
+    rt: &impl Abort,
+    alloc: Global,
+    sightings: &mut Sightings,
+    told: &Told,
+) -> Result<(), Fail> {
+    let item = record_of(alloc, told)?;
+    note(rt, sightings, &item)
+}
+
+fn note_all(
+    rt: &impl Abort,
+    alloc: Global,
+    sightings: &mut Sightings,
+    all: &[Told],
+) -> Result<(), Fail> {
+    for told in all {
+        note_told(rt, alloc, sightings, told)?;
+    }
     Ok(())
 }
 
@@ -67,6 +108,23 @@ fn free(rt: &impl Abort, sightings: &mut Sightings, addr: u32) -> Result<(), Fai
     give(sightings, &TraceRecord::Free { addr })?;
     Ok(())
 }
+
+// The position that is next, how many blocks there are, and how many lines are tracked.
+fn counts(sightings: &Sightings) -> (u64, usize, usize) {
+    let blocks = sightings.objects().blocks().len();
+    let tracks = sightings.detector().tracks().len();
+    (sightings.position(), blocks, tracks)
+}
+
+const BEFORE_THE_FREE: [Told; 7] = [
+    Told::Symbol(SymbolKind::Function, 0x100a0, 64, b"worker"),
+    Told::Symbol(SymbolKind::Object, 0x1fe0, 48, b"counters"),
+    Told::Symbol(SymbolKind::Object, 0x1fe0, 48, b"alias"),
+    Told::Made(0x2000, 24, [0x100b0, 0, 0, 0]),
+    Told::Wrote(0, 0x2000),
+    Told::Made(0x2020, 8, [0; 4]),
+    Told::Wrote(1, 0x2004),
+];
 
 const REPORT: &str = "predator report 1\n\
     outcome exit 7\n\
@@ -88,31 +146,10 @@ const REPORT: &str = "predator report 1\n\
 fn tells_of_accesses_and_objects(rt: HostRuntime) -> Result<(), Fail> {
     let alloc = rt.alloc();
     let mut sightings = blank(alloc)?;
-    let worker = symbol(alloc, SymbolKind::Function, 0x100a0, 64, b"worker")?;
-    note(&rt, &mut sightings, &worker)?;
-    let counters = symbol(alloc, SymbolKind::Object, 0x1fe0, 48, b"counters")?;
-    note(&rt, &mut sightings, &counters)?;
-    let alike = symbol(alloc, SymbolKind::Object, 0x1fe0, 48, b"alias")?;
-    note(&rt, &mut sightings, &alike)?;
-    let made = TraceRecord::Alloc {
-        addr: 0x2000,
-        size: 24,
-        sites: [0x100b0, 0, 0, 0],
-    };
-    note(&rt, &mut sightings, &made)?;
-    note(&rt, &mut sightings, &write(0, 0x2000)?)?;
-    let another = TraceRecord::Alloc {
-        addr: 0x2020,
-        size: 8,
-        sites: [0; 4],
-    };
-    note(&rt, &mut sightings, &another)?;
-    note(&rt, &mut sightings, &write(1, 0x2004)?)?;
+    note_all(&rt, alloc, &mut sightings, &BEFORE_THE_FREE)?;
     free(&rt, &mut sightings, 0x2000)?;
     note(&rt, &mut sightings, &TraceRecord::End(ENDING))?;
-    assert_eq!(rt; sightings.position(), 2);
-    assert_eq!(rt; sightings.objects().blocks().len(), 2);
-    assert_eq!(rt; sightings.detector().tracks().len(), 1);
+    assert_eq!(rt; counts(&sightings), (2, 2, 1));
     let text = sightings.report(alloc, &ENDING)?;
     assert_eq!(rt; text.as_slice(), REPORT.as_bytes());
     Ok(())

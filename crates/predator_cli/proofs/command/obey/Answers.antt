@@ -1,7 +1,13 @@
 use Rattle.command_line.specs.Demands.{texts}
+use Rattle.command_line.specs.Run.{run_meaning}
 use Rattle.command_line.specs.Words.{demand_of}
 use Rattle.predator_cli.proofs.Ends.{words_unread}
+use Rattle.predator_cli.proofs.RunEnds.{demanded_apart}
 use Rattle.predator_cli.proofs.command.obey.Goals as goal
+
+pub run-requires : goal.run-requires
+run-requires g c = demanded_apart (texts c.args.words.now) (run_meaning c.in-Ok-Run.options)
+    (rw (c.in-Ok-Run.field-0-is) at c.in-Ok-Run.ensures.accepted)
 
 pub returns-in-Err-NoMemory : goal.returns-in-Err-NoMemory
 returns-in-Err-NoMemory g c =

@@ -1,8 +1,18 @@
 use Rattle.std.proofs.Common.{◌∙◌, rules}
 use Rattle.std.proofs.lemmas.Result.{IfOk-weaker}
+use Rattle.sightings.specs.Sights.{Sighted}
 use Rattle.trace_grammar.specs.Rules.{touches_in}
-use Rattle.sightings.proofs.NextLaws.{reported, seen_whole}
+use Rattle.sightings.proofs.NextLaws.{reported, reported_held, seen_whole}
 use Rattle.sightings.proofs.sightings.Sightings.report.Goals as goal
+
+pub returns-clause-of_held : goal.returns-clause-of_held
+returns-clause-of_held c =
+    let held : Sighted = record { watch = c.self.inside.detector; objects = c.self.inside.objects } in
+    rw (← c.self.view_is)
+    (IfOk-weaker c.write_report.result _ _
+    (λ text is. is ∙ reported_held c.args.ending.now c.layout.result c.thresholds.result c.tracks.result.now held c.layout.ensures
+    c.thresholds.ensures.value c.tracks.ensures.value)
+    c.write_report.ensures.text)
 
 pub returns-clause-of_list : goal.returns-clause-of_list
 returns-clause-of_list c = search rules
