@@ -5,3 +5,4 @@ pub mod Parts
 pub mod Pieces
 pub mod Limits
 pub mod Endings
+pub mod Runs

@@ -14,7 +14,7 @@ use Rattle.trace_grammar.specs.Reading.{Reading, extent_at, part_at, place_of, r
 use Rattle.trace_grammar.specs.ReadingLaws.{all_wait, part_then, read_on-append, read_on-fault, then_read}
 use Rattle.trace_grammar.specs.ExtentLaws.{extent_is_some, fronts_wait_at}
 use Rattle.trace_reader.specs.declared.state.State.{State}
-use Rattle.trace_reader.specs.States.{AddsSome, KeepsHead, ReadsOn, ReadsPart, SameHead, extent_in, reading_with}
+use Rattle.trace_reader.specs.States.{AddsSome, KeepsHead, ReadsBut, ReadsOn, ReadsPart, SameHead, extent_in, reading_with}
 use Rattle.trace_reader.specs.Laws.{part_at-head, read_on-head}
 use Rattle.trace_reader.proofs.Heads.{as_before, keeps_with, same_back, same_both, told_too}
 
@@ -68,7 +68,7 @@ nothing_read s bytes before clean = record {
   keeps = as_before (reading_with s []) (reading_with s []) bytes refl;
 }
 
-one_part : (p : Option Progress) (e : Option Ending) (f : Option TraceFault) (rest : List ℕ) (n : ℕ) → f ≡ None → n ≡ extent_at p e rest
+pub one_part : (p : Option Progress) (e : Option Ending) (f : Option TraceFault) (rest : List ℕ) (n : ℕ) → f ≡ None → n ≡ extent_at p e rest
     → n ≤ length rest → place_of p + n ≤ longest_trace
     → read_on (record { progress = p; pending = []; ending = e; fault = f }) rest ≡ then_read
     (part_at (record { progress = p; pending = []; ending = e; fault = f }) p e (take n rest)) (drop n rest)
@@ -149,6 +149,27 @@ module _ (start : Reading) (bytes : List ℕ) (before : List TraceRecord) (s : S
       let at_front : now.fault ≢ Some faults.NoMemory → ReadsPart s (take n rest) now items after =
       λ enough. subst (λ (xs : List ℕ). ReadsPart s xs now items after) front_is (part enough) in
       subst (λ (xs : List ℕ). IsReadTo start bytes before now xs after) (sym back_is) (parted n now after is le low at_front same kept)
+
+  -- a run of accesses is read
+  pub run_is_read : (now : State) (behind : List ℕ) (after : List TraceRecord) → now.fault ≡ None → SameHead now.progress s.progress
+      → ReadsBut (reading_with s []) rest (reading_with now []) behind items after → IsReadTo start bytes before now behind after
+  run_is_read now behind after still same but =
+      let later : List TraceRecord × Reading = read_on (reading_with now []) behind in
+      let whole : read_on start bytes ≡ ((to.since ++ but.since) ++ later.0, later.1) = to.goes no_want
+      ∙ ap (λ (r : List TraceRecord × Reading). (to.since ++ r.0, r.1)) but.reading
+      ∙ ap (λ (xs : List TraceRecord). (xs, later.1)) (sym (append_assoc to.since but.since later.0)) in
+      record {
+        since = to.since ++ but.since;
+        added = but.records ∙ ap (λ (xs : List TraceRecord). xs ++ but.since) to.added ∙ append_assoc before to.since but.since;
+        goes = λ _. whole;
+        some = λ wants. cc;
+        keeps = record {
+          stays = λ told. same_both _ _ _ same (to.keeps.stays told);
+          told = λ told.
+              subst (λ (p : Option Progress). SameHead now.progress p) (sym (ap (λ (r : List TraceRecord × Reading). r.1.progress) whole))
+              (same_back _ _ (read_on-head (reading_with now []) behind told));
+        };
+      }
 
   -- what is left waits
   pub rest_waits : length rest < extent_in s rest → place_of s.progress + length rest ≤ longest_trace

@@ -1,12 +1,15 @@
 -- How a reader keeps what it knows, and what is true of it.
-use Rattle.std.specs.Prelude.{◌≡◌, ℕ, List, [], ◌++◌, take, Option, Some, None, Result, Ok, Err}
-use Rattle.std.specs.Prelude.{option_map, IsSome}
+use Rattle.std.specs.Prelude.{◌≡◌, ◌≤◌, ℕ, List, [], ◌++◌, length, take, Option, Some, None, Result}
+use Rattle.std.specs.Prelude.{Ok, Err, option_map, IsSome}
 use Rattle.predator_base.specs.declared.ending.Ending.{Ending}
 use Rattle.trace_grammar.specs.declared.progress.Progress.{Progress}
 use Rattle.trace_grammar.specs.Found.{IsTraceOf}
 use Rattle.trace_grammar.specs.declared.fault.TraceFault.{TraceFault}
 use Rattle.trace_grammar.specs.declared.record.TraceRecord.{TraceRecord}
+use Rattle.trace_grammar.specs.declared.record.TraceRecord.TheVariants as records
+use Rattle.trace_grammar.specs.Judging.{record_extent, record_judged}
 use Rattle.trace_grammar.specs.Reading.{Reading, extent_at, part_at, read_on, reading_of}
+use Rattle.predator_base.specs.Touch.{Touch}
 use Rattle.trace_reader.specs.declared.state.State.{State}
 
 -- a state with some bytes after its whole records
@@ -18,6 +21,10 @@ reading_with s bytes = record {
   fault =
       s.fault;
 }
+
+-- a trace that is read so far, with no end and no fault
+abbrev pub reading_at : Progress → Reading
+reading_at p = record { progress = Some p; pending = []; ending = None; fault = None }
 
 -- how many bytes a state waits for
 abbrev pub extent_in : State → List ℕ → ℕ
@@ -36,11 +43,25 @@ abbrev pub answer_at : Option TraceFault → Result (Unit {0}) TraceFault
 answer_at None = Ok tt
 answer_at (Some fault) = Err fault
 
+-- an access stands at the front of some bytes, in so many of them
+pub record HasAccess (p : Progress) (bytes : List ℕ) (a : Touch) (size : ℕ) : Type 0 where
+  pub extent : size ≡ record_extent p.version bytes
+  pub there : size ≤ length bytes
+  pub judged : record_judged p (take size bytes) ≡ Ok (records.Touch a)
+
 -- More bytes are read, and the records that became whole stand behind those before.
 pub record ReadsOn (old : Reading) (bytes : List ℕ) (new : Reading)
     (before after : List TraceRecord) : Type 0 where
   pub reading : new ≡ (read_on old bytes).1
   pub records : after ≡ before ++ (read_on old bytes).0
+
+-- All but a rest of some bytes is read: to read them all is to read the rest from there on, behind
+-- the records so far.
+pub record ReadsBut (old : Reading) (bytes : List ℕ) (new : Reading) (rest : List ℕ)
+    (before after : List TraceRecord) : Type 0 where
+  pub since : List TraceRecord
+  pub records : after ≡ before ++ since
+  pub reading : read_on old bytes ≡ (since ++ (read_on new rest).0, (read_on new rest).1)
 
 -- some of the records that became whole stand behind those before
 abbrev pub AddsSome : Reading → List ℕ → List TraceRecord → List TraceRecord → Type 0
@@ -62,6 +83,11 @@ pub record ReadsTrace (bytes : List ℕ) (first items : List TraceRecord) (e : E
 pub record SameHead (p q : Option Progress) : Type 0 where
   pub version : option_map (λ r. r.version) p ≡ option_map (λ r. r.version) q
   pub header : option_map (λ r. r.header) p ≡ option_map (λ r. r.header) q
+
+-- they have the same version and header
+pub record HasSameHead (p q : Progress) : Type 0 where
+  pub version : p.version ≡ q.version
+  pub header : p.header ≡ q.header
 
 -- The version and the header, once told, are told still, and those that are told are those of the
 -- bytes.

@@ -1,6 +1,7 @@
 // Accesses, in both versions.
 ghost use Rattle.std.specs.Prelude.{◌≡◌, ◌%◌, ◌^◌, ◌+◌, ◌<◌, ◌≤◌, IsTrue, drop, length, nat_lt};
 ghost use Rattle.std.specs.Prelude.{slice_index};
+ghost use Rattle.std.specs.Option.{SomeIff};
 ghost use Rattle.predator_base.specs.Touch.{is_access_size};
 ghost use Rattle.trace_grammar.specs.Numbers.{address_at, are_groups, group_count, number_in};
 ghost use Rattle.trace_grammar.specs.Judging.{step_judged, touch_judged};
@@ -8,6 +9,21 @@ ghost use Rattle.trace_grammar.specs.Judging.{step_judged, touch_judged};
 use crate::fields::{behind, u16_at, u32_at};
 use predator_base::{Access, Hart, Kind};
 use trace_grammar::TraceFault;
+
+// `Access::new`, where no division is left, since each size is written out.
+#[tactic(auto, using(std::proofs::lemmas::Bool::Decides::nat_tests))]
+#[inline(always)]
+fn access_of(hart: Hart, addr: u32, kind: Kind, size: u8) -> Option<Access>
+    ensures { SomeIff result (IsTrue (is_access_size size) × (addr % size ≡ 0))
+        (record { hart = hart; addr = addr; kind = kind; size = size }) }
+{
+    match size {
+        4 => Access::new(hart, addr, kind, 4),
+        2 => Access::new(hart, addr, kind, 2),
+        1 => Access::new(hart, addr, kind, 1),
+        _ => None,
+    }
+}
 
 // The access in 8 bytes at a place.
 #[tactic(auto, using(std::proofs::lemmas::Bool::Decides::nat_tests), unfolding(trace_grammar::specs::Judging::touch_judged))]
@@ -31,7 +47,7 @@ pub(crate) fn touch_of(
         return Err(TraceFault::BadField(place + 1));
     };
     let size = bytes[7];
-    match Access::new(hart, u32_at(bytes, 3), kind, size) {
+    match access_of(hart, u32_at(bytes, 3), kind, size) {
         Some(access) => Ok(access),
         None if matches!(size, 1 | 2 | 4) => Err(TraceFault::BadField(place + 3)),
         None => Err(TraceFault::BadField(place + 7)),
@@ -147,7 +163,7 @@ pub(crate) fn step_of(
         return Err(TraceFault::BadField(place + 2));
     }
     let addr = address_at(last, number_in(told) as u32);
-    match Access::new(hart, addr, kind, size) {
+    match access_of(hart, addr, kind, size) {
         Some(access) => Ok(access),
         None => Err(TraceFault::BadField(place + 2)),
     }

@@ -11,6 +11,7 @@ mod fields;
 mod header;
 mod reader;
 mod record;
+mod run;
 mod state;
 mod symbol;
 

@@ -1,5 +1,6 @@
 // One record, all of whose bytes are there.
-ghost use Rattle.std.specs.Prelude.{◌≡◌, ◌^◌, ◌≤◌, ◌≢◌, Err, length};
+ghost use Rattle.std.specs.Prelude.{◌≡◌, ◌^◌, ◌+◌, ◌≤◌, ◌≢◌, Err, drop, length};
+ghost use Rattle.trace_grammar.specs.Numbers.{group_count};
 ghost use Rattle.std.specs.Int.{w64};
 ghost use Rattle.predator_base.specs.Touch.{Touch};
 ghost use Rattle.trace_grammar.specs.Judging.{alloc_at, end_counted, extent_of, record_extent};
@@ -16,14 +17,25 @@ use predator_base::{Access, Ending};
 use std::alloc::Global;
 use trace_grammar::{Progress, Tag, TraceFault, TraceRecord, Version};
 
+// How many bytes an access of version 1 has.
+pub(crate) const TOUCH_LENGTH: usize = 8;
+
+// How many bytes an access of version 2 has, as far as they are there.
+#[inline(always)]
+pub(crate) fn step_extent(bytes: &[u8]) -> usize
+    ensures { result ≡ 2 + group_count (drop 2 bytes.now) }
+{
+    2 + group_count(bytes.get(2..).unwrap_or(&[]))
+}
+
 // How many bytes a record of a tag has, as far as they are there.
 #[inline(always)]
 fn extent_of(tag: Tag, bytes: &[u8]) -> usize
     ensures { result ≡ extent_of tag bytes.now }
 {
     match tag {
-        Tag::Touch(_) => 8,
-        Tag::Step(_, _) => 2 + group_count(bytes.get(2..).unwrap_or(&[])),
+        Tag::Touch(_) => TOUCH_LENGTH,
+        Tag::Step(_, _) => step_extent(bytes),
         Tag::Alloc | Tag::End => 25,
         Tag::Free => 5,
         Tag::Symbol => symbol_extent(bytes),

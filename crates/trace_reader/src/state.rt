@@ -7,12 +7,13 @@ ghost use Rattle.trace_grammar.specs.Reading.{ending_in, header_read, part_at, p
 ghost use Rattle.trace_grammar.specs.Reading.{progress_after};
 ghost use Rattle.trace_grammar.specs.Rules.{longest_trace};
 ghost use Rattle.trace_reader.specs.Sound.{IsSound};
-ghost use Rattle.trace_reader.specs.States.{AddsSome, KeepsHead, ReadsOn, ReadsPart};
-ghost use Rattle.trace_reader.specs.States.{extent_in, reading_with};
+ghost use Rattle.trace_reader.specs.States.{AddsSome, KeepsHead, ReadsBut, ReadsOn, ReadsPart};
+ghost use Rattle.trace_reader.specs.States.{SameHead, extent_in, reading_with};
 
 use crate::header::{HEADER_LENGTH, header_of};
 use crate::record::{record_extent, record_of};
-use predator_base::Ending;
+use crate::run::read_run;
+use predator_base::{Access, Ending};
 use std::alloc::Global;
 use trace_grammar::{Progress, TraceFault, TraceRecord};
 
@@ -39,6 +40,20 @@ fn extent_in(state: &State, bytes: &[u8]) -> usize
     }
 }
 
+/// An access more is read, in so many bytes.
+#[inline(always)]
+pub(crate) fn count_access(progress: &mut Progress, access: Access, size: usize)
+    requires sound { IsSound progress.old }
+    requires some { 1 ≤ size }
+    requires low { progress.old.place + size ≤ longest_trace }
+    ensures value { progress.new ≡ progress_after progress.old (TraceRecord.Touch access) size }
+    ensures sound { IsSound progress.new }
+{
+    progress.counted += 1;
+    progress.last = access.addr();
+    progress.place += size as u64;
+}
+
 // How far a trace is read once a record of some bytes is.
 #[inline(always)]
 fn progress_after(progress: &Progress, item: &TraceRecord, size: usize) -> Progress
@@ -48,16 +63,12 @@ fn progress_after(progress: &Progress, item: &TraceRecord, size: usize) -> Progr
     ensures value { result ≡ progress_after progress.now item.now size }
     ensures sound { IsSound result }
 {
-    let place = progress.place + size as u64;
+    let mut later = *progress;
     match item {
-        TraceRecord::Touch(access) => Progress {
-            counted: progress.counted + 1,
-            last: access.addr(),
-            place,
-            ..*progress
-        },
-        _ => Progress { place, ..*progress },
+        TraceRecord::Touch(access) => count_access(&mut later, *access, size),
+        _ => later.place += size as u64,
     }
+    later
 }
 
 #[inline(always)]
@@ -132,7 +143,7 @@ fn read_record(
 }
 
 // Reads the header or a record, whose bytes are these. At want of memory nothing is appended.
-#[inline(always)]
+#[inline(never)]
 fn read_part(alloc: Global, state: &mut State, bytes: &[u8], into: &mut Vec<TraceRecord>)
     requires clean { state.old.fault ≡ None }
     requires long { length bytes.now ≡ extent_in state.old bytes.now }
@@ -154,6 +165,32 @@ fn read_part(alloc: Global, state: &mut State, bytes: &[u8], into: &mut Vec<Trac
         (None, _) => read_header(state, bytes),
         (Some(progress), None) => read_record(alloc, progress, state, bytes, into),
         (Some(progress), Some(_)) => state.fault = Some(TraceFault::AfterEnd(progress.place)),
+    }
+}
+
+// Reads the accesses at the front of some bytes, where the header is read and the end is not.
+#[inline(always)]
+fn read_accesses<'a>(state: &mut State, bytes: &'a [u8], into: &mut Vec<TraceRecord>) -> &'a [u8]
+    requires clean { state.old.fault ≡ None }
+    requires sound { ForSome state.old.progress IsSound }
+    requires low { place_of state.old.progress + length bytes.now ≤ longest_trace }
+    ensures clean { state.new.fault ≡ None }
+    ensures sound { ForSome state.new.progress IsSound }
+    ensures head { SameHead state.new.progress state.old.progress }
+    ensures fewer { length result.now ≤ length bytes.now }
+    ensures exact { place_of state.new.progress + length result.now
+        ≡ place_of state.old.progress + length bytes.now }
+    ensures read { ReadsBut (reading_with state.old []) bytes.now (reading_with state.new [])
+        result.now into.old.items into.new.items }
+{
+    match (state.progress, state.ending) {
+        (Some(progress), None) => {
+            let mut progress = progress;
+            let rest = read_run(&mut progress, bytes, into);
+            state.progress = Some(progress);
+            rest
+        }
+        _ => bytes,
     }
 }
 
@@ -185,11 +222,12 @@ pub(crate) fn read_parts<'a>(
 {
     let mut rest = bytes;
     while state.fault.is_none() {
-        let size = extent_in(state, rest);
-        if rest.len() < size {
-            break;
+        let front = read_accesses(state, rest, into);
+        let size = extent_in(state, front);
+        if front.len() < size {
+            return front;
         }
-        let (part, after) = rest.split_at(size);
+        let (part, after) = front.split_at(size);
         read_part(alloc, state, part, into);
         rest = after;
     }
