@@ -4,3 +4,4 @@ pub mod Fillings
 pub mod Stores
 pub mod Slices
 pub mod Freshness
+pub mod Rights

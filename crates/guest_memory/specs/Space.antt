@@ -2,6 +2,7 @@
 use Rattle.std.specs.Prelude.{◌≡◌, ℕ, zero, suc, ◌+◌, ◌-◌, ◌*◌, ◌/◌, ◌%◌, ◌<◌, ◌≤◌, Bool, false}
 use Rattle.std.specs.Prelude.{◌&&◌, IsTrue, List, [], ◌∷◌, length, nat_lt, nat_le, if◌then◌else◌}
 use Rattle.std.specs.Prelude.{slice_index, slice_index_or}
+use Rattle.std.specs.List.{All}
 use Rattle.guest_memory.specs.declared.page.Page.{Page}
 
 -- bytes from base on, and the rights of each page of 4096 of them
@@ -10,15 +11,20 @@ pub record Space : Type 0 where
   pub bytes : List ℕ
   pub pages : List Page
 
+-- a page that is not mapped
+abbrev pub no_page : Page
+no_page = record { mapped = false; writable = false; executable = false }
+
+-- only a mapped page has rights
+abbrev pub IsRightful : Page → Type 0
+IsRightful p = (IsTrue p.writable → IsTrue p.mapped) × (IsTrue p.executable → IsTrue p.mapped)
+
 -- what is true of each memory: whole pages below 0xfffff000
 pub record IsSpace (m : Space) : Type 0 where
   pub aligned : m.base % 4096 ≡ 0
   pub whole : length m.bytes ≡ 4096 * length m.pages
   pub room : m.base + length m.bytes ≤ 0xfffff000
-
--- a page that is not mapped
-abbrev pub no_page : Page
-no_page = record { mapped = false; writable = false; executable = false }
+  pub rights : All IsRightful m.pages
 
 -- how many bytes there are
 abbrev pub size_of : Space → ℕ

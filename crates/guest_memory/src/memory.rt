@@ -45,7 +45,7 @@ impl Model for Memory {
 impl Memory {
     /// Memory of `size` bytes from `base` on, both multiples of 4096: all zero, and no page
     /// mapped.
-    #[tactic(auto, using(crate::proofs::Freshness::fresh))]
+    #[tactic(auto, using(crate::proofs::Freshness::fresh, crate::proofs::Rights::fresh_rights))]
     pub fn new(alloc: Global, base: u32, size: u32) -> Result<Memory, NoMemory>
         requires base { base % 4096 ≡ 0 }
         requires size { size % 4096 ≡ 0 }
@@ -82,6 +82,7 @@ impl Memory {
     /// Maps each page that the `len` bytes from `at` on touch. A page keeps the rights that it
     /// has,
     /// and gains those that are given. Its bytes stay, and all other pages.
+    #[tactic(auto, using(crate::proofs::Rights::granted_rights))]
     pub fn map(&mut self, at: u32, len: u32, writable: bool, executable: bool)
         requires { IsRange self.old at len }
         ensures { Maps self.old self.new at len writable executable }
@@ -151,9 +152,11 @@ fn are_mapped(pages: &[Page], first: usize, end: usize) -> bool
 // Rights.
 impl Memory {
     #[inline]
-    #[tactic(auto, using(crate::proofs::Inside::page_by_place))]
+    #[tactic(auto, using(crate::proofs::Inside::page_by_place, crate::proofs::Rights::rightful_at))]
     fn page_of(&self, addr: u32) -> Page
-        ensures { result ≡ page_at self.now addr }
+        ensures page { result ≡ page_at self.now addr }
+        ensures writable { IsTrue result.writable → IsTrue result.mapped }
+        ensures executable { IsTrue result.executable → IsTrue result.mapped }
     {
         // Below the base this is past the last page.
         page_in(&self.pages, (addr.wrapping_sub(self.base) / 4096) as usize)
@@ -183,6 +186,7 @@ impl Memory {
 
     /// The fault that a store of `size` bytes, 1, 2 or 4, would have at `addr`, and None where it
     /// would be made.
+    #[inline(always)]
     pub fn store_fault(&self, addr: u32, size: u8) -> Option<MemFault>
         requires { IsSize size }
         ensures { result ≡ store_fault self.now addr size }
@@ -190,27 +194,26 @@ impl Memory {
         let page = self.page_of(addr);
         if addr % u32::from(size) != 0 {
             Some(MemFault::Misaligned)
-        } else if !page.mapped {
-            Some(MemFault::Outside)
-        } else if !page.writable {
+        } else if page.writable {
+            None
+        } else if page.mapped {
             Some(MemFault::ReadOnly)
         } else {
-            None
+            Some(MemFault::Outside)
         }
     }
 
     fn fetch_fault(&self, addr: u32) -> Option<MemFault>
+        requires { addr % 4 ≡ 0 }
         ensures { result ≡ fetch_fault self.now addr }
     {
         let page = self.page_of(addr);
-        if addr % 4 != 0 {
-            Some(MemFault::Misaligned)
-        } else if !page.mapped {
-            Some(MemFault::Outside)
-        } else if !page.executable {
+        if page.executable {
+            None
+        } else if page.mapped {
             Some(MemFault::NotExecutable)
         } else {
-            None
+            Some(MemFault::Outside)
         }
     }
 }
@@ -284,8 +287,19 @@ impl Memory {
     }
 
     /// The word at `pc`. Refused as Misaligned, Outside and NotExecutable.
-    #[tactic(auto, using(crate::proofs::Numbers::number_at_place))]
     pub fn fetch(&self, pc: u32) -> Result<u32, MemFault>
+        ensures { result ≡ fetched self.now pc }
+    {
+        if pc % 4 != 0 {
+            return Err(MemFault::Misaligned);
+        }
+        self.fetch_word(pc)
+    }
+
+    /// What `fetch` answers, for a `pc` that is known to be a multiple of 4.
+    #[tactic(auto, using(crate::proofs::Numbers::number_at_place))]
+    pub fn fetch_word(&self, pc: u32) -> Result<u32, MemFault>
+        requires { pc % 4 ≡ 0 }
         ensures { result ≡ fetched self.now pc }
     {
         if let Some(fault) = self.fetch_fault(pc) {

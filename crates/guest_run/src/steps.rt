@@ -1,8 +1,9 @@
 // One turn of a configuration.
-ghost use Rattle.std.specs.Prelude.{◌≡◌, ℕ, ◌≤◌, length, IfOk, IsOk, OnOk, OnErr, IsFalse};
+ghost use Rattle.std.specs.Prelude.{◌≡◌, ℕ, ◌+◌, ◌<◌, ◌^◌, ◌≤◌, length};
+ghost use Rattle.std.specs.Prelude.{IfOk, IsOk, OnOk, OnErr, IsFalse};
 ghost use Rattle.std.specs.Option.{option_map_or};
 ghost use Rattle.thread_calls.specs.Calls.{finished_code};
-ghost use Rattle.guest_run.specs.Configs.{CanStep, Fits, noted};
+ghost use Rattle.guest_run.specs.Configs.{CanStep, Fits, counted, noted};
 ghost use Rattle.guest_run.specs.Runs.{ending_with};
 ghost use Rattle.guest_run.specs.Turns.{IsNext, chosen, hart_turn, made, makes_block, turn_of};
 ghost use Rattle.guest_run.specs.Inside.{config_of};
@@ -27,8 +28,21 @@ impl Configuration {
         }
     }
 
-    // A step that made an instruction: its hart has its turn, and its access is counted.
-    #[inline]
+    // The hart that is next has its turn, and a step more is counted.
+    #[inline(always)]
+    fn count_step(&mut self, hart: Hart)
+        requires plan { self.old.schedule.harts ≡ length self.old.threads }
+        requires next { IsNext hart (config_of self.old) }
+        requires steps { self.old.steps + 1 < 2 ^ 64 }
+        ensures { config_of self.new ≡ counted (chosen (config_of self.old)) }
+    {
+        self.take_turn(hart);
+        self.steps += 1;
+    }
+
+    // A step that made an instruction, with its access. A step without one has code of its own, in
+    // which nothing is seen.
+    #[inline(always)]
     fn go_on(&mut self, hart: Hart, instr: Instr, pc: u32, access: Option<Access>) -> Turn
         requires ready { CanStep hart (config_of self.old) }
         requires accesses { self.old.accesses ≤ self.old.steps }
@@ -41,11 +55,13 @@ impl Configuration {
         ensures seen { result ≡ Turn.Ran (option_map_or Event.Touch access Event.Quiet) }
     {
         self.note_call(hart, instr, pc);
-        self.take_turn(hart);
-        self.steps += 1;
         match access {
-            None => Turn::Ran(Event::Quiet),
+            None => {
+                self.count_step(hart);
+                Turn::Ran(Event::Quiet)
+            }
             Some(access) => {
+                self.count_step(hart);
                 self.accesses += 1;
                 Turn::Ran(Event::Touch(access))
             }

@@ -63,10 +63,9 @@ impl Schedule {
         requires { hart < self.old.harts }
         ensures { self.new ≡ record self.old { streak = Some (streak_with hart self.old) } }
     {
-        let quantum = self.quantum;
         match &mut self.streak {
-            Some(streak) => streak.take_turn(hart, quantum),
-            None => self.streak = Some(Streak::new(hart, quantum.saturating_sub(1))),
+            Some(streak) => streak.take_turn(hart, self.quantum),
+            None => self.streak = Some(Streak::new(hart, self.quantum.saturating_sub(1))),
         }
     }
 

@@ -35,7 +35,7 @@ impl Streak {
     fn goes_on(self, runnable: &[bool]) -> bool
         ensures { result ≡ goes_on runnable.now self }
     {
-        is_runnable(runnable, self.hart) && self.left > 0
+        self.left > 0 && is_runnable(runnable, self.hart)
     }
 
     // The hart whose turn comes after it.
@@ -56,15 +56,14 @@ impl Streak {
         }
     }
 
-    // A turn of the hart that was chosen.
+    // A turn of the hart that was chosen. Another one than the last begins with its whole quantum.
     pub(crate) fn take_turn(&mut self, hart: Hart, quantum: u32)
         ensures { self.new ≡ record { hart = hart; left = left_with quantum hart self.old } }
     {
-        if self.hart == hart {
-            self.left = self.left.saturating_sub(1);
-        } else {
+        if self.hart != hart {
             self.hart = hart;
-            self.left = quantum.saturating_sub(1);
+            self.left = quantum;
         }
+        self.left = self.left.saturating_sub(1);
     }
 }

@@ -108,7 +108,7 @@ impl<'a> RunOutputs<'a> {
     }
 
     // Puts what a file of a content gets of a moment into the file at a place.
-    #[inline]
+    #[inline(never)]
     fn put_one<S: Shelf>(
         &mut self,
         shelf: &mut S,
@@ -139,8 +139,8 @@ impl<'a> RunOutputs<'a> {
         }
     }
 
-    // Puts a moment into each of the files.
-    #[inline]
+    // Puts a moment into each of the files: nothing is called where a run writes none.
+    #[inline(always)]
     pub(crate) fn put<S: Shelf>(
         &mut self,
         shelf: &mut S,

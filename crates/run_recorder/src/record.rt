@@ -89,7 +89,7 @@ fn note_symbols<S: Shelf, O: Observer>(
 const STRIDE: u64 = 1 << 20;
 
 // Lets the shelf hear now and then how many steps are made.
-#[inline]
+#[inline(always)]
 fn show_steps<S: Shelf>(shelf: &mut S, guest: &Guest)
     ensures { S.outside shelf.new ≡ S.outside shelf.old }
 {
@@ -134,13 +134,14 @@ fn follow<S: Shelf, O: Observer>(
     ensures begun { OnOk result (AreBegun (waiting_names outputs.new) (S.outside shelf.new)) }
     ensures count { length outputs.new ≡ length outputs.old }
 {
+    show_steps(shelf, guest);
     'turns: loop {
-        show_steps(shelf, guest);
         match guest.step() {
             Ok(Turn::Ran(event)) => match note_event(
                 shelf, files, outputs, observer, guest, event,
             ) {
-                Ok(()) => {}
+                // (last in the loop, so that a step that nothing is seen of asks for no error)
+                Ok(()) => show_steps(shelf, guest),
                 Err(error) => return Err(error),
             },
             Ok(Turn::Ended(outcome)) => {

@@ -10,6 +10,9 @@ use Rattle.rv32_decode.specs.declared.instruction.Instr.TheVariants.{Ebreak, Lr,
 use Rattle.rv32_decode.specs.declared.instruction.Test.{Test}
 use Rattle.rv32_decode.specs.declared.instruction.LoadKind.{LoadKind}
 use Rattle.rv32_decode.specs.declared.instruction.StoreKind.{StoreKind}
+use Rattle.rv32_decode.specs.declared.instruction.Test.TheVariants.{Eq, Ne, Lt, Ge, Ltu, Geu}
+use Rattle.rv32_decode.specs.declared.instruction.LoadKind.TheVariants.{Lb, Lh, Lw, Lbu, Lhu}
+use Rattle.rv32_decode.specs.declared.instruction.StoreKind.TheVariants.{Sb, Sh, Sw}
 use Rattle.rv32_decode.specs.declared.instruction.ImmOp.TheVariants.{Slli, Srli, Srai}
 use Rattle.rv32_decode.specs.declared.instruction.AluOp.{AluOp}
 use Rattle.rv32_decode.specs.declared.instruction.AmoOp.{AmoOp}
@@ -51,22 +54,44 @@ branchless : (w : ℕ) → opcode w ≡ 0x63 → ((t : Test) → test_code t ≡
 branchless w a f (Branch t s r z) q = f t (omega (arith, q.word, q.held.0, q.held.1, test_small t))
 branchless w a f i q = omega (arith, opcode-spelled w i q)
 
-pub no_branch : (w : ℕ) → w < 2 ^ 32 → opcode w ≡ 0x63 → ((t : Test) → test_code t ≡ funct3 w → ⊥) → decoded w ≡ None
-no_branch w h a f = none_unless w h (branchless w a f)
+testless : (n : ℕ) → (n ≡ 0 → ⊥) → (n ≡ 1 → ⊥) → (n ≡ 4 → ⊥) → (n ≡ 5 → ⊥) → (n ≡ 6 → ⊥) → (n ≡ 7 → ⊥) → (x : Test) → test_code x ≡ n → ⊥
+testless n f0 f1 f4 f5 f6 f7 Eq e = f0 (sym e)
+testless n f0 f1 f4 f5 f6 f7 Ne e = f1 (sym e)
+testless n f0 f1 f4 f5 f6 f7 Lt e = f4 (sym e)
+testless n f0 f1 f4 f5 f6 f7 Ge e = f5 (sym e)
+testless n f0 f1 f4 f5 f6 f7 Ltu e = f6 (sym e)
+testless n f0 f1 f4 f5 f6 f7 Geu e = f7 (sym e)
+
+pub no_branch : (w : ℕ) → w < 2 ^ 32 → opcode w ≡ 0x63 → (funct3 w ≡ 0 → ⊥) → (funct3 w ≡ 1 → ⊥)
+    → (funct3 w ≡ 4 → ⊥) → (funct3 w ≡ 5 → ⊥) → (funct3 w ≡ 6 → ⊥) → (funct3 w ≡ 7 → ⊥) → decoded w ≡ None
+no_branch w h a f0 f1 f4 f5 f6 f7 = none_unless w h (branchless w a (testless (funct3 w) f0 f1 f4 f5 f6 f7))
 
 loadless : (w : ℕ) → opcode w ≡ 0x03 → ((k : LoadKind) → load_code k ≡ funct3 w → ⊥) → (i : Instr) → Spelled w i → ⊥
 loadless w a f (Load k d s z) q = f k (omega (arith, q.word, q.held.0, q.held.1, load_small k))
 loadless w a f i q = omega (arith, opcode-spelled w i q)
 
-pub no_load : (w : ℕ) → w < 2 ^ 32 → opcode w ≡ 0x03 → ((k : LoadKind) → load_code k ≡ funct3 w → ⊥) → decoded w ≡ None
-no_load w h a f = none_unless w h (loadless w a f)
+loadless_kind : (n : ℕ) → (n ≡ 0 → ⊥) → (n ≡ 1 → ⊥) → (n ≡ 2 → ⊥) → (n ≡ 4 → ⊥) → (n ≡ 5 → ⊥) → (x : LoadKind) → load_code x ≡ n → ⊥
+loadless_kind n f0 f1 f2 f4 f5 Lb e = f0 (sym e)
+loadless_kind n f0 f1 f2 f4 f5 Lh e = f1 (sym e)
+loadless_kind n f0 f1 f2 f4 f5 Lw e = f2 (sym e)
+loadless_kind n f0 f1 f2 f4 f5 Lbu e = f4 (sym e)
+loadless_kind n f0 f1 f2 f4 f5 Lhu e = f5 (sym e)
+
+pub no_load : (w : ℕ) → w < 2 ^ 32 → opcode w ≡ 0x03 → (funct3 w ≡ 0 → ⊥) → (funct3 w ≡ 1 → ⊥) → (funct3 w ≡ 2 → ⊥)
+    → (funct3 w ≡ 4 → ⊥) → (funct3 w ≡ 5 → ⊥) → decoded w ≡ None
+no_load w h a f0 f1 f2 f4 f5 = none_unless w h (loadless w a (loadless_kind (funct3 w) f0 f1 f2 f4 f5))
 
 storeless : (w : ℕ) → opcode w ≡ 0x23 → ((k : StoreKind) → store_code k ≡ funct3 w → ⊥) → (i : Instr) → Spelled w i → ⊥
 storeless w a f (Store k s t z) q = f k (omega (arith, q.word, q.held.0, q.held.1, store_small k))
 storeless w a f i q = omega (arith, opcode-spelled w i q)
 
-pub no_store : (w : ℕ) → w < 2 ^ 32 → opcode w ≡ 0x23 → ((k : StoreKind) → store_code k ≡ funct3 w → ⊥) → decoded w ≡ None
-no_store w h a f = none_unless w h (storeless w a f)
+storeless_kind : (n : ℕ) → (n ≡ 0 → ⊥) → (n ≡ 1 → ⊥) → (n ≡ 2 → ⊥) → (x : StoreKind) → store_code x ≡ n → ⊥
+storeless_kind n f0 f1 f2 Sb e = f0 (sym e)
+storeless_kind n f0 f1 f2 Sh e = f1 (sym e)
+storeless_kind n f0 f1 f2 Sw e = f2 (sym e)
+
+pub no_store : (w : ℕ) → w < 2 ^ 32 → opcode w ≡ 0x23 → (funct3 w ≡ 0 → ⊥) → (funct3 w ≡ 1 → ⊥) → (funct3 w ≡ 2 → ⊥) → decoded w ≡ None
+no_store w h a f0 f1 f2 = none_unless w h (storeless w a (storeless_kind (funct3 w) f0 f1 f2))
 
 opless : (w : ℕ) → opcode w ≡ 0x33 → ((o : AluOp) → alu_code o ≡ funct3 w → alu_high o ≡ funct7 w → ⊥) → (i : Instr) → Spelled w i → ⊥
 opless w a f (Op o d s t) q = f o (omega (arith, q.word, q.held.0, q.held.1, q.held.2, alu_small o))

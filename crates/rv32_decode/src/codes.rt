@@ -24,21 +24,6 @@ pub(crate) fn test_code_of(test: Test) -> u32
     }
 }
 
-pub(crate) fn test_of(code: u32) -> Option<Test>
-    ensures found { IfSome result (λ t. test_code t ≡ code) }
-    ensures none { IfNone result ((t : Test) → test_code t ≢ code) }
-{
-    match code {
-        0 => Some(Test::Eq),
-        1 => Some(Test::Ne),
-        4 => Some(Test::Lt),
-        5 => Some(Test::Ge),
-        6 => Some(Test::Ltu),
-        7 => Some(Test::Geu),
-        _ => None,
-    }
-}
-
 pub(crate) fn load_code_of(kind: LoadKind) -> u32
     ensures code { result ≡ load_code kind }
     ensures range { result < 8 }
@@ -52,20 +37,6 @@ pub(crate) fn load_code_of(kind: LoadKind) -> u32
     }
 }
 
-pub(crate) fn load_kind_of(code: u32) -> Option<LoadKind>
-    ensures found { IfSome result (λ k. load_code k ≡ code) }
-    ensures none { IfNone result ((k : LoadKind) → load_code k ≢ code) }
-{
-    match code {
-        0 => Some(LoadKind::Lb),
-        1 => Some(LoadKind::Lh),
-        2 => Some(LoadKind::Lw),
-        4 => Some(LoadKind::Lbu),
-        5 => Some(LoadKind::Lhu),
-        _ => None,
-    }
-}
-
 pub(crate) fn store_code_of(kind: StoreKind) -> u32
     ensures code { result ≡ store_code kind }
     ensures range { result < 8 }
@@ -74,18 +45,6 @@ pub(crate) fn store_code_of(kind: StoreKind) -> u32
         StoreKind::Sb => 0,
         StoreKind::Sh => 1,
         StoreKind::Sw => 2,
-    }
-}
-
-pub(crate) fn store_kind_of(code: u32) -> Option<StoreKind>
-    ensures found { IfSome result (λ k. store_code k ≡ code) }
-    ensures none { IfNone result ((k : StoreKind) → store_code k ≢ code) }
-{
-    match code {
-        0 => Some(StoreKind::Sb),
-        1 => Some(StoreKind::Sh),
-        2 => Some(StoreKind::Sw),
-        _ => None,
     }
 }
 

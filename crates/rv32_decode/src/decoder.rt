@@ -1,17 +1,18 @@
 //! From a word to its instruction.
 ghost use Rattle.std.specs.Prelude.{◌≡◌, ◌≤◌, ◌↔◌, pos, [], length, All, IfSome, IsNone, Some};
-ghost use Rattle.rv32_decode.specs.Fields.{opcode, rd, rs1, rs2, imm_i};
+ghost use Rattle.rv32_decode.specs.Codes.{load_code, store_code, test_code};
+ghost use Rattle.rv32_decode.specs.Fields.{funct3, opcode, rd, rs1, rs2, imm_i};
 ghost use Rattle.rv32_decode.specs.Table.{decoded, rows_of};
 ghost use Rattle.rv32_decode.specs.Spelling.{word_of};
 ghost use Rattle.rv32_decode.specs.Validity.{IsValid};
 ghost use Rattle.rv32_decode.specs.declared.instruction.Instr.{Instr};
 
-use crate::codes::{alu_op_of, amo_op_of, load_kind_of, store_kind_of, test_of};
+use crate::codes::{alu_op_of, amo_op_of};
 use crate::fields::{
     funct3_of, funct5_of, funct7_of, imm_b_of, imm_i_of, imm_j_of, imm_s_of, imm_u_of, opcode_of,
     order_of, rd_of, rs1_of, rs2_of,
 };
-use crate::instruction::{ImmOp, Instr};
+use crate::instruction::{ImmOp, Instr, LoadKind, StoreKind, Test};
 
 /// The instruction that a word is, or `None` where it is none of RV32I, M and A. The low byte of
 /// the
@@ -77,12 +78,30 @@ fn jalr_of(word: u32) -> Option<Instr>
     })
 }
 
-#[tactic(auto, using(crate::proofs::Found::branch_is, crate::proofs::Nowhere::no_branch))]
+#[tactic(auto, using(crate::proofs::Nowhere::no_branch))]
 fn branch_of(word: u32) -> Option<Instr>
     requires { opcode word ≡ 0x63 }
     ensures { result ≡ decoded word }
 {
-    let test = test_of(funct3_of(word))?;
+    match funct3_of(word) {
+        0 => branch_by(Test::Eq, word),
+        1 => branch_by(Test::Ne, word),
+        4 => branch_by(Test::Lt, word),
+        5 => branch_by(Test::Ge, word),
+        6 => branch_by(Test::Ltu, word),
+        7 => branch_by(Test::Geu, word),
+        _ => None,
+    }
+}
+
+// The branch by the test whose code the word has.
+#[inline]
+#[tactic(auto, using(crate::proofs::Found::branch_is))]
+fn branch_by(test: Test, word: u32) -> Option<Instr>
+    requires opcode { opcode word ≡ 0x63 }
+    requires code { test_code test ≡ funct3 word }
+    ensures { result ≡ decoded word }
+{
     Some(Instr::Branch {
         test,
         rs1: rs1_of(word),
@@ -91,12 +110,29 @@ fn branch_of(word: u32) -> Option<Instr>
     })
 }
 
-#[tactic(auto, using(crate::proofs::Found::load_is, crate::proofs::Nowhere::no_load))]
+#[tactic(auto, using(crate::proofs::Nowhere::no_load))]
 fn load_of(word: u32) -> Option<Instr>
     requires { opcode word ≡ 0x03 }
     ensures { result ≡ decoded word }
 {
-    let kind = load_kind_of(funct3_of(word))?;
+    match funct3_of(word) {
+        0 => load_by(LoadKind::Lb, word),
+        1 => load_by(LoadKind::Lh, word),
+        2 => load_by(LoadKind::Lw, word),
+        4 => load_by(LoadKind::Lbu, word),
+        5 => load_by(LoadKind::Lhu, word),
+        _ => None,
+    }
+}
+
+// The load of the kind whose code the word has.
+#[inline]
+#[tactic(auto, using(crate::proofs::Found::load_is))]
+fn load_by(kind: LoadKind, word: u32) -> Option<Instr>
+    requires opcode { opcode word ≡ 0x03 }
+    requires code { load_code kind ≡ funct3 word }
+    ensures { result ≡ decoded word }
+{
     Some(Instr::Load {
         kind,
         rd: rd_of(word),
@@ -105,12 +141,27 @@ fn load_of(word: u32) -> Option<Instr>
     })
 }
 
-#[tactic(auto, using(crate::proofs::Found::store_is, crate::proofs::Nowhere::no_store))]
+#[tactic(auto, using(crate::proofs::Nowhere::no_store))]
 fn store_of(word: u32) -> Option<Instr>
     requires { opcode word ≡ 0x23 }
     ensures { result ≡ decoded word }
 {
-    let kind = store_kind_of(funct3_of(word))?;
+    match funct3_of(word) {
+        0 => store_by(StoreKind::Sb, word),
+        1 => store_by(StoreKind::Sh, word),
+        2 => store_by(StoreKind::Sw, word),
+        _ => None,
+    }
+}
+
+// The store of the kind whose code the word has.
+#[inline]
+#[tactic(auto, using(crate::proofs::Found::store_is))]
+fn store_by(kind: StoreKind, word: u32) -> Option<Instr>
+    requires opcode { opcode word ≡ 0x23 }
+    requires code { store_code kind ≡ funct3 word }
+    ensures { result ≡ decoded word }
+{
     Some(Instr::Store {
         kind,
         rs1: rs1_of(word),
@@ -138,16 +189,16 @@ fn imm_of(word: u32) -> Option<Instr>
     requires { opcode word ≡ 0x13 }
     ensures { result ≡ decoded word }
 {
-    match (funct3_of(word), funct7_of(word)) {
-        (0, _) => Some(plain_of(ImmOp::Addi, word)),
-        (2, _) => Some(plain_of(ImmOp::Slti, word)),
-        (3, _) => Some(plain_of(ImmOp::Sltiu, word)),
-        (4, _) => Some(plain_of(ImmOp::Xori, word)),
-        (6, _) => Some(plain_of(ImmOp::Ori, word)),
-        (7, _) => Some(plain_of(ImmOp::Andi, word)),
-        (1, 0) => Some(shift_of(ImmOp::Slli, word)),
-        (5, 0) => Some(shift_of(ImmOp::Srli, word)),
-        (5, 0x20) => Some(shift_of(ImmOp::Srai, word)),
+    match funct3_of(word) {
+        0 => Some(plain_of(ImmOp::Addi, word)),
+        1 if funct7_of(word) == 0 => Some(shift_of(ImmOp::Slli, word)),
+        2 => Some(plain_of(ImmOp::Slti, word)),
+        3 => Some(plain_of(ImmOp::Sltiu, word)),
+        4 => Some(plain_of(ImmOp::Xori, word)),
+        5 if funct7_of(word) == 0 => Some(shift_of(ImmOp::Srli, word)),
+        5 if funct7_of(word) == 0x20 => Some(shift_of(ImmOp::Srai, word)),
+        6 => Some(plain_of(ImmOp::Ori, word)),
+        7 => Some(plain_of(ImmOp::Andi, word)),
         _ => None,
     }
 }

@@ -1,7 +1,7 @@
 //! The fields of a word.
-ghost use Rattle.std.specs.Prelude.{◌≡◌, ◌<◌, ◌≤◌, ◌*◌};
+ghost use Rattle.std.specs.Prelude.{◌≡◌};
 ghost use Rattle.rv32_decode.specs.Fields.{opcode, rd, rs1, rs2, funct3, funct5, funct7, order};
-ghost use Rattle.rv32_decode.specs.Fields.{imm_i, imm_s, imm_b, imm_u, imm_j, signed};
+ghost use Rattle.rv32_decode.specs.Fields.{imm_i, imm_s, imm_b, imm_u, imm_j};
 
 use crate::register::Reg;
 
@@ -61,46 +61,26 @@ pub(crate) fn rs2_of(word: u32) -> Reg
     Reg::of_low_bits(word >> 20)
 }
 
-/// The number that `n` stands for in two's complement, where numbers from `half` on are below
-/// zero.
-#[inline]
-fn signed_of(half: u32, n: u32) -> i32
-    requires half { half ≤ 1048576 }
-    requires range { n < 2 * half }
-    ensures { result ≡ signed half n }
-{
-    if n < half {
-        n as i32
-    } else {
-        n as i32 - 2 * half as i32
-    }
-}
-
 #[inline]
 pub(crate) fn imm_i_of(word: u32) -> i32
     ensures { result ≡ imm_i word }
 {
-    signed_of(2048, word >> 20)
+    word.cast_signed() >> 20
 }
 
 #[inline]
 pub(crate) fn imm_s_of(word: u32) -> i32
     ensures { result ≡ imm_s word }
 {
-    signed_of(2048, (word >> 25 << 5) + (word >> 7 & 31))
+    (word.cast_signed() >> 25) * 32 + (word >> 7 & 31) as i32
 }
 
 #[inline]
 pub(crate) fn imm_b_of(word: u32) -> i32
     ensures { result ≡ imm_b word }
 {
-    signed_of(
-        4096,
-        (word >> 31 << 12)
-            + ((word >> 7 & 1) << 11)
-            + ((word >> 25 & 63) << 5)
-            + ((word >> 8 & 15) << 1),
-    )
+    let below = ((word >> 7 & 1) << 11) + ((word >> 25 & 63) << 5) + ((word >> 8 & 15) << 1);
+    (word.cast_signed() >> 31) * 4096 + below as i32
 }
 
 #[inline]
@@ -114,11 +94,6 @@ pub(crate) fn imm_u_of(word: u32) -> u32
 pub(crate) fn imm_j_of(word: u32) -> i32
     ensures { result ≡ imm_j word }
 {
-    signed_of(
-        1048576,
-        (word >> 31 << 20)
-            + ((word >> 12 & 255) << 12)
-            + ((word >> 20 & 1) << 11)
-            + ((word >> 21 & 1023) << 1),
-    )
+    let below = ((word >> 12 & 255) << 12) + ((word >> 20 & 1) << 11) + ((word >> 21 & 1023) << 1);
+    (word.cast_signed() >> 31) * 1048576 + below as i32
 }

@@ -139,8 +139,31 @@ pub fn branch(test: Test, rs1: Reg, rs2: Reg, offset: i32, state: &mut HartState
     StepEnd::Next(instr, None)
 }
 
+/// A load. Each kind has code of its own, in which its size and its sign are known.
 #[inline(always)]
 pub fn load(
+    hart: Hart,
+    kind: LoadKind,
+    rd: Reg,
+    rs1: Reg,
+    offset: i32,
+    state: &mut HartState,
+    memory: &Memory,
+) -> StepEnd
+    ensures { (h : List (Option ℕ)) → outcome result (machine state.new memory.now h) ≡ load_effect
+        hart kind rd rs1 offset (machine state.old memory.now h) }
+{
+    match kind {
+        LoadKind::Lb => load_as(hart, LoadKind::Lb, rd, rs1, offset, state, memory),
+        LoadKind::Lh => load_as(hart, LoadKind::Lh, rd, rs1, offset, state, memory),
+        LoadKind::Lw => load_as(hart, LoadKind::Lw, rd, rs1, offset, state, memory),
+        LoadKind::Lbu => load_as(hart, LoadKind::Lbu, rd, rs1, offset, state, memory),
+        LoadKind::Lhu => load_as(hart, LoadKind::Lhu, rd, rs1, offset, state, memory),
+    }
+}
+
+#[inline(always)]
+fn load_as(
     hart: Hart,
     kind: LoadKind,
     rd: Reg,
@@ -172,8 +195,31 @@ pub fn load(
     }
 }
 
+/// A store. Each kind has code of its own, in which its size is known.
 #[inline(always)]
 pub fn store(
+    hart: Hart,
+    kind: StoreKind,
+    rs1: Reg,
+    rs2: Reg,
+    offset: i32,
+    state: &mut HartState,
+    memory: &mut Memory,
+    held: &mut Reservations,
+) -> StepEnd
+    requires { hart < length held.old }
+    ensures { outcome result (machine state.new memory.new held.new) ≡ store_effect hart kind rs1
+        rs2 offset (machine state.old memory.old held.old) }
+{
+    match kind {
+        StoreKind::Sb => store_as(hart, StoreKind::Sb, rs1, rs2, offset, state, memory, held),
+        StoreKind::Sh => store_as(hart, StoreKind::Sh, rs1, rs2, offset, state, memory, held),
+        StoreKind::Sw => store_as(hart, StoreKind::Sw, rs1, rs2, offset, state, memory, held),
+    }
+}
+
+#[inline(always)]
+fn store_as(
     hart: Hart,
     kind: StoreKind,
     rs1: Reg,

@@ -60,7 +60,7 @@ fn run_step(
     ensures { outcome result (machine state.new memory.new held.new) ≡ stepped hart
         (machine state.old memory.old held.old) }
 {
-    let word = match memory.fetch(state.pc()) {
+    let word = match memory.fetch_word(state.pc()) {
         Ok(word) => word,
         Err(_) => return StepEnd::Trap(Cause::FetchOutside),
     };

@@ -18,11 +18,11 @@ use Rattle.run_recorder.proofs.record.follow.Goals as goal
 pub turns-init : goal.turns-init
 turns-init g c =
     follows_start g.O.Observer.given c.args.guest.now c.args.observer.now c.args.files.now c.args.outputs.now
-    (g.S.Shelf.outside c.args.shelf.now) c.requires.begun
+    (g.S.Shelf.outside c.show_steps.new.shelf) (rw c.show_steps.ensures c.requires.begun)
 
 pub note_event-requires-clause-room : goal.note_event-requires-clause-room
 note_event-requires-clause-room g c =
-    let x = shown c.turns.invariant c.show_steps.ensures in
+    let x = c.turns.invariant in
     let after = c.step.new.self in
     let e : RunEvent = seen after.config.memory c.in-Ok-Ran.event in
     let counts : after.config.accesses ≡ c.turns.guest.config.accesses + accesses_in c.in-Ok-Ran.event =
@@ -35,13 +35,14 @@ note_event-requires-clause-room g c =
 
 pub turns-preserved : goal.turns-preserved
 turns-preserved g c =
-    let x = shown c.turns.invariant c.show_steps.ensures in
+    let x = c.turns.invariant in
     let after = c.step.new.self in
     let given = g.O.Observer.given in
     let e : RunEvent = seen after.config.memory c.in-Ok-Ran.event in
     let setup : after.setup ≡ c.args.guest.now.setup = c.in-Ok-Ran.ensures.setup ∙ x.setup in
     let harts : after.setup.harts ≡ c.args.guest.now.setup.harts = ap (λ (s : Setup). s.harts) setup in
-    record {
+    shown
+    (record {
       events = x.events ++ e ∷ [];
       given_on = subst (IsGivenOn given c.args.observer.now c.note_event.new.observer) (sym (records-more x.events e))
           (given_more given c.args.observer.now c.turns.observer c.note_event.new.observer (records_in x.events) (record_in e) x.given_on
@@ -59,11 +60,12 @@ turns-preserved g c =
           (rw c.in-Ok-Ran.field-0-is at c.in-Ok-Ran.ensures.counts).1;
       count = c.note_event.ensures.count ∙ x.count;
       begun = c.in-Ok.ensures.begun;
-    }
+    })
+    c.show_steps-in-Ok.ensures
 
 pub returns-in-Err-note_event-clause-cut : goal.returns-in-Err-note_event-clause-cut
 returns-in-Err-note_event-clause-cut g c = λ earlier before on.
-    let x = shown c.turns.invariant c.show_steps.ensures in
+    let x = c.turns.invariant in
     let after = c.step.new.self in
     let harts = c.args.guest.now.setup.harts in
     let new = g.S.Shelf.outside c.note_event.new.shelf in
@@ -73,26 +75,27 @@ returns-in-Err-note_event-clause-cut g c = λ earlier before on.
     (seen_longer x.events e (rest_of c.args.guest.now) (rest_of c.turns.guest) (rest_of after) x.goes
     (rw c.in-Ok-Ran.field-0-is at c.in-Ok-Ran.ensures.run))
     (cut_event harts c.args.files.now before new c.in-Err-note_event.error earlier x.events e
-    (c.in-Err-note_event.ensures.cut harts (earlier ++ records_in x.events) (output_in x.events) before (x.noted earlier before on)))
+    (c.in-Err-note_event.ensures.cut harts (earlier ++ records_in x.events) (output_in x.events) before
+    (x.noted earlier before (rw c.show_steps.ensures on))))
 
 pub returns-in-Ok-Ended-clause-noted : goal.returns-in-Ok-Ended-clause-noted
 returns-in-Ok-Ended-clause-noted g c = λ earlier before on.
-    let x = shown c.turns.invariant c.show_steps.ensures in
+    let x = c.turns.invariant in
     let end : Ending = ending_with c.in-Ok-Ended.outcome c.step.new.self.config in
     let ends : rest_of c.turns.guest ≡ ended_run end = rw c.in-Ok-Ended.field-0-is at c.in-Ok-Ended.ensures.run in
     let same : (rest_of c.args.guest.now).events ≡ x.events = all_seen x.events (rest_of c.args.guest.now) (rest_of c.turns.guest) end
     x.goes ends in
     subst (λ (l : List RunEvent). AreNoted c.args.guest.now.setup.harts (earlier ++ records_in l) (output_in l) c.args.files.now
     c.turns.outputs before
-    (g.S.Shelf.outside c.show_steps.new.shelf)) (sym same) (x.noted earlier before on)
+    (g.S.Shelf.outside c.turns.shelf)) (sym same) (x.noted earlier before (rw c.show_steps.ensures on))
 
 -- where the guest finds no memory, what was put stands but for what waits
 pub returns-in-Err-clause-cut : goal.returns-in-Err-clause-cut
 returns-in-Err-clause-cut g c = λ earlier before on.
-    let x = shown c.turns.invariant c.show_steps.ensures in
+    let x = c.turns.invariant in
     let harts = c.args.guest.now.setup.harts in
     let files = c.args.files.now in
-    let now = g.S.Shelf.outside c.show_steps.new.shelf in
+    let now = g.S.Shelf.outside c.turns.shelf in
     cut_seen harts earlier files x.events (rest_of c.args.guest.now) (rest_of c.turns.guest) before now NoMemory x.goes
     (IsOutputs-cut c.turns.outputs (outputs_of files (bytes_so_far harts (earlier ++ records_in x.events) (output_in x.events))) before
-    now NoMemory (λ same. cc) (x.noted earlier before on))
+    now NoMemory (λ same. cc) (x.noted earlier before (rw c.show_steps.ensures on)))
