@@ -10,37 +10,55 @@ use std::test::Fail;
 use virtual_lines::{LineKind, Track, Tracks};
 use word_shadow::Shadow;
 
-// The words of 64 bytes after accesses of 4 bytes, each told by its hart, its address and its kind.
-fn shadow_of(
-    rt: &impl Abort,
-    alloc: Global,
-    base: i64,
-    told: &[(u16, u32, Kind)],
-) -> Result<Shadow, Fail> {
+// An access of 4 bytes: its hart, its address and its kind.
+type Told = (u16, u32, Kind);
+
+fn access_of(told: &Told) -> Result<Access, Fail> {
+    let hart = Hart::new(told.0).ok_or("a hart")?;
+    Ok(Access::new(hart, told.1, told.2, 4).ok_or("a word")?)
+}
+
+fn note(rt: &impl Abort, shadow: &mut Shadow, told: &Told) -> Result<(), Fail> {
+    let access = access_of(told)?;
+    assert!(rt; shadow.range().contains(access.addr()));
+    assert!(rt; shadow.total() < 1 << 40);
+    shadow.note(access);
+    Ok(())
+}
+
+// The words of 64 bytes after accesses.
+fn shadow_of(rt: &impl Abort, alloc: Global, base: i64, all: &[Told]) -> Result<Shadow, Fail> {
     let mut shadow = Shadow::new(alloc, Range { base, size: 64 })?;
-    for (number, addr, kind) in told {
-        let hart = Hart::new(*number).ok_or("a hart")?;
-        let access = Access::new(hart, *addr, *kind, 4).ok_or("a word")?;
-        assert!(rt; shadow.range().contains(access.addr()));
-        assert!(rt; shadow.total() < 1 << 40);
-        shadow.note(access);
+    for told in all {
+        note(rt, &mut shadow, told)?;
     }
     Ok(shadow)
 }
 
-// Adds a track of such words with a start and a count.
-fn add(
-    rt: &impl Abort,
-    tracks: &mut Tracks,
+// A track of 64 bytes with a start and a count.
+struct Row {
     kind: LineKind,
-    shadow: Shadow,
+    base: i64,
+    told: &'static [Told],
     start: u64,
     count: u64,
-) -> Result<(), Fail> {
+}
+
+fn add(rt: &impl Abort, alloc: Global, tracks: &mut Tracks, row: &Row) -> Result<(), Fail> {
     let hart = Hart::new(0).ok_or("a hart")?;
+    let shadow = shadow_of(rt, alloc, row.base, row.told)?;
     assert!(rt; tracks.all().len() < 1 << 31);
-    tracks.add_saved(kind, shadow, Some((start, History::one(hart))), count)?;
+    let start = Some((row.start, History::one(hart)));
+    tracks.add_saved(row.kind, shadow, start, row.count)?;
     Ok(())
+}
+
+fn tracks_of(rt: &impl Abort, alloc: Global, rows: &[Row]) -> Result<Tracks, Fail> {
+    let mut tracks = Tracks::new(alloc);
+    for row in rows {
+        add(rt, alloc, &mut tracks, row)?;
+    }
+    Ok(tracks)
 }
 
 // Adds a track that has no start.
@@ -77,22 +95,22 @@ fn is_reported(
 const NOTHING: &str =
     "predator report 1\noutcome trap hart 3 pc 0x00010004 load-misaligned\nsteps 9\naccesses 8\nlayout 64 0\nthresholds 1 none 1099511627776\nlines 0\nend\n";
 
+// a count one below what lists a line
+const ONE_SHORT: [Row; 1] = [Row {
+    kind: LineKind::Observed,
+    base: 0x1000,
+    told: &[(0, 0x1000, Write)],
+    start: 0,
+    count: (1 << 40) - 1,
+}];
+
 #[test]
 fn tells_of_no_lines(rt: HostRuntime) -> Result<(), Fail> {
     let alloc = rt.alloc();
     let objects = ObjectTable::new(alloc);
     let hart = Hart::new(3).ok_or("a hart")?;
     let trap = Outcome::Trap(hart, 0x10004, Cause::LoadMisaligned);
-    let mut tracks = Tracks::new(alloc);
-    let shadow = shadow_of(&rt, alloc, 0x1000, &[(0, 0x1000, Write)])?;
-    add(
-        &rt,
-        &mut tracks,
-        LineKind::Observed,
-        shadow,
-        0,
-        (1 << 40) - 1,
-    )?;
+    let mut tracks = tracks_of(&rt, alloc, &ONE_SHORT)?;
     add_waiting(&rt, &mut tracks)?;
     let levels = (1, None, 1 << 40);
     assert!(rt; is_reported(alloc, trap, levels, tracks.all(), &objects, NOTHING)?);
@@ -102,75 +120,117 @@ fn tells_of_no_lines(rt: HostRuntime) -> Result<(), Fail> {
 const IN_ORDER: &str =
     "predator report 1\noutcome exit 7\nsteps 9\naccesses 8\nlayout 64 0\nthresholds 2 4 1\nlines 5\nline observed 0x00001000 64 start 0 count 3 verdict false\nword 0x00001000 reads 0 writes 2 hart 0\nword 0x00001004 reads 1 writes 0 hart 255\nline observed -0x00000020 64 start 0 count 2 verdict true\nword 0x00000000 reads 1 writes 1 many\nline observed 0xffffffe0 64 start 1 count 2 verdict false\nword 0xffffffe0 reads 0 writes 1 hart 0\nline observed 0xffffffe0 64 start 2 count 2 verdict false\nline shifted -0x00000040 64 start 4 count 2 verdict false\nend\n";
 
+const OUT_OF_ORDER: [Row; 5] = [
+    Row {
+        kind: LineKind::Shifted,
+        base: -0x40,
+        told: &[],
+        start: 4,
+        count: 2,
+    },
+    Row {
+        kind: LineKind::Observed,
+        base: 0xffff_ffe0,
+        told: &[(0, 0xffff_ffe0, Write)],
+        start: 1,
+        count: 2,
+    },
+    // it ties with the one before
+    Row {
+        kind: LineKind::Observed,
+        base: 0xffff_ffe0,
+        told: &[],
+        start: 2,
+        count: 2,
+    },
+    Row {
+        kind: LineKind::Observed,
+        base: -0x20,
+        told: &[(0, 0, Write), (1, 0, Read)],
+        start: 0,
+        count: 2,
+    },
+    Row {
+        kind: LineKind::Observed,
+        base: 0x1000,
+        told: &[(0, 0x1000, Write), (255, 0x1004, Read), (0, 0x1000, Write)],
+        start: 0,
+        count: 3,
+    },
+];
+
 #[test]
 fn puts_lines_in_order(rt: HostRuntime) -> Result<(), Fail> {
     let alloc = rt.alloc();
     let objects = ObjectTable::new(alloc);
-    let mut tracks = Tracks::new(alloc);
-    let blank = shadow_of(&rt, alloc, -0x40, &[])?;
-    add(&rt, &mut tracks, LineKind::Shifted, blank, 4, 2)?;
-    let past = shadow_of(&rt, alloc, 0xffff_ffe0, &[(0, 0xffff_ffe0, Write)])?;
-    add(&rt, &mut tracks, LineKind::Observed, past, 1, 2)?;
-    let tied = shadow_of(&rt, alloc, 0xffff_ffe0, &[])?;
-    add(&rt, &mut tracks, LineKind::Observed, tied, 2, 2)?;
-    let below = shadow_of(&rt, alloc, -0x20, &[(0, 0, Write), (1, 0, Read)])?;
-    add(&rt, &mut tracks, LineKind::Observed, below, 0, 2)?;
-    let most = [(0, 0x1000, Write), (255, 0x1004, Read), (0, 0x1000, Write)];
-    let most = shadow_of(&rt, alloc, 0x1000, &most)?;
-    add(&rt, &mut tracks, LineKind::Observed, most, 0, 3)?;
+    let tracks = tracks_of(&rt, alloc, &OUT_OF_ORDER)?;
+    let exit = Outcome::Exit(7);
     let levels = (2, Some(4), 1);
-    assert!(rt;
-        is_reported(
-            alloc,
-            Outcome::Exit(7),
-            levels,
-            tracks.all(),
-            &objects,
-            IN_ORDER
-        )?
-    );
+    assert!(rt; is_reported(alloc, exit, levels, tracks.all(), &objects, IN_ORDER)?);
     Ok(())
 }
 
 const WITH_OBJECTS: &str =
     "predator report 1\noutcome part\nsteps 9\naccesses 8\nlayout 64 0\nthresholds 1 1 1\nlines 1\nline observed 0x00001000 64 start 2 count 1 verdict false\nobject symbol a\\x20b\\x5c\\xff 0x00000ff0 32\nobject symbol ? 0x0000103f 1\nobject block 0x00001000 24 born 0 died 3\nsite 0x000100b0 worker\nsite 0x00000004 -\nobject block 0x00001020 4 born 7 live\nend\n";
 
+const SYMBOLS: [(SymbolKind, u32, u32, &[u8]); 7] = [
+    (SymbolKind::Object, 0xff0, 32, b"a b\\\xff"),
+    (SymbolKind::Object, 0xff0, 16, b"before"),
+    (SymbolKind::Object, 0x1040, 4, b"after"),
+    (SymbolKind::Function, 0x1000, 64, b"no_object"),
+    (SymbolKind::Object, 0x103f, 1, b""),
+    (SymbolKind::Function, 0x100a0, 64, b"worker"),
+    (SymbolKind::Function, 0x100b0, 64, b"second"),
+];
+
+fn note_symbols(objects: &mut ObjectTable) -> Result<(), Fail> {
+    for (kind, addr, size, name) in &SYMBOLS {
+        objects.note_symbol(*kind, *addr, *size, name)?;
+    }
+    Ok(())
+}
+
+// Blocks, each told by its position, its address, its size and its sites.
+fn note_blocks(objects: &mut ObjectTable, all: &[(u64, u32, u32, [u32; 4])]) -> Result<(), Fail> {
+    for (position, addr, size, sites) in all {
+        objects.note_alloc(*position, *addr, *size, *sites)?;
+    }
+    Ok(())
+}
+
+const DYING: [(u64, u32, u32, [u32; 4]); 2] = [
+    (0, 0x1000, 24, [0x100b0, 0, 4, 0]),
+    (0, 0x1020, 24, [0x100b0, 0, 0, 0]),
+];
+
+const LIVING: [(u64, u32, u32, [u32; 4]); 2] = [(7, 0x1020, 4, [0; 4]), (8, 0x1030, 4, [0; 4])];
+
 // What stands on a line, beside it, or died before.
 fn objects_of(alloc: Global) -> Result<ObjectTable, Fail> {
     let mut objects = ObjectTable::new(alloc);
-    objects.note_symbol(SymbolKind::Object, 0xff0, 32, b"a b\\\xff")?;
-    objects.note_symbol(SymbolKind::Object, 0xff0, 16, b"before")?;
-    objects.note_symbol(SymbolKind::Object, 0x1040, 4, b"after")?;
-    objects.note_symbol(SymbolKind::Function, 0x1000, 64, b"no_object")?;
-    objects.note_symbol(SymbolKind::Object, 0x103f, 1, b"")?;
-    objects.note_symbol(SymbolKind::Function, 0x100a0, 64, b"worker")?;
-    objects.note_symbol(SymbolKind::Function, 0x100b0, 64, b"second")?;
-    objects.note_alloc(0, 0x1000, 24, [0x100b0, 0, 4, 0])?;
-    objects.note_alloc(0, 0x1020, 24, [0x100b0, 0, 0, 0])?;
+    note_symbols(&mut objects)?;
+    note_blocks(&mut objects, &DYING)?;
     objects.note_free(2, 0x1020);
     objects.note_free(3, 0x1000);
-    objects.note_alloc(7, 0x1020, 4, [0; 4])?;
-    objects.note_alloc(8, 0x1030, 4, [0; 4])?;
+    note_blocks(&mut objects, &LIVING)?;
     Ok(objects)
 }
+
+const BLANK: [Row; 1] = [Row {
+    kind: LineKind::Observed,
+    base: 0x1000,
+    told: &[],
+    start: 2,
+    count: 1,
+}];
 
 #[test]
 fn tells_what_stands_on_a_line(rt: HostRuntime) -> Result<(), Fail> {
     let alloc = rt.alloc();
     let objects = objects_of(alloc)?;
-    let mut tracks = Tracks::new(alloc);
-    let shadow = shadow_of(&rt, alloc, 0x1000, &[])?;
-    add(&rt, &mut tracks, LineKind::Observed, shadow, 2, 1)?;
+    let tracks = tracks_of(&rt, alloc, &BLANK)?;
+    let part = Outcome::Part;
     let levels = (1, Some(1), 1);
-    assert!(rt;
-        is_reported(
-            alloc,
-            Outcome::Part,
-            levels,
-            tracks.all(),
-            &objects,
-            WITH_OBJECTS
-        )?
-    );
+    assert!(rt; is_reported(alloc, part, levels, tracks.all(), &objects, WITH_OBJECTS)?);
     Ok(())
 }
