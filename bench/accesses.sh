@@ -4,9 +4,9 @@
 # time, the least of three runs. A benchmark, no test.
 set -eu
 top=$(cd "$(dirname "$0")/.." && pwd)
-program=$top/crates/access_bench/out/access_bench
-[ -x "$program" ] || (cd "$top/crates/access_bench" && rt run) >/dev/null 2>&1 </dev/null
-[ -x "$program" ] || { echo "bench: access_bench was not built" >&2; exit 1; }
+program=$top/crates/benches/out/benches
+[ -x "$program" ] || (cd "$top/crates/benches" && rt run) >/dev/null 2>&1 </dev/null
+[ -x "$program" ] || { echo "bench: benches was not built" >&2; exit 1; }
 work=$(mktemp -d)
 trap 'rm -rf "$work"' EXIT
 python3 - "$program" "$work/bytes" <<'PY'
@@ -34,6 +34,6 @@ with open(name, "wb") as out:
 digest = min(timed(["sha256sum", name]) for _ in range(3)) / (200 << 20) * 8 * 1e9
 print(f"sha256sum of an access of 8 bytes: {digest:.1f} ns")
 for what, rounds, words in runs:
-    took = min(timed([program, str(rounds), *words.split()]) for _ in range(3)) / (rounds * each) * 1e9
+    took = min(timed([program, "accesses", str(rounds), *words.split()]) for _ in range(3)) / (rounds * each) * 1e9
     print(f"{what}: {took:.1f} ns an access, {took / digest:.2f} times sha256sum")
 PY

@@ -4,9 +4,9 @@
 # speed of sha256sum in the same run. A benchmark, no test.
 set -eu
 top=$(cd "$(dirname "$0")/.." && pwd)
-program=$top/crates/heap_bench/out/heap_bench
-[ -x "$program" ] || (cd "$top/crates/heap_bench" && rt run) >/dev/null 2>&1
-[ -x "$program" ] || { echo "bench: heap_bench was not built" >&2; exit 1; }
+program=$top/crates/benches/out/benches
+[ -x "$program" ] || (cd "$top/crates/benches" && rt run) >/dev/null 2>&1
+[ -x "$program" ] || { echo "bench: benches was not built" >&2; exit 1; }
 work=$(mktemp -d)
 trap 'rm -rf "$work"' EXIT
 python3 - "$program" "$work/bytes" <<'PY'
@@ -38,7 +38,7 @@ rows = {kind: [] for kind, _, _ in KINDS}
 digests = []
 for _ in range(4):
     for kind, _, wanted in KINDS:
-        rows[kind].append(timed([program, str(count), kind], wanted))
+        rows[kind].append(timed([program, "heap", str(count), kind], wanted))
     digests.append(timed(["sha256sum", name])[0])
 for kind, title, _ in KINDS:
     best = min(row[0] for row in rows[kind])

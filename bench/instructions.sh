@@ -4,13 +4,13 @@
 # the program nor a busy machine counts. A benchmark, no test. It takes some minutes.
 set -eu
 top=$(cd "$(dirname "$0")/.." && pwd)
-program=$top/crates/access_bench/out/access_bench
-[ -x "$program" ] || (cd "$top/crates/access_bench" && rt run) >/dev/null 2>&1 </dev/null
-[ -x "$program" ] || { echo "bench: access_bench was not built" >&2; exit 1; }
+program=$top/crates/benches/out/benches
+[ -x "$program" ] || (cd "$top/crates/benches" && rt run) >/dev/null 2>&1 </dev/null
+[ -x "$program" ] || { echo "bench: benches was not built" >&2; exit 1; }
 
 # counted ROUNDS LINES: the instructions of the whole program
 counted() {
-    valgrind --tool=callgrind --callgrind-out-file=/dev/null "$program" "$1" "$2" 8 16 64 2>&1 >/dev/null \
+    valgrind --tool=callgrind --callgrind-out-file=/dev/null "$program" accesses "$1" "$2" 8 16 64 2>&1 >/dev/null \
         | sed -n 's/.*Collected : *//p'
 }
 

@@ -3,9 +3,9 @@
 # the same run. A benchmark, no test.
 set -eu
 top=$(cd "$(dirname "$0")/.." && pwd)
-program=$top/crates/step_bench/out/step_bench
-[ -x "$program" ] || (cd "$top/crates/step_bench" && rt run) >/dev/null 2>&1
-[ -x "$program" ] || { echo "bench: step_bench was not built" >&2; exit 1; }
+program=$top/crates/benches/out/benches
+[ -x "$program" ] || (cd "$top/crates/benches" && rt run) >/dev/null 2>&1
+[ -x "$program" ] || { echo "bench: benches was not built" >&2; exit 1; }
 work=$(mktemp -d)
 trap 'rm -rf "$work"' EXIT
 python3 - "$program" "$work/bytes" <<'PY'
@@ -24,7 +24,7 @@ def timed(words):
 
 
 runs = [
-    (timed([program, str(steps), "1"]), timed([program, str(steps), "256"]), timed(["sha256sum", name]))
+    (timed([program, "steps", str(steps), "1"]), timed([program, "steps", str(steps), "256"]), timed(["sha256sum", name]))
     for _ in range(4)
 ]
 one, many, digest = (min(run[i] for run in runs) for i in range(3))

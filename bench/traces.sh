@@ -3,9 +3,9 @@
 # test.
 set -eu
 top=$(cd "$(dirname "$0")/.." && pwd)
-program=$top/crates/trace_bench/out/trace_bench
-[ -x "$program" ] || (cd "$top/crates/trace_bench" && rt run) >/dev/null 2>&1
-[ -x "$program" ] || { echo "bench: trace_bench was not built" >&2; exit 1; }
+program=$top/crates/benches/out/benches
+[ -x "$program" ] || (cd "$top/crates/benches" && rt run) >/dev/null 2>&1
+[ -x "$program" ] || { echo "bench: benches was not built" >&2; exit 1; }
 work=$(mktemp -d)
 trap 'rm -rf "$work"' EXIT
 python3 - "$program" "$work/bytes" <<'PY'
@@ -25,7 +25,7 @@ def taken(words):
 
 
 runs = [
-    (taken([program, "1", str(pieces)]), taken([program, "2", str(pieces)]), taken(["sha256sum", name]))
+    (taken([program, "traces", "1", str(pieces)]), taken([program, "traces", "2", str(pieces)]), taken(["sha256sum", name]))
     for _ in range(5)
 ]
 one, two, digest = (min(run[i] for run in runs) for i in range(3))

@@ -1,13 +1,13 @@
 #!/usr/bin/env bash
 # How many machine instructions a step takes of a guest whose harts do nothing but jump to themselves: one hart of 8, one of 256,
-# 8 harts in turn and 256 in turn. First of turn_bench, which makes turns alone: 50,000 steps without the start. Then of the built
+# 8 harts in turn and 256 in turn. First of crates/benches, which makes turns alone: 50,000 steps without the start. Then of the built
 # program, if it is there: 400,000 steps and the start. Counted by valgrind, so that a busy machine makes no difference. A
 # benchmark, no test.
 set -eu
 top=$(cd "$(dirname "$0")/.." && pwd)
-turns=$top/crates/turn_bench/out/turn_bench
-[ -x "$turns" ] || (cd "$top/crates/turn_bench" && rt run) >/dev/null 2>&1
-[ -x "$turns" ] || { echo "bench: turn_bench was not built" >&2; exit 1; }
+turns=$top/crates/benches/out/benches
+[ -x "$turns" ] || (cd "$top/crates/benches" && rt run) >/dev/null 2>&1
+[ -x "$turns" ] || { echo "bench: benches was not built" >&2; exit 1; }
 program=$top/crates/predator/out/predator
 command -v valgrind >/dev/null || { echo "bench: valgrind is missing" >&2; exit 1; }
 work=$(mktemp -d)
@@ -45,7 +45,7 @@ def counted(*words, status):
 
 for what, code, harts, quantum in RUNS:
     running = 1 if code is LONE else harts
-    few, many = (counted(turns, made, harts, running, quantum, status=0) for made in (10_000, 60_000))
+    few, many = (counted(turns, "turns", made, harts, running, quantum, status=0) for made in (10_000, 60_000))
     print(f"turns alone, {what}: {(many - few) / 50_000:.0f} instructions a step")
 
 if not os.path.exists(program):

@@ -1,14 +1,11 @@
-//! What a turn of a run costs: `turn_bench STEPS HARTS RUNNING QUANTUM` makes so many steps of a
-//! guest with so many harts, of which so many run, with so many turns in a row for each. They
-//! do nothing but jump to themselves. It prints how many steps were made. Without words it makes
-//! 1,000 steps of 8 harts in turn.
-#![tactic(auto)]
-
-mod program;
-
+// What a turn of a run costs: `benches turns STEPS HARTS RUNNING QUANTUM` makes so many steps of a
+// guest with so many harts, of which so many run, with so many turns in a row for each. They
+// do nothing but jump to themselves. It prints how many steps were made. Without words it makes
+// 1,000 steps of 8 harts in turn.
 ghost use Rattle.std.specs.Prelude.{◌≡◌, ◌+◌, ◌*◌, ◌≤◌};
 
-use crate::program::{CODE, program};
+use crate::Words;
+use crate::turn_program::{CODE, program};
 use elf_loader::Image;
 use guest_memory::Memory;
 use guest_run::{Guest, RunSettings, Turn};
@@ -16,7 +13,7 @@ use hart_scheduler::Schedule;
 use predator_base::NoMemory;
 use rv32_decode::encode;
 use std::alloc::Global;
-use std::{env, io};
+use std::io;
 
 // Bytes of each stack.
 const STACK: u32 = 4096;
@@ -103,8 +100,7 @@ fn steps_of(alloc: Global, settings: RunSettings, running: u16) -> Result<u64, N
     Ok(run(settings.budget, &mut guest))
 }
 
-fn main(rt: HostRuntime) -> io::Result<()> {
-    let mut words = env::args(&rt)?.skip(1);
+pub(crate) fn bench<R: Print + AllocGlobal>(rt: &R, words: &mut Words) -> io::Result<()> {
     let steps = words
         .next()
         .and_then(|word| word.parse().ok())

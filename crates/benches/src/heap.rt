@@ -1,15 +1,14 @@
-//! How long a heap takes: `heap_bench COUNT KIND` makes COUNT blocks of 16 bytes, at most 2^20, on
-//! a heap that just holds them, asks for one more, and frees them in the order of making, or in the
-//! reverse order where KIND is `reverse`. With `table` or `reverse-table` a table of objects notes
-//! as many blocks and frees. It prints what was done. Without words there are 1,000 blocks.
-#![tactic(auto)]
-
+// How long a heap takes: `benches heap COUNT KIND` makes COUNT blocks of 16 bytes, at most 2^20, on
+// a heap that just holds them, asks for one more, and frees them in the order of making, or in the
+// reverse order where KIND is `reverse`. With `table` or `reverse-table` a table of objects notes
+// as many blocks and frees. It prints what was done. Without words there are 1,000 blocks.
 ghost use Rattle.std.specs.Prelude.{◌+◌, ◌*◌, ◌≤◌, ◌<◌, ◌^◌};
 
+use crate::Words;
 use heap_objects::{GuestHeap, ObjectTable};
 use predator_base::NoMemory;
 use std::alloc::Global;
-use std::{env, io};
+use std::io;
 
 const START: u32 = 0x10000;
 
@@ -62,8 +61,7 @@ fn use_table(alloc: Global, count: u32, is_reverse: bool) -> Result<(usize, usiz
     Ok((blocks.len(), died))
 }
 
-fn main(rt: HostRuntime) -> io::Result<()> {
-    let mut words = env::args(&rt)?.skip(1);
+pub(crate) fn bench<R: Print + AllocGlobal>(rt: &R, words: &mut Words) -> io::Result<()> {
     let asked = words
         .next()
         .and_then(|word| word.parse::<u32>().ok())

@@ -1,16 +1,15 @@
-//! How fast the detector is: `access_bench ROUNDS LINES HARTS T P` gives it 65,536 accesses, made
-//! in memory, so many times over, on so many lines of 64 bytes, by so many harts, under a tracking
-//! and a prediction threshold, and prints how many it has seen and how many tracks it has. Without
-//! words it goes once over 64 lines with 8 harts, with 16 and 64.
-#![tactic(auto)]
-
+// How fast the detector is: `benches accesses ROUNDS LINES HARTS T P` gives it 65,536 accesses, made
+// in memory, so many times over, on so many lines of 64 bytes, by so many harts, under a tracking
+// and a prediction threshold, and prints how many it has seen and how many tracks it has. Without
+// words it goes once over 64 lines with 8 harts, with 16 and 64.
 ghost use Rattle.std.specs.Prelude.{◌≡◌, ◌<◌, ◌≤◌, ◌^◌, IfSome, IsTrue};
 ghost use Rattle.sharing_rules.specs.Listed.{may_predict};
 
+use crate::Words;
 use detector::{Detector, PagedIndex, see};
 use predator_base::{Access, Hart, Kind, Layout, NoMemory, Thresholds};
 use std::alloc::Global;
-use std::{env, io};
+use std::io;
 
 // How many accesses are made.
 const ACCESSES: u32 = 1 << 16;
@@ -84,8 +83,7 @@ fn run(
     Ok(())
 }
 
-fn main(rt: HostRuntime) -> io::Result<()> {
-    let mut words = env::args(&rt)?.skip(1);
+pub(crate) fn bench<R: Print + AllocGlobal>(rt: &R, words: &mut Words) -> io::Result<()> {
     let rounds = words
         .next()
         .and_then(|word| word.parse().ok())

@@ -1,20 +1,17 @@
-//! How many steps a second the machine makes: `step_bench STEPS HARTS` runs a loop of ten
-//! arithmetic instructions, a load and a store on hart 0 for so many steps, beside reservations for
-//! so many harts, and prints what it did. Without words it makes 1,000 steps with one hart.
-#![tactic(auto)]
-
-mod program;
-
+// How many steps a second the machine makes: `benches steps STEPS HARTS` runs a loop of ten
+// arithmetic instructions, a load and a store on hart 0 for so many steps, beside reservations for
+// so many harts, and prints what it did. Without words it makes 1,000 steps with one hart.
 ghost use Rattle.std.specs.Prelude.{◌<◌, ◌≡◌, ◌%◌, IfOk, length};
 ghost use Rattle.guest_memory.specs.Space.{IsRange};
 
-use crate::program::program;
+use crate::Words;
+use crate::step_program::program;
 use guest_memory::Memory;
 use predator_base::{Hart, NoMemory};
 use rv32_decode::encode;
 use rv32_machine::{HartState, Reservations, StepEnd, step};
 use std::alloc::Global;
-use std::{env, io};
+use std::io;
 
 const CODE: u32 = 0x10000;
 
@@ -54,8 +51,7 @@ fn memory_of(alloc: Global) -> Result<Memory, NoMemory> {
     Ok(memory)
 }
 
-fn main(rt: HostRuntime) -> io::Result<()> {
-    let mut words = env::args(&rt)?.skip(1);
+pub(crate) fn bench<R: Print + AllocGlobal>(rt: &R, words: &mut Words) -> io::Result<()> {
     let steps = words
         .next()
         .and_then(|word| word.parse().ok())

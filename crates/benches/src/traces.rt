@@ -1,13 +1,12 @@
-//! How fast traces are read: `trace_bench VERSION PIECES` reads so many pieces of 8192 accesses
-//! each, of version 1 or 2, and prints how many accesses it read. Each piece ends inside a record.
-//! Without words it reads two pieces of version 1.
-#![tactic(auto)]
-
+// How fast traces are read: `benches traces VERSION PIECES` reads so many pieces of 8192 accesses
+// each, of version 1 or 2, and prints how many accesses it read. Each piece ends inside a record.
+// Without words it reads two pieces of version 1.
 ghost use Rattle.std.specs.Prelude.{◌≡◌, ◌<◌, IfOk};
 
+use crate::Words;
 use predator_base::{Access, Hart, Kind, NoMemory};
 use std::alloc::Global;
-use std::{env, io};
+use std::io;
 use trace_grammar::{Header, TraceFault, TraceRecord, Version};
 use trace_reader::TraceReader;
 use trace_writer::TraceWriter;
@@ -80,8 +79,7 @@ fn read(alloc: Global, version: Version, pieces: u32) -> Result<u64, TraceFault>
     Ok(count)
 }
 
-fn main(rt: HostRuntime) -> io::Result<()> {
-    let mut words = env::args(&rt)?.skip(1);
+pub(crate) fn bench<R: Print + AllocGlobal>(rt: &R, words: &mut Words) -> io::Result<()> {
     let version = match words.next().as_deref() {
         Some("2") => Version::Two,
         _ => Version::One,
