@@ -13,7 +13,7 @@ use Rattle.heap_objects.specs.contracts.symbol.SymbolKind.{the_type}
 use Rattle.heap_objects.specs.contracts.symbol.PlacePartialEq.TheImpl.{eq-value}
 use Rattle.heap_objects.specs.Names.{name_of}
 use Rattle.heap_objects.specs.Symbols.{Symbol, is_same_kind, is_in_place_of}
-use Rattle.heap_objects.proofs.SymbolLaws.{symbols_after}
+use Rattle.heap_objects.specs.SymbolLaws.{symbols_after}
 use denote.Enum.Bare.{sameb}
 
 abbrev pub Entry : Type 0

@@ -1,5 +1,7 @@
 pub mod Names
 pub mod Symbols
+pub mod SymbolLaws
+pub mod ApartLaws
 pub mod Rows
 pub mod Blocks
 pub mod Objects

@@ -18,25 +18,26 @@ use Rattle.trace_grammar.specs.declared.fault.TraceFault.TheVariants as trace
 use Rattle.trace_passes.specs.Passes.{Trace, refusal_of, trace_of}
 use Rattle.trace_passes.specs.declared.wanted.Refusal.{Refusal}
 use Rattle.trace_passes.specs.declared.wanted.Refusal.TheVariants as refusals
+use Rattle.command_files.specs.Faults.{fault_text}
+use Rattle.command_files.specs.Readings.{FailsInOrder, IsRefusal, IsStopped, Reading, RoseAt, first_refusal, names_of}
+use Rattle.command_files.specs.Statuses.{done, kind_of, refusal}
+use Rattle.command_files.specs.Works.{Work, done_with}
+use Rattle.command_files.specs.declared.status.Status.{Status}
+use Rattle.command_files.specs.declared.status.Status.TheVariants as status
+use Rattle.command_files.specs.Laws.Readings.{none_alone, only_same, refused_stopped}
+use Rattle.command_files.specs.Laws.Told.{goes_map, told, told_both, told_map}
 use Rattle.predator_cli.specs.Again.{RepeatsReport}
 use Rattle.predator_cli.specs.Answer.{answer_of}
 use Rattle.predator_cli.specs.Commands.{is_copy, readings_of, work_of}
 use Rattle.predator_cli.specs.Convert.{convert_text}
 use Rattle.predator_cli.specs.Copies.{copied_reading, copy_of, copy_with}
-use Rattle.predator_cli.specs.Faults.{fault_text}
 use Rattle.predator_cli.specs.Meets.{EndsAs, IsCaused, IsFaulty, IsPrintable, IsWorked, ReadsInPeace}
-use Rattle.predator_cli.specs.Readings.{FailsInOrder, IsRefusal, IsStopped, Reading, RoseAt, first_refusal, names_of}
 use Rattle.predator_cli.specs.Replay.{refuses_trace}
 use Rattle.predator_cli.specs.Split.{split_text}
-use Rattle.predator_cli.specs.Statuses.{done, kind_of, refusal, status_of_copy, status_of_refusal}
-use Rattle.predator_cli.specs.Works.{Work, done_with}
+use Rattle.predator_cli.specs.TraceFaults.{status_of_copy, status_of_refusal}
 use Rattle.predator_cli.specs.Written.{AreSame, OnlyAt, StaysAtReadFault, StaysAtRefusal, Writes}
-use Rattle.predator_cli.specs.declared.status.Status.{Status}
-use Rattle.predator_cli.specs.declared.status.Status.TheVariants as status
 use Rattle.predator_cli.proofs.Ends.{own_outputs, starved, stopped_faulty}
-use Rattle.predator_cli.proofs.ReadingLaws.{none_alone, only_same, refused_stopped}
-use Rattle.predator_cli.proofs.Standing.{goes_map, same_stands}
-use Rattle.predator_cli.proofs.Told.{told, told_both, told_map}
+use Rattle.predator_cli.proofs.Standing.{same_stands}
 use Rattle.predator_cli.proofs.TraceFiles.{refusal_cases}
 use Rattle.predator_cli.proofs.WriteEnds.{IsToWrite, names_in, or_false, written_worked}
 

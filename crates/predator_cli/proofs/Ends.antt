@@ -2,21 +2,21 @@
 use Rattle.std.proofs.Common.{◌≡◌, ◌≢◌, ℕ, ◌≤◌, Bool, true, false, List, [], Option, Some, None, sym, ◌∙◌, ap, refl, inl, inr, ◌⊎◌}
 use Rattle.shelf.specs.Shelf.{Files, Outside, Told, Goes, Rose, OnlyPrints, OnlyReads, Adds, AddsFront}
 use Rattle.command_line.specs.Words.{Demand, outputs as outputs_of}
-use Rattle.predator_cli.specs.Readings.{IsStopped, first_refusal}
-use Rattle.predator_cli.specs.Commands.{readings_of, work_of}
-use Rattle.predator_cli.specs.Works.{Work, done_with}
+use Rattle.command_files.specs.Readings.{IsStopped, first_refusal}
+use Rattle.command_files.specs.Works.{Work, done_with}
+use Rattle.command_files.specs.Statuses.{Kind, kind_of, done, refusal, read_fault, write_fault, no_memory, hides_no_memory}
 use Rattle.outputs.specs.Files.{AllMayStand, AreWhole, Output, bytes_for}
+use Rattle.command_files.specs.Faults.{fault_text}
+use Rattle.command_files.specs.declared.status.Status.{Status}
+use Rattle.command_files.specs.declared.status.Status.TheVariants as status
+use Rattle.command_files.specs.Laws.Told.{goes_map, goes_same, rose_later, told, told_both, told_map, whole_prefix}
+use Rattle.predator_cli.specs.Commands.{readings_of, work_of}
 use Rattle.predator_cli.specs.Written.{AreSame, OnlyAt, StandsInPart, StaysAtReadFault, StaysAtRefusal, Writes}
 use Rattle.predator_cli.specs.Again.{RepeatsReport, WhereDone}
 use Rattle.predator_cli.specs.Answer.{answer_of, are_copies, outputs, refusal_of}
-use Rattle.predator_cli.specs.Statuses.{Kind, kind_of, done, refusal, read_fault, write_fault, no_memory, hides_no_memory}
 use Rattle.predator_cli.specs.Meets.{EndsAs, IsAnswered, IsCaused, IsComplete, IsFaulty, IsPrintable, IsWorked, Meets, NoFaults, Printed}
 use Rattle.predator_cli.specs.Meets.{Prints, ReadsInPeace}
-use Rattle.predator_cli.specs.Faults.{fault_text}
-use Rattle.predator_cli.specs.declared.status.Status.{Status}
-use Rattle.predator_cli.specs.declared.status.Status.TheVariants as status
-use Rattle.predator_cli.proofs.Standing.{goes_map, goes_same, may_stay, only_same_names, same_stands, whole_stands}
-use Rattle.predator_cli.proofs.Told.{told, told_map, told_both, rose_later, whole_prefix}
+use Rattle.predator_cli.proofs.Standing.{may_stay, only_same_names, same_stands, whole_stands}
 
 -- ---- the line of a fault
 
@@ -160,7 +160,8 @@ starved asked a b writes only held printed print_faults = record {
 -- memory ran out before it was
 pub faulty_for_memory : (asked : Option Demand) (a b : Outside) (s : Status) → IsFaulty asked a b s → IsFaulty asked a b status.NoMemory
 faulty_for_memory asked a b s faulty =
-    starved asked a b (writes_later asked a b (kind_of s) faulty.fault faulty.writes) faulty.only faulty.held faulty.printed faulty.print_faults
+    starved asked a b (writes_later asked a b (kind_of s) faulty.fault faulty.writes) faulty.only faulty.held faulty.printed
+    faulty.print_faults
 
 -- ---- the command's own text
 

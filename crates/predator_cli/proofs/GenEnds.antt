@@ -6,11 +6,11 @@ use Rattle.outputs.specs.Files.{AreCut, AreWritten}
 use Rattle.shelf.specs.Shelf.{Outside}
 use Rattle.shelf.specs.declared.shelf.ShelfError.{ShelfError}
 use Rattle.trace_maker.specs.Made.{made_file}
+use Rattle.command_files.specs.Statuses.{status_of_writing}
+use Rattle.command_files.specs.declared.status.Status.TheVariants as status
+use Rattle.command_files.specs.Laws.Told.{told}
 use Rattle.predator_cli.specs.Gen.{gen_work, summary_of}
 use Rattle.predator_cli.specs.Meets.{IsFaulty, IsWorked}
-use Rattle.predator_cli.specs.Statuses.{status_of_writing}
-use Rattle.predator_cli.specs.declared.status.Status.TheVariants as status
-use Rattle.predator_cli.proofs.Told.{told}
 use Rattle.predator_cli.proofs.WriteEnds.{IsToWrite, writing_cut, written_worked}
 
 -- nothing is read before

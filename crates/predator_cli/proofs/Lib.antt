@@ -1,8 +1,5 @@
-pub mod Told
-pub mod ReadingLaws
 pub mod Standing
 pub mod Ends
-mod FileLaws
 mod SteadyLaws
 mod TraceFiles
 mod SpelledAgain
@@ -16,5 +13,8 @@ mod GenEnds
 mod CopyEnds
 mod StateFiles
 mod ReplayEnds
-mod SaveLaws
 mod ReplayLaws
+mod GoodLaws
+mod GoOnLaws
+mod GoOnAnswers
+mod CutLaws

@@ -5,9 +5,9 @@ use Rattle.sharing_rules.specs.Laws.Recounts.{listed_are_recounted}
 use Rattle.shelf.specs.Shelf.{Files}
 use Rattle.trace_grammar.specs.Rules.{touches_in}
 use Rattle.trace_passes.specs.Passes.{all_records}
+use Rattle.command_files.specs.SettingsFiles.{chosen_settings, layout_of, levels_of, native_of}
 use Rattle.predator_cli.specs.Recounts.{ReportIsRecounted}
 use Rattle.predator_cli.specs.Run.{trace_for_demand}
-use Rattle.predator_cli.specs.SettingsFiles.{chosen_settings, layout_of, levels_of, native_of}
 
 pub report_is_recounted : (asked : Option Demand) (files : Files) → ReportIsRecounted asked files
 report_is_recounted None files = tt

@@ -11,20 +11,20 @@ use Rattle.settings.specs.declared.values.Settings.{Settings}
 use Rattle.shelf.specs.Shelf.{Files, Outside, Told, content}
 use Rattle.shelf.specs.declared.shelf.ShelfError.{ShelfError}
 use Rattle.trace_passes.specs.Passes.{Trace, trace_of}
+use Rattle.command_files.specs.Readings.{IsAccepted, IsReadFrom, IsStopped, Reading}
+use Rattle.command_files.specs.SettingsFiles.{layout_of, levels_of, settings_in, settings_readings}
+use Rattle.command_files.specs.Statuses.{status_of_writing}
+use Rattle.command_files.specs.Works.{done_with, output_for}
+use Rattle.command_files.specs.declared.status.Status.{Status}
+use Rattle.command_files.specs.declared.status.Status.TheVariants as status
+use Rattle.command_files.specs.Laws.Settings.{settings_chosen}
+use Rattle.command_files.specs.Laws.Readings.{accepted_behind, alike_accepted, alike_stopped, stopped_behind, stopped_first, told_again}
+use Rattle.command_files.specs.Laws.Told.{told, told_both, told_map}
 use Rattle.predator_cli.specs.Meets.{IsFaulty, IsWorked}
-use Rattle.predator_cli.specs.Readings.{IsAccepted, IsReadFrom, IsStopped, Reading}
 use Rattle.predator_cli.specs.Replay.{IsCounted, IsToShow, begun_in, begun_under, grid_in, levels_in, refuses_trace, replay_readings}
 use Rattle.predator_cli.specs.Replay.{replay_work, shown, state_readings, trace_reading, wanted_after, work_after}
-use Rattle.predator_cli.specs.SettingsFiles.{layout_of, levels_of, settings_in, settings_readings}
-use Rattle.predator_cli.specs.Statuses.{status_of_writing}
-use Rattle.predator_cli.specs.Works.{done_with, output_for}
 use Rattle.predator_cli.specs.declared.state_file.Begun.{Begun}
-use Rattle.predator_cli.specs.declared.status.Status.{Status}
-use Rattle.predator_cli.specs.declared.status.Status.TheVariants as status
-use Rattle.predator_cli.proofs.FileLaws.{settings_chosen}
-use Rattle.predator_cli.proofs.ReadingLaws.{accepted_behind, alike_accepted, alike_stopped, stopped_behind, stopped_first, told_again}
 use Rattle.predator_cli.proofs.StateFiles.{states_accepted, states_stopped}
-use Rattle.predator_cli.proofs.Told.{told, told_both, told_map}
 use Rattle.predator_cli.proofs.WriteEnds.{IsToWrite, names_in, writing_cut, written_worked}
 
 -- ---- what is read
@@ -33,7 +33,8 @@ told_back : (P : Files → Type 0) (a b : Outside) → b ≡ a → Told b.held P
 told_back P a b same is = subst (λ (o : Outside). Told o.held P) same is
 
 -- the layout and the thresholds are those of the settings, which were read
-module _ (d : ReplayDemand) (s : Settings) (g : Grid) (v : Levels) (grid_is : g ≡ layout_of d.layout s) (levels_is : v ≡ levels_of d.layout s)
+module _ (d : ReplayDemand) (s : Settings) (g : Grid) (v : Levels) (grid_is : g ≡ layout_of d.layout s)
+    (levels_is : v ≡ levels_of d.layout s)
   where
     chosen : (a : Outside) → Told a.held (λ files. settings_in d.settings files ≡ Ok s)
         → Told a.held (λ files. (grid_in d files ≡ g) × (levels_in d files ≡ v))
@@ -56,9 +57,11 @@ module _ (d : ReplayDemand) (s : Settings) (g : Grid) (v : Levels) (grid_is : g 
 
     wanted_alike : (begun : Option Begun) (a : Outside) → Told a.held (λ files. settings_in d.settings files ≡ Ok s)
         → Told a.held (λ files. begun_under g v d.resume files ≡ begun)
-        → Told a.held (λ files. refuses_trace (wanted_after (begun_in d files)) d.trace files ≡ refuses_trace (wanted_after begun) d.trace files)
+        → Told a.held (λ files. refuses_trace (wanted_after (begun_in d files)) d.trace files ≡ refuses_trace
+        (wanted_after begun) d.trace files)
     wanted_alike begun a read is =
-        told_both a.held (λ files same e. ap (λ (x : Option Begun). refuses_trace (wanted_after x) d.trace files) (begun_alike files same ∙ e))
+        told_both a.held (λ files same e. ap (λ (x : Option Begun). refuses_trace (wanted_after x) d.trace files) (begun_alike files same
+        ∙ e))
         (chosen a read) is
 
     -- the state is refused, behind the settings
@@ -108,7 +111,8 @@ module _ (d : ReplayDemand) (s : Settings) (g : Grid) (v : Levels) (grid_is : g 
         work_is files bytes text state same e whole counted =
             ap (λ (x : Grid). option_map_or (work_after d.save x (levels_in d files) (begun_in d files)) (trace_of (content files d.trace))
             (done_with [])) same.0
-            ∙ ap (λ (x : Levels). option_map_or (work_after d.save g x (begun_in d files)) (trace_of (content files d.trace)) (done_with []))
+            ∙ ap (λ (x : Levels). option_map_or (work_after d.save g x (begun_in d files)) (trace_of (content files d.trace))
+            (done_with []))
             same.1
             ∙ ap (λ (x : Option Begun). option_map_or (work_after d.save g v x) (trace_of (content files d.trace)) (done_with []))
             (begun_alike files same ∙ e)
@@ -120,7 +124,8 @@ module _ (d : ReplayDemand) (s : Settings) (g : Grid) (v : Levels) (grid_is : g 
             → IsReadFrom p.held d.trace (λ bytes. IsCounted d.save g v begun bytes text state) → IsToShow d a b text state
         trace_counted text state last counted =
             let ready : Told p.held (λ files. counted.bytes ≡ content files d.trace → replay_work d files ≡ shown d.save text state) =
-            told_both p.held (λ files same e whole. work_is files counted.bytes text state same e whole counted.given) (chosen p at_p) begun_at_p
+            told_both p.held (λ files same e whole. work_is files counted.bytes text state same e whole counted.given)
+            (chosen p at_p) begun_at_p
             in
             record {
               accepted = all_accepted last;

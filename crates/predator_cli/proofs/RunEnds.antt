@@ -26,25 +26,27 @@ use Rattle.outputs.specs.OnTheirWay.{AreApart, IsNew}
 use Rattle.run_recorder.specs.Recorded.{IsKept, names_of, outputs_for, spell_trace, trace_for}
 use Rattle.run_recorder.specs.declared.file.Content.TheVariants as Content
 use Rattle.run_recorder.specs.declared.file.RunFile.{RunFile}
+use Rattle.command_files.specs.Readings.{first_refusal}
+use Rattle.command_files.specs.SettingsFiles.{levels_of, native_of, settings_in, settings_readings}
+use Rattle.command_files.specs.Statuses.{status_of_writing}
+use Rattle.command_files.specs.Works.{Work, done_with, output_for}
+use Rattle.command_files.specs.declared.status.Status.{Status}
+use Rattle.command_files.specs.declared.status.Status.TheVariants as status
+use Rattle.command_files.specs.Laws.Settings.{settings_chosen, settings_pass}
+use Rattle.command_files.specs.Laws.Readings.{none_alone, only_same, passed}
+use Rattle.command_files.specs.Laws.Told.{told_both}
 use Rattle.predator_cli.specs.Again.{RepeatsReport, RunRepeats, whole_replay}
 use Rattle.predator_cli.specs.Answer.{answer_of}
 use Rattle.predator_cli.specs.Commands.{work_of}
 use Rattle.predator_cli.specs.Meets.{IsFaulty, IsWorked}
-use Rattle.predator_cli.specs.Readings.{first_refusal}
-use Rattle.predator_cli.specs.Replay.{begun_in, grid_in, levels_in, refuses_trace, replay_readings, report_of, state_readings, trace_reading}
+use Rattle.predator_cli.specs.Replay.{begun_in, grid_in, levels_in, refuses_trace, replay_readings, report_of, state_readings}
+use Rattle.predator_cli.specs.Replay.{trace_reading}
 use Rattle.predator_cli.specs.Replay.{wanted_after, whole}
 use Rattle.predator_cli.specs.Run.{IsReady, file_for, outputs_of_run, run_for_demand, run_readings, status_for}
 use Rattle.predator_cli.specs.Run.{trace_for_demand, work_of_run}
-use Rattle.predator_cli.specs.SettingsFiles.{levels_of, native_of, settings_in, settings_readings}
-use Rattle.predator_cli.specs.Statuses.{status_of_refusal, status_of_writing}
-use Rattle.predator_cli.specs.Works.{Work, done_with, output_for}
-use Rattle.predator_cli.specs.declared.status.Status.{Status}
-use Rattle.predator_cli.specs.declared.status.Status.TheVariants as status
-use Rattle.predator_cli.proofs.FileLaws.{settings_chosen, settings_pass}
+use Rattle.predator_cli.specs.TraceFaults.{status_of_refusal}
 use Rattle.predator_cli.proofs.Ends.{accepted_answer, memory_faulty}
-use Rattle.predator_cli.proofs.ReadingLaws.{none_alone, only_same, passed}
 use Rattle.predator_cli.proofs.SpelledAgain.{spelled_again, spelled_wanted}
-use Rattle.predator_cli.proofs.Told.{told_both}
 use Rattle.predator_cli.proofs.WriteEnds.{IsToWrite, names_in, or_false, writing_cut, written_worked}
 
 -- ---- names

@@ -11,14 +11,14 @@ use Rattle.guest_run.specs.Configs.{Config, first_config}
 use Rattle.guest_run.specs.Places.{heap_over}
 use Rattle.guest_run.specs.Runs.{IsShort, Run, run_of}
 use Rattle.guest_run.specs.declared.setup.Setup.{Setup}
+use Rattle.command_files.specs.ProgramFiles.{space_of}
+use Rattle.command_files.specs.Readings.{first_refusal}
+use Rattle.command_files.specs.SettingsFiles.{chosen_settings, settings_in}
+use Rattle.command_files.specs.Laws.Settings.{settings_chosen}
+use Rattle.command_files.specs.Laws.Readings.{none_alone}
+use Rattle.command_files.specs.Laws.Told.{told_both}
 use Rattle.predator_cli.specs.Again.{StaysWithinBudget}
-use Rattle.predator_cli.specs.ProgramFiles.{space_of}
-use Rattle.predator_cli.specs.Readings.{first_refusal}
 use Rattle.predator_cli.specs.Run.{plan_in, run_for_demand, run_in, schedule_in, schedule_readings, schedule_refusal, setup_of, whole_run}
-use Rattle.predator_cli.specs.SettingsFiles.{chosen_settings, settings_in}
-use Rattle.predator_cli.proofs.FileLaws.{settings_chosen}
-use Rattle.predator_cli.proofs.ReadingLaws.{none_alone}
-use Rattle.predator_cli.proofs.Told.{told_both}
 
 pub schedule_pass : (named name : Option (List ℕ)) (files : Files) (s : Settings) (plan : Plan) → settings_in named files ≡ Ok s
     → schedule_in s name files ≡ Ok plan → first_refusal (schedule_readings named name) files ≡ None

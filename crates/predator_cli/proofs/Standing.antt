@@ -3,19 +3,9 @@ use Rattle.std.proofs.Common.{◌≡◌, ℕ, List, Option, Some, None, length, 
 use Rattle.std.proofs.Math.Seq.{take-length}
 use Rattle.std.specs.Option.{option_or}
 use Rattle.shelf.specs.Shelf.{Files, Outside, Goes}
+use Rattle.command_files.specs.Laws.Told.{goes_map, goes_same}
 use Rattle.outputs.specs.Files.{AllMayStand, AreWhole, MayStand, Output, bytes_for}
 use Rattle.predator_cli.specs.Written.{AreSame, OnlyAt}
-
--- a meaning that did not change
-pub goes_same : {A : Type 0} (P : A → A → Type 0) (o : Option A) → ((x : A) → P x x) → Goes o o P
-goes_same P None p = tt
-goes_same P (Some x) p = p x
-
-pub goes_map : {A : Type 0} {P Q : A → A → Type 0} (o n : Option A) → ((x y : A) → P x y → Q x y) → Goes o n P → Goes o n Q
-goes_map None None f p = tt
-goes_map None (Some y) f p = p
-goes_map (Some x) None f p = p
-goes_map (Some x) (Some y) f p = f x y p
 
 pub may_stay : (bytes : Option (List ℕ)) (before : Option (List ℕ)) → MayStand bytes before before
 may_stay None before = refl

@@ -17,16 +17,17 @@ use Rattle.predator_base.specs.declared.faults.ResumeFault.{ResumeFault}
 use Rattle.predator_base.specs.declared.faults.ResumeFault.TheVariants as resume
 use Rattle.object_states.specs.Judging.{objects_judged}
 use Rattle.sharing_rules.specs.Listed.{may_predict}
-use Rattle.predator_cli.specs.Readings.{IsAccepted, IsJudged, IsReadFrom, IsStopped}
+use Rattle.command_files.specs.Readings.{IsAccepted, IsJudged, IsReadFrom, IsStopped}
+use Rattle.command_files.specs.Statuses.{status_of_resume}
+use Rattle.command_files.specs.declared.status.StateFault.TheVariants as state
+use Rattle.command_files.specs.declared.status.Status.{Status}
+use Rattle.command_files.specs.declared.status.Status.TheVariants as status
+use Rattle.command_files.specs.Laws.Readings.{alike_accepted, alike_stopped}
+use Rattle.command_files.specs.Laws.Told.{told_map}
 use Rattle.predator_cli.specs.Replay.{begun_under, state_readings}
-use Rattle.predator_cli.specs.States.{begun_with, differing_field, judged_state, objects_then, resumed_state, resumption_then, state_refusal}
-use Rattle.predator_cli.specs.Statuses.{status_of_resume}
+use Rattle.predator_cli.specs.States.{begun_with, differing_field, judged_state, objects_then, resumed_state, resumption_then}
+use Rattle.predator_cli.specs.States.{state_refusal}
 use Rattle.predator_cli.specs.declared.state_file.Begun.{Begun}
-use Rattle.predator_cli.specs.declared.status.StateFault.TheVariants as state
-use Rattle.predator_cli.specs.declared.status.Status.{Status}
-use Rattle.predator_cli.specs.declared.status.Status.TheVariants as status
-use Rattle.predator_cli.proofs.ReadingLaws.{alike_accepted, alike_stopped}
-use Rattle.predator_cli.proofs.Told.{told_map}
 
 -- ---- a content that is judged
 

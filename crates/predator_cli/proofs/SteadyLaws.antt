@@ -2,12 +2,12 @@
 use Rattle.std.proofs.Common.{◌≡◌, ◌≢◌, ℕ, List, [], ◌∷◌, Option, inl, inr, arith, subst}
 use Rattle.shelf.specs.Shelf.{Outside}
 use Rattle.command_line.specs.Words.{Demand}
+use Rattle.command_files.specs.Readings.{RoseAt}
+use Rattle.command_files.specs.Statuses.{kind_of, write_fault}
+use Rattle.command_files.specs.declared.status.Status.{Status}
+use Rattle.command_files.specs.declared.status.Status.TheVariants as status
 use Rattle.predator_cli.specs.Answer.{inputs, outputs}
 use Rattle.predator_cli.specs.Meets.{IsCaused, NoFaults}
-use Rattle.predator_cli.specs.Readings.{RoseAt}
-use Rattle.predator_cli.specs.Statuses.{kind_of, write_fault}
-use Rattle.predator_cli.specs.declared.status.Status.{Status}
-use Rattle.predator_cli.specs.declared.status.Status.TheVariants as status
 
 none_rose : (names : List (List ℕ)) (before now : List ℕ → ℕ) → ((n : List ℕ) → now n ≡ 0) → RoseAt names before now → ⊥
 none_rose [] before now zero rose = rose

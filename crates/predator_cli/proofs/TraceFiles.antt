@@ -9,11 +9,11 @@ use Rattle.trace_passes.specs.declared.passes.PassFault.TheVariants.{NoMemory, R
 use Rattle.trace_passes.specs.declared.wanted.Refusal.{Refusal}
 use Rattle.trace_passes.specs.declared.wanted.Refusal.TheVariants as refusals
 use Rattle.trace_passes.specs.declared.wanted.Wanted.{Wanted}
-use Rattle.predator_cli.specs.Readings.{IsRefusal, IsStopped, first_refusal}
+use Rattle.command_files.specs.Readings.{IsRefusal, IsStopped, first_refusal}
+use Rattle.command_files.specs.Laws.Readings.{accepted_alone, fault_stopped, memory_stopped, refused_stopped}
+use Rattle.command_files.specs.Laws.Told.{told_map}
 use Rattle.predator_cli.specs.Replay.{refuses_trace, trace_reading}
-use Rattle.predator_cli.specs.Statuses.{status_of_pass, status_of_refusal}
-use Rattle.predator_cli.proofs.ReadingLaws.{accepted_alone, fault_stopped, memory_stopped, refused_stopped}
-use Rattle.predator_cli.proofs.Told.{told_map}
+use Rattle.predator_cli.specs.TraceFaults.{status_of_pass, status_of_refusal}
 
 -- a refusal of a trace is want of memory, or a refusal of a file
 pub refusal_cases : (r : Refusal) → (r ≡ refusals.Trace trace.NoMemory) ⊎ IsRefusal (status_of_refusal r)

@@ -10,18 +10,18 @@ use Rattle.shelf.specs.declared.shelf.ShelfError.{ShelfError}
 use Rattle.shelf.specs.declared.shelf.ShelfError.TheVariants.{Failed, NoMemory}
 use Rattle.command_line.specs.Words.{Demand, outputs as outputs_of}
 use Rattle.outputs.specs.Files.{AllMayStand, AreCut, AreWhole, AreWritten, MayStand, Output, RoseAmong, bytes_for}
+use Rattle.command_files.specs.Readings.{RoseAt, first_refusal}
+use Rattle.command_files.specs.Statuses.{status_of_writing}
+use Rattle.command_files.specs.Works.{Work}
+use Rattle.command_files.specs.declared.status.Status.{Status}
+use Rattle.command_files.specs.Laws.Told.{goes_map, told, told_both, told_map}
 use Rattle.predator_cli.specs.Written.{OnlyAt}
 use Rattle.predator_cli.specs.Again.{RepeatsReport}
 use Rattle.predator_cli.specs.Answer.{answer_of}
 use Rattle.predator_cli.specs.Commands.{readings_of, work_of}
 use Rattle.predator_cli.specs.Meets.{IsFaulty, IsWorked}
-use Rattle.predator_cli.specs.Readings.{RoseAt, first_refusal}
-use Rattle.predator_cli.specs.Statuses.{status_of_writing}
-use Rattle.predator_cli.specs.Works.{Work}
-use Rattle.predator_cli.specs.declared.status.Status.{Status}
 use Rattle.predator_cli.proofs.Ends.{own_outputs, starved}
-use Rattle.predator_cli.proofs.Standing.{goes_map, whole_stands}
-use Rattle.predator_cli.proofs.Told.{told, told_map, told_both}
+use Rattle.predator_cli.proofs.Standing.{whole_stands}
 
 -- ---- names
 

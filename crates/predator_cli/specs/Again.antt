@@ -5,11 +5,11 @@ use Rattle.command_line.specs.Run.{RunDemand}
 use Rattle.command_line.specs.Words.{Demand, replay, check, run, split, gen, convert}
 use Rattle.outputs.specs.Files.{bytes_for}
 use Rattle.shelf.specs.Shelf.{Files}
+use Rattle.command_files.specs.SettingsFiles.{settings_in}
+use Rattle.command_files.specs.Statuses.{Kind, done, refusal, read_fault, write_fault, no_memory}
+use Rattle.command_files.specs.Works.{done_with}
 use Rattle.predator_cli.specs.Answer.{answer_of}
 use Rattle.predator_cli.specs.Run as run_command
-use Rattle.predator_cli.specs.SettingsFiles.{settings_in}
-use Rattle.predator_cli.specs.Statuses.{Kind, done, refusal, read_fault, write_fault, no_memory}
-use Rattle.predator_cli.specs.Works.{done_with}
 
 -- the replay of a whole trace with no layout named, which saves nothing
 abbrev pub whole_replay : Option (List ℕ) → List ℕ → ReplayDemand

@@ -4,12 +4,12 @@ use Rattle.std.specs.Prelude.{Bool, false, List, [], ℕ, Option, Some, None}
 use Rattle.std.specs.Option.{option_map_or}
 use Rattle.shelf.specs.Shelf.{Files}
 use Rattle.command_line.specs.Words.{Demand, outputs as outputs_of}
-use Rattle.predator_cli.specs.Readings.{Reading, first_refusal, names_of}
+use Rattle.command_files.specs.Readings.{Reading, first_refusal, names_of}
+use Rattle.command_files.specs.Works.{Work}
+use Rattle.command_files.specs.Faults.{fault_text}
+use Rattle.command_files.specs.declared.status.Status.{Status}
+use Rattle.command_files.specs.declared.status.Status.TheVariants as status
 use Rattle.predator_cli.specs.Commands.{is_copy, readings_of, work_of}
-use Rattle.predator_cli.specs.Works.{Work}
-use Rattle.predator_cli.specs.Faults.{fault_text}
-use Rattle.predator_cli.specs.declared.status.Status.{Status}
-use Rattle.predator_cli.specs.declared.status.Status.TheVariants as status
 
 -- the files that are read for words, none for words that are refused
 abbrev pub files_of : Option Demand → List Reading

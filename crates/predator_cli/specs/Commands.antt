@@ -2,14 +2,14 @@
 use Rattle.std.specs.Prelude.{Bool, true, false, List}
 use Rattle.command_line.specs.Words.{Demand, replay, check, run, split, gen, convert}
 use Rattle.shelf.specs.Shelf.{Files}
+use Rattle.command_files.specs.Readings.{Reading}
+use Rattle.command_files.specs.Works.{Work}
 use Rattle.predator_cli.specs.Check.{check_readings, check_work}
 use Rattle.predator_cli.specs.Convert.{convert_readings, convert_work}
 use Rattle.predator_cli.specs.Gen.{gen_readings, gen_work}
-use Rattle.predator_cli.specs.Readings.{Reading}
 use Rattle.predator_cli.specs.Replay.{replay_readings, replay_work}
 use Rattle.predator_cli.specs.Run.{run_readings, run_work}
 use Rattle.predator_cli.specs.Split.{split_readings, split_work}
-use Rattle.predator_cli.specs.Works.{Work}
 
 abbrev pub readings_of : Demand → List Reading
 readings_of (replay demand) = replay_readings demand

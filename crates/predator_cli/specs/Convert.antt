@@ -7,9 +7,9 @@ use Rattle.trace_grammar.specs.Rules.{touches_in}
 use Rattle.trace_grammar.specs.declared.record.Version.{Version}
 use Rattle.trace_grammar.specs.declared.record.Version.TheVariants.{One, Two}
 use Rattle.trace_passes.specs.Passes.{Trace}
+use Rattle.command_files.specs.Readings.{Reading}
+use Rattle.command_files.specs.Works.{Work}
 use Rattle.predator_cli.specs.Copies.{copied_reading, copy_of, copy_text}
-use Rattle.predator_cli.specs.Readings.{Reading}
-use Rattle.predator_cli.specs.Works.{Work}
 
 abbrev pub convert_readings : ConvertDemand → List Reading
 convert_readings demand = copied_reading demand.trace ∷ []

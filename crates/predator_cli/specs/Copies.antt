@@ -6,11 +6,11 @@ use Rattle.outputs.specs.Files.{Output}
 use Rattle.shelf.specs.Shelf.{Files, content}
 use Rattle.trace_copies.specs.Copies.{any}
 use Rattle.trace_passes.specs.Passes.{Trace, trace_of}
-use Rattle.predator_cli.specs.Readings.{Reading, reading}
+use Rattle.command_files.specs.Readings.{Reading, reading}
+use Rattle.command_files.specs.Texts.{line}
+use Rattle.command_files.specs.Works.{Work, done_with}
+use Rattle.command_files.specs.declared.status.Status.TheVariants as status
 use Rattle.predator_cli.specs.Replay.{refuses_trace}
-use Rattle.predator_cli.specs.Texts.{line}
-use Rattle.predator_cli.specs.Works.{Work, done_with}
-use Rattle.predator_cli.specs.declared.status.Status.TheVariants as status
 
 -- a trace of any number of harts, whose first access may have any position
 abbrev pub copied_reading : List ℕ → Reading

@@ -9,10 +9,10 @@ use Rattle.trace_maker.specs.Made.{made, made_file}
 use Rattle.trace_passes.specs.Passes.{all_records}
 use Rattle.track_totals.specs.TotalsOf.{totals_of}
 use Rattle.track_totals.specs.declared.count.Totals.{Totals}
-use Rattle.predator_cli.specs.Readings.{Reading}
-use Rattle.predator_cli.specs.SettingsFiles.{levels_of, native_of, usual_settings}
-use Rattle.predator_cli.specs.Works.{Work}
-use Rattle.predator_cli.specs.declared.status.Status.TheVariants as status
+use Rattle.command_files.specs.Readings.{Reading}
+use Rattle.command_files.specs.SettingsFiles.{levels_of, native_of, usual_settings}
+use Rattle.command_files.specs.Works.{Work}
+use Rattle.command_files.specs.declared.status.Status.TheVariants as status
 
 -- nothing is read
 abbrev pub gen_readings : GenDemand → List Reading

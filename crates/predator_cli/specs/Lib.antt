@@ -1,13 +1,7 @@
-pub mod Numbers
-pub mod Statuses
-pub mod Readings
-pub mod Works
-pub mod Texts
-pub mod Faults
-pub mod SettingsFiles
-pub mod ProgramFiles
+pub mod TraceFaults
 pub mod States
 pub mod Replay
+pub mod GoesOn
 pub mod Check
 pub mod Run
 pub mod Copies

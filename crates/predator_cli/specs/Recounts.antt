@@ -12,8 +12,8 @@ use Rattle.sharing_rules.specs.Recounts.{IsRecounted}
 use Rattle.shelf.specs.Shelf.{Files, content}
 use Rattle.trace_grammar.specs.Rules.{touches_in}
 use Rattle.trace_passes.specs.Passes.{Trace, all_records, trace_of}
+use Rattle.command_files.specs.SettingsFiles.{chosen_settings, layout_of, levels_of, native_of}
 use Rattle.predator_cli.specs.Run.{trace_for_demand}
-use Rattle.predator_cli.specs.SettingsFiles.{chosen_settings, layout_of, levels_of, native_of}
 
 -- Every line that is listed of an access list is recounted: over the same list, under the line's
 -- own layout and from its first write on, a plain recount counts no less, and after the line's

@@ -12,16 +12,16 @@ use Rattle.sightings.specs.Seen.{report_of_records}
 use Rattle.sightings.specs.Sights.{report_of_sighted, sighted_after}
 use Rattle.trace_passes.specs.Passes.{Trace, all_records, refusal_of, trace_of}
 use Rattle.trace_passes.specs.declared.wanted.Wanted.{Wanted}
-use Rattle.predator_cli.specs.Readings.{IsAccepted, Reading, reading}
-use Rattle.predator_cli.specs.SettingsFiles.{chosen_settings, layout_of, levels_of}
-use Rattle.predator_cli.specs.SettingsFiles.{settings_readings}
+use Rattle.command_files.specs.Readings.{IsAccepted, Reading, reading}
+use Rattle.command_files.specs.SettingsFiles.{chosen_settings, layout_of, levels_of}
+use Rattle.command_files.specs.SettingsFiles.{settings_readings}
+use Rattle.command_files.specs.Works.{Work, done_with, output_for}
+use Rattle.command_files.specs.declared.status.Status.{Status}
+use Rattle.command_files.specs.declared.status.Status.TheVariants as status
 use Rattle.predator_cli.specs.States.{judged_state, state_of_records, state_of_sighted}
 use Rattle.predator_cli.specs.States.{state_refusal}
-use Rattle.predator_cli.specs.Statuses.{status_of_refusal}
-use Rattle.predator_cli.specs.Works.{Work, done_with, output_for}
+use Rattle.predator_cli.specs.TraceFaults.{status_of_refusal}
 use Rattle.predator_cli.specs.declared.state_file.Begun.{Begun}
-use Rattle.predator_cli.specs.declared.status.Status.{Status}
-use Rattle.predator_cli.specs.declared.status.Status.TheVariants as status
 
 -- ---- what is read
 

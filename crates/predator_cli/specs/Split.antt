@@ -5,9 +5,9 @@ use Rattle.shelf.specs.Shelf.{Files}
 use Rattle.trace_copies.specs.Copies.{halves}
 use Rattle.trace_grammar.specs.Rules.{touches_in}
 use Rattle.trace_passes.specs.Passes.{Trace}
+use Rattle.command_files.specs.Readings.{Reading}
+use Rattle.command_files.specs.Works.{Work}
 use Rattle.predator_cli.specs.Copies.{copied_reading, copy_of, copy_text}
-use Rattle.predator_cli.specs.Readings.{Reading}
-use Rattle.predator_cli.specs.Works.{Work}
 
 abbrev pub split_readings : SplitDemand → List Reading
 split_readings demand = copied_reading demand.trace ∷ []

@@ -17,11 +17,11 @@ use Rattle.state_grammar.specs.OfLists.{state_of_list}
 use Rattle.state_grammar.specs.Spelling.{spell_state}
 use Rattle.trace_grammar.specs.Rules.{touches_in}
 use Rattle.trace_grammar.specs.declared.record.TraceRecord.{TraceRecord}
-use Rattle.predator_cli.specs.Statuses.{status_of_resume}
+use Rattle.command_files.specs.Statuses.{status_of_resume}
+use Rattle.command_files.specs.declared.status.StateFault.TheVariants as state
+use Rattle.command_files.specs.declared.status.Status.{Status}
+use Rattle.command_files.specs.declared.status.Status.TheVariants as status
 use Rattle.predator_cli.specs.declared.state_file.Begun.{Begun}
-use Rattle.predator_cli.specs.declared.status.StateFault.TheVariants as state
-use Rattle.predator_cli.specs.declared.status.Status.{Status}
-use Rattle.predator_cli.specs.declared.status.Status.TheVariants as status
 
 -- ---- what a state says
 

@@ -5,8 +5,8 @@ use Rattle.std.specs.Str.{bytes_eq}
 use Rattle.shelf.specs.Shelf.{Files, Goes, Outside, Told}
 use Rattle.command_line.specs.Words.{Demand}
 use Rattle.outputs.specs.Files.{AllMayStand, AreWhole}
+use Rattle.command_files.specs.Statuses.{Kind, done, refusal, read_fault, write_fault, no_memory}
 use Rattle.predator_cli.specs.Answer.{answer_of, are_copies}
-use Rattle.predator_cli.specs.Statuses.{Kind, done, refusal, read_fault, write_fault, no_memory}
 
 -- each file is as it was
 abbrev pub AreSame : Files → Files → Type 0

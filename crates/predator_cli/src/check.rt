@@ -6,15 +6,14 @@ ghost use Rattle.elf_loader.specs.PlacedImages.{IsImageOf};
 ghost use Rattle.elf_loader.specs.Symbols.{symbols_of};
 ghost use Rattle.elf_loader.specs.declared.image.Space.{Space};
 ghost use Rattle.program_summary.specs.Summaries.{placed_text};
+ghost use Rattle.command_files.specs.Readings.{IsStopped};
 ghost use Rattle.predator_cli.specs.Check.{check_readings};
 ghost use Rattle.predator_cli.specs.Meets.{IsAnswered, Meets};
-ghost use Rattle.predator_cli.specs.Readings.{IsStopped};
 
-use crate::Status;
 use crate::endings::{answer, stop};
-use crate::files::{Judge, read_judged};
-use crate::program_file::{PROGRAM_LIMIT, Program, judge_program};
-use crate::settings_file::read_settings;
+use command_files::{
+    Judge, PROGRAM_LIMIT, Program, Status, judge_program, read_judged, read_settings,
+};
 use command_line::CheckOptions;
 use elf_loader::ElfFault;
 use predator_base::NoMemory;
@@ -49,7 +48,7 @@ impl Judge for SummaryOf {
     ghost use Rattle.std.specs.Prelude.{◌<◌, ◌≤◌, ◌^◌, None, OnOk, length};
     ghost use Rattle.settings.specs.Allowed.{IsAllowed};
     ghost use Rattle.predator_cli.specs.Check.{checked};
-    ghost use Rattle.predator_cli.specs.ProgramFiles.{program_refusal};
+    ghost use Rattle.command_files.specs.ProgramFiles.{program_refusal};
 
     type Given = String;
 

@@ -2,16 +2,15 @@
 ghost use Rattle.std.specs.Prelude.{◌≡◌, ◌⊎◌, false, None};
 ghost use Rattle.command_line.specs.Demands.{texts};
 ghost use Rattle.command_line.specs.Words.{demand_of};
+ghost use Rattle.command_files.specs.Statuses.{hides_no_memory, kind_of};
 ghost use Rattle.predator_cli.specs.Meets.{EndsAs, IsCaused, IsComplete, Meets, Prints};
 ghost use Rattle.predator_cli.specs.Meets.{ReadsInPeace};
-ghost use Rattle.predator_cli.specs.Statuses.{hides_no_memory, kind_of};
 ghost use Rattle.predator_cli.specs.Again.{RepeatsReport, StaysWithinBudget, WhereDone};
 ghost use Rattle.predator_cli.specs.Answer.{outputs};
 ghost use Rattle.predator_cli.specs.Recounts.{ReportIsRecounted};
 ghost use Rattle.predator_cli.specs.Written.{OnlyAt, Writes};
 ghost use Rattle.shelf.specs.Shelf.{Told};
 
-use crate::Status;
 use crate::check::check;
 use crate::convert::convert;
 use crate::endings::{refuse, refuse_words};
@@ -19,6 +18,7 @@ use crate::generate::generate;
 use crate::replay::replay;
 use crate::run::run;
 use crate::split::split;
+use command_files::Status;
 use command_line::{Demand, WordsFault, read_words};
 use guest_run::runs_are_short;
 use shelf::Shelf;

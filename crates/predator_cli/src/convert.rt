@@ -5,9 +5,10 @@ ghost use Rattle.command_line.specs.Words.{convert as asks};
 ghost use Rattle.predator_cli.specs.Convert.{version_number};
 ghost use Rattle.predator_cli.specs.Meets.{Meets};
 
-use crate::Status;
 use crate::copies::tell;
 use crate::endings::refuse;
+use crate::trace_faults::status_of_copy;
+use command_files::Status;
 use command_line::ConvertOptions;
 use shelf::Shelf;
 use std::alloc::Global;
@@ -34,6 +35,6 @@ pub fn convert<S: Shelf>(alloc: Global, options: &ConvertOptions<'_>, shelf: &mu
             let version = version_number(made.version);
             tell(alloc, shelf, "convert", version, made.accesses)
         }
-        Err(fault) => refuse(alloc, shelf, Status::from(fault)),
+        Err(fault) => refuse(alloc, shelf, status_of_copy(fault)),
     }
 }

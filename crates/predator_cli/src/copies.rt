@@ -5,8 +5,8 @@ ghost use Rattle.shelf.specs.Shelf.{Outside};
 ghost use Rattle.predator_cli.specs.Copies.{copy_text};
 ghost use Rattle.predator_cli.specs.Meets.{IsWorked, Meets};
 
-use crate::Status;
 use crate::endings::{finish, refuse};
+use command_files::Status;
 use shelf::Shelf;
 use std::alloc::Global;
 

@@ -2,14 +2,13 @@
 ghost use Rattle.std.specs.Prelude.{◌≡◌, Option, None, Some, string_bytes};
 ghost use Rattle.command_line.specs.Words.{Demand};
 ghost use Rattle.shelf.specs.Shelf.{Outside};
-ghost use Rattle.predator_cli.specs.Faults.{fault_text};
+ghost use Rattle.command_files.specs.Faults.{fault_text};
+ghost use Rattle.command_files.specs.Statuses.{kind_of, done};
+ghost use Rattle.command_files.specs.Readings.{IsStopped};
 ghost use Rattle.predator_cli.specs.Meets.{IsAnswered, IsFaulty, IsWorked, Meets};
-ghost use Rattle.predator_cli.specs.Statuses.{kind_of, done};
-ghost use Rattle.predator_cli.specs.Readings.{IsStopped};
 ghost use Rattle.predator_cli.specs.Commands.{readings_of};
 
-use crate::Status;
-use crate::faults::{NO_MEMORY_LINE, USAGE, fault_line};
+use command_files::{NO_MEMORY_LINE, Status, USAGE, fault_line};
 use shelf::{Shelf, ShelfError};
 use std::alloc::Global;
 

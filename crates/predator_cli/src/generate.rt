@@ -1,5 +1,6 @@
 // The command `gen`.
-ghost use Rattle.std.specs.Prelude.{◌≡◌, ◌++◌, ◌≤◌, ◌^◌, IfErr, IfOk, IsTrue, OnOk, Some, string_bytes};
+ghost use Rattle.std.specs.Prelude.{◌≡◌, ◌++◌, ◌≤◌, ◌^◌, IfErr, IfOk, IsTrue, OnOk, Some};
+ghost use Rattle.std.specs.Prelude.{string_bytes};
 ghost use Rattle.command_line.specs.Gen.{gen_meaning};
 ghost use Rattle.command_line.specs.Words.{gen as asks};
 ghost use Rattle.detector.specs.Standing.{StandsFor};
@@ -11,9 +12,8 @@ ghost use Rattle.track_totals.specs.TotalsOf.{totals_of};
 ghost use Rattle.predator_cli.specs.Gen.{made_accesses, summary_of, summary_text};
 ghost use Rattle.predator_cli.specs.Meets.{Meets};
 
-use crate::Status;
 use crate::endings::{finish, refuse};
-use crate::settings_file::{native_layout, thresholds_of};
+use command_files::{Status, native_layout, thresholds_of};
 use command_line::GenOptions;
 use predator_base::{Layout, NoMemory, Thresholds};
 use settings::Settings;

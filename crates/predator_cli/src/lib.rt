@@ -13,25 +13,19 @@ mod command;
 mod convert;
 mod copies;
 mod endings;
-mod faults;
-mod files;
 mod generate;
-mod messages;
-mod program_file;
+mod laws;
 mod replay;
 mod run;
-mod save;
-mod settings_file;
 mod split;
-mod start;
 mod state_file;
-mod status;
 mod steady;
 mod symbols;
+mod trace_faults;
 
 pub use command::predator;
-pub use faults::USAGE;
-pub use messages::{advice_on, advise};
-pub use start::{exit_code, give_up, words_of};
-pub use status::{StateFault, Status};
+pub use command_files::{
+    StateFault, Status, USAGE, advice_on, advise, exit_code, give_up, words_of,
+};
+pub use laws::a_replay_goes_on_from_a_list;
 pub use steady::predator_steady;

@@ -13,19 +13,18 @@ ghost use Rattle.trace_grammar.specs.Rules.{IsGoodHeader};
 ghost use Rattle.trace_grammar.specs.declared.record.Header.{Header as Head};
 ghost use Rattle.trace_grammar.specs.declared.record.TraceRecord.{TraceRecord as Record};
 ghost use Rattle.trace_passes.specs.Passes.{HasPassed, IsWanted};
+ghost use Rattle.command_files.specs.Readings.{IsAccepted, IsReadFrom, IsStopped};
+ghost use Rattle.command_files.specs.Works.{output_for};
 ghost use Rattle.predator_cli.specs.Meets.{Meets};
-ghost use Rattle.predator_cli.specs.Readings.{IsAccepted, IsReadFrom, IsStopped};
 ghost use Rattle.predator_cli.specs.Replay.{IsCounted, IsToShow, replay_readings, shown};
 ghost use Rattle.predator_cli.specs.Replay.{trace_reading, wanted_after};
 ghost use Rattle.predator_cli.specs.States.{state_of_records, state_of_sighted};
-ghost use Rattle.predator_cli.specs.Works.{output_for};
 ghost use Rattle.predator_cli.specs.declared.state_file.Begun.{Begun as Before};
 
-use crate::Status;
 use crate::endings::{finish, refuse, stop};
-use crate::save::save;
-use crate::settings_file::{native_layout, read_settings, thresholds_of};
 use crate::state_file::{Begun, read_state};
+use crate::trace_faults::status_of_pass;
+use command_files::{Status, native_layout, read_settings, save, thresholds_of};
 use command_line::ReplayOptions;
 use detector_states::save_detector;
 use object_states::save_objects;
@@ -124,7 +123,7 @@ fn see_trace<S: Shelf>(
 {
     match pass(alloc, shelf, name, wanted, sightings) {
         Ok(passed) => Ok(passed),
-        Err(fault) => Err(Status::from(fault)),
+        Err(fault) => Err(status_of_pass(fault)),
     }
 }
 

@@ -10,24 +10,24 @@ ghost use Rattle.outputs.specs.OnTheirWay.{AreApart};
 ghost use Rattle.run_recorder.specs.Recorded.{IsKept, IsSymbolRecord, names_of, outputs_for};
 ghost use Rattle.run_recorder.specs.Recorded.{trace_for};
 ghost use Rattle.std.specs.List.{All};
-ghost use Rattle.predator_cli.specs.ProgramFiles.{IsStartable};
+ghost use Rattle.command_files.specs.ProgramFiles.{IsStartable};
 ghost use Rattle.settings.specs.Allowed.{IsAllowed};
 ghost use Rattle.shelf.specs.Shelf.{Outside, Told, content};
+ghost use Rattle.command_files.specs.Readings.{IsAccepted, IsJudged, IsReadFrom, IsStopped};
+ghost use Rattle.command_files.specs.SettingsFiles.{levels_of, native_of, settings_in};
+ghost use Rattle.command_files.specs.Statuses.{kind_of, done};
 ghost use Rattle.predator_cli.specs.Meets.{Meets};
-ghost use Rattle.predator_cli.specs.Readings.{IsAccepted, IsJudged, IsReadFrom, IsStopped};
 ghost use Rattle.predator_cli.specs.Replay.{report_of};
 ghost use Rattle.predator_cli.specs.Run.{IsReady, file_for, run_for_demand, run_readings};
 ghost use Rattle.predator_cli.specs.Run.{schedule_in, schedule_readings, status_for};
 ghost use Rattle.predator_cli.specs.Run.{symbol_records, whole_run};
-ghost use Rattle.predator_cli.specs.SettingsFiles.{levels_of, native_of, settings_in};
-ghost use Rattle.predator_cli.specs.Statuses.{kind_of, done};
 
-use crate::Status;
 use crate::endings::{finish, refuse, stop};
-use crate::files::{Judge, read_judged};
-use crate::program_file::{PROGRAM_LIMIT, Program, judge_program};
-use crate::settings_file::{native_layout, read_settings, thresholds_of};
 use crate::symbols::records_of;
+use command_files::{
+    Judge, PROGRAM_LIMIT, Program, Status, judge_program, native_layout, read_judged,
+    read_settings, thresholds_of,
+};
 use command_line::RunOptions;
 use elf_loader::{ElfFault, Image};
 use guest_run::{Guest, RunSettings};
@@ -70,7 +70,7 @@ struct ProgramUnder {
 
 impl Judge for ProgramUnder {
     ghost use Rattle.std.specs.Prelude.{◌<◌};
-    ghost use Rattle.predator_cli.specs.ProgramFiles.{program_refusal};
+    ghost use Rattle.command_files.specs.ProgramFiles.{program_refusal};
     ghost use Rattle.predator_cli.specs.Run.{IsLoading};
 
     type Given = Loading;
@@ -121,7 +121,8 @@ impl Judge for ScheduleUnder {
 
     ghost most = { λ _. 2 ^ 20 };
 
-    ghost refusal = { λ j bytes. schedule_refusal (schedule_of j.settings.harts j.settings.quantum bytes) };
+    ghost refusal = { λ j bytes. schedule_refusal (schedule_of j.settings.harts j.settings.quantum
+        bytes) };
 
     ghost gives = { λ j bytes plan. (schedule_of j.settings.harts j.settings.quantum bytes
         ≡ Ok plan) × (plan.harts ≡ j.settings.harts) × (plan.quantum ≡ j.settings.quantum) };

@@ -5,9 +5,10 @@ ghost use Rattle.command_line.specs.Words.{split as asks};
 ghost use Rattle.outputs.specs.OnTheirWay.{AreApart};
 ghost use Rattle.predator_cli.specs.Meets.{Meets};
 
-use crate::Status;
 use crate::copies::tell;
 use crate::endings::refuse;
+use crate::trace_faults::status_of_copy;
+use command_files::Status;
 use command_line::SplitOptions;
 use shelf::Shelf;
 use std::alloc::Global;
@@ -29,6 +30,6 @@ pub fn split<S: Shelf>(alloc: Global, options: &SplitOptions<'_>, shelf: &mut S)
         options.second,
     ) {
         Ok(made) => tell(alloc, shelf, "split", made.cut, made.rest),
-        Err(fault) => refuse(alloc, shelf, Status::from(fault)),
+        Err(fault) => refuse(alloc, shelf, status_of_copy(fault)),
     }
 }

@@ -4,14 +4,12 @@ ghost use Rattle.command_line.specs.Demands.{text_of};
 ghost use Rattle.detector_states.specs.Resuming.{resumption};
 ghost use Rattle.sharing_rules.specs.Listed.{may_predict};
 ghost use Rattle.shelf.specs.Shelf.{Told};
-ghost use Rattle.predator_cli.specs.Readings.{IsAccepted, IsJudged, IsStopped};
+ghost use Rattle.command_files.specs.Readings.{IsAccepted, IsJudged, IsStopped};
 ghost use Rattle.predator_cli.specs.Replay.{begun_under, state_readings};
 ghost use Rattle.predator_cli.specs.States.{begun_with, differing_field, resumed_state};
 ghost use Rattle.predator_cli.specs.States.{state_refusal};
 
-use crate::Status;
-use crate::files::{Judge, read_judged};
-use crate::status::StateFault;
+use command_files::{Judge, StateFault, Status, read_judged};
 use detector::{Detector, PagedIndex};
 use detector_states::{Resumed, resume_detector};
 use heap_objects::ObjectTable;

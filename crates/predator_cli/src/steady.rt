@@ -6,7 +6,8 @@ ghost use Rattle.command_line.specs.Words.{demand_of};
 ghost use Rattle.shelf.specs.NeverFails.{never_fails_outside};
 ghost use Rattle.shelf.specs.Shelf.{Told};
 
-use crate::{Status, predator};
+use crate::predator;
+use command_files::Status;
 use shelf::NeverFails;
 use std::alloc::Global;
 

@@ -1,2 +1,6 @@
 mod NextLaws
+mod Records
+mod NotedLaws
+mod ObjectLaws
+mod OriginLaws
 mod Worked

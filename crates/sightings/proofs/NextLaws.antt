@@ -71,7 +71,7 @@ counted-one p (records.Free addr) = sym (add-zero p)
 counted-one p (records.Symbol kind addr size name) = sym (add-zero p)
 counted-one p (records.End e) = sym (add-zero p)
 
-same_objects : (a b : Objects) → a.symbols ≡ b.symbols → a.blocks ≡ b.blocks → a ≡ b
+pub same_objects : (a b : Objects) → a.symbols ≡ b.symbols → a.blocks ≡ b.blocks → a ≡ b
 same_objects a b symbols blocks =
     ap (λ s. record { symbols = s; blocks = a.blocks }) symbols ∙ ap (λ bs. record { symbols = b.symbols; blocks = bs }) blocks
 
@@ -193,6 +193,15 @@ pub on_both : {T E P Q R : Type 0} (r : Result T E) → (P → Q → R) → OnOk
 on_both (Ok x) f p q = f p q
 on_both (Err e) f p q = tt
 
+-- where no record is left, each block stays as it is
+as_it_is : (p : ℕ) (b : Block) (died : Option ℕ) → lived p [] (record b { died = died }) ≡ record b { died = died }
+as_it_is p b None = refl
+as_it_is p b (Some d) = refl
+
+pub none_left : (p : ℕ) (bs : List Block) → map (lived p []) bs ≡ bs
+none_left p [] = refl
+none_left p (b ∷ bs) = ap (λ c. c ∷ map (lived p []) bs) (as_it_is p b b.died) ∙ ap (λ cs. b ∷ cs) (none_left p bs)
+
 -- before any record
 pub seen_nothing : (s : Sighted) → NoTwoAlike s.objects.symbols → HasSeen s s []
 seen_nothing s apart = record {
@@ -201,18 +210,10 @@ seen_nothing s apart = record {
   position = sym (add-zero s.watch.position);
   objects = same_objects s.objects (objects_after s.objects s.watch.position [])
       (sym (ap symbols_of (append-nil s.objects.symbols) ∙ apart))
-      (sym (append-nil (map (lived s.watch.position []) s.objects.blocks) ∙ unchanged s.watch.position s.objects.blocks));
+      (sym (append-nil (map (lived s.watch.position []) s.objects.blocks) ∙ none_left s.watch.position s.objects.blocks));
   grid = refl;
   levels = refl;
 }
-  where
-    as_it_is : (p : ℕ) (b : Block) (died : Option ℕ) → lived p [] (record b { died = died }) ≡ record b { died = died }
-    as_it_is p b None = refl
-    as_it_is p b (Some d) = refl
-
-    unchanged : (p : ℕ) (bs : List Block) → map (lived p []) bs ≡ bs
-    unchanged p [] = refl
-    unchanged p (b ∷ bs) = ap (λ c. c ∷ map (lived p []) bs) (as_it_is p b b.died) ∙ ap (λ cs. b ∷ cs) (unchanged p bs)
 
 -- a detector that has seen nothing stands for the empty list
 pub stands_nothing : (g : Grid) (v : Levels) → StandsFor [] (nothing_seen g v)

@@ -1,4 +1,5 @@
 pub mod Lives
+pub mod Origins
 pub mod LifeLaws
 pub mod Sights
 pub mod SightedCode

@@ -1,9 +1,11 @@
 -- What a list of trace records has shown, and its report.
-use Rattle.std.specs.Prelude.{◌≡◌, ℕ, ◌+◌, List, [], ◌∷◌, ◌++◌, length}
+use Rattle.std.specs.Prelude.{◌≡◌, ℕ, ◌+◌, ◌<◌, List, [], ◌∷◌, ◌++◌, length, IsTrue}
 use Rattle.predator_base.specs.Levels.{Levels}
-use Rattle.predator_base.specs.Lines.{Grid}
+use Rattle.predator_base.specs.Lines.{Grid, is_layout}
 use Rattle.predator_base.specs.declared.ending.Ending.{Ending}
+use Rattle.heap_objects.specs.Symbols.{NoTwoAlike}
 use Rattle.sharing_rules.specs.AccessLists.{AccessList}
+use Rattle.sharing_rules.specs.Listed.{may_predict}
 use Rattle.detector.specs.Standing.{StandsFor}
 use Rattle.report.specs.OfLists.{report_of}
 use Rattle.trace_grammar.specs.Rules.{touches_in}
@@ -35,6 +37,13 @@ abbrev pub SeesNext : Sighted → Sighted → TraceRecord → Type 0
 SeesNext old new item =
     (begun : Sighted) (items : List TraceRecord)
     → HasSeen begun old items → HasSeen begun new (items ++ item ∷ [])
+
+-- under a layout and thresholds as a detector has them, with no two symbols alike
+pub record IsNotable (s : Sighted) : Type 0 where
+  pub layout : IsTrue (is_layout s.watch.grid.size s.watch.grid.offset)
+  pub native : IsTrue (may_predict s.watch.grid s.watch.levels)
+  pub some : 0 < s.watch.levels.tracking
+  pub apart : NoTwoAlike s.objects.symbols
 
 -- the report of a list of records with an end, under a layout and thresholds
 unfoldable pub report_of_records : Ending → Grid → Levels → List TraceRecord → List ℕ

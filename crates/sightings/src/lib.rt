@@ -7,5 +7,5 @@ mod sightings;
 #[cfg(test)]
 mod tests;
 
-pub use laws::an_end_shows_nothing;
+pub use laws::{an_end_shows_nothing, what_is_noted_is_seen, what_stands_was_noted};
 pub use sightings::Sightings;

@@ -172,7 +172,8 @@ impl Sightings {
         ensures native { IsTrue (may_predict self.now.watch.grid self.now.watch.levels) }
         // where it has seen these records from the beginning, it stands for their accesses
         ensures stands { (g : Grid) (v : Levels) (items : List Record)
-            → HasSeen (nothing_sighted g v) self.now items → StandsFor (touches_in items) result.now }
+            → HasSeen (nothing_sighted g v) self.now items → StandsFor
+            (touches_in items) result.now }
     {
         &self.detector
     }

@@ -2,11 +2,11 @@ use Rattle.std.proofs.Common.{◌≡◌, [], ◌∷◌, Ok}
 use Rattle.command_line.specs.Check.{check_meaning}
 use Rattle.command_line.specs.Demands.{text_of}
 use Rattle.shelf.specs.Shelf.{Told, content}
-use Rattle.predator_cli.specs.ProgramFiles.{program_reading, program_refusal}
-use Rattle.predator_cli.specs.Readings.{IsStopped}
-use Rattle.predator_cli.specs.SettingsFiles.{chosen_settings, settings_in, settings_readings}
-use Rattle.predator_cli.proofs.FileLaws.{program_alike}
-use Rattle.predator_cli.proofs.ReadingLaws.{alike_stopped, stopped_behind, stopped_first, told_again}
+use Rattle.command_files.specs.ProgramFiles.{program_reading, program_refusal}
+use Rattle.command_files.specs.Readings.{IsStopped}
+use Rattle.command_files.specs.SettingsFiles.{chosen_settings, settings_in, settings_readings}
+use Rattle.command_files.specs.Laws.Settings.{program_alike}
+use Rattle.command_files.specs.Laws.Readings.{alike_stopped, stopped_behind, stopped_first, told_again}
 use Rattle.predator_cli.proofs.check.check_text.Goals as goal
 
 pub returns-in-Err-clause-stopped : goal.returns-in-Err-clause-stopped

@@ -1,8 +1,8 @@
 use Rattle.command_line.specs.Demands.{texts}
 use Rattle.command_line.specs.Words.{demand_of}
+use Rattle.command_files.specs.Laws.Told.{told}
 use Rattle.predator_cli.proofs.RecountLaws.{report_is_recounted}
 use Rattle.predator_cli.proofs.RunLaws.{stays_within}
-use Rattle.predator_cli.proofs.Told.{told}
 use Rattle.predator_cli.proofs.command.predator.Goals as goal
 
 pub returns-clause-within : goal.returns-clause-within

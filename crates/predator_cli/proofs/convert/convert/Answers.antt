@@ -26,7 +26,8 @@ returns-in-Err g c =
     let b = g.S.Shelf.outside c.convert_trace.new.shelf in
     let failed = c.in-Err.ensures in
     c.refuse.ensures (Some (convert d)) a
-    (rw c.from.ensures (copy_faulty (convert d) d.trace convert_text (conversion d.file) (is_convert d) a b c.in-Err.fault (record {
+    (rw c.status_of_copy.ensures
+    (copy_faulty (convert d) d.trace convert_text (conversion d.file) (is_convert d) a b c.in-Err.fault (record {
       refused = λ r is. failed.refused r (ap Err is);
       stays = λ r is. failed.stays r (ap Err is);
       memory = λ is. failed.memory (ap Err is);

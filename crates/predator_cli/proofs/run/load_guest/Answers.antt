@@ -1,13 +1,13 @@
 use Rattle.std.proofs.Common.{◌≡◌, [], ◌∷◌, Ok}
 use Rattle.command_line.specs.Run.{run_meaning}
 use Rattle.shelf.specs.Shelf.{Told, content}
-use Rattle.predator_cli.specs.ProgramFiles.{program_reading, program_refusal}
-use Rattle.predator_cli.specs.Readings.{IsAccepted, IsStopped}
+use Rattle.command_files.specs.ProgramFiles.{program_reading, program_refusal}
+use Rattle.command_files.specs.Readings.{IsAccepted, IsStopped}
+use Rattle.command_files.specs.SettingsFiles.{chosen_settings, settings_in, settings_readings}
+use Rattle.command_files.specs.Laws.Settings.{program_alike}
+use Rattle.command_files.specs.Laws.Readings.{accepted_behind, alike_accepted, alike_stopped, memory_stopped, only_same, stopped_behind}
+use Rattle.command_files.specs.Laws.Readings.{stopped_first, told_again}
 use Rattle.predator_cli.specs.Run.{run_readings, schedule_readings}
-use Rattle.predator_cli.specs.SettingsFiles.{chosen_settings, settings_in, settings_readings}
-use Rattle.predator_cli.proofs.FileLaws.{program_alike}
-use Rattle.predator_cli.proofs.ReadingLaws.{accepted_behind, alike_accepted, alike_stopped, memory_stopped, only_same, stopped_behind}
-use Rattle.predator_cli.proofs.ReadingLaws.{stopped_first, told_again}
 use Rattle.predator_cli.proofs.run.load_guest.Given.{Over}
 use Rattle.predator_cli.proofs.run.load_guest.Goals as goal
 use Rattle.predator_cli.proofs.run.load_guest.Goals.{After-make_guest}

@@ -30,7 +30,7 @@ returns-in-Err g c =
     let b = g.S.Shelf.outside c.split_trace.new.shelf in
     let failed = c.in-Err.ensures in
     c.refuse.ensures (Some (split d)) a
-    (rw c.from.ensures
+    (rw c.status_of_copy.ensures
     (copy_faulty (split d) d.trace (split_text d.at) (halves d.at d.first d.second) (is_split d) a b c.in-Err.fault (record {
       refused = λ r is. failed.refused r (ap Err is);
       stays = λ r is. failed.stays r (ap Err is);

@@ -3,9 +3,9 @@ use Rattle.std.proofs.lemmas.Result.{IfErr-weaker, IfOk-weaker}
 use Rattle.detector_states.specs.Resuming.{Resumption, resumption}
 use Rattle.object_states.specs.Judging.{objects_judged}
 use Rattle.predator_base.specs.declared.faults.ResumeFault.TheVariants as resume
-use Rattle.predator_cli.specs.Readings.{IsJudged}
+use Rattle.command_files.specs.Readings.{IsJudged}
+use Rattle.command_files.specs.declared.status.Status.{Status}
 use Rattle.predator_cli.specs.States.{resumed_state, state_refusal}
-use Rattle.predator_cli.specs.declared.status.Status.{Status}
 use Rattle.predator_cli.proofs.StateFiles.{objects_found, objects_refused}
 use Rattle.predator_cli.proofs.state_file.take_up.Goals as goal
 
@@ -31,8 +31,11 @@ returns-in-Ok-clause-judged c =
 pub returns-in-Err-clause-judged : goal.returns-in-Err-clause-judged
 returns-in-Err-clause-judged c =
     let r : Resumption = resumption c.args.resumed.detector c.args.resumed.harts c.args.resumed.used in
-    let refused : c.in-Err.fault ≢ resume.NoMemory → objects_judged r.used r.watch.position c.left_behind-left.result.now ≡ Err c.in-Err.fault =
-    λ other. rw c.position.ensures at (sym ((c.in-Err.ensures {u = tt}).judged (λ e. let same : c.in-Err.fault ≡ resume.NoMemory = cc in other same))) in
-    subst (λ (s : Status). IsJudged (state_refusal (resumed_state c.args.layout c.args.thresholds c.args.bytes.now r)) s) (sym c.from.ensures)
+    let refused : c.in-Err.fault ≢ resume.NoMemory → objects_judged r.used r.watch.position c.left_behind-left.result.now
+    ≡ Err c.in-Err.fault =
+    λ other. rw c.position.ensures at (sym ((c.in-Err.ensures {u = tt}).judged (λ e. let same : c.in-Err.fault ≡ resume.NoMemory
+    = cc in other same))) in
+    subst (λ (s : Status). IsJudged (state_refusal (resumed_state c.args.layout c.args.thresholds c.args.bytes.now r)) s)
+    (sym c.from.ensures)
     (objects_refused c.args.layout c.args.thresholds c.args.bytes.now r c.left_behind-left.result.now c.in-Err.fault
     c.left_behind-left.ensures refused)

@@ -2,7 +2,8 @@ use Rattle.std.proofs.Common.{◌≡◌, ◌∙◌, sym, map, true≢false}
 use Rattle.heap_objects.specs.Symbols.{kept_symbol}
 use Rattle.heap_objects.proofs.Lives.{other_symbols}
 use Rattle.heap_objects.proofs.Places.{entry_of, kept, noted, seen, symbol_in, unknown}
-use Rattle.heap_objects.proofs.SymbolLaws.{added, behind, still, symbols_after, whole}
+use Rattle.heap_objects.specs.SymbolLaws.{symbols_after}
+use Rattle.heap_objects.proofs.SymbolLaws.{added, behind, still, whole}
 use Rattle.heap_objects.proofs.table.ObjectTable.note_symbol.Goals as goal
 
 pub returns-then-contains_key-clause-noted : goal.returns-then-contains_key-clause-noted

@@ -1,4 +1,4 @@
-use Rattle.heap_objects.proofs.SymbolLaws.{each_apart}
+use Rattle.heap_objects.specs.ApartLaws.{each_apart}
 use Rattle.heap_objects.proofs.table.ObjectTable.symbol_count.Goals as goal
 
 pub returns-clause-apart : goal.returns-clause-apart

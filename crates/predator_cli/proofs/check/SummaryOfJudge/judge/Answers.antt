@@ -2,7 +2,7 @@ use Rattle.std.proofs.Common.{◌≡◌, ◌∙◌, ap}
 use Rattle.elf_loader.specs.PlacedImages.{IsImageOf}
 use Rattle.elf_loader.specs.Symbols.{symbols_of}
 use Rattle.program_summary.specs.Summaries.{placed_text}
-use Rattle.predator_cli.specs.ProgramFiles.{space_of}
+use Rattle.command_files.specs.ProgramFiles.{space_of}
 use Rattle.predator_cli.proofs.check.SummaryOfJudge.judge.Goals as goal
 
 pub returns-clause-given : goal.returns-clause-given

@@ -1,9 +1,9 @@
 use Rattle.std.proofs.Common.{◌≡◌, ◌∙◌, Option, subst, sym, ap}
 use Rattle.std.proofs.lemmas.Result.{IfErr-weaker, IfOk-weaker}
 use Rattle.detector_states.specs.Resuming.{Resumption, resumption}
-use Rattle.predator_cli.specs.Readings.{IsJudged}
+use Rattle.command_files.specs.Readings.{IsJudged}
+use Rattle.command_files.specs.declared.status.Status.{Status}
 use Rattle.predator_cli.specs.States.{judged_state, resumed_state, state_refusal}
-use Rattle.predator_cli.specs.declared.status.Status.{Status}
 use Rattle.predator_cli.proofs.StateFiles.{accepted_where, detector_judged, state_resumed}
 use Rattle.predator_cli.proofs.state_file.StateUnderJudge.judge.Goals as goal
 

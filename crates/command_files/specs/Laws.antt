@@ -1,0 +1,3 @@
+pub mod Told
+pub mod Readings
+pub mod Settings

@@ -1,0 +1,90 @@
+-- Files that a command reads in an order, each of which may be refused, and how that order decides
+-- an end.
+use Rattle.std.specs.Prelude.{◌≡◌, ◌≢◌, ◌⊎◌, ℕ, false, List, [], ◌∷◌, map, Option, Some, None}
+use Rattle.std.specs.Option.{option_or}
+use Rattle.shelf.specs.Shelf.{Files, Outside, Told, Rose, OnlyReads, content}
+use Rattle.command_files.specs.Statuses.{Kind, kind_of, done, refusal, read_fault, write_fault}
+use Rattle.command_files.specs.Statuses.{no_memory, hides_no_memory}
+use Rattle.command_files.specs.declared.status.Status.{Status}
+use Rattle.command_files.specs.declared.status.Status.TheVariants as status
+
+-- a file that is read, by its name, and how it is refused, if it is, beside the contents of all
+-- files
+pub record Reading : Type 0 where
+  pub name : List ℕ
+  pub refusal : Files → Option Status
+
+abbrev pub reading : List ℕ → (Files → Option Status) → Reading
+reading name refuses = record { name = name; refusal = refuses }
+
+abbrev pub names_of : List Reading → List (List ℕ)
+names_of readings = map (λ r. r.name) readings
+
+-- the refusal of the first file that is refused
+abbrev pub first_refusal : List Reading → Files → Option Status
+first_refusal [] files = None
+first_refusal (r ∷ later) files = option_or (r.refusal files) (first_refusal later files)
+
+-- the faults of one of these names rose
+abbrev pub RoseAt : List (List ℕ) → (List ℕ → ℕ) → (List ℕ → ℕ) → Type 0
+RoseAt [] before now = ⊥
+RoseAt (name ∷ names) before now = Rose (before name) (now name) ⊎ RoseAt names before now
+
+-- the faults of reading one of the files rose, and every file before it is accepted
+abbrev pub FailsInOrder : List Reading → Files → (List ℕ → ℕ) → (List ℕ → ℕ) → Type 0
+FailsInOrder [] files before now = ⊥
+FailsInOrder (r ∷ later) files before now =
+    Rose (before r.name) (now r.name) ⊎ ((r.refusal files ≡ None)
+    × FailsInOrder later files before now)
+
+-- why a command stopped while it read its files: the first refusal, at which no number of faults of
+-- reading has risen, or a fault of reading before any
+abbrev pub StopsBy : List Reading → Outside → Outside → Kind → Status → Type 0
+StopsBy readings old now done s = ⊥
+StopsBy readings old now refusal s =
+    Told old.held (λ files. first_refusal readings files ≡ Some s)
+    × (now.read_faults ≡ old.read_faults)
+StopsBy readings old now read_fault s =
+    RoseAt (names_of readings) old.read_faults now.read_faults
+    × Told old.held (λ files. FailsInOrder readings files old.read_faults now.read_faults)
+StopsBy readings old now write_fault s = ⊥
+StopsBy readings old now no_memory s = Unit {0}
+
+-- it stopped with this status, and did nothing but read
+pub record IsStopped (readings : List Reading) (old now : Outside) (s : Status) : Type 0 where
+  pub why : StopsBy readings old now (kind_of s) s
+  pub words : s ≢ status.Usage
+  pub memory : hides_no_memory s ≡ false
+  pub only : OnlyReads old now
+
+-- its files are accepted, and it did nothing that shows
+pub record IsAccepted (readings : List Reading) (old now : Outside) : Type 0 where
+  pub accepts : Told old.held (λ files. first_refusal readings files ≡ None)
+  pub same : now ≡ old
+
+-- ---- one file
+
+-- a status that may be the refusal of a file
+pub record IsRefusal (s : Status) : Type 0 where
+  pub kind : kind_of s ≡ refusal
+  pub words : s ≢ status.Usage
+  pub memory : hides_no_memory s ≡ false
+
+-- why the judging of one content stopped: it is refused, or memory ran out
+abbrev pub JudgedBy : Option Status → Kind → Status → Type 0
+JudgedBy refused done s = ⊥
+JudgedBy refused refusal s = refused ≡ Some s
+JudgedBy refused read_fault s = ⊥
+JudgedBy refused write_fault s = ⊥
+JudgedBy refused no_memory s = Unit {0}
+
+pub record IsJudged (refused : Option Status) (s : Status) : Type 0 where
+  pub why : JudgedBy refused (kind_of s) s
+  pub words : s ≢ status.Usage
+  pub memory : hides_no_memory s ≡ false
+
+-- P holds of the bytes that were read under a name, which are the held ones where these are told
+pub record IsReadFrom (held : Option Files) (name : List ℕ) (P : List ℕ → Type 0) : Type 0 where
+  pub bytes : List ℕ
+  pub whole : Told held (λ files. bytes ≡ content files name)
+  pub given : P bytes

@@ -1,0 +1,23 @@
+-- What a command gives.
+use Rattle.std.specs.Prelude.{ℕ, List, [], ◌∷◌, Option, Some, None}
+use Rattle.outputs.specs.Files.{Output}
+use Rattle.command_files.specs.declared.status.Status.{Status}
+use Rattle.command_files.specs.declared.status.Status.TheVariants as status
+
+-- a status, a text, and the bytes of its outputs
+pub record Work : Type 0 where
+  pub status : Status
+  pub text : List ℕ
+  pub outputs : List Output
+
+abbrev pub done_with : List ℕ → Work
+done_with text = record { status = status.Done; text = text; outputs = [] }
+
+-- the one file of a name
+abbrev pub file_of : List ℕ → List ℕ → List Output
+file_of name bytes = record { name = name; bytes = bytes } ∷ []
+
+-- the same, if a name is given
+abbrev pub output_for : Option (List ℕ) → List ℕ → List Output
+output_for None bytes = []
+output_for (Some name) bytes = file_of name bytes

@@ -1,0 +1,31 @@
+//! What the commands of the program share: how a command ends ([`Status`]), the files that it reads
+//! and judges one after another, and what it writes under a name.
+//!
+//! A file is judged by a [`Judge`]: at most how many bytes it has, how a longer one is refused, and
+//! what an accepted one gives. [`read_judged`] alone reads and judges a named file; what it answers
+//! is said over a list of readings, each with its name and its refusal (specs/Readings.antt). A
+//! command that reads several files puts such lists together, and ends by the first refusal in
+//! them; the laws for that are in specs/Laws. Each status has its number for the process
+//! (specs/Numbers.antt), its line where it is printed (specs/Faults.antt), and advice on what to do
+//! next.
+//!
+//! What a command does with its files isn't known here.
+#![tactic(auto)]
+
+mod faults;
+mod files;
+mod messages;
+mod program_file;
+mod saving;
+mod settings_file;
+mod start;
+mod status;
+
+pub use faults::{NO_MEMORY_LINE, USAGE, fault_line};
+pub use files::{Judge, read_judged};
+pub use messages::{advice_on, advise};
+pub use program_file::{PROGRAM_LIMIT, Program, judge_program};
+pub use saving::save;
+pub use settings_file::{native_layout, read_settings, thresholds_of};
+pub use start::{exit_code, give_up, words_of};
+pub use status::{StateFault, Status};

@@ -1,0 +1,109 @@
+// The settings of a command.
+ghost use Rattle.std.specs.Prelude.{◌≡◌, Ok, None, IfOk, IfErr, IsOk, IsTrue, OnOk, length};
+ghost use Rattle.std.specs.Option.{ForSome};
+ghost use Rattle.sharing_rules.specs.Listed.{may_predict};
+ghost use Rattle.command_line.specs.Demands.{text_of};
+ghost use Rattle.settings.specs.Allowed.{IsAllowed};
+ghost use Rattle.shelf.specs.Shelf.{Told};
+ghost use Rattle.command_files.specs.Readings.{IsAccepted, IsStopped};
+ghost use Rattle.command_files.specs.SettingsFiles.{layout_of, levels_of, native_of, settings_in};
+ghost use Rattle.command_files.specs.SettingsFiles.{settings_readings};
+
+use crate::Status;
+use crate::files::{Judge, read_judged};
+use predator_base::{Layout, Thresholds};
+use settings::{Settings, SettingsFault};
+use shelf::Shelf;
+use std::alloc::Global;
+
+/// A settings file, of at most 64 KiB.
+struct SettingsFile;
+
+impl Judge for SettingsFile {
+    ghost use Rattle.std.specs.Prelude.{◌<◌, ◌≤◌, ◌^◌, Some, IfErr};
+    ghost use Rattle.settings.specs.Answers.{settings_of};
+    ghost use Rattle.command_files.specs.SettingsFiles.{settings_refusal};
+
+    type Given = Settings;
+
+    ghost most = { λ _. 65536 };
+
+    ghost refusal = { λ _ bytes. settings_refusal (settings_of bytes) };
+
+    ghost gives = { λ _ bytes settings. (settings_of bytes ≡ Ok settings) × IsAllowed settings };
+
+    fn limit(&self) -> u64 {
+        1 << 16
+    }
+
+    fn too_long(&self) -> Status {
+        Status::Settings(SettingsFault::TooLong)
+    }
+
+    fn judge(&self, alloc: Global, bytes: &[u8]) -> Result<Settings, Status> {
+        Ok(Settings::read(alloc, bytes)?)
+    }
+}
+
+/// The settings that a file gives, or the usual ones where none is named; or why the command stops:
+/// `ReadFault` where the reading failed, `Settings` by the file's first fault, `NoMemory` where
+/// memory runs out.
+pub fn read_settings<S: Shelf>(
+    alloc: Global,
+    shelf: &mut S,
+    name: Option<&str>,
+) -> Result<Settings, Status>
+    ensures read { IfOk result (λ settings. Told (S.outside shelf.old).held
+        (λ files. settings_in (text_of name.entry) files ≡ Ok settings)) }
+    ensures allowed { IfOk result IsAllowed }
+    ensures accepted { OnOk result (IsAccepted (settings_readings (text_of name.entry))
+        (S.outside shelf.old) (S.outside shelf.new)) }
+    ensures stopped { IfErr result (IsStopped (settings_readings (text_of name.entry))
+        (S.outside shelf.old) (S.outside shelf.new)) }
+    // Where none is named nothing is wanted.
+    ensures unnamed { text_of name.entry ≡ None → IsOk result }
+{
+    match name {
+        Some(name) => read_judged(alloc, shelf, name, &SettingsFile),
+        None => Ok(Settings::usual()),
+    }
+}
+
+/// The native layout of settings: the one of a command where no layout is named.
+pub fn native_layout(settings: &Settings) -> Layout
+    requires { IsAllowed settings.now }
+    ensures { result ≡ native_of settings.now }
+{
+    match Layout::new(settings.line(), 0) {
+        Some(layout) => layout,
+        None => unreachable!(),
+    }
+}
+
+// The thresholds that settings give, with a threshold of prediction or without.
+fn thresholds_with(settings: &Settings, prediction: Option<u64>) -> Thresholds
+    requires allowed { IsAllowed settings.now }
+    requires prediction { ForSome prediction (λ p. p ≡ settings.now.prediction) }
+    ensures { result ≡ record {
+      tracking = settings.now.tracking;
+      prediction = prediction;
+      report = settings.now.report;
+    } }
+{
+    match Thresholds::new(settings.tracking, prediction, settings.report) {
+        Some(thresholds) => thresholds,
+        None => unreachable!(),
+    }
+}
+
+/// The thresholds that settings give. Something is predicted where no layout is named.
+pub fn thresholds_of(settings: &Settings, layout: Option<Layout>) -> Thresholds
+    requires { IsAllowed settings.now }
+    ensures value { result ≡ levels_of layout settings.now }
+    ensures native { IsTrue (may_predict (layout_of layout settings.now) result) }
+{
+    match layout {
+        Some(_) => thresholds_with(settings, None),
+        None => thresholds_with(settings, Some(settings.prediction)),
+    }
+}

@@ -1,0 +1,85 @@
+-- The parts of a trace that was cut show what the whole shows: the end of the first part, which
+-- stands among the records, shows nothing.
+use Rattle.std.proofs.Common.{◌≡◌, ℕ, List, [], ◌∷◌, ◌++◌, length, Option, None, sym, ap, ◌∙◌}
+use Rattle.std.proofs.Common.{append_assoc}
+use Rattle.std.proofs.lemmas.List.{append-nil}
+use Rattle.std.proofs.lemmas.List.Elements.{filter_map-append}
+use Rattle.heap_objects.specs.Objects.{Objects, no_objects}
+use Rattle.object_states.specs.Spelling.{spell_objects}
+use Rattle.predator_base.specs.Levels.{Levels}
+use Rattle.predator_base.specs.Lines.{Grid}
+use Rattle.predator_base.specs.declared.ending.Ending.{Ending}
+use Rattle.report.specs.OfLists.{report_of}
+use Rattle.sharing_rules.specs.AccessLists.{AccessList}
+use Rattle.sightings.specs.Lives.{objects_after, objects_of}
+use Rattle.sightings.specs.Seen.{report_of_records}
+use Rattle.sightings.specs.SeenLaws.{objects_after-end}
+use Rattle.state_grammar.specs.OfLists.{state_of_list}
+use Rattle.trace_grammar.specs.Rules.{touch_in, touches_in}
+use Rattle.trace_grammar.specs.declared.record.TraceRecord.{TraceRecord}
+use Rattle.trace_grammar.specs.declared.record.TraceRecord.TheVariants as records
+use Rattle.trace_passes.specs.Passes.{Trace, all_records}
+use Rattle.predator_cli.specs.GoesOn.{IsCutIn, work_of_both}
+use Rattle.predator_cli.specs.Replay.{ended_at, shown, work_after}
+use Rattle.predator_cli.specs.States.{state_of_records}
+
+-- what no end changes is the same of the parts and of the whole
+module _ {X : Type 0} (shows : List TraceRecord → X)
+    (last : (xs : List TraceRecord) (e : Ending) → shows (xs ++ records.End e ∷ []) ≡ shows xs)
+    (amid : (xs ys : List TraceRecord) (e : Ending)
+    → shows ((xs ++ records.End e ∷ []) ++ ys) ≡ shows (xs ++ ys))
+  where
+    same_shown : (whole first second : Trace) → whole.items ≡ first.items ++ second.items
+        → shows (all_records first ++ all_records second) ≡ shows (all_records whole)
+    same_shown whole first second items =
+        amid first.items (all_records second) first.ending
+        ∙ ap shows
+        (sym (append_assoc first.items second.items (records.End second.ending ∷ [])))
+        ∙ last (first.items ++ second.items) second.ending
+        ∙ ap shows (sym items) ∙ sym (last whole.items whole.ending)
+
+touches_last : (xs : List TraceRecord) (e : Ending)
+    → touches_in (xs ++ records.End e ∷ []) ≡ touches_in xs
+touches_last xs e = filter_map-append touch_in xs (records.End e ∷ []) ∙ append-nil (touches_in xs)
+
+touches_amid : (xs ys : List TraceRecord) (e : Ending)
+    → touches_in ((xs ++ records.End e ∷ []) ++ ys) ≡ touches_in (xs ++ ys)
+touches_amid xs ys e =
+    filter_map-append touch_in (xs ++ records.End e ∷ []) ys
+    ∙ ap (λ (t : AccessList). t ++ touches_in ys) (touches_last xs e)
+    ∙ sym (filter_map-append touch_in xs ys)
+
+objects_last : (xs : List TraceRecord) (e : Ending)
+    → objects_of (xs ++ records.End e ∷ []) ≡ objects_of xs
+objects_last xs e = objects_after-end xs e no_objects 0
+
+module _ (objects : (before items : List TraceRecord)
+    → objects_after (objects_of before) (length (touches_in before)) items
+    ≡ objects_of (before ++ items))
+  where
+    objects_amid : (xs ys : List TraceRecord) (e : Ending)
+        → objects_of ((xs ++ records.End e ∷ []) ++ ys) ≡ objects_of (xs ++ ys)
+    objects_amid xs ys e =
+        sym (objects (xs ++ records.End e ∷ []) ys)
+        ∙ ap (λ (o : Objects). objects_after o (length (touches_in (xs ++ records.End e ∷ []))) ys)
+        (objects_last xs e)
+        ∙ ap (λ (t : AccessList). objects_after (objects_of xs) (length t) ys) (touches_last xs e)
+        ∙ objects xs ys
+
+    pub carried_on : (save : Option (List ℕ)) (g : Grid) (v : Levels)
+        (whole first second : Trace) → IsCutIn whole first second
+        → work_of_both save g v whole.header.harts (all_records first) second
+        ≡ work_after save g v None whole
+    unfolding report_of_records state_of_records
+    carried_on save g v whole first second cut =
+        let both : List TraceRecord = all_records first ++ all_records second in
+        let touches : touches_in both ≡ touches_in (all_records whole) =
+        same_shown touches_in touches_last touches_amid whole first second cut.items in
+        let things : objects_of both ≡ objects_of (all_records whole) =
+        same_shown objects_of objects_last objects_amid whole first second cut.items in
+        let ending : ended_at (length (touches_in both)) second.ending ≡ whole.ending =
+        ap (λ (t : AccessList). ended_at (length t) second.ending)
+        (touches ∙ touches_last whole.items whole.ending)
+        ∙ sym cut.ending in
+        λ i. shown save (report_of (ending i) g v (things i) (touches i))
+        (state_of_list g v whole.header.harts (touches i) ++ spell_objects (things i))

@@ -1,0 +1,67 @@
+-- What a replay gives that goes on from the saved state of some records.
+use Rattle.std.specs.Prelude.{◌≡◌, ℕ, ◌≤◌, ◌^◌, List, ◌++◌, length, Option, Some}
+use Rattle.command_line.specs.Replay.{ReplayDemand}
+use Rattle.detector_states.specs.Resuming.{kept_of_list}
+use Rattle.object_states.specs.Rules.{IsSavable}
+use Rattle.predator_base.specs.Levels.{Levels}
+use Rattle.predator_base.specs.Lines.{Grid}
+use Rattle.predator_base.specs.declared.ending.Ending.{Ending}
+use Rattle.shelf.specs.Shelf.{Files, content}
+use Rattle.sightings.specs.Lives.{objects_of}
+use Rattle.sightings.specs.Seen.{report_of_records}
+use Rattle.state_grammar.specs.OfLists.{MayKeep}
+use Rattle.trace_grammar.specs.Rules.{touches_in}
+use Rattle.trace_grammar.specs.declared.record.TraceRecord.{TraceRecord}
+use Rattle.trace_passes.specs.Passes.{Trace, all_records, trace_of}
+use Rattle.predator_cli.specs.Replay.{ended_at, grid_in, levels_in, shown}
+use Rattle.predator_cli.specs.States.{state_of_records}
+use Rattle.command_files.specs.Works.{Work}
+use Rattle.predator_cli.specs.declared.state_file.Begun.{Begun}
+
+-- what was seen of records whose state is taken up
+abbrev pub begun_of : Grid → Levels → ℕ → List TraceRecord → Begun
+begun_of g v harts before = record {
+  sightings =
+      record {
+        watch = kept_of_list g v harts (touches_in before);
+        objects = objects_of before;
+      };
+  harts = harts;
+}
+
+-- records that a replay under a layout and thresholds may have seen, whose state fits a file
+pub record MayStand (g : Grid) (v : Levels) (harts : ℕ) (before : List TraceRecord) : Type 0 where
+  pub kept : MayKeep g v harts (touches_in before)
+  pub objects : IsSavable (length (touches_in before)) (objects_of before)
+  pub short : length (state_of_records g v harts before) ≤ 2 ^ 40
+
+-- the report and the state of records, by the definitions, with an end at which as many accesses
+-- were counted as they have
+abbrev pub work_of_records : Option (List ℕ) → Grid → Levels → ℕ → Ending → List TraceRecord → Work
+work_of_records save g v harts ending items =
+    shown save (report_of_records (ended_at (length (touches_in items)) ending) g v items)
+    (state_of_records g v harts items)
+
+-- those of some records followed by a trace's
+abbrev pub work_of_both : Option (List ℕ) → Grid → Levels → ℕ → List TraceRecord → Trace → Work
+work_of_both save g v harts before t =
+    work_of_records save g v harts t.ending (before ++ all_records t)
+
+-- the files of a replay hold the state of some records, and a trace that begins behind them
+pub record HoldsBoth (demand : ReplayDemand) (files : Files) (harts : ℕ) (before : List TraceRecord)
+    (t : Trace) :
+    Type 0 where
+  pub name : List ℕ
+  pub named : demand.resume ≡ Some name
+  pub may : MayStand (grid_in demand files) (levels_in demand files) harts before
+  pub state : content files name
+      ≡ state_of_records (grid_in demand files) (levels_in demand files) harts before
+  pub trace : trace_of (content files demand.trace) ≡ Some t
+  pub same_harts : t.header.harts ≡ harts
+  pub first : t.header.first ≡ length (touches_in before)
+
+-- a trace was cut: its records are those of the first part and then those of the second, which ends
+-- as the whole
+pub record IsCutIn (whole first second : Trace) : Type 0 where
+  pub items : whole.items ≡ first.items ++ second.items
+  pub ending : whole.ending ≡ ended_at (length (touches_in whole.items)) second.ending

@@ -1,0 +1,30 @@
+-- The status of each end of a trace that is passed or copied.
+use Rattle.trace_copies.specs.declared.fault.CopyFault.{CopyFault}
+use Rattle.trace_copies.specs.declared.fault.CopyFault.TheVariants as copies
+use Rattle.trace_passes.specs.declared.passes.PassFault.{PassFault}
+use Rattle.trace_passes.specs.declared.passes.PassFault.TheVariants as passes
+use Rattle.trace_passes.specs.declared.wanted.Refusal.{Refusal}
+use Rattle.trace_passes.specs.declared.wanted.Refusal.TheVariants as refusals
+use Rattle.command_files.specs.Statuses.{status_of_trace}
+use Rattle.command_files.specs.declared.status.StateFault.TheVariants as state
+use Rattle.command_files.specs.declared.status.Status.{Status}
+use Rattle.command_files.specs.declared.status.Status.TheVariants as status
+
+-- a header of another number of harts differs from the field of a saved state at place 32
+abbrev pub status_of_refusal : Refusal → Status
+status_of_refusal (refusals.Trace fault) = status_of_trace fault
+status_of_refusal refusals.Harts = status.State (state.WrongSettings 32)
+status_of_refusal (refusals.Position saved first) = status.State (state.WrongPosition saved first)
+
+abbrev pub status_of_pass : PassFault → Status
+status_of_pass (passes.Refused r) = status_of_refusal r
+status_of_pass passes.ReadFault = status.ReadFault
+status_of_pass passes.NoMemory = status.NoMemory
+
+-- a trace is refused by the reading before its copies are begun, or by the one that copies it
+abbrev pub status_of_copy : CopyFault → Status
+status_of_copy (copies.Refused r) = status_of_refusal r
+status_of_copy (copies.Changed r) = status_of_refusal r
+status_of_copy copies.ReadFault = status.ReadFault
+status_of_copy copies.WriteFault = status.WriteFault
+status_of_copy copies.NoMemory = status.NoMemory

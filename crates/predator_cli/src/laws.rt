@@ -1,0 +1,70 @@
+// The law of replays that go on, for whoever reads contracts alone. The call does nothing.
+ghost use Rattle.std.specs.Prelude.{◌≡◌, ℕ, ◌<◌, ◌^◌, List, length, None, Ok, Option, Some};
+ghost use Rattle.std.specs.List.{All};
+ghost use Rattle.command_files.specs.Readings.{first_refusal};
+ghost use Rattle.command_files.specs.SettingsFiles.{settings_readings};
+ghost use Rattle.command_line.specs.Replay.{ReplayDemand};
+ghost use Rattle.command_line.specs.Words.{replay};
+ghost use Rattle.object_states.specs.Rules.{IsSavable};
+ghost use Rattle.predator_base.specs.Levels.{Levels};
+ghost use Rattle.predator_base.specs.Lines.{Grid};
+ghost use Rattle.shelf.specs.Shelf.{Files, content};
+ghost use Rattle.sightings.specs.Lives.{objects_of};
+ghost use Rattle.state_grammar.specs.OfLists.{AreOf};
+ghost use Rattle.trace_grammar.specs.Rules.{IsGoodRecord, touches_in};
+ghost use Rattle.trace_grammar.specs.declared.record.TraceRecord.{TraceRecord as Record};
+ghost use Rattle.trace_passes.specs.Passes.{Trace, all_records, trace_of};
+ghost use Rattle.predator_cli.specs.Answer.{answer_of};
+ghost use Rattle.predator_cli.specs.GoesOn.{HoldsBoth, IsCutIn, MayStand, begun_of};
+ghost use Rattle.predator_cli.specs.GoesOn.{work_of_both};
+ghost use Rattle.predator_cli.specs.Replay.{grid_in, levels_in, replay_work, work_after};
+ghost use Rattle.predator_cli.specs.States.{judged_state, state_of_records};
+
+use detector_states::the_state_of_a_list_is_taken_up;
+use object_states::what_is_resumed_was_saved;
+use sightings::{what_is_noted_is_seen, what_stands_was_noted};
+
+/// A replay that goes on from the state of some records gives the report, and saves the state, of
+/// these records followed by those of its trace. Nothing is done.
+pub fn a_replay_goes_on_from_a_list()
+    // the state of the records is taken up as what was seen of them
+    ensures taken { (g : Grid) (v : Levels) (harts : ℕ) (before : List Record)
+        → MayStand g v harts before
+        → judged_state g v (state_of_records g v harts before) ≡ Ok (begun_of g v harts before) }
+    // from there a trace gives what the records and its own give together
+    ensures goes_on { (save : Option (List ℕ)) (g : Grid) (v : Levels) (harts : ℕ)
+        (before : List Record) (t : Trace) → MayStand g v harts before → t.header.harts ≡ harts
+        → work_after save g v (Some (begun_of g v harts before)) t
+        ≡ work_of_both save g v harts before t }
+    // and so does a replay that is asked for, where its files hold the state and the trace
+    ensures replayed { (demand : ReplayDemand) (files : Files) (name : List ℕ) (harts : ℕ)
+        (before : List Record) (t : Trace) → demand.resume ≡ Some name
+        → MayStand (grid_in demand files) (levels_in demand files) harts before
+        → content files name
+        ≡ state_of_records (grid_in demand files) (levels_in demand files) harts before
+        → trace_of (content files demand.trace) ≡ Some t → t.header.harts ≡ harts
+        → replay_work demand files ≡ work_of_both demand.save (grid_in demand files)
+        (levels_in demand files) harts before t }
+    // which is then what the program answers, where the trace begins behind the records and the
+    // settings are not refused
+    ensures answered { (demand : ReplayDemand) (files : Files) (harts : ℕ) (before : List Record)
+        (t : Trace) → HoldsBoth demand files harts before t
+        → first_refusal (settings_readings demand.settings) files ≡ None
+        → answer_of (Some (replay demand)) files ≡ work_of_both demand.save (grid_in demand files)
+        (levels_in demand files) harts before t }
+    // and of a trace that was cut, saved and carried on it is what the whole trace gives
+    ensures carried { (save : Option (List ℕ)) (g : Grid) (v : Levels)
+        (whole first second : Trace) → IsCutIn whole first second
+        → work_of_both save g v whole.header.harts (all_records first) second
+        ≡ work_after save g v None whole }
+    // the objects and the accesses of good records may stand in a state
+    ensures good { (harts : ℕ) (before : List Record) → All (IsGoodRecord harts) before
+        → length before < 2 ^ 64 → IsSavable (length (touches_in before)) (objects_of before) }
+    ensures of_harts { (harts : ℕ) (before : List Record) → All (IsGoodRecord harts) before
+        → AreOf harts (touches_in before) }
+{
+    the_state_of_a_list_is_taken_up();
+    what_is_resumed_was_saved();
+    what_is_noted_is_seen();
+    what_stands_was_noted();
+}

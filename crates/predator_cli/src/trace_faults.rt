@@ -1,0 +1,47 @@
+// How a command ends where a trace isn't passed or copied.
+ghost use Rattle.std.specs.Prelude.{◌≡◌};
+ghost use Rattle.predator_cli.specs.TraceFaults.{status_of_copy, status_of_pass};
+ghost use Rattle.predator_cli.specs.TraceFaults.{status_of_refusal};
+
+use command_files::{StateFault, Status};
+use trace_copies::CopyFault;
+use trace_passes::{PassFault, Refusal};
+
+// Where a saved state tells how many harts there are.
+const HARTS_PLACE: u64 = 32;
+
+/// The status of a trace that is refused.
+pub fn status_of_refusal(refusal: Refusal) -> Status
+    ensures { result ≡ status_of_refusal refusal }
+{
+    match refusal {
+        Refusal::Trace(fault) => Status::from(fault),
+        Refusal::Harts => Status::State(StateFault::WrongSettings(HARTS_PLACE)),
+        Refusal::Position { saved, first } => {
+            Status::State(StateFault::WrongPosition { saved, first })
+        }
+    }
+}
+
+/// The status of a trace that isn't passed.
+pub fn status_of_pass(fault: PassFault) -> Status
+    ensures { result ≡ status_of_pass fault }
+{
+    match fault {
+        PassFault::Refused(refusal) => status_of_refusal(refusal),
+        PassFault::ReadFault => Status::ReadFault,
+        PassFault::NoMemory => Status::NoMemory,
+    }
+}
+
+/// The status of a trace that isn't copied.
+pub fn status_of_copy(fault: CopyFault) -> Status
+    ensures { result ≡ status_of_copy fault }
+{
+    match fault {
+        CopyFault::Refused(refusal) | CopyFault::Changed(refusal) => status_of_refusal(refusal),
+        CopyFault::ReadFault => Status::ReadFault,
+        CopyFault::WriteFault => Status::WriteFault,
+        CopyFault::NoMemory => Status::NoMemory,
+    }
+}

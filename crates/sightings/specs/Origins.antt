@@ -1,0 +1,25 @@
+-- From which records of a list its objects came.
+use Rattle.std.specs.Prelude.{◌≡◌, ◌≤◌, ℕ, List, length, IfSome}
+use Rattle.std.specs.List.{Contains}
+use Rattle.heap_objects.specs.Names.{name_of}
+use Rattle.heap_objects.specs.Symbols.{Symbol}
+use Rattle.heap_objects.specs.declared.block.Block.{Block}
+use Rattle.trace_grammar.specs.Rules.{touches_in}
+use Rattle.trace_grammar.specs.declared.record.TraceRecord.{TraceRecord}
+use Rattle.trace_grammar.specs.declared.record.TraceRecord.TheVariants as records
+
+-- a block that records leave
+pub record IsBlockOf (items : List TraceRecord) (b : Block) : Type 0 where
+  -- one of them made it
+  pub made : Contains items (records.Alloc b.addr b.size b.sites)
+  -- it was born no later than their end
+  pub born : b.born ≤ length (touches_in items)
+  -- and died, if it did, between its birth and their end
+  pub died : IfSome b.died (λ d. (b.born ≤ d) × (d ≤ length (touches_in items)))
+
+-- a symbol that records leave
+pub record IsSymbolOf (items : List TraceRecord) (s : Symbol) : Type 0 where
+  -- one of them told it, by a name that may be longer
+  pub told_name : List ℕ
+  pub told : Contains items (records.Symbol s.kind s.addr s.size told_name)
+  pub name : s.name ≡ name_of told_name
