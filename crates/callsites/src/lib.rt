@@ -5,7 +5,5 @@
 #![tactic(auto)]
 
 mod call_list;
-#[cfg(test)]
-mod tests;
 
 pub use call_list::CallList;

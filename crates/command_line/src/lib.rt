@@ -16,8 +16,6 @@ mod names;
 mod replay;
 mod run;
 mod split;
-#[cfg(test)]
-mod tests;
 mod words;
 
 pub use check::CheckOptions;

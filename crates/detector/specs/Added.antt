@@ -9,7 +9,8 @@ use Rattle.detector.specs.Index.{IsIndexed}
 use Rattle.detector.specs.Watch.{watch_of}
 
 -- the entries name the tracks, and a track may come behind them
-pub record IsAddable (m : Entries) (g : Grid) (xs : List Kept) (v : Levels) (position : ℕ) (x : Kept)
+pub record IsAddable (m : Entries) (g : Grid) (xs : List Kept) (v : Levels) (position : ℕ)
+    (x : Kept)
     : Type 0 where
   pub indexed : IsIndexed (entry_at m) g xs v.tracking position
   pub can : CanAddTrack (watch_of m xs g v position) x

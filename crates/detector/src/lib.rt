@@ -14,8 +14,6 @@ mod laws;
 mod one_access;
 mod openings;
 mod places;
-#[cfg(test)]
-mod tests;
 mod touch;
 mod turn;
 mod undo;

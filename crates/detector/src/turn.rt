@@ -1,6 +1,7 @@
 // A write at which a track may begin, or a predicted line may open.
 ghost use Rattle.std.specs.Prelude.{◌≡◌, ◌≢◌, ℕ, ◌+◌, ◌*◌, ◌/◌, ◌%◌, ◌≤◌, ◌<◌, ◌^◌, ◌-◌, ◌∷◌, []};
-ghost use Rattle.std.specs.Prelude.{◌++◌, ◌==◌, ◌||◌, List, Option, IsOk, IsFalse, IsTrue, OnOk, OnErr};
+ghost use Rattle.std.specs.Prelude.{◌++◌, ◌==◌, ◌||◌, List, Option, IsOk, IsFalse, IsTrue, OnOk};
+ghost use Rattle.std.specs.Prelude.{OnErr};
 ghost use Rattle.std.specs.Prelude.{IfOk, None, Some, length, map, take, option_map, if◌then◌else◌};
 ghost use Rattle.line_counters.specs.Entries.{blank_entry, entry_at};
 ghost use Rattle.predator_base.specs.declared.layout.Range.{Range as Span};
@@ -162,7 +163,8 @@ fn own_place<L: Ledger>(
     ensures tracks { OnOk result (tracks.new
         ≡ tracks_begun layout (line_number layout.size layout.offset access.addr) position access
         begins tracks.old) }
-    ensures place { IfOk result (λ own. own ≡ (if begins then Some (length tracks.old) else named)) }
+    ensures place { IfOk result (λ own. own
+        ≡ (if begins then Some (length tracks.old) else named)) }
     ensures few { OnOk result (length tracks.new ≤ 2 ^ 31) }
     ensures same { OnErr result (tracks.new ≡ tracks.old) }
     ensures known { IsFalse begins → IsOk result }

@@ -8,7 +8,8 @@ use Rattle.std.proofs.lemmas.List.Folds.{list_all-append}
 use Rattle.std.proofs.lemmas.List.{length-map, map-append}
 use Rattle.std.proofs.lemmas.Option.{none-some, same_Some, slice_get-map}
 use Rattle.std.proofs.Math.Nat.{div-mul-le_self}
-use Rattle.std.specs.Prelude.{if◌then◌else◌, int_le, is_some, nat_le, nat_lt, not, None, Option, Some, Err, option_and_then, option_map, slice_get}
+use Rattle.std.specs.Prelude.{if◌then◌else◌, int_le, is_some, nat_le, nat_lt, not, None, Option, Some, Err, option_and_then, option_map}
+use Rattle.std.specs.Prelude.{slice_get}
 use Rattle.std.specs.List.{list_all, list_any}
 use Rattle.std.specs.Option.{option_map_or}
 use Rattle.predator_base.specs.Levels.{is_from_to}

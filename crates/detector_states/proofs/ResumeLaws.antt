@@ -105,7 +105,8 @@ module _ (report : ℕ) (h : Header) (g : Grid) (v : Levels) (position : ℕ) (p
           let not_all : nat_le (length (due h (counted_lines w.writes))) (length x.tracks) ≡ false =
           above (length (due h (counted_lines w.writes))) (length x.tracks)
           (omega (arith, few, length-map (due h (counted_lines w.writes)) (λ (l : CountedLine). l.number))) in
-          whole ∙ ap (λ b. resumption_of report (if b then Ok (state_with h (counted_lines w.writes) x.tracks, end) else Err (BadState end)))
+          whole ∙ ap (λ b. resumption_of report (if b then Ok (state_with h (counted_lines w.writes) x.tracks, end) else Err
+          (BadState end)))
           not_all
         where
           above : (a b : ℕ) → b < a → nat_le a b ≡ false

@@ -54,7 +54,8 @@ fn next_line<I: LineIndex>(
     requires due { due.old.items ≡ due_numbers (header_meant header.now) detector.old }
     requires last { IsLast (counted_lines detector.old.writes) last }
     ensures read { (more : ℕ) → OnOk result
-        (lines_read (header_meant header.now) (suc more) detector.old rest.entry.place rest.entry.bytes.now
+        (lines_read (header_meant header.now) (suc more) detector.old rest.entry.place
+        rest.entry.bytes.now
         ≡ lines_read (header_meant header.now) more detector.new (rest.entry.place + 16)
         (drop 16 rest.entry.bytes.now)) }
     ensures long { OnOk result (16 ≤ length rest.entry.bytes.now) }
@@ -66,7 +67,8 @@ fn next_line<I: LineIndex>(
     ensures tracks { OnOk result (detector.new.tracks ≡ detector.old.tracks) }
     ensures levels { OnOk result (detector.new.levels ≡ detector.old.levels) }
     ensures refused { (more : ℕ) → IfErr result (λ fault. fault ≢ faults.NoMemory
-        → lines_read (header_meant header.now) (suc more) detector.old rest.entry.place rest.entry.bytes.now
+        → lines_read (header_meant header.now) (suc more) detector.old rest.entry.place
+        rest.entry.bytes.now
         ≡ Err fault) }
 {
     let line = match read_line(header, last, rest.bytes) {
@@ -92,7 +94,8 @@ pub fn read_lines<'a, I: LineIndex>(
     requires due { due.old.items ≡ due_numbers (header_meant header.now) detector.old }
     requires few { rest.place + length rest.bytes.now < 2 ^ 64 }
     ensures read { IfOk result (λ after.
-        lines_read (header_meant header.now) header.now.lines detector.old rest.entry.place rest.entry.bytes.now
+        lines_read (header_meant header.now) header.now.lines detector.old rest.entry.place
+        rest.entry.bytes.now
         ≡ Ok (lines_at detector.new after.place after.bytes.now)) }
     ensures few { IfOk result (λ after. after.place + length after.bytes.now < 2 ^ 64) }
     ensures ready { OnOk result (IsReady (header_meant header.now) detector.new) }

@@ -19,7 +19,8 @@ pub fn behind(rest: Rest<'_>, size: usize) -> Rest<'_>
     requires few { rest.place + length rest.bytes.now < 2 ^ 64 }
     ensures place { result.place ≡ rest.entry.place + size }
     ensures bytes { result.bytes.now ≡ drop size rest.entry.bytes.now }
-    ensures end { result.place + length result.bytes.now ≡ rest.entry.place + length rest.entry.bytes.now }
+    ensures end { result.place + length result.bytes.now
+        ≡ rest.entry.place + length rest.entry.bytes.now }
 {
     Rest {
         place: rest.place + size,

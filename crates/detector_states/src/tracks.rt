@@ -38,7 +38,8 @@ fn next_track<I: LineIndex>(
     requires harts { header.now.harts ≤ 256 }
     requires early { header.now.position ≤ 2 ^ 40 }
     ensures read { (more : ℕ) → IfOk result (λ size.
-        tracks_read (header_meant header.now) (suc more) detector.old rest.entry.place rest.entry.bytes.now
+        tracks_read (header_meant header.now) (suc more) detector.old rest.entry.place
+        rest.entry.bytes.now
         ≡ tracks_read (header_meant header.now) more detector.new (rest.entry.place + size)
         (drop size rest.entry.bytes.now)) }
     ensures long { IfOk result (λ size. size ≤ length rest.entry.bytes.now) }
@@ -46,7 +47,8 @@ fn next_track<I: LineIndex>(
     ensures writes { OnOk result (detector.new.writes ≡ detector.old.writes) }
     ensures levels { OnOk result (detector.new.levels ≡ detector.old.levels) }
     ensures refused { (more : ℕ) → IfErr result (λ fault. fault ≢ faults.NoMemory
-        → tracks_read (header_meant header.now) (suc more) detector.old rest.entry.place rest.entry.bytes.now
+        → tracks_read (header_meant header.now) (suc more) detector.old rest.entry.place
+        rest.entry.bytes.now
         ≡ Err fault) }
 {
     let track = match read_track(alloc, header, rest.bytes) {

@@ -19,6 +19,3 @@ pub use image::{Image, PlaceFault, Space, place, place_fault};
 pub use program::{Segment, Segments};
 pub use symbol::{SymbolView, Symbols};
 pub use view::ElfView;
-
-#[cfg(test)]
-mod tests;

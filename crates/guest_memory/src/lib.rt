@@ -11,6 +11,3 @@ mod page;
 
 pub use memory::Memory;
 pub use page::MemFault;
-
-#[cfg(test)]
-mod tests;

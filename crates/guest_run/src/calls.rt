@@ -107,7 +107,8 @@ impl Configuration {
     // 64: puts out the bytes of a range, to the file 1 or 2.
     fn write(&mut self, hart: Hart) -> Turn
         requires { CanStep hart (config_of self.old) }
-        ensures turn { turn_seen result (config_of self.new) ≡ write_turn hart (config_of self.old) }
+        ensures turn { turn_seen result (config_of self.new) ≡ write_turn hart
+            (config_of self.old) }
         ensures seen { (harts : ℕ) → IsSeen harts result (config_of self.new) }
     {
         let file = self.value_in(hart, A0);

@@ -89,7 +89,8 @@ impl Configuration {
         requires some { 1 ≤ setup.now.harts }
         requires most { setup.now.harts ≤ 256 }
         requires aligned { entry % 4 ≡ 0 }
-        ensures { IfOk result (λ x. config_of x ≡ first_config setup.now memory heap entry schedule) }
+        ensures { IfOk result (λ x. config_of x
+            ≡ first_config setup.now memory heap entry schedule) }
     {
         let mut states = unused_harts(alloc, setup.harts)?;
         states[0] = HartState::new(entry, setup.top, 0, 0);

@@ -11,8 +11,6 @@ mod guest;
 mod laws;
 mod setup;
 mod steps;
-#[cfg(test)]
-mod tests;
 mod turn;
 
 pub use guest::Guest;

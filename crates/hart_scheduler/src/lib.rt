@@ -12,8 +12,6 @@ mod read;
 mod runnable;
 mod schedule;
 mod streak;
-#[cfg(test)]
-mod tests;
 
 pub use fault::ScheduleFault;
 pub use laws::lone_is_chosen;

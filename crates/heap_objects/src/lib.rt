@@ -10,8 +10,6 @@ mod heap;
 mod name;
 mod symbol;
 mod table;
-#[cfg(test)]
-mod tests;
 
 pub use block::Block;
 pub use heap::{GuestHeap, NotLive};

@@ -111,27 +111,3 @@ impl History {
         is_shared
     }
 }
-
-#[cfg(test)]
-mod tests {
-    use super::*;
-    use std::test::Fail;
-
-    #[test]
-    fn keeps_the_first_two_since_the_last_write(rt: HostRuntime) -> Result<(), Fail> {
-        let writer = Hart::new(0).ok_or("hart 0")?;
-        let reader = Hart::new(1).ok_or("hart 1")?;
-        let late = Hart::new(2).ok_or("hart 2")?;
-        let mut history = History::one(writer);
-        history.note_read(reader);
-        history.note_read(late);
-        assert_eq!(rt; history.first(), writer);
-        assert_eq!(rt; history.second(), Some(reader));
-        assert!(rt; history.note_write(writer));
-        history.note_read(writer);
-        assert_eq!(rt; history.first(), writer);
-        assert_eq!(rt; history.second(), None);
-        assert!(rt; !history.note_write(writer));
-        Ok(())
-    }
-}

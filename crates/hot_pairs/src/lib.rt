@@ -4,8 +4,6 @@
 
 mod pair;
 mod search;
-#[cfg(test)]
-mod tests;
 
 pub use pair::Pair;
 pub use search::best_pair;

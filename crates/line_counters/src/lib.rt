@@ -11,8 +11,6 @@ mod line_index;
 mod map_index;
 mod paged_index;
 mod pages;
-#[cfg(test)]
-mod tests;
 
 pub use line_entry::LineEntry;
 pub use line_index::LineIndex;

@@ -26,7 +26,8 @@ pub trait LineIndex {
     /// its entry. A line that was lent keeps its place from then on.
     fn entry(&mut self, line: u64) -> Result<&mut LineEntry, NoMemory>
         requires { line ≤ 2 ^ 30 }
-        ensures* writes_back { sem 𝓛 (LendsEntry Self.row entries has_place self.entry line result) }
+        ensures* writes_back { sem 𝓛
+            (LendsEntry Self.row entries has_place self.entry line result) }
         ensures value { IfOk result (λ e. e.now ≡ entry_at (entries self.old) line) }
         ensures unplaced { OnErr result (has_place self.old line ≡ false) }
         ensures blank { OnErr result (entry_at (entries self.old) line ≡ blank_entry) };

@@ -12,8 +12,6 @@ mod laws;
 mod resume;
 mod save;
 mod symbols;
-#[cfg(test)]
-mod tests;
 
 pub use laws::what_is_resumed_was_saved;
 pub use resume::resume_objects;

@@ -9,7 +9,5 @@
 
 mod list;
 mod sink;
-#[cfg(test)]
-mod tests;
 
 pub use list::Outputs;

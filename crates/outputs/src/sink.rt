@@ -73,7 +73,8 @@ impl<'a> Sink<'a> {
         ensures name { self.new.name ≡ self.old.name }
         ensures begun { IsBegun self.old.name (S.outside shelf.new) }
         ensures others { OthersStay self.old.name (S.outside shelf.old) (S.outside shelf.new) }
-        ensures others_stand { OthersStand self.old.name (S.outside shelf.old) (S.outside shelf.new) }
+        ensures others_stand { OthersStand self.old.name (S.outside shelf.old)
+            (S.outside shelf.new) }
         ensures cause { HasCauseAt self.old.name
             (S.outside shelf.old).write_faults (S.outside shelf.new).write_faults result }
         ensures only { OnlyWrites (S.outside shelf.old) (S.outside shelf.new) }
@@ -103,7 +104,8 @@ impl<'a> Sink<'a> {
         ensures name { self.new.name ≡ self.old.name }
         ensures begun { IsBegun self.old.name (S.outside shelf.new) }
         ensures others { OthersStay self.old.name (S.outside shelf.old) (S.outside shelf.new) }
-        ensures others_stand { OthersStand self.old.name (S.outside shelf.old) (S.outside shelf.new) }
+        ensures others_stand { OthersStand self.old.name (S.outside shelf.old)
+            (S.outside shelf.new) }
         ensures cause { HasCauseAt self.old.name
             (S.outside shelf.old).write_faults (S.outside shelf.new).write_faults result }
         ensures only { OnlyWrites (S.outside shelf.old) (S.outside shelf.new) }

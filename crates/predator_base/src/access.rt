@@ -44,7 +44,12 @@ impl Model for Access {
 
     ghost view = { λ a. record { hart = a.hart; addr = a.addr; kind = a.kind; size = a.size } };
 
-    ghost invariant = { λ a. IsAllowed (record { hart = a.hart; addr = a.addr; kind = a.kind; size = a.size }) };
+    ghost invariant = { λ a. IsAllowed (record {
+      hart = a.hart;
+      addr = a.addr;
+      kind = a.kind;
+      size = a.size;
+    }) };
 
     ghost inverse = { λ t. record { hart = t.hart; addr = t.addr; kind = t.kind; size = t.size } };
 }

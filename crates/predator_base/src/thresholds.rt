@@ -28,7 +28,11 @@ impl Model for Thresholds {
 
     ghost invariant = { λ t. IsTrue (are_levels t.tracking t.prediction t.report) };
 
-    ghost inverse = { λ v. record { tracking = v.tracking; prediction = v.prediction; report = v.report } };
+    ghost inverse = { λ v. record {
+      tracking = v.tracking;
+      prediction = v.prediction;
+      report = v.report;
+    } };
 }
 
 impl Thresholds {
@@ -60,7 +64,8 @@ impl Thresholds {
     /// From which write of a line on it is tracked, from 1 to 2^32.
     pub fn tracking(&self) -> u64
         ensures value { result ≡ self.now.tracking }
-        ensures allowed { IsTrue (are_levels self.now.tracking self.now.prediction self.now.report) }
+        ensures allowed { IsTrue
+            (are_levels self.now.tracking self.now.prediction self.now.report) }
     {
         self.tracking
     }

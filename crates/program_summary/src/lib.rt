@@ -16,8 +16,6 @@
 
 mod summaries;
 mod symbols;
-#[cfg(test)]
-mod tests;
 
 pub use summaries::summary;
 pub use symbols::note_symbols;

@@ -9,8 +9,6 @@ mod listing;
 mod near;
 mod objects;
 mod report;
-#[cfg(test)]
-mod tests;
 mod words;
 
 pub use findings::Findings;

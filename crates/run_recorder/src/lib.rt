@@ -11,8 +11,6 @@ mod files;
 mod moment;
 mod record;
 mod recorder;
-#[cfg(test)]
-mod tests;
 
 pub use file::{Content, RunFile};
 pub use record::record_run;

@@ -39,7 +39,8 @@ fn begin<'a, S: Shelf>(
     requires most { harts ≤ 256 }
     ensures noted { IfOk result (λ outputs. AreNoted harts [] [] files.now outputs
         (S.outside shelf.old) (S.outside shelf.new)) }
-    ensures begun { IfOk result (λ outputs. AreBegun (waiting_names outputs) (S.outside shelf.new)) }
+    ensures begun { IfOk result (λ outputs. AreBegun (waiting_names outputs)
+        (S.outside shelf.new)) }
     ensures count { IfOk result (λ outputs. length outputs ≡ length files.now) }
     ensures cut { IfErr result (λ error. AreCutAfter harts [] [] files.now
         (S.outside shelf.old) (S.outside shelf.new) error) }

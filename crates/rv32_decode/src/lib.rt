@@ -17,6 +17,3 @@ pub use decoder::decode;
 pub use encoder::encode;
 pub use instruction::{AluOp, AmoOp, ImmOp, Instr, LoadKind, StoreKind, Test};
 pub use register::Reg;
-
-#[cfg(test)]
-mod tests;

@@ -16,6 +16,3 @@ pub use one_step::step;
 pub use reservations::Reservations;
 pub use state::HartState;
 pub use step_end::StepEnd;
-
-#[cfg(test)]
-mod tests;

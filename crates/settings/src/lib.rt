@@ -8,8 +8,6 @@
 mod fault;
 mod key;
 mod read;
-#[cfg(test)]
-mod tests;
 mod values;
 
 pub use fault::SettingsFault;

@@ -25,7 +25,8 @@ const LONGEST_CONTENT: usize = 1 << 16;
 
 // The value of a key.
 fn value_at<'a>(table: &'a Table, key: Key) -> Option<&'a Value>
-    ensures { option_map (λ v. view v.now) result ≡ get_member (key_name key) (table_view table.now) }
+    ensures { option_map (λ v. view v.now) result ≡ get_member (key_name key)
+        (table_view table.now) }
 {
     table.get(key.name())
 }

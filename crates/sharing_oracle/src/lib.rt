@@ -15,8 +15,6 @@ mod places;
 mod predicted;
 mod predictions;
 mod starts;
-#[cfg(test)]
-mod tests;
 mod verdicts;
 
 pub use arrivals::arrivals_of;

@@ -40,7 +40,8 @@ pub fn words_since(
     accesses: &[Access],
 ) -> Result<Vec<Word>, NoMemory>
     requires { length accesses.now ≤ 2 ^ 40 }
-    ensures value { IfOk result (λ list. list.items ≡ words.words_since line.now start accesses.now) }
+    ensures value { IfOk result (λ list. list.items
+        ≡ words.words_since line.now start accesses.now) }
     ensures short { IfOk result (λ list. length list.items ≤ 256) }
     ensures few { IfOk result (λ list. All (λ w. words.accesses w ≤ 2 ^ 40) list.items) }
 {

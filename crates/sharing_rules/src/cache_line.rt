@@ -19,7 +19,11 @@ impl Model for CacheLine {
 
     ghost Value = { Line };
 
-    ghost view = { λ l. record { size = l.layout.size; offset = l.layout.offset; number = l.number } };
+    ghost view = { λ l. record {
+      size = l.layout.size;
+      offset = l.layout.offset;
+      number = l.number;
+    } };
 
     ghost invariant = { λ l. l.number ≤ 2 ^ 32 };
 

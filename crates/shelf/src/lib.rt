@@ -10,8 +10,6 @@ mod files;
 mod memory;
 mod never_fails;
 mod shelf;
-#[cfg(test)]
-mod tests;
 mod whole_file;
 
 pub use files::HeldFile;

@@ -5,7 +5,8 @@ use Rattle.std.proofs.lemmas.Bool.{and_parts}
 use Rattle.std.proofs.lemmas.Bool.Decides.{nat_tests}
 use Rattle.std.proofs.lemmas.List.Sums.{sum_by-cons}
 use Rattle.std.proofs.lemmas.Option.{none-some, same_Some}
-use Rattle.std.specs.Prelude.{IfSome, flat_map, nat_eq, nat_lt, nat_le, Option, None, Some, if◌then◌else◌, option_and_then, slice_index, sum_by}
+use Rattle.std.specs.Prelude.{IfSome, flat_map, nat_eq, nat_lt, nat_le, Option, None, Some, if◌then◌else◌, option_and_then, slice_index}
+use Rattle.std.specs.Prelude.{sum_by}
 use Rattle.std.specs.List.{list_all, starts_with}
 use Rattle.std.specs.Option.{SomeIff}
 use Rattle.sharing_rules.specs.Words.{accesses, tally}
@@ -19,7 +20,8 @@ use Rattle.state_grammar.specs.Laws.Lengths.{length-head, length-track}
 use Rattle.state_grammar.proofs.Spelled.{if_spelled-short}
 use Rattle.state_grammar.specs.Parts.{are_words, head_at, head_in, most_of}
 use Rattle.state_grammar.specs.Spelling.{Header, spell_head, spell_track, spell_word}
-use Rattle.state_grammar.specs.Units.{are_entries, is_good_track, is_good_word, is_owner, is_since, kind_of, size_of, track_alone, track_at, words_at}
+use Rattle.state_grammar.specs.Units.{are_entries, is_good_track, is_good_word, is_owner, is_since, kind_of, size_of, track_alone, track_at}
+use Rattle.state_grammar.specs.Units.{words_at}
 use Rattle.state_grammar.proofs.Words.{length-words_at, starts_append}
 
 -- a head with its words

@@ -20,11 +20,13 @@ use Rattle.state_grammar.specs.Spelling.{spell_word}
 use Rattle.state_grammar.specs.Units.{is_good_word, word_at, words_at}
 
 -- bytes begin with two texts where they begin with the first, and behind it with the second
-pub starts_append : (bs p q : List ℕ) → starts_with nat_eq bs (p ++ q) ≡ (starts_with nat_eq bs p && starts_with nat_eq (drop (length p) bs) q)
+pub starts_append : (bs p q : List ℕ) → starts_with nat_eq bs (p ++ q) ≡ (starts_with nat_eq bs p && starts_with nat_eq (drop
+    (length p) bs) q)
 starts_append bs [] q = refl
 starts_append [] (x ∷ p) q = refl
 starts_append (b ∷ bs) (x ∷ p) q =
-    ap (λ t. nat_eq x b && t) (starts_append bs p q) ∙ and_assoc (nat_eq x b) (starts_with nat_eq bs p) (starts_with nat_eq (drop (length p) bs) q)
+    ap (λ t. nat_eq x b && t) (starts_append bs p q) ∙ and_assoc (nat_eq x b) (starts_with nat_eq bs p) (starts_with nat_eq (drop
+    (length p) bs) q)
   where
     and_assoc : (a b c : Bool) → (a && (b && c)) ≡ ((a && b) && c)
     and_assoc true b c = refl
@@ -96,12 +98,14 @@ are_words-more harts most n bytes =
     omega (arith, sum_by-append accesses ws (w ∷ []), sum_by-cons accesses w []) in e) ∙ few_both total (accesses w) most in
     let spelled : starts_with nat_eq (drop 32 bytes) (flat_map spell_word (ws ++ w ∷ []))
     ≡ (starts_with nat_eq (drop 32 bytes) (flat_map spell_word ws) && starts_with nat_eq rest (spell_word w)) =
-    ap (starts_with nat_eq (drop 32 bytes)) (flat_map-append spell_word ws (w ∷ []) ∙ ap (λ t. flat_map spell_word ws ++ t) (append-nil (spell_word w)))
+    ap (starts_with nat_eq (drop 32 bytes)) (flat_map-append spell_word ws (w ∷ []) ∙ ap (λ t. flat_map spell_word ws ++ t) (append-nil
+    (spell_word w)))
     ∙ starts_append (drop 32 bytes) (flat_map spell_word ws) (spell_word w)
     ∙ ap (λ t. starts_with nat_eq (drop 32 bytes) (flat_map spell_word ws) && starts_with nat_eq t (spell_word w))
     (drop-drop bytes 32 (length (flat_map spell_word ws)) ∙ ap (λ k. drop k bytes)
     (let e : 32 + length (flat_map spell_word ws) ≡ 32 + 20 * n = omega (arith, length-words ws, length-words_at n bytes) in e)) in
-    ap (λ (xs : List Word). list_all good xs && nat_le (sum_by accesses xs) most && starts_with nat_eq (drop 32 bytes) (flat_map spell_word xs))
+    ap (λ (xs : List Word). list_all good xs && nat_le (sum_by accesses xs) most && starts_with nat_eq (drop 32 bytes)
+    (flat_map spell_word xs))
     (words-more n bytes)
     ∙ (λ i. all i && sum i && spelled i)
     ∙ by_parts (list_all good ws) (good w) (nat_le total most) (nat_le (accesses w) (most - total))
@@ -144,7 +148,8 @@ are_words-fail harts most i n bytes within none =
 
 -- a word that is good behind the others
 pub are_words-pass : (harts most i : ℕ) (bytes : List ℕ) (w : Word) → are_words harts most i bytes ≡ true
-    → word_in harts (most - sum_by accesses (words_at i bytes)) (drop (32 + 20 * i) bytes) ≡ Some w → are_words harts most (i + 1) bytes ≡ true
+    → word_in harts (most - sum_by accesses (words_at i bytes)) (drop (32 + 20 * i) bytes) ≡ Some w → are_words harts most (i + 1) bytes
+    ≡ true
 are_words-pass harts most i bytes w passes some =
     are_words-more harts most i bytes ∙ (λ j. passes j && is_some (some j))
 

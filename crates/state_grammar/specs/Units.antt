@@ -3,8 +3,10 @@
 -- by byte.
 use Rattle.std.specs.Prelude.{◌≡◌, ℕ, ◌+◌, ◌-◌, ◌*◌, ◌/◌, ◌%◌, ◌^◌, ◌==◌, ◌&&◌, not, Bool}
 use Rattle.std.specs.Prelude.{false, true, FitsSigned, ℤ, pos, ◌+ℤ◌, ◌-ℤ◌, nat_abs, int_le}
-use Rattle.std.specs.Prelude.{nat_eq, nat_lt, nat_le, List, [], ◌∷◌, length, map, filter, take, drop}
-use Rattle.std.specs.Prelude.{slice_get, slice_index, sum_by, if◌then◌else◌, Option, None, Some, is_some}
+use Rattle.std.specs.Prelude.{nat_eq, nat_lt, nat_le, List, [], ◌∷◌, length, map, filter, take}
+use Rattle.std.specs.Prelude.{drop}
+use Rattle.std.specs.Prelude.{slice_get, slice_index, sum_by, if◌then◌else◌, Option, None, Some}
+use Rattle.std.specs.Prelude.{is_some}
 use Rattle.std.specs.Int.{Width, w16, w32, w64, byte_len, from_le_bytes, cast_signed}
 use Rattle.std.specs.List.{list_all, list_any, starts_with}
 use Rattle.std.specs.Option.{option_map_or}

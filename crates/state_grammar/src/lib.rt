@@ -26,10 +26,6 @@ mod laws;
 mod line_read;
 mod order;
 mod parts;
-#[cfg(test)]
-mod read_tests;
-#[cfg(test)]
-mod tests;
 mod track;
 mod track_read;
 mod write;

@@ -10,8 +10,6 @@
 
 mod addresses;
 mod names;
-#[cfg(test)]
-mod tests;
 
 pub use addresses::{address, push_address, push_address_past};
 pub use names::{printed_name, push_name};

@@ -5,8 +5,6 @@
 #![tactic(auto)]
 
 mod phase;
-#[cfg(test)]
-mod tests;
 mod threads;
 
 pub use phase::{HartPhase, JoinEnd};

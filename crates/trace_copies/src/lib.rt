@@ -13,8 +13,6 @@ mod laws;
 mod part;
 mod split;
 mod target;
-#[cfg(test)]
-mod tests;
 
 pub use convert::{Converted, convert_trace};
 pub use fault::CopyFault;

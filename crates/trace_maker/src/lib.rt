@@ -8,8 +8,6 @@
 mod laws;
 mod maker;
 mod numbers;
-#[cfg(test)]
-mod tests;
 
 pub use laws::a_made_trace_is_a_trace;
 pub use maker::make_trace;

@@ -11,8 +11,6 @@ mod cursor;
 mod laws;
 mod observer;
 mod passes;
-#[cfg(test)]
-mod tests;
 mod wanted;
 
 pub use cursor::Cursor;

@@ -1,5 +1,6 @@
 -- Reading one access after the other.
-use Rattle.std.proofs.Common.{◌≡◌, ℕ, ◌+◌, ◌≤◌, ◌<◌, List, [], ◌∷◌, ◌++◌, length, get_or, take, drop, Option, Some, None, Ok, refl, sym, ap, ◌∙◌}
+use Rattle.std.proofs.Common.{◌≡◌, ℕ, ◌+◌, ◌≤◌, ◌<◌, List, [], ◌∷◌, ◌++◌, length, get_or, take, drop, Option, Some, None, Ok, refl, sym, ap}
+use Rattle.std.proofs.Common.{◌∙◌}
 use Rattle.std.proofs.Common.{append_assoc, arith}
 use Rattle.std.proofs.lemmas.List.{append-nil, get_or-take, length-take-le}
 use Rattle.predator_base.specs.Touch.{Touch}
@@ -46,7 +47,8 @@ module _ (p : Progress) (bytes part : List ℕ) (tag : Tag) (n : ℕ) (tagged : 
     judged = ap (record_judged p) (sym cut) ∙ judged_is p part tag tagged_too ∙ judged;
   }
 
-pub nothing_but : (p : Progress) (bytes : List ℕ) (before : List TraceRecord) → ReadsBut (reading_at p) bytes (reading_at p) bytes before before
+pub nothing_but : (p : Progress) (bytes : List ℕ) (before : List TraceRecord) → ReadsBut (reading_at p) bytes
+    (reading_at p) bytes before before
 nothing_but p bytes before = record { since = []; records = sym (append-nil before); reading = refl }
 
 -- an access more

@@ -39,7 +39,13 @@ impl Model for Splitter {
     ghost invariant = { λ s. (s.header.first + s.total ≤ 2 ^ 40) × (s.cut ≤ s.total)
         × (s.met ≤ s.cut + 1) };
 
-    ghost inverse = { λ s. record { header = s.header; total = s.total; cut = s.cut; met = s.met } };
+    ghost inverse = { λ s. record {
+      header = s.header;
+      total = s.total;
+      cut = s.cut;
+      met
+          = s.met;
+    } };
 }
 
 impl Splitter {

@@ -8,8 +8,6 @@
 mod laws;
 mod order;
 mod ranges;
-#[cfg(test)]
-mod tests;
 mod track;
 mod tracks;
 

@@ -48,21 +48,3 @@ fn aligned_range(addr: u32, size: u32) -> Range
     let layout = Layout::new(size, 0).unwrap();
     layout.line_of(addr)
 }
-
-#[cfg(test)]
-mod tests {
-    use super::*;
-    use std::test::Fail;
-
-    #[test]
-    fn shifted_and_doubled_ranges(rt: HostRuntime) -> Result<(), Fail> {
-        let shifted = shifted_range(0x101c, 0x1020, 32).ok_or("neighbouring words")?;
-        assert_eq!(rt; shifted.base, 0x1010);
-        assert_eq!(rt; shifted.size, 32);
-        assert_eq!(rt; shifted_range(0x1000, 0x1020, 32), None);
-        let doubled = doubled_range(0x1020, 32);
-        assert_eq!(rt; doubled.base, 0x1000);
-        assert_eq!(rt; doubled.size, 64);
-        Ok(())
-    }
-}

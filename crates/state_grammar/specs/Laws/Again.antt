@@ -329,7 +329,8 @@ word_small (v ∷ vs) zero w at = let same : accesses v ≡ accesses w = ap acce
 word_small (v ∷ vs) (suc i) w at = omega (arith, word_small vs i w at, sum_by-cons accesses v vs)
 
 word_good : (harts : ℕ) (ws : List Word) (i : ℕ) (w : Word)
-    → list_all (is_good_word harts) ws ≡ true → slice_get ws i ≡ Some w → is_good_word harts w ≡ true
+    → list_all (is_good_word harts) ws ≡ true → slice_get ws i ≡ Some w → is_good_word harts w
+    ≡ true
 word_good harts [] i w all at = absurd (none-some w at)
 word_good harts (v ∷ vs) zero w all at = subst (λ z. is_good_word harts z ≡ true) (same_Some v w at)
     (and_parts (is_good_word harts v) (list_all (is_good_word harts) vs) all).0

@@ -79,7 +79,8 @@ line_is h before bytes l is = unit_is (spell_line h.grid) (is_good_line h before
 abbrev pub fits : Header → List CountedLine → List Kept → Kept → Bool
 fits h lines before x = is_good_track h x && is_placed h lines before x
 
-pub track_is : (h : Header) (lines : List CountedLine) (before : List Kept) (bytes : List ℕ) (x : Kept)
+pub track_is : (h : Header) (lines : List CountedLine) (before : List Kept) (bytes : List ℕ)
+    (x : Kept)
     → track_in h lines before bytes ≡ Some x → IsUnit spell_track (fits h lines before) bytes x
 unfolding track_in
 track_is h lines before bytes x is = unit_is spell_track (fits h lines before)

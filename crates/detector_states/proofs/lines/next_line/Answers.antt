@@ -14,11 +14,13 @@ use Rattle.detector_states.proofs.lines.next_line.Goals as goal
 use Rattle.detector_states.proofs.lines.next_line.Goals.{In-None, In-Some}
 
 -- what was read is the line that is there
-none : (g : Over) (c : In-None g) → line_in (header_meant c.args.header.now) (counted_lines c.args.detector.now.writes) c.args.rest.bytes.now ≡ None
+none : (g : Over) (c : In-None g) → line_in (header_meant c.args.header.now) (counted_lines c.args.detector.now.writes)
+    c.args.rest.bytes.now ≡ None
 none g c = sym (c.in-None.ensures.value (counted_lines c.args.detector.now.writes) (counted_lines-counted c.args.detector.now.writes).rising
     c.requires.last)
 
-some : (g : Over) (c : In-Some g) → line_in (header_meant c.args.header.now) (counted_lines c.args.detector.now.writes) c.args.rest.bytes.now
+some : (g : Over) (c : In-Some g) → line_in (header_meant c.args.header.now) (counted_lines c.args.detector.now.writes)
+    c.args.rest.bytes.now
     ≡ Some c.in-Some.line
 some g c = sym (c.in-Some.ensures.value (counted_lines c.args.detector.now.writes) (counted_lines-counted c.args.detector.now.writes).rising
     c.requires.last)

@@ -32,7 +32,8 @@ returns-then-not-is_placed-clause-refused g c = λ more memory.
     let x = kept_of c.in-Ok-Some.track in
     let misplaced = sym c.is_placed.ensures.value ∙ c.if-not-is_placed.true in
     no_track h w c.args.rest.place c.args.rest.bytes.now more
-    (unplaced_track h w x c.args.rest.bytes.now (sym c.in-Ok-Some.ensures.value ∙ ap (option_map kept_of) c.in-Ok-Some.field-0-is) misplaced)
+    (unplaced_track h w x c.args.rest.bytes.now (sym c.in-Ok-Some.ensures.value ∙ ap
+    (option_map kept_of) c.in-Ok-Some.field-0-is) misplaced)
     ∙ ap (λ (f : ResumeFault). Err f) (sym c.fault_at-then-not-is_placed.ensures)
 
 pub add_track-requires : goal.add_track-requires
@@ -56,7 +57,8 @@ returns-in-Ok-clause-read g c = λ more.
     let placed = sym c.is_placed.ensures.value ∙ c.if-not-is_placed.false in
     let size = c.length_of-size.ensures in
     let added = c.in-Ok.ensures.added in
-    next_track h w x c.args.rest.place bytes more (placed_track h w x bytes (sym c.in-Ok-Some.ensures.value ∙ ap (option_map kept_of) c.in-Ok-Some.field-0-is) placed)
+    next_track h w x c.args.rest.place bytes more (placed_track h w x bytes (sym c.in-Ok-Some.ensures.value ∙ ap
+    (option_map kept_of) c.in-Ok-Some.field-0-is) placed)
     ∙ (λ i. tracks_read h more (sym added i) (c.args.rest.place + sym size i) (drop (sym size i) bytes))
 
 pub returns-in-Ok-clause-ready : goal.returns-in-Ok-clause-ready

@@ -20,9 +20,11 @@ loop-preserved g c =
       on = steps (track_in h (counted_lines w.writes)) spell_track c.args.header.now.tracks
           (tracks_at w c.args.rest.place c.args.rest.bytes.now) c.loop.counter
           (tracks_at v c.loop.rest.place c.loop.rest.bytes.now)
-          (tracks_at c.next_track.new.detector c.behind-rest.result.place c.behind-rest.result.bytes.now) c.loop-test.true c.loop.invariant.on
+          (tracks_at c.next_track.new.detector c.behind-rest.result.place c.behind-rest.result.bytes.now) c.loop-test.true
+          c.loop.invariant.on
           (λ more.
-          (λ i. read_units (track_in h (counted_lines (sym same i))) spell_track (suc more) (tracks_at v c.loop.rest.place c.loop.rest.bytes.now))
+          (λ i. read_units (track_in h (counted_lines (sym same i))) spell_track (suc more)
+          (tracks_at v c.loop.rest.place c.loop.rest.bytes.now))
           ∙ c.in-Ok.ensures.read more
           ∙ (λ i. read_units (track_in h (counted_lines ((c.in-Ok.ensures.writes ∙ same) i))) spell_track more
           (tracks_at c.next_track.new.detector (sym place i) (sym bytes i))));

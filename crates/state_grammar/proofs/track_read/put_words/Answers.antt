@@ -7,7 +7,8 @@ use Rattle.word_shadow.specs.Laws.{map_below_same}
 use Rattle.word_shadow.specs.RangeWords.{RangeWords}
 use Rattle.state_grammar.specs.Parts.{word_in}
 use Rattle.state_grammar.specs.Units.{word_at, words_at}
-use Rattle.state_grammar.proofs.Words.{are_words-fail, are_words-none, are_words-pass, length-words_at, put_next, sum-more, sum-next, then_blank}
+use Rattle.state_grammar.proofs.Words.{are_words-fail, are_words-none, are_words-pass, length-words_at, put_next, sum-more, sum-next}
+use Rattle.state_grammar.proofs.Words.{then_blank}
 use Rattle.state_grammar.proofs.Words.{words_at-more}
 use Rattle.state_grammar.proofs.track_read.put_words.Goals as goal
 
@@ -40,7 +41,8 @@ put-requires-clause-few c =
     let n = c.args.shadow.now.range.size / 4 in
     let w = c.in-Some.word in
     let put : slice_set c.loop-i.shadow.words i w ≡ then_blank (words_at i bytes ++ w ∷ []) (n - (i + 1)) =
-    ap (λ (ws : List Word). slice_set ws i w) c.loop-i.invariant.words ∙ put_next (words_at i bytes) i n w (length-words_at i bytes) (omega (arith, size)) in
+    ap (λ (ws : List Word). slice_set ws i w) c.loop-i.invariant.words ∙ put_next (words_at i bytes) i n w (length-words_at i bytes) (omega
+    (arith, size)) in
     let total = ap (sum_by accesses) put ∙ sum-next (words_at i bytes) w (n - (i + 1)) in
     omega (arith, total, c.loop-i.invariant.left, c.in-Some.ensures.few, c.requires.low)
 

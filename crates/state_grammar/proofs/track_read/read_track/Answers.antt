@@ -5,7 +5,8 @@ use Rattle.virtual_lines.specs.Kept.{IsBlank, IsInTime, saved}
 use Rattle.word_shadow.specs.RangeWords.{RangeWords}
 use Rattle.state_grammar.specs.Parts.{are_words, head_meant, header_meant, most_of}
 use Rattle.state_grammar.specs.Units.{size_of, words_at}
-use Rattle.state_grammar.proofs.Alone.{alone-short, alone-then, blank-from, head-is, in_time-from, there-is, there-is_none, with_words, words-are}
+use Rattle.state_grammar.proofs.Alone.{alone-short, alone-then, blank-from, head-is, in_time-from, there-is, there-is_none, with_words}
+use Rattle.state_grammar.proofs.Alone.{words-are}
 use Rattle.state_grammar.proofs.Words.{length-words_at}
 use Rattle.state_grammar.proofs.track_read.read_track.Goals as goal
 

@@ -14,7 +14,11 @@ count_access-requires-clause-some c =
 pub loop-ahead-smaller : goal.loop-ahead-smaller
 loop-ahead-smaller c =
     let has : HasAccess c.loop-ahead.progress c.loop-ahead.rest.now c.in-Some.ahead.access c.in-Some.ahead.size = c.in-Some.ensures in
-    omega (arith, part_is_some (Some c.loop-ahead.progress) None c.loop-ahead.rest.now c.in-Some.ahead.size has.extent, c.behind-rest.ensures.size)
+    omega (
+      arith,
+      part_is_some (Some c.loop-ahead.progress) None c.loop-ahead.rest.now c.in-Some.ahead.size has.extent,
+      c.behind-rest.ensures.size,
+    )
 
 pub loop-ahead-preserved : goal.loop-ahead-preserved
 loop-ahead-preserved c =

@@ -6,7 +6,8 @@ use Rattle.trace_reader.proofs.run.step_ahead.Goals as goal
 
 pub returns-in-Some : goal.returns-in-Some
 returns-in-Some c =
-    access_there c.args.progress.now c.args.bytes.now c.split_at.result.0.now (tags.Step c.args.kind c.args.width) c.step_extent-size.result c.requires.tagged c.split_at.ensures.front
+    access_there c.args.progress.now c.args.bytes.now c.split_at.result.0.now
+    (tags.Step c.args.kind c.args.width) c.step_extent-size.result c.requires.tagged c.split_at.ensures.front
     c.step_extent-size.ensures (omega arith) c.in-Some.access
     (ap (touch_counted c.args.progress.now) (sym c.step_of.ensures) ∙ c.in-Some.ensures)
 

@@ -6,6 +6,7 @@ use Rattle.trace_reader.proofs.run.touch_ahead.Goals as goal
 
 pub returns-in-Some : goal.returns-in-Some
 returns-in-Some c =
-    access_there c.args.progress.now c.args.bytes.now c.split_at.result.0.now (tags.Touch c.args.kind) 8 c.requires.tagged c.split_at.ensures.front
+    access_there c.args.progress.now c.args.bytes.now c.split_at.result.0.now
+    (tags.Touch c.args.kind) 8 c.requires.tagged c.split_at.ensures.front
     refl (omega arith) c.in-Some.access
     (ap (touch_counted c.args.progress.now) (sym c.touch_of-access.ensures) ∙ c.in-Some.ensures)

@@ -1,0 +1,421 @@
+// Worked lists, with the numbers that the rules give by hand. A list is spelled `W0:1000 R1:1004`:
+// what a hart does at a word.
+use predator_base::{Access, Hart, Kind, Layout, Thresholds};
+use sharing_oracle::{
+    NativePair, TrackedLine, arrivals_of, listed_lines, may_predict, observed_lines,
+    predicted_lines, verdict, words_since,
+};
+use sharing_rules::{CacheLine, LineKind, Owner, Verdict, Word};
+use std::alloc::{AllocError, Global};
+use std::process::Abort;
+use std::test::Fail;
+
+// Two harts write on both sides of a line's end, in turn.
+const TURNS: &str = "W0:103c W1:1040 W0:103c W1:1040 W0:103c W1:1040";
+
+// The access that a word spells.
+fn access_of(word: &str) -> Option<Access> {
+    let (touch, addr) = word.split_once(':')?;
+    let addr = u32::from_str_radix(addr, 16).ok()?;
+    if let Some(hart) = touch.strip_prefix('R') {
+        return Access::new(hart_of(hart)?, addr, Kind::Read, 4);
+    }
+    Access::new(hart_of(touch.strip_prefix('W')?)?, addr, Kind::Write, 4)
+}
+
+fn hart_of(number: &str) -> Option<Hart> {
+    Hart::new(number.parse().ok()?)
+}
+
+fn list_of(alloc: Global, text: &str) -> Result<Vec<Access>, Fail> {
+    let mut list = Vec::new(alloc);
+    for word in text.split_whitespace() {
+        list.push(access_of(word).ok_or("an access")?)?;
+    }
+    Ok(list)
+}
+
+fn name_of(verdict: Verdict) -> &'static str {
+    match verdict {
+        Verdict::FalseSharing => "false",
+        Verdict::TrueSharing => "true",
+        Verdict::Mixed => "mixed",
+    }
+}
+
+fn letter_of(kind: LineKind) -> &'static str {
+    match kind {
+        LineKind::Observed => "o",
+        LineKind::Shifted => "s",
+        LineKind::Doubled => "d",
+    }
+}
+
+// A touched word by its place, its reads, its writes and its hart.
+fn word_text(alloc: Global, place: usize, word: &Word) -> Result<String, AllocError> {
+    let reads = word.reads;
+    let writes = word.writes;
+    match word.owner {
+        Owner::None => Ok(String::new(alloc)),
+        Owner::One(hart) => {
+            let hart = hart.number();
+            format!(in alloc; "{place} {reads} {writes} {hart};")
+        }
+        Owner::Many => format!(in alloc; "{place} {reads} {writes} many;"),
+    }
+}
+
+fn words_text(alloc: Global, words: &[Word]) -> Result<String, AllocError> {
+    let mut text = String::new(alloc);
+    for (place, word) in words.iter().enumerate() {
+        text.push_str(&word_text(alloc, place, word)?)?;
+    }
+    Ok(text)
+}
+
+// An observed line by its base, its start, its count and its verdict.
+fn observed_text(alloc: Global, line: &TrackedLine, words: &[Word]) -> Result<String, AllocError> {
+    let base = line.line.range().base;
+    let start = line.start;
+    let count = line.count;
+    let verdict = name_of(verdict(words));
+    format!(in alloc; "{base} {start} {count} {verdict};")
+}
+
+// A tracked line by its kind, base, size, start and count.
+fn tracked_text(alloc: Global, line: &TrackedLine) -> Result<String, AllocError> {
+    let kind = letter_of(line.kind);
+    let range = line.line.range();
+    let base = range.base;
+    let size = range.size;
+    let start = line.start;
+    let count = line.count;
+    format!(in alloc; "{kind} {base} {size} {start} {count};")
+}
+
+fn tracked_texts(alloc: Global, lines: &[TrackedLine]) -> Result<String, AllocError> {
+    let mut text = String::new(alloc);
+    for line in lines {
+        text.push_str(&tracked_text(alloc, line)?)?;
+    }
+    Ok(text)
+}
+
+// The observed lines of a list, and the words of the first.
+fn observed(
+    rt: &impl Abort,
+    alloc: Global,
+    text: &str,
+    layout: Layout,
+    tracking: u64,
+) -> Result<(String, String), Fail> {
+    let list = list_of(alloc, text)?;
+    assert!(rt; list.len() <= 1000);
+    let mut lines = String::new(alloc);
+    let mut first = String::new(alloc);
+    for line in observed_lines(alloc, layout, tracking, &list)?.iter() {
+        let words = words_since(alloc, &line.line, line.start, &list)?;
+        lines.push_str(&observed_text(alloc, line, &words)?)?;
+        if first.is_empty() {
+            first = words_text(alloc, &words)?;
+        }
+    }
+    Ok((lines, first))
+}
+
+// What a list is about, the list, the layout and the tracking threshold, and what is found: each
+// line by its base, start, count and verdict, and the words of the first by place, reads, writes
+// and hart.
+const OBSERVED: [(&str, &str, u32, u32, u64, &str, &str); 12] = [
+    (
+        "neighbouring words",
+        "W0:1000 W1:1004 W0:1000",
+        64,
+        0,
+        1,
+        "4096 0 2 false;",
+        "0 0 2 0;1 0 1 1;",
+    ),
+    (
+        "three readers lose the line at one write",
+        "W0:1000 R1:1000 R2:1000 R3:1000 W3:1000",
+        64,
+        0,
+        1,
+        "4096 0 1 true;",
+        "0 3 2 many;",
+    ),
+    (
+        "the starting write is no invalidation",
+        "W0:1000 R1:1004 W0:1000 W1:1004",
+        64,
+        0,
+        2,
+        "4096 2 1 false;",
+        "0 0 1 0;1 0 1 1;",
+    ),
+    (
+        "a write takes the copies of earlier readers",
+        "R1:1000 W0:1000 R2:1004 W0:1000 R2:1004 W2:1008",
+        64,
+        0,
+        2,
+        "4096 3 1 false;",
+        "0 0 1 0;1 1 0 2;2 0 1 2;",
+    ),
+    (
+        "a line that is only read",
+        "R0:1000 R1:1000",
+        64,
+        0,
+        1,
+        "",
+        "",
+    ),
+    (
+        "one hart alone",
+        "W0:1000 W0:1004 R0:1008 W0:1000",
+        64,
+        0,
+        1,
+        "4096 0 0 false;",
+        "0 0 2 0;1 0 1 0;2 1 0 0;",
+    ),
+    (
+        "both sides of a line's end",
+        "W0:103c W1:1040 W0:103c W1:1040",
+        64,
+        0,
+        1,
+        "4096 0 0 false;4160 1 0 false;",
+        "15 0 2 0;",
+    ),
+    (
+        "under a shifted layout",
+        "W0:103c W1:1040 W0:103c W1:1040",
+        64,
+        32,
+        1,
+        "4128 0 3 false;",
+        "7 0 2 0;8 0 2 1;",
+    ),
+    (
+        "under lines of 128 bytes",
+        "W0:103c W1:1040 W0:103c W1:1040",
+        128,
+        0,
+        1,
+        "4096 0 3 false;",
+        "15 0 2 0;16 0 2 1;",
+    ),
+    (
+        "a line that begins below 0",
+        "W0:0 W1:4",
+        64,
+        32,
+        1,
+        "-32 0 1 false;",
+        "8 0 1 0;9 0 1 1;",
+    ),
+    (
+        "a line past the last address",
+        "W0:fffffffc W1:ffffffe0",
+        64,
+        32,
+        1,
+        "4294967264 0 1 false;",
+        "0 0 1 1;7 0 1 0;",
+    ),
+    (
+        "the last line",
+        "W0:fffffffc W1:fffffff8",
+        64,
+        0,
+        1,
+        "4294967232 0 1 false;",
+        "14 0 1 1;15 0 1 0;",
+    ),
+];
+
+#[test]
+fn observes_lines(rt: HostRuntime) -> Result<(), Fail> {
+    let alloc = rt.alloc();
+    for (name, list, size, offset, tracking, lines, words) in OBSERVED {
+        let layout = Layout::new(size, offset).ok_or("a layout")?;
+        let found = observed(&rt, alloc, list, layout, tracking)?;
+        assert_eq!(rt; found.0.as_str(), lines, "lines: {name}");
+        assert_eq!(rt; found.1.as_str(), words, "words: {name}");
+    }
+    Ok(())
+}
+
+#[test]
+fn keeps_who_came_since_the_last_write(rt: HostRuntime) -> Result<(), Fail> {
+    let alloc = rt.alloc();
+    let line = CacheLine::at(Layout::new(64, 0).ok_or("a layout")?, 0x1000);
+    for (text, wanted) in [
+        ("W0:1000 R1:1000 R2:1000", 3),
+        ("W0:1000 R1:1000 R2:1000 W0:1000", 1),
+        ("W0:1000 R1:1000 R2:1000 W0:1000 R0:1000", 1),
+    ] {
+        let harts = arrivals_of(alloc, &line, &list_of(alloc, text)?)?;
+        assert_eq!(rt; harts.len(), wanted, "after {text}");
+        assert_eq!(rt; harts.first().ok_or("a hart")?.number(), 0);
+    }
+    Ok(())
+}
+
+// Where the shifted and the doubled line of a pair open.
+fn openings(
+    rt: &impl Abort,
+    alloc: Global,
+    pair: &NativePair,
+    text: &str,
+) -> Result<(Option<usize>, Option<usize>), Fail> {
+    let list = list_of(alloc, text)?;
+    assert!(rt; list.len() <= 1000);
+    Ok((
+        pair.shifted_opening(alloc, &list)?,
+        pair.doubled_opening(alloc, &list)?,
+    ))
+}
+
+#[test]
+fn opens_lines_of_neighbours(rt: HostRuntime) -> Result<(), Fail> {
+    for (size, number, prediction, text, shifted, doubled) in [
+        (64, 65, 2, TURNS, Some(2), Some(2)),
+        (64, 65, 3, TURNS, Some(4), Some(4)),
+        (64, 65, 2, "W0:1000 W1:1040 W0:1000 W1:1040", None, Some(2)),
+        (
+            64,
+            65,
+            2,
+            "W0:1004 W1:1040 W0:1004 W1:1040",
+            Some(2),
+            Some(2),
+        ),
+        (64, 66, 2, "W0:107c W1:1080 W0:107c W1:1080", Some(2), None),
+        (
+            32,
+            129,
+            2,
+            "W0:101c W1:1020 W0:101c W1:1020",
+            Some(2),
+            Some(2),
+        ),
+        (64, 65, 2, "W0:101c W1:1020 W0:101c W1:1020", None, None),
+        (256, 17, 2, TURNS, None, None),
+    ] {
+        let pair = NativePair::new(size, number, 1, prediction).ok_or("a pair")?;
+        let found = openings(&rt, rt.alloc(), &pair, text)?;
+        assert_eq!(rt; found, (shifted, doubled), "at {size}, {number}: {text}");
+    }
+    Ok(())
+}
+
+// The listed lines of a list under a native layout, where a line is tracked from its first write
+// on and listed from one invalidation on; and the predicted ones, listed or not.
+fn predicted(
+    rt: &impl Abort,
+    alloc: Global,
+    text: &str,
+    size: u32,
+    prediction: u64,
+) -> Result<(String, String), Fail> {
+    let layout = Layout::new(size, 0).ok_or("a layout")?;
+    let thresholds = Thresholds::new(1, Some(prediction), 1).ok_or("thresholds")?;
+    assert!(rt; may_predict(layout, thresholds));
+    let list = list_of(alloc, text)?;
+    assert!(rt; list.len() <= 1000);
+    let listed = listed_lines(alloc, layout, thresholds, &list)?;
+    let all = predicted_lines(alloc, layout, thresholds, &list)?;
+    Ok((tracked_texts(alloc, &listed)?, tracked_texts(alloc, &all)?))
+}
+
+// What a list is about, the list, the size and the prediction threshold, and the listed and the
+// predicted lines, each by kind, base, size, start and count.
+const PREDICTED: [(&str, &str, u32, u64, &str, &str); 10] = [
+    ("no access", "", 64, 2, "", ""),
+    (
+        "words on both sides of a line's end",
+        TURNS,
+        64,
+        2,
+        "s 4128 64 3 2;d 4096 128 3 2;",
+        "s 4128 64 3 2;d 4096 128 3 2;",
+    ),
+    (
+        "lines that start too late to count",
+        TURNS,
+        64,
+        3,
+        "",
+        "s 4128 64 5 0;d 4096 128 5 0;",
+    ),
+    (
+        "no write after the opening",
+        "W0:103c W1:1040 W0:103c",
+        64,
+        2,
+        "",
+        "",
+    ),
+    (
+        "one hart makes no pair",
+        "W0:103c W0:1040 W0:103c W0:1040 W0:103c W0:1040",
+        64,
+        2,
+        "",
+        "",
+    ),
+    (
+        "words of 68 bytes fit no shifted line",
+        "W0:1000 W1:1040 W0:1000 W1:1040 W0:1000",
+        64,
+        2,
+        "d 4096 128 3 1;",
+        "d 4096 128 3 1;",
+    ),
+    (
+        "words of 64 bytes fit one",
+        "W0:1004 W1:1040 W0:1004 W1:1040 W0:1004",
+        64,
+        2,
+        "s 4100 64 3 1;d 4096 128 3 1;",
+        "s 4100 64 3 1;d 4096 128 3 1;",
+    ),
+    (
+        "neighbours that are no even pair",
+        "W0:107c W1:1080 W0:107c W1:1080 W0:107c W1:1080",
+        64,
+        2,
+        "s 4192 64 3 2;",
+        "s 4192 64 3 2;",
+    ),
+    (
+        "lines of 32 bytes",
+        "W0:101c W1:1020 W0:101c W1:1020 W0:101c W1:1020",
+        32,
+        2,
+        "s 4112 32 3 2;d 4096 64 3 2;",
+        "s 4112 32 3 2;d 4096 64 3 2;",
+    ),
+    (
+        "lines of 256 bytes, which hold both words",
+        TURNS,
+        256,
+        2,
+        "o 4096 256 0 5;",
+        "",
+    ),
+];
+
+#[test]
+fn predicts_lines(rt: HostRuntime) -> Result<(), Fail> {
+    for (name, text, size, prediction, listed, all) in PREDICTED {
+        let found = predicted(&rt, rt.alloc(), text, size, prediction)?;
+        assert_eq!(rt; found.0.as_str(), listed, "listed: {name}");
+        assert_eq!(rt; found.1.as_str(), all, "predicted: {name}");
+    }
+    Ok(())
+}

@@ -1,0 +1,229 @@
+// Worked lists with predicted lines, over both indexes.
+ghost use Rattle.std.specs.Prelude.{◌≡◌};
+ghost use Rattle.line_counters.specs.Entries.{no_entries};
+
+use detector::{Detector, LineIndex, MapIndex, PagedIndex, see};
+use predator_base::Kind::{Read, Write};
+use predator_base::{Access, Hart, Kind, Layout, Thresholds};
+use std::alloc::Global;
+use std::process::Abort;
+use std::test::Fail;
+use virtual_lines::LineKind::{Doubled, Observed, Shifted};
+use virtual_lines::{LineKind, Track};
+
+// An access of 4 bytes, told by its hart, its address and its kind.
+type Told = (u16, u32, Kind);
+
+// A track, told by its kind, its base, its size, its start and its count.
+type Shown = (LineKind, i64, u32, Option<u64>, u64);
+
+// What a list is about, the size of its lines, the prediction threshold, the list, and its tracks.
+struct Row {
+    name: &'static str,
+    size: u32,
+    prediction: u64,
+    told: &'static [Told],
+    shown: &'static [Shown],
+}
+
+fn access_of(told: &Told) -> Option<Access> {
+    let (hart, addr, kind) = *told;
+    Access::new(Hart::new(hart)?, addr, kind, 4)
+}
+
+fn is_shown(track: &Track, shown: &Shown) -> bool {
+    let (kind, base, size, start, count) = *shown;
+    let range = track.range();
+    track.kind() == kind
+        && range.base == base
+        && range.size == size
+        && track.start() == start
+        && track.count() == count
+}
+
+// Sees these accesses.
+fn see_all<I: LineIndex>(
+    rt: &impl Abort,
+    detector: &mut Detector<I>,
+    told: &[Told],
+) -> Result<(), Fail> {
+    for one in told {
+        let access = access_of(one).ok_or("an access")?;
+        assert!(rt; detector.position() < 1 << 40);
+        see(detector, access)?;
+    }
+    Ok(())
+}
+
+// The tracks of a row are there, in order.
+fn shows_tracks<I: LineIndex>(rt: &impl Abort, detector: &Detector<I>, row: &Row) {
+    let tracks = detector.tracks();
+    assert_eq!(rt; tracks.len(), row.shown.len(), "{}", row.name);
+    for (track, shown) in tracks.iter().zip(row.shown) {
+        assert!(rt; is_shown(track, shown), "{}", row.name);
+    }
+}
+
+// After the accesses of a row its tracks are there.
+fn shows_over<I: LineIndex + Drop>(
+    rt: &impl Abort,
+    alloc: Global,
+    index: I,
+    row: &Row,
+) -> Result<(), Fail>
+    requires { I.entries index ≡ no_entries }
+{
+    let layout = Layout::new(row.size, 0).ok_or("a layout")?;
+    let thresholds = Thresholds::new(1, Some(row.prediction), 1).ok_or("thresholds")?;
+    assert!(rt; row.size == 32 || row.size == 64 || row.size == 256);
+    let mut detector = Detector::new(alloc, index, layout, thresholds);
+    see_all(rt, &mut detector, row.told)?;
+    shows_tracks(rt, &detector, row);
+    Ok(())
+}
+
+const ACROSS: [Told; 6] = [
+    (0, 0x103c, Write),
+    (1, 0x1040, Write),
+    (0, 0x103c, Write),
+    (1, 0x1040, Write),
+    (0, 0x103c, Write),
+    (1, 0x1040, Write),
+];
+
+const ROWS: [Row; 9] = [
+    Row {
+        name: "neighbouring words open a shifted and a doubled line",
+        size: 64,
+        prediction: 2,
+        told: &ACROSS,
+        shown: &[
+            (Observed, 0x1000, 64, Some(0), 0),
+            (Observed, 0x1040, 64, Some(1), 0),
+            (Shifted, 0x1020, 64, Some(3), 2),
+            (Doubled, 0x1000, 128, Some(3), 2),
+        ],
+    },
+    Row {
+        name: "an opening at the third write starts later",
+        size: 64,
+        prediction: 3,
+        told: &ACROSS,
+        shown: &[
+            (Observed, 0x1000, 64, Some(0), 0),
+            (Observed, 0x1040, 64, Some(1), 0),
+            (Shifted, 0x1020, 64, Some(5), 0),
+            (Doubled, 0x1000, 128, Some(5), 0),
+        ],
+    },
+    Row {
+        name: "an opened line waits for its next write",
+        size: 64,
+        prediction: 2,
+        told: &[
+            (0, 0x103c, Write),
+            (1, 0x1040, Write),
+            (0, 0x103c, Write),
+            (1, 0x1040, Read),
+        ],
+        shown: &[
+            (Observed, 0x1000, 64, Some(0), 0),
+            (Observed, 0x1040, 64, Some(1), 0),
+            (Shifted, 0x1020, 64, None, 0),
+            (Doubled, 0x1000, 128, None, 0),
+        ],
+    },
+    Row {
+        name: "one hart alone opens nothing",
+        size: 64,
+        prediction: 2,
+        told: &[
+            (0, 0x103c, Write),
+            (0, 0x1040, Write),
+            (0, 0x103c, Write),
+            (0, 0x1040, Write),
+        ],
+        shown: &[
+            (Observed, 0x1000, 64, Some(0), 0),
+            (Observed, 0x1040, 64, Some(1), 0),
+        ],
+    },
+    Row {
+        name: "words too far apart open a doubled line alone",
+        size: 64,
+        prediction: 2,
+        told: &[
+            (0, 0x1000, Write),
+            (1, 0x1040, Write),
+            (0, 0x1000, Write),
+            (1, 0x1040, Write),
+            (0, 0x1000, Write),
+        ],
+        shown: &[
+            (Observed, 0x1000, 64, Some(0), 0),
+            (Observed, 0x1040, 64, Some(1), 0),
+            (Doubled, 0x1000, 128, Some(3), 1),
+        ],
+    },
+    Row {
+        name: "no even pair opens a shifted line alone",
+        size: 64,
+        prediction: 2,
+        told: &[
+            (0, 0x107c, Write),
+            (1, 0x1080, Write),
+            (0, 0x107c, Write),
+            (1, 0x1080, Write),
+            (0, 0x107c, Write),
+            (1, 0x1080, Write),
+        ],
+        shown: &[
+            (Observed, 0x1040, 64, Some(0), 0),
+            (Observed, 0x1080, 64, Some(1), 0),
+            (Shifted, 0x1060, 64, Some(3), 2),
+        ],
+    },
+    Row {
+        name: "the last word of memory opens nothing",
+        size: 64,
+        prediction: 2,
+        told: &[(0, 0xffff_fffc, Write), (1, 0xffff_fffc, Write)],
+        shown: &[(Observed, 0xffff_ffc0, 64, Some(0), 1)],
+    },
+    Row {
+        name: "lines of 32 bytes",
+        size: 32,
+        prediction: 2,
+        told: &[
+            (0, 0x101c, Write),
+            (1, 0x1020, Write),
+            (0, 0x101c, Write),
+            (1, 0x1020, Write),
+            (0, 0x101c, Write),
+            (1, 0x1020, Write),
+        ],
+        shown: &[
+            (Observed, 0x1000, 32, Some(0), 0),
+            (Observed, 0x1020, 32, Some(1), 0),
+            (Shifted, 0x1010, 32, Some(3), 2),
+            (Doubled, 0x1000, 64, Some(3), 2),
+        ],
+    },
+    Row {
+        name: "lines of 256 bytes",
+        size: 256,
+        prediction: 2,
+        told: &ACROSS,
+        shown: &[(Observed, 0x1000, 256, Some(0), 5)],
+    },
+];
+
+#[test]
+fn lists_have_their_tracks(rt: HostRuntime) -> Result<(), Fail> {
+    let alloc = rt.alloc();
+    for row in &ROWS {
+        shows_over(&rt, alloc, MapIndex::new(alloc), row)?;
+        shows_over(&rt, alloc, PagedIndex::new(alloc), row)?;
+    }
+    Ok(())
+}

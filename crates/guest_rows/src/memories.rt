@@ -1,0 +1,107 @@
+// A memory of two pages, of which one may be written and run and one may only be read.
+
+use guest_memory::{MemFault, Memory};
+use predator_base::NoMemory;
+use std::test::Fail;
+
+fn two_pages(alloc: std::alloc::Global) -> Result<Memory, NoMemory> {
+    let mut memory = Memory::new(alloc, 0x10000, 0x3000)?;
+    memory.map(0x10ffc, 4, true, true);
+    memory.fill(0x11ffe, &[0x80, 0xff, 7]);
+    memory.map(0x11fff, 1, false, false);
+    Ok(memory)
+}
+
+// The same after two stores, of which the second changes a byte of the first.
+fn stored(alloc: std::alloc::Global) -> Result<Memory, Fail> {
+    let mut memory = two_pages(alloc)?;
+    let first = memory.store(0x10004, 4, 0x8091_a2b3);
+    let second = memory.store(0x10006, 1, 0x1234_56f7);
+    if first.is_ok() && second.is_ok() {
+        Ok(memory)
+    } else {
+        Err("a store is refused".into())
+    }
+}
+
+// A word, half of it and a byte.
+fn loads(memory: &Memory) -> [Result<u32, MemFault>; 3] {
+    [
+        memory.load(0x10004, 4),
+        memory.load(0x10006, 2),
+        memory.load(0x10005, 1),
+    ]
+}
+
+const SLICES: [(u32, u32, Option<&[u8]>); 5] = [
+    (0x10ffe, 3, Some(&[0, 0, 0])),
+    (0x11ffd, 3, Some(&[0, 0x80, 0xff])),
+    (0xffff_ffff, 0, Some(&[])),
+    (0x11fff, 2, None),
+    (0xffff, 2, None),
+];
+
+#[test]
+fn a_store_is_loaded_fetched_and_sliced(rt: HostRuntime) -> Result<(), Fail> {
+    let memory = stored(rt.alloc())?;
+    assert_eq!(rt; loads(&memory), [Ok(0x80f7_a2b3), Ok(0x80f7), Ok(0xa2)]);
+    for (addr, len, bytes) in &SLICES {
+        assert_eq!(rt; memory.slice(*addr, *len), *bytes);
+    }
+    assert_eq!(rt; memory.fetch(0x10004), Ok(0x80f7_a2b3));
+    Ok(())
+}
+
+fn refused_loads(memory: &Memory) -> [Result<u32, MemFault>; 3] {
+    [
+        memory.load(0xffff_ffff, 2),
+        memory.load(0x12000, 1),
+        memory.load(0xfffc, 4),
+    ]
+}
+
+const LOAD_FAULTS: [Result<u32, MemFault>; 3] = [
+    Err(MemFault::Misaligned),
+    Err(MemFault::Outside),
+    Err(MemFault::Outside),
+];
+
+const STORE_FAULTS: [(u32, MemFault); 3] = [
+    (0x11002, MemFault::Misaligned),
+    (0x13000, MemFault::Outside),
+    (0x11000, MemFault::ReadOnly),
+];
+
+const FETCH_FAULTS: [(u32, MemFault); 3] = [
+    (0x10002, MemFault::Misaligned),
+    (0xf000, MemFault::Outside),
+    (0x11000, MemFault::NotExecutable),
+];
+
+// The fault of a store of four bytes.
+fn store_fault(memory: &mut Memory, addr: u32) -> Option<MemFault> {
+    memory.store(addr, 4, 1).err()
+}
+
+#[test]
+fn the_first_fault_is_told(rt: HostRuntime) -> Result<(), Fail> {
+    let mut memory = two_pages(rt.alloc())?;
+    assert_eq!(rt; refused_loads(&memory), LOAD_FAULTS);
+    for (addr, fault) in &FETCH_FAULTS {
+        assert_eq!(rt; memory.fetch(*addr), Err(*fault));
+    }
+    for (addr, fault) in &STORE_FAULTS {
+        assert_eq!(rt; memory.store_fault(*addr, 4), Some(*fault));
+        assert_eq!(rt; store_fault(&mut memory, *addr), Some(*fault));
+    }
+    assert_eq!(rt; memory.store_fault(0x10000, 4), None);
+    Ok(())
+}
+
+#[test]
+fn pages_have_their_rights(rt: HostRuntime) -> Result<(), Fail> {
+    let memory = two_pages(rt.alloc())?;
+    assert!(rt; memory.executable(0x10fff) && !memory.executable(0x11000));
+    assert_eq!(rt; (memory.base(), memory.size()), (0x10000, 0x3000));
+    Ok(())
+}

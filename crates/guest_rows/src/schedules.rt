@@ -1,0 +1,61 @@
+// What no clause says: that reading succeeds, and the schedules and choices of the field.
+ghost use Rattle.std.specs.Prelude.{◌≡◌, vec_len, IfOk};
+
+use hart_scheduler::{Schedule, ScheduleFault};
+use predator_base::Hart;
+use std::alloc::{AllocError, Global};
+use std::test::Fail;
+
+// Empty lines. Only their number is said, so that nothing is proved byte by byte.
+fn empty_lines(alloc: Global, count: usize) -> Result<Vec<u8>, AllocError>
+    ensures { IfOk result (λ text. vec_len text ≡ count) }
+{
+    Vec::from_elem(alloc, b'\n', count)
+}
+
+#[test]
+fn a_schedule_is_refused_at_its_first_bad_line(rt: HostRuntime) -> Result<(), Fail> {
+    let refused = [
+        (b"0 5\nx".as_slice(), ScheduleFault::BadLine(2)),
+        (b"\n\n01 1".as_slice(), ScheduleFault::BadLine(3)),
+        (b"1  1\n".as_slice(), ScheduleFault::BadLine(1)),
+        (b"1 4294967296".as_slice(), ScheduleFault::BadLine(1)),
+        (b"8 1".as_slice(), ScheduleFault::HartOutOfRange(1)),
+        (b"0 0\n8 1\n".as_slice(), ScheduleFault::ZeroCount(1)),
+    ];
+    for (text, fault) in refused {
+        assert_eq!(rt; Schedule::read(rt.alloc(), text, 8, 100).err(), Some(fault));
+    }
+    Ok(())
+}
+
+#[test]
+fn a_schedule_has_at_most_1_mib(rt: HostRuntime) -> Result<(), Fail> {
+    let longest = empty_lines(rt.alloc(), 1_048_576)?;
+    assert!(rt; Schedule::read(rt.alloc(), longest.as_slice(), 8, 100).is_ok());
+    let longer = empty_lines(rt.alloc(), 1_048_577)?;
+    let fault = Schedule::read(rt.alloc(), longer.as_slice(), 8, 100).err();
+    assert_eq!(rt; fault, Some(ScheduleFault::TooLong));
+    Ok(())
+}
+
+fn chosen(schedule: &mut Schedule, runnable: [bool; 3]) -> Option<u16>
+    requires { schedule.old.harts ≡ 3 }
+    ensures { schedule.new.harts ≡ 3 }
+{
+    schedule.next(&runnable).map(Hart::number)
+}
+
+#[test]
+fn the_list_comes_first_and_then_turns(rt: HostRuntime) -> Result<(), Fail> {
+    let mut schedule = Schedule::read(rt.alloc(), b"2 1\n\n1 4294967295\n0 1", 3, 2)?;
+    let all = [true, true, true];
+    assert_eq!(rt; chosen(&mut schedule, [false, false, false]), None);
+    assert_eq!(rt; chosen(&mut schedule, all), Some(2));
+    assert_eq!(rt; chosen(&mut schedule, all), Some(1));
+    assert_eq!(rt; chosen(&mut schedule, [false, false, true]), Some(2));
+    assert_eq!(rt; chosen(&mut schedule, all), Some(2));
+    assert_eq!(rt; schedule.peek(&all), Hart::new(0));
+    assert_eq!(rt; chosen(&mut schedule, all), Some(0));
+    Ok(())
+}

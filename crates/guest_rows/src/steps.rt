@@ -1,0 +1,188 @@
+// Steps whose results come from outside, and the rules of reservations and traps.
+ghost use Rattle.std.specs.Prelude.{◌≡◌, ◌≤◌};
+
+use crate::programs::PROGRAMS;
+use guest_memory::Memory;
+use predator_base::{Cause, Hart, Kind};
+use rv32_decode::Reg;
+use rv32_machine::{HartState, Reservations, StepEnd, step};
+use std::alloc::Global;
+use std::process::Abort;
+use std::test::Fail;
+
+const BASE: u32 = 0x10000;
+
+fn hart(rt: &impl Abort, number: u16) -> Hart
+    requires { number ≤ 255 }
+    ensures { result ≡ number }
+{
+    Hart::new(number).expect(rt, "a hart")
+}
+
+fn reg(rt: &impl Abort, number: u8) -> Reg {
+    Reg::new(number).expect(rt, "a register")
+}
+
+// Two pages from BASE on that hold these words: the first may be written and run, the second only
+// read.
+fn memory_of(rt: &impl Abort, alloc: Global, words: &[u32]) -> Result<Memory, Fail> {
+    let mut memory = Memory::new(alloc, BASE, 0x3000)?;
+    memory.map(BASE, 0x1000, true, true);
+    memory.map(BASE + 0x1000, 0x1000, false, false);
+    let mut addr = BASE;
+    for word in words {
+        assert_eq!(rt; memory.store(addr, 4, *word), Ok(()));
+        addr = addr.wrapping_add(4);
+    }
+    Ok(memory)
+}
+
+#[test]
+fn random_programs_end_as_under_qemu(rt: HostRuntime) -> Result<(), Fail> {
+    for (words, registers) in PROGRAMS {
+        let mut memory = memory_of(&rt, rt.alloc(), &words)?;
+        let mut state = HartState::new(BASE, 0, 0, 0);
+        for _ in words {
+            assert!(rt; goes_on(&rt, rt.alloc(), &mut state, &mut memory)?);
+        }
+        for (number, value) in registers.iter().enumerate() {
+            assert_eq!(rt; state.reg(reg(&rt, number as u8)), *value, "x{number}");
+        }
+    }
+    Ok(())
+}
+
+// One step of hart 0, where nothing is reserved.
+fn step_alone(
+    rt: &impl Abort,
+    alloc: Global,
+    state: &mut HartState,
+    memory: &mut Memory,
+) -> Result<StepEnd, Fail> {
+    let mut held = Reservations::new(alloc, 1)?;
+    Ok(step(hart(rt, 0), state, memory, &mut held))
+}
+
+// One step from BASE with these numbers in x1 and x2: how it ends, and what x3 is then, 77 before.
+fn one(
+    rt: &impl Abort,
+    alloc: Global,
+    memory: &mut Memory,
+    x1: u32,
+    x2: u32,
+) -> Result<(StepEnd, u32), Fail> {
+    let mut state = HartState::new(BASE, 0, 77, 0);
+    state.set_reg(reg(rt, 1), x1);
+    state.set_reg(reg(rt, 2), x2);
+    let end = step_alone(rt, alloc, &mut state, memory)?;
+    Ok((end, state.reg(reg(rt, 3))))
+}
+
+fn x3_after(rt: &impl Abort, alloc: Global, word: u32, x1: u32, x2: u32) -> Result<u32, Fail> {
+    let mut memory = memory_of(rt, alloc, &[word])?;
+    let end = one(rt, alloc, &mut memory, x1, x2)?;
+    Ok(end.1)
+}
+
+fn traps(rt: &impl Abort, alloc: Global, word: u32, x1: u32, cause: Cause) -> Result<(), Fail> {
+    let mut memory = memory_of(rt, alloc, &[word])?;
+    let end = one(rt, alloc, &mut memory, x1, 5)?;
+    assert_eq!(rt; end, (StepEnd::Trap(cause), 77), "{word:08x}");
+    Ok(())
+}
+
+fn goes_on(
+    rt: &impl Abort,
+    alloc: Global,
+    state: &mut HartState,
+    memory: &mut Memory,
+) -> Result<bool, Fail> {
+    let end = step_alone(rt, alloc, state, memory)?;
+    Ok(matches!(end, StepEnd::Next(_, None)))
+}
+
+#[test]
+fn division_has_its_edges(rt: HostRuntime) -> Result<(), Fail> {
+    // DIV, DIVU, REM and REMU of x1 by x2 into x3.
+    let rows = [
+        (0x0220_c1b3, 7, 0, 0xffff_ffff),
+        (0x0220_d1b3, 7, 0, 0xffff_ffff),
+        (0x0220_e1b3, 7, 0, 7),
+        (0x0220_f1b3, 7, 0, 7),
+        (0x0220_c1b3, 0x8000_0000, 0xffff_ffff, 0x8000_0000),
+        (0x0220_e1b3, 0x8000_0000, 0xffff_ffff, 0),
+        (0x0220_c1b3, 0xffff_fff9, 2, 0xffff_fffd),
+        (0x0220_e1b3, 0xffff_fff9, 2, 0xffff_ffff),
+    ];
+    for (word, x1, x2, x3) in rows {
+        assert_eq!(rt; x3_after(&rt, rt.alloc(), word, x1, x2)?, x3, "{word:08x}");
+    }
+    Ok(())
+}
+
+#[test]
+fn each_trap_has_its_cause(rt: HostRuntime) -> Result<(), Fail> {
+    let read_only = BASE + 0x1000;
+    let rows = [
+        (0x0000_0000, 0, Cause::Illegal), // no instruction
+        (0x0010_0073, 0, Cause::Breakpoint), // ebreak
+        (0x0020_81e7, BASE, Cause::FetchMisaligned), // jalr x3, 2(x1)
+        (0x0000_0363, 0, Cause::FetchMisaligned), // beq x0, x0, 6
+        (0x0000_a183, BASE + 2, Cause::LoadMisaligned), // lw x3, 0(x1)
+        (0x0000_9183, BASE + 0x2000, Cause::LoadOutside), // lh x3, 0(x1)
+        (0x1000_a1af, BASE + 2, Cause::LoadMisaligned), // lr.w x3, (x1)
+        (0x0020_a023, BASE + 1, Cause::StoreMisaligned), // sw x2, 0(x1)
+        (0x0020_8023, read_only, Cause::StoreOutside), // sb x2, 0(x1)
+        (0x1820_a1af, BASE + 2, Cause::StoreMisaligned), // sc.w x3, x2, (x1)
+        (0x1820_a1af, read_only, Cause::StoreOutside),
+        (0x0020_a1af, 0xfffc, Cause::StoreOutside), // amoadd.w x3, x2, (x1)
+    ];
+    for (word, x1, cause) in rows {
+        traps(&rt, rt.alloc(), word, x1, cause)?;
+    }
+    let mut memory = memory_of(&rt, rt.alloc(), &[0x0000_0073])?;
+    assert_eq!(rt;
+        one(&rt, rt.alloc(), &mut memory, 0, 0)?,
+        (StepEnd::Call, 77)
+    );
+    let mut unmapped = Memory::new(rt.alloc(), BASE, 0x1000)?;
+    let end = one(&rt, rt.alloc(), &mut unmapped, 0, 0)?;
+    assert_eq!(rt; end, (StepEnd::Trap(Cause::FetchOutside), 77));
+    Ok(())
+}
+
+// Hart 0 does LR at x1, hart 1 stores a byte by this word, and hart 0 does SC: its x3, whether it
+// wrote four bytes, and whether a reservation is left.
+fn reserved(rt: &impl Abort, alloc: Global, byte_store: u32) -> Result<(u32, bool, bool), Fail> {
+    let mut memory = memory_of(rt, alloc, &[0x1000_a1af, byte_store, 0x1820_a1af])?;
+    let mut held = Reservations::new(alloc, 2)?;
+    let mut first = HartState::new(BASE, 0, 0, 0);
+    let mut second = HartState::new(BASE + 4, 0, 0, 0);
+    first.set_reg(reg(rt, 1), BASE + 0x400);
+    second.set_reg(reg(rt, 1), BASE + 0x400);
+    step(hart(rt, 0), &mut first, &mut memory, &mut held);
+    assert_eq!(rt; held.held(hart(rt, 0)), Some(BASE + 0x400));
+    step(hart(rt, 1), &mut second, &mut memory, &mut held);
+    first.advance();
+    let end = step(hart(rt, 0), &mut first, &mut memory, &mut held);
+    let writes = match end {
+        StepEnd::Next(_, Some(access)) => access.kind() == Kind::Write && access.size() == 4,
+        _ => false,
+    };
+    Ok((
+        first.reg(reg(rt, 3)),
+        writes,
+        held.held(hart(rt, 0)).is_some(),
+    ))
+}
+
+#[test]
+fn a_byte_in_the_word_ends_its_reservation(rt: HostRuntime) -> Result<(), Fail> {
+    // sb x2, 3(x1) and sb x2, 4(x1)
+    assert_eq!(rt; reserved(&rt, rt.alloc(), 0x0020_81a3)?, (1, false, false));
+    assert_eq!(rt; reserved(&rt, rt.alloc(), 0x0020_8223)?, (0, true, false));
+    let mut held = Reservations::new(rt.alloc(), 2)?;
+    held.clear(hart(&rt, 1));
+    assert_eq!(rt; held.harts(), 2);
+    Ok(())
+}

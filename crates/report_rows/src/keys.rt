@@ -1,0 +1,154 @@
+// What no clause says: that reading succeeds, and what files of the field give.
+ghost use Rattle.std.specs.Prelude.{◌≡◌, vec_len, IfOk};
+
+use settings::{Key, Settings, SettingsFault};
+use std::alloc::{AllocError, Global};
+use std::test::Fail;
+
+// A file of one comment. Only its length is said, so that nothing is proved byte by byte.
+fn comment_of_length(alloc: Global, length: usize) -> Result<Vec<u8>, AllocError>
+    ensures { IfOk result (λ text. vec_len text ≡ length) }
+{
+    Vec::from_elem(alloc, b'#', length)
+}
+
+// Whether a text is read as these settings.
+fn gives(alloc: Global, text: &[u8], wanted: &Settings) -> bool {
+    match Settings::read(alloc, text) {
+        Ok(found) => found == *wanted,
+        Err(_) => false,
+    }
+}
+
+// Whether a text is refused with this fault.
+fn is_refused(alloc: Global, text: &[u8], wanted: &SettingsFault) -> bool {
+    match Settings::read(alloc, text) {
+        Ok(_) => false,
+        Err(found) => found == *wanted,
+    }
+}
+
+const USUAL: Settings = Settings {
+    harts: 8,
+    memory: 16_777_216,
+    stack: 65_536,
+    tracking: 16,
+    prediction: 64,
+    report: 100,
+    quantum: 100,
+    budget: 100_000_000,
+    line: 64,
+};
+
+const RAISED: Settings = Settings {
+    tracking: 70,
+    prediction: 70,
+    ..USUAL
+};
+
+#[test]
+fn an_absent_key_has_its_usual_value(rt: HostRuntime) {
+    assert_eq!(rt; Settings::usual(), USUAL);
+    assert!(rt; gives(rt.alloc(), b"", &USUAL));
+    assert!(rt; gives(rt.alloc(), b"tracking = 70\n", &RAISED));
+}
+
+const ALL_KEYS: &str = "# all keys\nline = 128\nbudget = 68_719_476_736\nquantum = 1\n\
+    report = 0x1\nprediction = 2\ntracking = 2\nstack = 4096\nmemory = 65536\n\"harts\" = 256\n";
+
+const OTHERS: Settings = Settings {
+    harts: 256,
+    memory: 65_536,
+    stack: 4096,
+    tracking: 2,
+    prediction: 2,
+    report: 1,
+    quantum: 1,
+    budget: 68_719_476_736,
+    line: 128,
+};
+
+#[test]
+fn a_whole_file_is_read(rt: HostRuntime) {
+    assert!(rt; gives(rt.alloc(), ALL_KEYS.as_bytes(), &OTHERS));
+}
+
+const SIZES: [(&str, u32); 5] = [
+    ("line = 32", 32),
+    ("line = 64", 64),
+    ("line = 128", 128),
+    ("line = 256", 256),
+    ("harts = 8", 64),
+];
+
+#[test]
+fn a_line_has_one_of_four_sizes(rt: HostRuntime) {
+    for (text, line) in &SIZES {
+        let wanted = Settings {
+            line: *line,
+            ..USUAL
+        };
+        assert!(rt; gives(rt.alloc(), text.as_bytes(), &wanted), "at {text}");
+    }
+}
+
+const REFUSED: [(&str, SettingsFault); 18] = [
+    ("harts =", SettingsFault::BadToml),
+    ("harts = 8\nharts = 8", SettingsFault::BadToml),
+    ("report = 9223372036854775808", SettingsFault::BadToml),
+    ("line = 96", SettingsFault::OutOfRange(Key::Line)),
+    ("line = 0", SettingsFault::OutOfRange(Key::Line)),
+    ("line = 512", SettingsFault::OutOfRange(Key::Line)),
+    ("line = \"64\"", SettingsFault::OutOfRange(Key::Line)),
+    ("line = 64.0", SettingsFault::OutOfRange(Key::Line)),
+    ("line = -64", SettingsFault::OutOfRange(Key::Line)),
+    ("harts = 300", SettingsFault::OutOfRange(Key::Harts)),
+    ("prediction = 8", SettingsFault::OutOfRange(Key::Prediction)),
+    ("memory = 65537", SettingsFault::OutOfRange(Key::Memory)),
+    ("stack = \"65536\"", SettingsFault::OutOfRange(Key::Stack)),
+    ("tracking = 16.0", SettingsFault::OutOfRange(Key::Tracking)),
+    ("report = -1", SettingsFault::OutOfRange(Key::Report)),
+    ("quantum = 1048577", SettingsFault::OutOfRange(Key::Quantum)),
+    (
+        "budget = [1]\nharts = 0",
+        SettingsFault::OutOfRange(Key::Harts),
+    ),
+    (
+        "line = 48\nbudget = 0",
+        SettingsFault::OutOfRange(Key::Budget),
+    ),
+];
+
+#[test]
+fn a_file_is_refused_with_its_first_fault(rt: HostRuntime) {
+    for (text, fault) in &REFUSED {
+        assert!(rt; is_refused(rt.alloc(), text.as_bytes(), fault), "at {text}");
+    }
+    assert!(rt; is_refused(rt.alloc(), b"# \xff", &SettingsFault::BadToml));
+}
+
+// Whether a text is refused for a key of this name.
+fn names_unknown(alloc: Global, text: &str, name: &str) -> bool {
+    match Settings::read(alloc, text.as_bytes()) {
+        Err(SettingsFault::UnknownKey(found)) => found.bytes() == name.as_bytes(),
+        _ => false,
+    }
+}
+
+const UNKNOWN: [(&str, &str); 2] = [("foo = 1", "foo"), ("zoo = 1\nbar = 2\nharts = 0", "bar")];
+
+#[test]
+fn an_unknown_key_is_named(rt: HostRuntime) {
+    for (text, name) in &UNKNOWN {
+        assert!(rt; names_unknown(rt.alloc(), text, name), "at {text}");
+    }
+}
+
+#[test]
+fn a_file_has_at_most_64_kib(rt: HostRuntime) -> Result<(), Fail> {
+    let whole = comment_of_length(rt.alloc(), 65_536)?;
+    assert!(rt; gives(rt.alloc(), whole.as_slice(), &USUAL));
+    let long = comment_of_length(rt.alloc(), 65_537)?;
+    assert!(rt; is_refused(rt.alloc(), long.as_slice(), &SettingsFault::TooLong));
+    Ok(())
+}

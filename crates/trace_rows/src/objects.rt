@@ -1,0 +1,175 @@
+// What no clause says: that each call that takes memory succeeds, on bytes written out by hand; and
+// parts that are cut or changed in a byte, beside a plain slow reading of them.
+ghost use Rattle.std.specs.Prelude.{◌≡◌, ◌≤◌, ◌^◌, IfOk, length, vec_len};
+
+use heap_objects::{ObjectTable, SymbolKind};
+use object_states::{resume_objects, save_objects};
+use predator_base::ResumeFault;
+use std::alloc::{AllocError, Global};
+use std::test::Fail;
+
+// Where the part begins in its file, and how far its list goes.
+const PLACE: u64 = 100;
+
+const POSITION: u64 = 7;
+
+// A symbol, a block that died at position 5 and one that was born there, at the same address.
+const PART: [u8; 111] = [
+    1, 0, 0, 0, 0, 0, 0, 0, 2, 0, 0, 0, 0, 0, 0, 0, //
+    5, 1, 0, 16, 0, 0, 32, 0, 0, 0, 1, 0, 99, //
+    3, 0, 32, 0, 0, 24, 0, 0, 0, 176, 0, 1, 0, 0, 0, 0, 0, 0, 0, 0, 0, 0, 0, 0, 0, //
+    1, 0, 0, 0, 0, 0, 0, 0, 5, 0, 0, 0, 0, 0, 0, 0, //
+    3, 0, 32, 0, 0, 8, 0, 0, 0, 0, 0, 0, 0, 0, 0, 0, 0, 0, 0, 0, 0, 0, 0, 0, 0, //
+    5, 0, 0, 0, 0, 0, 0, 0, 255, 255, 255, 255, 255, 255, 255, 255,
+];
+
+// The number of some bytes, the lowest first.
+fn number_in(bytes: &[u8]) -> u64 {
+    let mut number: u64 = 0;
+    for byte in bytes.iter().rev() {
+        number = number.wrapping_mul(256).wrapping_add(u64::from(*byte));
+    }
+    number
+}
+
+// What stands behind a good symbol, and what it names.
+fn after_symbol(bytes: &[u8]) -> Option<(&[u8], (u8, u64))> {
+    let (head, rest) = bytes.split_at_checked(12)?;
+    let long = number_in(head.get(10..)?) as usize;
+    let (name, rest) = rest.split_at_checked(long)?;
+    let sized = number_in(head.get(6..10)?) > 0;
+    if head.first() == Some(&5) && sized && long <= 1024 && !name.contains(&0) {
+        let kind = *head.get(1)?;
+        let place = number_in(head.get(2..10)?);
+        (kind == 1 || kind == 2).then_some((rest, (kind, place)))
+    } else {
+        None
+    }
+}
+
+// What stands behind a good block, and its address if it lives.
+fn after_block(bytes: &[u8]) -> Option<(&[u8], Option<u64>)> {
+    let (block, rest) = bytes.split_at_checked(41)?;
+    let born = number_in(block.get(25..33)?);
+    let died = number_in(block.get(33..)?);
+    let live = died == u64::MAX;
+    let in_order = born <= POSITION && (live || (born <= died && died <= POSITION));
+    if block.first() == Some(&3) && in_order {
+        let addr = number_in(block.get(1..5)?);
+        Some((rest, live.then_some(addr)))
+    } else {
+        None
+    }
+}
+
+// How many bytes there are from the first unit at fault on: None where there is none.
+fn left_at_fault(alloc: Global, part: &[u8]) -> Result<Option<usize>, AllocError> {
+    let Some((counts, mut rest)) = part.split_at_checked(16) else {
+        return Ok(Some(part.len()));
+    };
+    let (symbols, blocks) = counts.split_at(8);
+    let mut places: Vec<(u8, u64)> = Vec::new(alloc);
+    for _ in 0..number_in(symbols) {
+        match after_symbol(rest) {
+            Some((after, place)) if !places.contains(&place) => {
+                places.push(place)?;
+                rest = after;
+            }
+            _ => return Ok(Some(rest.len())),
+        }
+    }
+    let mut lives: Vec<u64> = Vec::new(alloc);
+    for _ in 0..number_in(blocks) {
+        match after_block(rest) {
+            Some((after, Some(addr))) if !lives.contains(&addr) => {
+                lives.push(addr)?;
+                rest = after;
+            }
+            Some((after, None)) => rest = after,
+            _ => return Ok(Some(rest.len())),
+        }
+    }
+    Ok((!rest.is_empty()).then_some(rest.len()))
+}
+
+// Whether a part is taken up and saved again as it is, or is at fault where the slow reading says.
+fn is_read_alike(alloc: Global, part: &[u8]) -> Result<bool, Fail>
+    requires { length part.now ≤ 2 ^ 20 }
+{
+    let left = left_at_fault(alloc, part)?;
+    match resume_objects(alloc, part, PLACE, POSITION) {
+        Ok(table) => Ok(left.is_none() && save_objects(&table)?.as_slice() == part),
+        Err(ResumeFault::BadState(place)) => {
+            let end = PLACE + part.len() as u64;
+            Ok(left == Some(end.wrapping_sub(place) as usize))
+        }
+        Err(ResumeFault::NoMemory) => Ok(false),
+    }
+}
+
+// A part with another byte at a place, if there is one.
+fn changed(alloc: Global, part: &[u8], place: usize, byte: u8) -> Result<Vec<u8>, AllocError>
+    ensures { IfOk result (λ v. vec_len v ≡ length part.now) }
+{
+    let mut bytes = Vec::from_slice(alloc, part)?;
+    if let Some(there) = bytes.get_mut(place) {
+        *there = byte;
+    }
+    Ok(bytes)
+}
+
+// How many of the parts that a part is cut to or that differ from it in a byte are read otherwise.
+fn read_otherwise(alloc: Global, part: &[u8]) -> Result<u64, Fail>
+    requires { length part.now ≤ 1000 }
+{
+    let mut count: u64 = 0;
+    for place in 0..part.len() {
+        if !is_read_alike(alloc, part.split_at(place).0)? {
+            count = count.wrapping_add(1);
+        }
+        for byte in [0, 1, 0x7f, 0xff] {
+            if !is_read_alike(alloc, changed(alloc, part, place, byte)?.as_slice())? {
+                count = count.wrapping_add(1);
+            }
+        }
+    }
+    Ok(count)
+}
+
+#[test]
+fn a_saved_table_is_taken_up(rt: HostRuntime) -> Result<(), Fail> {
+    let mut table = ObjectTable::new(rt.alloc());
+    table.note_symbol(SymbolKind::Object, 0x1000, 32, b"c")?;
+    table.note_alloc(1, 0x2000, 24, [0x100b0, 0, 0, 0])?;
+    table.note_alloc(5, 0x2000, 8, [0; 4])?;
+    let part = save_objects(&table)?;
+    assert_eq!(rt; part.as_slice(), PART.as_slice());
+    let again = resume_objects(rt.alloc(), PART.as_slice(), PLACE, POSITION);
+    let again = again.ok().ok_or("it is at fault")?;
+    assert_eq!(rt; again.symbol_count(), 1);
+    assert_eq!(rt; again.blocks().len(), 2);
+    Ok(())
+}
+
+#[test]
+fn each_part_is_read_as_slowly(rt: HostRuntime) -> Result<(), Fail> {
+    assert!(rt; is_read_alike(rt.alloc(), PART.as_slice())?);
+    assert_eq!(rt; read_otherwise(rt.alloc(), PART.as_slice())?, 0);
+    Ok(())
+}
+
+#[test]
+fn numbers_of_more_than_there_is_are_at_fault(rt: HostRuntime) -> Result<(), Fail> {
+    for (symbols, blocks) in [
+        (u64::MAX, 0),
+        (0, u64::MAX),
+        (u64::MAX, u64::MAX),
+        (1 << 63, 1),
+    ] {
+        let mut part = Vec::from_slice(rt.alloc(), symbols.to_le_bytes().as_slice())?;
+        part.extend_from_slice(blocks.to_le_bytes().as_slice())?;
+        let answer = resume_objects(rt.alloc(), part.as_slice(), PLACE, POSITION);
+        assert_eq!(rt; answer.err(), Some(ResumeFault::BadState(PLACE + 16)));
+    }
+    Ok(())
+}
