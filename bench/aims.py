@@ -16,6 +16,8 @@ import time
 
 TOP = os.path.join(os.path.dirname(os.path.abspath(__file__)), "..")
 PROGRAM = os.path.join(TOP, "crates/predator/out/predator")
+# As the launcher has it.
+os.environ.setdefault("GLIBC_TUNABLES", "glibc.malloc.hugetlb=1")
 ROUNDS = 4
 MADE = 20_000_000
 
