@@ -227,3 +227,48 @@ fn lists_have_their_tracks(rt: HostRuntime) -> Result<(), Fail> {
     }
     Ok(())
 }
+
+// The entries of the first track, its count, and how often its first word was read.
+fn first_track(detector: &Detector<PagedIndex>) -> Option<(u16, Option<u16>, u64, u64)> {
+    let track = detector.tracks().first()?;
+    let history = track.history()?;
+    let shadow = track.shadow();
+    if shadow.range().size / 4 == 0 {
+        return None;
+    }
+    let second = match history.second() {
+        Some(hart) => Some(hart.number()),
+        None => None,
+    };
+    let reads = shadow.word(0).reads;
+    Some((history.first().number(), second, track.count(), reads))
+}
+
+// A further access of the word at 0x1000, and what the track is then.
+fn then(
+    rt: &impl Abort,
+    detector: &mut Detector<PagedIndex>,
+    hart: u16,
+    kind: Kind,
+) -> Result<Option<(u16, Option<u16>, u64, u64)>, Fail> {
+    see_all(rt, detector, &[(hart, 0x1000, kind)])?;
+    Ok(first_track(detector))
+}
+
+#[test]
+fn two_entries_are_kept_since_the_last_write(rt: HostRuntime) -> Result<(), Fail> {
+    let alloc = rt.alloc();
+    let layout = Layout::new(64, 0).ok_or("a layout")?;
+    let thresholds = Thresholds::new(1, None, 1).ok_or("thresholds")?;
+    let mut detector = Detector::new(alloc, PagedIndex::new(alloc), layout, thresholds);
+    for (hart, kind, wanted) in [
+        (0, Write, (0, None, 0, 0)),
+        (1, Read, (0, Some(1), 0, 1)),
+        (2, Read, (0, Some(1), 0, 2)),
+        (0, Write, (0, None, 1, 2)),
+        (0, Read, (0, None, 1, 3)),
+    ] {
+        assert_eq!(rt; then(&rt, &mut detector, hart, kind)?, Some(wanted));
+    }
+    Ok(())
+}
