@@ -1,6 +1,7 @@
--- The parts of a trace that was cut show what the whole shows: the end of the first part, which
--- stands among the records, shows nothing.
-use Rattle.std.proofs.Common.{◌≡◌, ℕ, List, [], ◌∷◌, ◌++◌, length, Option, None, sym, ap, ◌∙◌}
+-- The parts of a trace that was cut show what the whole shows: the ends of the earlier parts, which
+-- stand among the records, show nothing.
+use Rattle.std.proofs.Common.{◌≡◌, ℕ, List, [], ◌∷◌, ◌++◌, length, Option, None, refl, sym, ap, ◌∙◌}
+use Rattle.std.specs.Prelude.{flat_map}
 use Rattle.std.proofs.Common.{append_assoc}
 use Rattle.std.proofs.lemmas.List.{append-nil}
 use Rattle.std.proofs.lemmas.List.Elements.{filter_map-append}
@@ -18,6 +19,7 @@ use Rattle.state_grammar.specs.OfLists.{state_of_list}
 use Rattle.trace_grammar.specs.Rules.{touch_in, touches_in}
 use Rattle.trace_grammar.specs.declared.record.TraceRecord.{TraceRecord}
 use Rattle.trace_grammar.specs.declared.record.TraceRecord.TheVariants as records
+use Rattle.trace_copies.specs.Copies.{first_half, second_half}
 use Rattle.trace_passes.specs.Passes.{Trace, all_records}
 use Rattle.predator_cli.specs.GoesOn.{IsCutIn, work_of_both}
 use Rattle.predator_cli.specs.Replay.{ended_at, shown, work_after}
@@ -29,13 +31,32 @@ module _ {X : Type 0} (shows : List TraceRecord → X)
     (amid : (xs ys : List TraceRecord) (e : Ending)
     → shows ((xs ++ records.End e ∷ []) ++ ys) ≡ shows (xs ++ ys))
   where
-    same_shown : (whole first second : Trace) → whole.items ≡ first.items ++ second.items
-        → shows (all_records first ++ all_records second) ≡ shows (all_records whole)
-    same_shown whole first second items =
-        amid first.items (all_records second) first.ending
-        ∙ ap shows
-        (sym (append_assoc first.items second.items (records.End second.ending ∷ [])))
-        ∙ last (first.items ++ second.items) second.ending
+    -- without the ends of the parts between what comes before them and behind them
+    each_amid : (parts : List Trace) (before behind : List TraceRecord)
+        → shows (before ++ (flat_map all_records parts ++ behind))
+        ≡ shows (before ++ (flat_map (λ t. t.items) parts ++ behind))
+    each_amid [] before behind = refl
+    each_amid (t ∷ parts) before behind =
+        let ended : List TraceRecord = flat_map all_records parts in
+        let bare : List TraceRecord = flat_map (λ t. t.items) parts in
+        let end : List TraceRecord = records.End t.ending ∷ [] in
+        ap (λ (xs : List TraceRecord). shows (before ++ xs)) (append_assoc (t.items ++ end) ended behind)
+        ∙ ap shows (sym (append_assoc before (t.items ++ end) (ended ++ behind)))
+        ∙ ap (λ (xs : List TraceRecord). shows (xs ++ (ended ++ behind)))
+        (sym (append_assoc before t.items end))
+        ∙ amid (before ++ t.items) (ended ++ behind) t.ending
+        ∙ each_amid parts (before ++ t.items) behind
+        ∙ ap shows (append_assoc before t.items (bare ++ behind))
+        ∙ ap (λ (xs : List TraceRecord). shows (before ++ xs)) (sym (append_assoc t.items bare behind))
+
+    same_shown : (whole final : Trace) (earlier : List Trace)
+        → whole.items ≡ flat_map (λ t. t.items) earlier ++ final.items
+        → shows (flat_map all_records earlier ++ all_records final) ≡ shows (all_records whole)
+    same_shown whole final earlier items =
+        let bare : List TraceRecord = flat_map (λ t. t.items) earlier in
+        each_amid earlier [] (all_records final)
+        ∙ ap shows (sym (append_assoc bare final.items (records.End final.ending ∷ [])))
+        ∙ last (bare ++ final.items) final.ending
         ∙ ap shows (sym items) ∙ sym (last whole.items whole.ending)
 
 touches_last : (xs : List TraceRecord) (e : Ending)
@@ -67,19 +88,31 @@ module _ (objects : (before items : List TraceRecord)
         ∙ objects xs ys
 
     pub carried_on : (save : Option (List ℕ)) (g : Grid) (v : Levels)
-        (whole first second : Trace) → IsCutIn whole first second
-        → work_of_both save g v whole.header.harts (all_records first) second
+        (whole final : Trace) (earlier : List Trace) → IsCutIn whole earlier final
+        → work_of_both save g v whole.header.harts (flat_map all_records earlier) final
         ≡ work_after save g v None whole
     unfolding report_of_records state_of_records
-    carried_on save g v whole first second cut =
-        let both : List TraceRecord = all_records first ++ all_records second in
-        let touches : touches_in both ≡ touches_in (all_records whole) =
-        same_shown touches_in touches_last touches_amid whole first second cut.items in
-        let things : objects_of both ≡ objects_of (all_records whole) =
-        same_shown objects_of objects_last objects_amid whole first second cut.items in
-        let ending : ended_at (length (touches_in both)) second.ending ≡ whole.ending =
-        ap (λ (t : AccessList). ended_at (length t) second.ending)
+    carried_on save g v whole final earlier cut =
+        let all : List TraceRecord = flat_map all_records earlier ++ all_records final in
+        let touches : touches_in all ≡ touches_in (all_records whole) =
+        same_shown touches_in touches_last touches_amid whole final earlier cut.items in
+        let things : objects_of all ≡ objects_of (all_records whole) =
+        same_shown objects_of objects_last objects_amid whole final earlier cut.items in
+        let ending : ended_at (length (touches_in all)) final.ending ≡ whole.ending =
+        ap (λ (t : AccessList). ended_at (length t) final.ending)
         (touches ∙ touches_last whole.items whole.ending)
         ∙ sym cut.ending in
         λ i. shown save (report_of (ending i) g v (things i) (touches i))
         (state_of_list g v whole.header.harts (touches i) ++ spell_objects (things i))
+
+-- the halves of a trace are such parts of it
+pub halves_cut : (at : ℕ) (whole : Trace)
+    → (first_half at whole).items ++ (second_half at whole).items ≡ whole.items
+    → whole.ending.accesses ≡ length (touches_in whole.items)
+    → IsCutIn whole (first_half at whole ∷ []) (second_half at whole)
+halves_cut at whole records counted = record {
+  items = sym records
+      ∙ ap (λ (xs : List TraceRecord). xs ++ (second_half at whole).items)
+      (sym (append-nil (first_half at whole).items));
+  ending = ap (λ (n : ℕ). record whole.ending { accesses = n }) counted;
+}

@@ -1,5 +1,5 @@
 -- What a replay gives that goes on from the saved state of some records.
-use Rattle.std.specs.Prelude.{◌≡◌, ℕ, ◌≤◌, ◌^◌, List, ◌++◌, length, Option, Some}
+use Rattle.std.specs.Prelude.{◌≡◌, ℕ, ◌≤◌, ◌^◌, List, ◌++◌, length, flat_map, Option, Some}
 use Rattle.command_line.specs.Replay.{ReplayDemand}
 use Rattle.detector_states.specs.Resuming.{kept_of_list}
 use Rattle.object_states.specs.Rules.{IsSavable}
@@ -60,8 +60,8 @@ pub record HoldsBoth (demand : ReplayDemand) (files : Files) (harts : ℕ) (befo
   pub same_harts : t.header.harts ≡ harts
   pub first : t.header.first ≡ length (touches_in before)
 
--- a trace was cut: its records are those of the first part and then those of the second, which ends
--- as the whole
-pub record IsCutIn (whole first second : Trace) : Type 0 where
-  pub items : whole.items ≡ first.items ++ second.items
-  pub ending : whole.ending ≡ ended_at (length (touches_in whole.items)) second.ending
+-- a trace was cut: its records are those of the earlier parts and then those of the last one, which
+-- ends as the whole
+pub record IsCutIn (whole : Trace) (earlier : List Trace) (last : Trace) : Type 0 where
+  pub items : whole.items ≡ flat_map (λ t. t.items) earlier ++ last.items
+  pub ending : whole.ending ≡ ended_at (length (touches_in whole.items)) last.ending

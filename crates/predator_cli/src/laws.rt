@@ -1,5 +1,6 @@
 // The law of replays that go on, for whoever reads contracts alone. The call does nothing.
-ghost use Rattle.std.specs.Prelude.{◌≡◌, ℕ, ◌<◌, ◌^◌, List, length, None, Ok, Option, Some};
+ghost use Rattle.std.specs.Prelude.{◌≡◌, ℕ, ◌<◌, ◌^◌, List, [], ◌∷◌, length, flat_map, None, Ok};
+ghost use Rattle.std.specs.Prelude.{Option, Some};
 ghost use Rattle.std.specs.List.{All};
 ghost use Rattle.command_files.specs.Readings.{first_refusal};
 ghost use Rattle.command_files.specs.SettingsFiles.{settings_readings};
@@ -13,6 +14,7 @@ ghost use Rattle.sightings.specs.Lives.{objects_of};
 ghost use Rattle.state_grammar.specs.OfLists.{AreOf};
 ghost use Rattle.trace_grammar.specs.Rules.{IsGoodRecord, touches_in};
 ghost use Rattle.trace_grammar.specs.declared.record.TraceRecord.{TraceRecord as Record};
+ghost use Rattle.trace_copies.specs.Copies.{first_half, second_half};
 ghost use Rattle.trace_passes.specs.Passes.{Trace, all_records, trace_of};
 ghost use Rattle.predator_cli.specs.Answer.{answer_of};
 ghost use Rattle.predator_cli.specs.GoesOn.{HoldsBoth, IsCutIn, MayStand, begun_of};
@@ -23,6 +25,8 @@ ghost use Rattle.predator_cli.specs.States.{judged_state, state_of_records};
 use detector_states::the_state_of_a_list_is_taken_up;
 use object_states::what_is_resumed_was_saved;
 use sightings::{what_is_noted_is_seen, what_stands_was_noted};
+use trace_copies::the_halves_have_the_accesses_of_the_whole;
+use trace_passes::a_trace_is_its_spelling;
 
 /// A replay that goes on from the state of some records gives the report, and saves the state, of
 /// these records followed by those of its trace. Nothing is done.
@@ -52,11 +56,16 @@ pub fn a_replay_goes_on_from_a_list()
         → first_refusal (settings_readings demand.settings) files ≡ None
         → answer_of (Some (replay demand)) files ≡ work_of_both demand.save (grid_in demand files)
         (levels_in demand files) harts before t }
-    // and of a trace that was cut, saved and carried on it is what the whole trace gives
+    // and of a trace that was cut in parts, each saved and carried on, the last one gives what the
+    // whole trace gives
     ensures carried { (save : Option (List ℕ)) (g : Grid) (v : Levels)
-        (whole first second : Trace) → IsCutIn whole first second
-        → work_of_both save g v whole.header.harts (all_records first) second
+        (whole last : Trace) (earlier : List Trace) → IsCutIn whole earlier last
+        → work_of_both save g v whole.header.harts (flat_map all_records earlier) last
         ≡ work_after save g v None whole }
+    // as the two halves are that `split` makes
+    ensures halves { (at : ℕ) (bytes : List ℕ) (whole : Trace) → All (λ b. b < 256) bytes
+        → trace_of bytes ≡ Some whole
+        → IsCutIn whole (first_half at whole ∷ []) (second_half at whole) }
     // the objects and the accesses of good records may stand in a state
     ensures good { (harts : ℕ) (before : List Record) → All (IsGoodRecord harts) before
         → length before < 2 ^ 64 → IsSavable (length (touches_in before)) (objects_of before) }
@@ -67,4 +76,6 @@ pub fn a_replay_goes_on_from_a_list()
     what_is_resumed_was_saved();
     what_is_noted_is_seen();
     what_stands_was_noted();
+    a_trace_is_its_spelling();
+    the_halves_have_the_accesses_of_the_whole();
 }

@@ -3,7 +3,7 @@ use Rattle.sightings.specs.Lives.{objects_of}
 use Rattle.trace_grammar.specs.Rules.{touches_in}
 use Rattle.predator_cli.specs.Replay.{grid_in, levels_in}
 use Rattle.predator_cli.specs.GoesOn.{work_of_both}
-use Rattle.predator_cli.proofs.CutLaws.{carried_on}
+use Rattle.predator_cli.proofs.CutLaws.{carried_on, halves_cut}
 use Rattle.predator_cli.proofs.GoOnAnswers.{answered_on}
 use Rattle.predator_cli.proofs.GoOnLaws.{begun_there, gone_on, replay_taken, taken_up}
 use Rattle.predator_cli.proofs.GoodLaws.{of_harts, savable}
@@ -46,8 +46,14 @@ returns-clause-answered c = λ demand files harts before t so settings.
     settings
 
 pub returns-clause-carried : goal.returns-clause-carried
-returns-clause-carried c = λ save g v whole first second cut.
-    carried_on c.what_is_noted_is_seen.ensures.objects save g v whole first second cut
+returns-clause-carried c = λ save g v whole final earlier cut.
+    carried_on c.what_is_noted_is_seen.ensures.objects save g v whole final earlier cut
+
+pub returns-clause-halves : goal.returns-clause-halves
+returns-clause-halves c = λ at bytes whole small is.
+    halves_cut at whole
+    (c.the_halves_have_the_accesses_of_the_whole.ensures.records at bytes whole is)
+    (c.a_trace_is_its_spelling.ensures bytes whole small is).good.counted
 
 pub returns-clause-good : goal.returns-clause-good
 returns-clause-good c = λ harts before good short.
