@@ -1,2 +1,3 @@
+mod AppLemmas
 mod AskedLemmas
 mod NumberLemmas

@@ -1,5 +1,5 @@
 -- The forms of a command, each a simple command of `clap`.
-use Rattle.std.specs.Prelude.{true, Some}
+use Rattle.std.specs.Prelude.{List, [], ◌∷◌, true, Some}
 use Rattle.clap.specs.Words.{App, Rule, Text, new_app, new_rule, with_rule}
 use Rattle.clap.specs.Simple.{on_top}
 
@@ -21,3 +21,16 @@ with_word app name = with_rule app (positional name)
 
 abbrev pub with_option : App → Text → App
 with_option app name = with_rule app (long_option name)
+
+-- a command with each of some words more, and with each of some options more
+abbrev pub with_words : App → List Text → App
+with_words app [] = app
+with_words app (name ∷ names) = with_words (with_word app name) names
+
+abbrev pub with_options : App → List Text → App
+with_options app [] = app
+with_options app (name ∷ names) = with_options (with_option app name) names
+
+-- a command of a name, of positional words, and of options
+abbrev pub form_app : Text → List Text → List Text → App
+form_app name words options = with_options (with_words (plain_app name) words) options

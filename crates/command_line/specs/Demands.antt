@@ -10,6 +10,10 @@ use Rattle.command_line.specs.declared.demand.WordsFault.TheVariants.{Usage, NoM
 abbrev pub texts : List (String Global) → List (List ℕ)
 texts words = map string_bytes words
 
+-- the texts of names
+abbrev pub names_of : List (Bor (List ℕ)) → List (List ℕ)
+names_of names = map (λ name. name.now) names
+
 -- the text of a word, if there is one
 abbrev pub text_of : Option (Bor (List ℕ)) → Option (List ℕ)
 text_of word = option_map (λ w. w.now) word

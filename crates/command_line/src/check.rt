@@ -1,13 +1,14 @@
 // The command `check`.
 ghost use Rattle.std.specs.Prelude.{◌≡◌, IfOk, IfErr, Some, None, option_map};
-ghost use Rattle.clap.specs.Words.{app_of, found_of, rows_of};
-ghost use Rattle.command_line.specs.Check.{asked_of_check, check_app, check_meaning, check_of};
+ghost use Rattle.clap.specs.Words.{found_of, rows_of};
+ghost use Rattle.command_line.specs.Check.{asked_of_check, check_meaning, check_of};
 ghost use Rattle.command_line.specs.Demands.{texts, UnlessMemory};
+ghost use Rattle.command_line.specs.Words.{IsBounded, meaning, check};
 
-use crate::demand::WordsFault;
-use crate::forms::{matches_by, plain_command, value_of, with_option, with_word};
-use clap::{ArgMatches, Command};
-use std::alloc::{AllocError, Global};
+use crate::demand::{Demand, WordsFault};
+use crate::forms::{matches_of, value_of};
+use clap::ArgMatches;
+use std::alloc::Global;
 
 /// `check PROGRAM [--settings F]`. A name is a text as it stands in the words.
 #[derive(Clone, Copy, PartialEq, Eq, Debug)]
@@ -16,15 +17,6 @@ pub struct CheckOptions<'a> {
     pub program: &'a str,
     /// The name of the settings file, where one is given.
     pub settings: Option<&'a str>,
-}
-
-// The command, as `clap` knows it.
-fn check_command<'a>(alloc: Global) -> Result<Command<'a>, AllocError>
-    ensures { IfOk result (λ command. app_of command ≡ check_app) }
-{
-    let plain = plain_command(alloc, "check");
-    let with_program = with_word(alloc, plain, "program")?;
-    with_option(alloc, with_program, "settings")
 }
 
 // What the values of a `check` ask for.
@@ -39,16 +31,18 @@ fn options_in<'a>(matches: &ArgMatches<'a>) -> Option<CheckOptions<'a>>
 }
 
 // What the words of a `check` ask for, the command's own name first.
-pub fn read_check<'a>(alloc: Global, words: &'a [String]) -> Result<CheckOptions<'a>, WordsFault>
-    ensures accepted { IfOk result (λ options. asked_of_check (texts words.now)
-        ≡ Some (check_meaning options)) }
+pub fn read_check<'a>(alloc: Global, words: &'a [String]) -> Result<Demand<'a>, WordsFault>
+    ensures accepted { IfOk result (λ demand. option_map check (asked_of_check (texts words.now))
+        ≡ Some (meaning demand)) }
     ensures refused { IfErr result (λ fault. UnlessMemory fault
-        (asked_of_check (texts words.now) ≡ None)) }
+        (option_map check (asked_of_check (texts words.now)) ≡ None)) }
+    ensures bounded { IfOk result IsBounded }
 {
-    let command = check_command(alloc)?;
-    let matches = matches_by(command, words)?;
-    match options_in(&matches) {
-        Some(options) => Ok(options),
-        None => Err(WordsFault::Usage),
+    match matches_of(alloc, "check", &["program"], &["settings"], words) {
+        Ok(matches) => match options_in(&matches) {
+            Some(options) => Ok(Demand::Check(options)),
+            None => Err(WordsFault::Usage),
+        },
+        Err(fault) => Err(fault),
     }
 }

@@ -1,15 +1,16 @@
 // The command `convert`.
 ghost use Rattle.std.specs.Prelude.{◌≡◌, IfOk, IfErr, Some, None, option_map};
-ghost use Rattle.clap.specs.Words.{app_of, found_of, rows_of};
-ghost use Rattle.command_line.specs.Convert.{asked_of_convert, convert_app, convert_inputs};
+ghost use Rattle.clap.specs.Words.{found_of, rows_of};
+ghost use Rattle.command_line.specs.Convert.{asked_of_convert, convert_inputs};
 ghost use Rattle.command_line.specs.Convert.{convert_meaning, convert_of, convert_outputs};
 ghost use Rattle.command_line.specs.Demands.{texts, UnlessMemory};
 ghost use Rattle.command_line.specs.Names.{are_apart};
+ghost use Rattle.command_line.specs.Words.{IsBounded, meaning, convert};
 
-use crate::demand::WordsFault;
-use crate::forms::{matches_by, plain_command, value_of, with_word};
-use clap::{ArgMatches, Command};
-use std::alloc::{AllocError, Global};
+use crate::demand::{Demand, WordsFault};
+use crate::forms::{matches_of, value_of};
+use clap::ArgMatches;
+use std::alloc::Global;
 
 /// `convert TRACE FILE`. A name is a text as it stands in the words.
 #[derive(Clone, Copy, PartialEq, Eq, Debug)]
@@ -28,15 +29,6 @@ pub fn has_names_apart(options: &ConvertOptions<'_>) -> bool
     options.file != options.trace
 }
 
-// The command, as `clap` knows it.
-fn convert_command<'a>(alloc: Global) -> Result<Command<'a>, AllocError>
-    ensures { IfOk result (λ command. app_of command ≡ convert_app) }
-{
-    let plain = plain_command(alloc, "convert");
-    let with_trace = with_word(alloc, plain, "trace")?;
-    with_word(alloc, with_trace, "file")
-}
-
 // What the values of a `convert` ask for.
 fn options_in<'a>(matches: &ArgMatches<'a>) -> Option<ConvertOptions<'a>>
     ensures { option_map convert_meaning result ≡ convert_of (rows_of (found_of matches.now)) }
@@ -47,19 +39,18 @@ fn options_in<'a>(matches: &ArgMatches<'a>) -> Option<ConvertOptions<'a>>
 }
 
 // What the words of a `convert` ask for, the command's own name first.
-pub fn read_convert<'a>(
-    alloc: Global,
-    words: &'a [String],
-) -> Result<ConvertOptions<'a>, WordsFault>
-    ensures accepted { IfOk result (λ options. asked_of_convert (texts words.now)
-        ≡ Some (convert_meaning options)) }
+pub fn read_convert<'a>(alloc: Global, words: &'a [String]) -> Result<Demand<'a>, WordsFault>
+    ensures accepted { IfOk result (λ demand. option_map convert (asked_of_convert (texts words.now))
+        ≡ Some (meaning demand)) }
     ensures refused { IfErr result (λ fault. UnlessMemory fault
-        (asked_of_convert (texts words.now) ≡ None)) }
+        (option_map convert (asked_of_convert (texts words.now)) ≡ None)) }
+    ensures bounded { IfOk result IsBounded }
 {
-    let command = convert_command(alloc)?;
-    let matches = matches_by(command, words)?;
-    match options_in(&matches) {
-        Some(options) => Ok(options),
-        None => Err(WordsFault::Usage),
+    match matches_of(alloc, "convert", &["trace", "file"], &[], words) {
+        Ok(matches) => match options_in(&matches) {
+            Some(options) => Ok(Demand::Convert(options)),
+            None => Err(WordsFault::Usage),
+        },
+        Err(fault) => Err(fault),
     }
 }

@@ -2,8 +2,9 @@
 ghost use Rattle.std.specs.Prelude.{◌≡◌, ◌≢◌, IfOk, IfErr, [], true};
 ghost use Rattle.clap.specs.Words.{app_of, fault_of, first_of, found_of, is_simple_and_free};
 ghost use Rattle.clap.specs.Words.{matches_of, rows_of};
-ghost use Rattle.command_line.specs.Apps.{plain_app, with_option, with_word};
-ghost use Rattle.command_line.specs.Demands.{text_of, texts, UnlessMemory};
+ghost use Rattle.command_line.specs.Apps.{form_app, plain_app, with_option, with_options};
+ghost use Rattle.command_line.specs.Apps.{with_word, with_words};
+ghost use Rattle.command_line.specs.Demands.{names_of, text_of, texts, UnlessMemory};
 
 use crate::demand::WordsFault;
 use clap::error::ErrorKind;
@@ -11,14 +12,14 @@ use clap::{Arg, ArgMatches, Command};
 use std::alloc::{AllocError, Global};
 
 // A command without arguments. `--help` is a word like any other.
-pub fn plain_command<'a>(alloc: Global, name: &'a str) -> Command<'a>
+fn plain_command<'a>(alloc: Global, name: &'a str) -> Command<'a>
     ensures { app_of result ≡ plain_app name.entry.now }
 {
     Command::new(alloc, name).disable_help_flag(true)
 }
 
 // The command with a positional word more that has to be there.
-pub fn with_word<'a>(
+fn with_word<'a>(
     alloc: Global,
     command: Command<'a>,
     name: &'a str,
@@ -30,7 +31,7 @@ pub fn with_word<'a>(
 }
 
 // The command with `--name value` more.
-pub fn with_option<'a>(
+fn with_option<'a>(
     alloc: Global,
     command: Command<'a>,
     name: &'a str,
@@ -41,11 +42,55 @@ pub fn with_option<'a>(
     command.arg(Arg::new(alloc, name).long(name))
 }
 
-// The values that a command finds in the words for its arguments, the command's own name first.
-pub fn matches_by<'a>(
+// The command with each of these positional words more.
+fn with_words<'a>(
+    alloc: Global,
     command: Command<'a>,
-    words: &'a [String],
-) -> Result<ArgMatches<'a>, WordsFault>
+    names: &[&'a str],
+) -> Result<Command<'a>, AllocError>
+    ensures { IfOk result (λ added. app_of added
+        ≡ with_words (app_of command.entry) (names_of names.now)) }
+{
+    let mut added = command;
+    for name in names {
+        added = with_word(alloc, added, name)?;
+    }
+    Ok(added)
+}
+
+// The command with each of these options more.
+fn with_options<'a>(
+    alloc: Global,
+    command: Command<'a>,
+    names: &[&'a str],
+) -> Result<Command<'a>, AllocError>
+    ensures { IfOk result (λ added. app_of added
+        ≡ with_options (app_of command.entry) (names_of names.now)) }
+{
+    let mut added = command;
+    for name in names {
+        added = with_option(alloc, added, name)?;
+    }
+    Ok(added)
+}
+
+// The command of a name, of positional words, and of options.
+fn form_command<'a>(
+    alloc: Global,
+    name: &'a str,
+    positional: &[&'a str],
+    options: &[&'a str],
+) -> Result<Command<'a>, AllocError>
+    ensures { IfOk result (λ command. app_of command
+        ≡ form_app name.entry.now (names_of positional.now) (names_of options.now)) }
+{
+    let plain = plain_command(alloc, name);
+    let worded = with_words(alloc, plain, positional)?;
+    with_options(alloc, worded, options)
+}
+
+// What `clap` makes of the words for a command.
+fn matches_by<'a>(command: Command<'a>, words: &'a [String]) -> Result<ArgMatches<'a>, WordsFault>
     requires { is_simple_and_free (app_of command) ≡ true }
     ensures taken { IfOk result (λ matches. fault_of (app_of command.entry) (texts words.now)
         ≡ []) }
@@ -64,6 +109,29 @@ pub fn matches_by<'a>(
             }
         }
     }
+}
+
+// The values that a command of a name, of positional words and of options finds in the words for
+// its arguments, the command's own name first.
+pub fn matches_of<'a>(
+    alloc: Global,
+    name: &'a str,
+    positional: &[&'a str],
+    options: &[&'a str],
+    words: &'a [String],
+) -> Result<ArgMatches<'a>, WordsFault>
+    requires { is_simple_and_free (form_app name.now (names_of positional.now)
+        (names_of options.now)) ≡ true }
+    ensures taken { IfOk result (λ matches. fault_of (form_app name.entry.now
+        (names_of positional.now) (names_of options.now)) (texts words.now) ≡ []) }
+    ensures rows { IfOk result (λ matches. rows_of (found_of matches)
+        ≡ matches_of (form_app name.entry.now (names_of positional.now) (names_of options.now))
+        (texts words.now)) }
+    ensures refused { IfErr result (λ fault. UnlessMemory fault (fault_of (form_app name.entry.now
+        (names_of positional.now) (names_of options.now)) (texts words.now) ≢ [])) }
+{
+    let command = form_command(alloc, name, positional, options)?;
+    matches_by(command, words)
 }
 
 // The value that an argument got, if it got one.

@@ -1,15 +1,16 @@
 // The command `gen`.
 ghost use Rattle.std.specs.Prelude.{◌≡◌, ◌≤◌, ◌^◌, IfOk, IfErr, Some, None, option_map};
 ghost use Rattle.std.specs.Option.{IfSome};
-ghost use Rattle.clap.specs.Words.{app_of, found_of, rows_of};
-ghost use Rattle.command_line.specs.Gen.{asked_of_gen, count_in, gen_app, gen_meaning, gen_of};
+ghost use Rattle.clap.specs.Words.{found_of, rows_of};
+ghost use Rattle.command_line.specs.Gen.{asked_of_gen, count_in, gen_meaning, gen_of};
 ghost use Rattle.command_line.specs.Demands.{text_of, texts, UnlessMemory};
+ghost use Rattle.command_line.specs.Words.{IsBounded, meaning, gen};
 
-use crate::demand::WordsFault;
-use crate::forms::{matches_by, plain_command, value_of, with_word};
+use crate::demand::{Demand, WordsFault};
+use crate::forms::{matches_of, value_of};
 use crate::layout::number;
-use clap::{ArgMatches, Command};
-use std::alloc::{AllocError, Global};
+use clap::ArgMatches;
+use std::alloc::Global;
 
 // The most accesses that a trace may be asked to have.
 const MOST: u64 = 1_000_000_000;
@@ -21,15 +22,6 @@ pub struct GenOptions<'a> {
     pub count: u64,
     /// The name under which it is written.
     pub file: &'a str,
-}
-
-// The command, as `clap` knows it.
-fn gen_command<'a>(alloc: Global) -> Result<Command<'a>, AllocError>
-    ensures { IfOk result (λ command. app_of command ≡ gen_app) }
-{
-    let plain = plain_command(alloc, "gen");
-    let with_count = with_word(alloc, plain, "count")?;
-    with_word(alloc, with_count, "file")
 }
 
 // The number of accesses that a word is, where a trace may have so many.
@@ -52,17 +44,18 @@ fn options_in<'a>(matches: &ArgMatches<'a>) -> Option<GenOptions<'a>>
 }
 
 // What the words of a `gen` ask for, the command's own name first.
-pub fn read_gen<'a>(alloc: Global, words: &'a [String]) -> Result<GenOptions<'a>, WordsFault>
-    ensures accepted { IfOk result (λ options. asked_of_gen (texts words.now)
-        ≡ Some (gen_meaning options)) }
+pub fn read_gen<'a>(alloc: Global, words: &'a [String]) -> Result<Demand<'a>, WordsFault>
+    ensures accepted { IfOk result (λ demand. option_map gen (asked_of_gen (texts words.now))
+        ≡ Some (meaning demand)) }
     ensures refused { IfErr result (λ fault. UnlessMemory fault
-        (asked_of_gen (texts words.now) ≡ None)) }
-    ensures few { IfOk result (λ options. options.count ≤ 10 ^ 9) }
+        (option_map gen (asked_of_gen (texts words.now)) ≡ None)) }
+    ensures bounded { IfOk result IsBounded }
 {
-    let command = gen_command(alloc)?;
-    let matches = matches_by(command, words)?;
-    match options_in(&matches) {
-        Some(options) => Ok(options),
-        None => Err(WordsFault::Usage),
+    match matches_of(alloc, "gen", &["count", "file"], &[], words) {
+        Ok(matches) => match options_in(&matches) {
+            Some(options) => Ok(Demand::Gen(options)),
+            None => Err(WordsFault::Usage),
+        },
+        Err(fault) => Err(fault),
     }
 }

@@ -1,18 +1,19 @@
 // The command `replay`.
 ghost use Rattle.std.specs.Prelude.{◌≡◌, IfOk, IfErr, Some, None, option_map};
-ghost use Rattle.clap.specs.Words.{app_of, found_of, rows_of};
-ghost use Rattle.command_line.specs.Replay.{asked_of_replay, replay_app, replay_inputs};
+ghost use Rattle.clap.specs.Words.{found_of, rows_of};
+ghost use Rattle.command_line.specs.Replay.{asked_of_replay, replay_inputs};
 ghost use Rattle.command_line.specs.Replay.{replay_meaning, replay_of, replay_outputs};
 ghost use Rattle.command_line.specs.Demands.{texts, UnlessMemory};
 ghost use Rattle.command_line.specs.Names.{are_apart, is_named};
+ghost use Rattle.command_line.specs.Words.{IsBounded, meaning, replay};
 
-use crate::demand::WordsFault;
-use crate::forms::{matches_by, plain_command, value_of, with_option, with_word};
+use crate::demand::{Demand, WordsFault};
+use crate::forms::{matches_of, value_of};
 use crate::layout::read_layout;
 use crate::names::is_given;
-use clap::{ArgMatches, Command};
+use clap::ArgMatches;
 use predator_base::Layout;
-use std::alloc::{AllocError, Global};
+use std::alloc::Global;
 
 /// `replay TRACE [--settings F] [--size N] [--shift N] [--save F] [--resume F]`. A name is a text
 /// as it stands in the words.
@@ -48,19 +49,6 @@ pub fn has_names_apart(options: &ReplayOptions<'_>) -> bool
     }
 }
 
-// The command, as `clap` knows it.
-fn replay_command<'a>(alloc: Global) -> Result<Command<'a>, AllocError>
-    ensures { IfOk result (λ command. app_of command ≡ replay_app) }
-{
-    let plain = plain_command(alloc, "replay");
-    let with_trace = with_word(alloc, plain, "trace")?;
-    let with_settings = with_option(alloc, with_trace, "settings")?;
-    let with_size = with_option(alloc, with_settings, "size")?;
-    let with_shift = with_option(alloc, with_size, "shift")?;
-    let with_save = with_option(alloc, with_shift, "save")?;
-    with_option(alloc, with_save, "resume")
-}
-
 // What the values of a `replay` ask for, unless its layout is none that is allowed.
 fn options_in<'a>(matches: &ArgMatches<'a>) -> Option<ReplayOptions<'a>>
     ensures { option_map replay_meaning result ≡ replay_of (rows_of (found_of matches.now)) }
@@ -77,16 +65,24 @@ fn options_in<'a>(matches: &ArgMatches<'a>) -> Option<ReplayOptions<'a>>
 }
 
 // What the words of a `replay` ask for, the command's own name first.
-pub fn read_replay<'a>(alloc: Global, words: &'a [String]) -> Result<ReplayOptions<'a>, WordsFault>
-    ensures accepted { IfOk result (λ options. asked_of_replay (texts words.now)
-        ≡ Some (replay_meaning options)) }
+pub fn read_replay<'a>(alloc: Global, words: &'a [String]) -> Result<Demand<'a>, WordsFault>
+    ensures accepted { IfOk result (λ demand. option_map replay (asked_of_replay (texts words.now))
+        ≡ Some (meaning demand)) }
     ensures refused { IfErr result (λ fault. UnlessMemory fault
-        (asked_of_replay (texts words.now) ≡ None)) }
+        (option_map replay (asked_of_replay (texts words.now)) ≡ None)) }
+    ensures bounded { IfOk result IsBounded }
 {
-    let command = replay_command(alloc)?;
-    let matches = matches_by(command, words)?;
-    match options_in(&matches) {
-        Some(options) => Ok(options),
-        None => Err(WordsFault::Usage),
+    match matches_of(
+        alloc,
+        "replay",
+        &["trace"],
+        &["settings", "size", "shift", "save", "resume"],
+        words,
+    ) {
+        Ok(matches) => match options_in(&matches) {
+            Some(options) => Ok(Demand::Replay(options)),
+            None => Err(WordsFault::Usage),
+        },
+        Err(fault) => Err(fault),
     }
 }

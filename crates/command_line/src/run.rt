@@ -1,16 +1,17 @@
 // The command `run`.
 ghost use Rattle.std.specs.Prelude.{◌≡◌, [], ◌∷◌, IfOk, IfErr, Some, None, option_map};
-ghost use Rattle.clap.specs.Words.{app_of, found_of, rows_of};
-ghost use Rattle.command_line.specs.Run.{asked_of_run, run_app, run_inputs, run_meaning, run_of};
+ghost use Rattle.clap.specs.Words.{found_of, rows_of};
+ghost use Rattle.command_line.specs.Run.{asked_of_run, run_inputs, run_meaning, run_of};
 ghost use Rattle.command_line.specs.Run.{run_outputs};
 ghost use Rattle.command_line.specs.Demands.{texts, text_of, UnlessMemory};
 ghost use Rattle.command_line.specs.Names.{are_apart, is_named};
+ghost use Rattle.command_line.specs.Words.{IsBounded, meaning, run};
 
-use crate::demand::WordsFault;
-use crate::forms::{matches_by, plain_command, value_of, with_option, with_word};
+use crate::demand::{Demand, WordsFault};
+use crate::forms::{matches_of, value_of};
 use crate::names::is_given;
-use clap::{ArgMatches, Command};
-use std::alloc::{AllocError, Global};
+use clap::ArgMatches;
+use std::alloc::Global;
 
 /// `run PROGRAM [--settings F] [--schedule F] [--trace F] [--output F]`. A name is a text as it
 /// stands in the words.
@@ -49,18 +50,6 @@ pub fn has_names_apart(options: &RunOptions<'_>) -> bool
     }
 }
 
-// The command, as `clap` knows it.
-fn run_command<'a>(alloc: Global) -> Result<Command<'a>, AllocError>
-    ensures { IfOk result (λ command. app_of command ≡ run_app) }
-{
-    let plain = plain_command(alloc, "run");
-    let with_program = with_word(alloc, plain, "program")?;
-    let with_settings = with_option(alloc, with_program, "settings")?;
-    let with_schedule = with_option(alloc, with_settings, "schedule")?;
-    let with_trace = with_option(alloc, with_schedule, "trace")?;
-    with_option(alloc, with_trace, "output")
-}
-
 // What the values of a `run` ask for.
 fn options_in<'a>(matches: &ArgMatches<'a>) -> Option<RunOptions<'a>>
     ensures { option_map run_meaning result ≡ run_of (rows_of (found_of matches.now)) }
@@ -76,16 +65,24 @@ fn options_in<'a>(matches: &ArgMatches<'a>) -> Option<RunOptions<'a>>
 }
 
 // What the words of a `run` ask for, the command's own name first.
-pub fn read_run<'a>(alloc: Global, words: &'a [String]) -> Result<RunOptions<'a>, WordsFault>
-    ensures accepted { IfOk result (λ options. asked_of_run (texts words.now)
-        ≡ Some (run_meaning options)) }
+pub fn read_run<'a>(alloc: Global, words: &'a [String]) -> Result<Demand<'a>, WordsFault>
+    ensures accepted { IfOk result (λ demand. option_map run (asked_of_run (texts words.now))
+        ≡ Some (meaning demand)) }
     ensures refused { IfErr result (λ fault. UnlessMemory fault
-        (asked_of_run (texts words.now) ≡ None)) }
+        (option_map run (asked_of_run (texts words.now)) ≡ None)) }
+    ensures bounded { IfOk result IsBounded }
 {
-    let command = run_command(alloc)?;
-    let matches = matches_by(command, words)?;
-    match options_in(&matches) {
-        Some(options) => Ok(options),
-        None => Err(WordsFault::Usage),
+    match matches_of(
+        alloc,
+        "run",
+        &["program"],
+        &["settings", "schedule", "trace", "output"],
+        words,
+    ) {
+        Ok(matches) => match options_in(&matches) {
+            Some(options) => Ok(Demand::Run(options)),
+            None => Err(WordsFault::Usage),
+        },
+        Err(fault) => Err(fault),
     }
 }

@@ -1,16 +1,17 @@
 // The command `split`.
 ghost use Rattle.std.specs.Prelude.{◌≡◌, IfOk, IfErr, Some, None, option_map};
-ghost use Rattle.clap.specs.Words.{app_of, found_of, rows_of};
+ghost use Rattle.clap.specs.Words.{found_of, rows_of};
 ghost use Rattle.command_line.specs.Demands.{texts, UnlessMemory};
 ghost use Rattle.command_line.specs.Names.{are_apart};
-ghost use Rattle.command_line.specs.Split.{asked_of_split, split_app, split_inputs, split_meaning};
+ghost use Rattle.command_line.specs.Split.{asked_of_split, split_inputs, split_meaning};
 ghost use Rattle.command_line.specs.Split.{split_of, split_outputs};
+ghost use Rattle.command_line.specs.Words.{IsBounded, meaning, split};
 
-use crate::demand::WordsFault;
-use crate::forms::{matches_by, plain_command, value_of, with_word};
+use crate::demand::{Demand, WordsFault};
+use crate::forms::{matches_of, value_of};
 use crate::layout::number;
-use clap::{ArgMatches, Command};
-use std::alloc::{AllocError, Global};
+use clap::ArgMatches;
+use std::alloc::Global;
 
 /// `split TRACE K A B`. A name is a text as it stands in the words.
 #[derive(Clone, Copy, PartialEq, Eq, Debug)]
@@ -35,17 +36,6 @@ pub fn has_names_apart(options: &SplitOptions<'_>) -> bool
         && options.second != options.trace
 }
 
-// The command, as `clap` knows it.
-fn split_command<'a>(alloc: Global) -> Result<Command<'a>, AllocError>
-    ensures { IfOk result (λ command. app_of command ≡ split_app) }
-{
-    let plain = plain_command(alloc, "split");
-    let with_trace = with_word(alloc, plain, "trace")?;
-    let with_at = with_word(alloc, with_trace, "at")?;
-    let with_first = with_word(alloc, with_at, "first")?;
-    with_word(alloc, with_first, "second")
-}
-
 // What the values of a `split` ask for.
 fn options_in<'a>(matches: &ArgMatches<'a>) -> Option<SplitOptions<'a>>
     ensures { option_map split_meaning result ≡ split_of (rows_of (found_of matches.now)) }
@@ -63,16 +53,24 @@ fn options_in<'a>(matches: &ArgMatches<'a>) -> Option<SplitOptions<'a>>
 }
 
 // What the words of a `split` ask for, the command's own name first.
-pub fn read_split<'a>(alloc: Global, words: &'a [String]) -> Result<SplitOptions<'a>, WordsFault>
-    ensures accepted { IfOk result (λ options. asked_of_split (texts words.now)
-        ≡ Some (split_meaning options)) }
+pub fn read_split<'a>(alloc: Global, words: &'a [String]) -> Result<Demand<'a>, WordsFault>
+    ensures accepted { IfOk result (λ demand. option_map split (asked_of_split (texts words.now))
+        ≡ Some (meaning demand)) }
     ensures refused { IfErr result (λ fault. UnlessMemory fault
-        (asked_of_split (texts words.now) ≡ None)) }
+        (option_map split (asked_of_split (texts words.now)) ≡ None)) }
+    ensures bounded { IfOk result IsBounded }
 {
-    let command = split_command(alloc)?;
-    let matches = matches_by(command, words)?;
-    match options_in(&matches) {
-        Some(options) => Ok(options),
-        None => Err(WordsFault::Usage),
+    match matches_of(
+        alloc,
+        "split",
+        &["trace", "at", "first", "second"],
+        &[],
+        words,
+    ) {
+        Ok(matches) => match options_in(&matches) {
+            Some(options) => Ok(Demand::Split(options)),
+            None => Err(WordsFault::Usage),
+        },
+        Err(fault) => Err(fault),
     }
 }

@@ -28,30 +28,12 @@ fn read_command<'a>(
     ensures unknown { is_command (command.now ∷ []) ≡ false → result ≡ Err WordsFault.Usage }
 {
     match command {
-        "replay" => match read_replay(alloc, words) {
-            Ok(options) => Ok(Demand::Replay(options)),
-            Err(fault) => Err(fault),
-        },
-        "check" => match read_check(alloc, words) {
-            Ok(options) => Ok(Demand::Check(options)),
-            Err(fault) => Err(fault),
-        },
-        "run" => match read_run(alloc, words) {
-            Ok(options) => Ok(Demand::Run(options)),
-            Err(fault) => Err(fault),
-        },
-        "split" => match read_split(alloc, words) {
-            Ok(options) => Ok(Demand::Split(options)),
-            Err(fault) => Err(fault),
-        },
-        "gen" => match read_gen(alloc, words) {
-            Ok(options) => Ok(Demand::Gen(options)),
-            Err(fault) => Err(fault),
-        },
-        "convert" => match read_convert(alloc, words) {
-            Ok(options) => Ok(Demand::Convert(options)),
-            Err(fault) => Err(fault),
-        },
+        "replay" => read_replay(alloc, words),
+        "check" => read_check(alloc, words),
+        "run" => read_run(alloc, words),
+        "split" => read_split(alloc, words),
+        "gen" => read_gen(alloc, words),
+        "convert" => read_convert(alloc, words),
         _ => Err(WordsFault::Usage),
     }
 }
