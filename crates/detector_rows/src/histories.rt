@@ -11,12 +11,10 @@ fn keeps_the_first_two_since_the_last_write(rt: HostRuntime) -> Result<(), Fail>
     let mut history = History::one(writer);
     history.note_read(reader);
     history.note_read(late);
-    assert_eq!(rt; history.first(), writer);
-    assert_eq!(rt; history.second(), Some(reader));
+    assert!(rt; history.first() == writer && history.second() == Some(reader));
     assert!(rt; history.note_write(writer));
     history.note_read(writer);
-    assert_eq!(rt; history.first(), writer);
-    assert_eq!(rt; history.second(), None);
+    assert!(rt; history.first() == writer && history.second().is_none());
     assert!(rt; !history.note_write(writer));
     Ok(())
 }

@@ -27,10 +27,16 @@ fn hart_of(number: &str) -> Option<Hart> {
     Hart::new(number.parse().ok()?)
 }
 
+fn push_access(list: &mut Vec<Access>, word: &str) -> Result<(), Fail> {
+    let access = access_of(word).ok_or("an access")?;
+    list.push(access)?;
+    Ok(())
+}
+
 fn list_of(alloc: Global, text: &str) -> Result<Vec<Access>, Fail> {
     let mut list = Vec::new(alloc);
     for word in text.split_whitespace() {
-        list.push(access_of(word).ok_or("an access")?)?;
+        push_access(&mut list, word)?;
     }
     Ok(list)
 }
@@ -51,52 +57,53 @@ fn letter_of(kind: LineKind) -> &'static str {
     }
 }
 
-// A touched word by its place, its reads, its writes and its hart.
-fn word_text(alloc: Global, place: usize, word: &Word) -> Result<String, AllocError> {
+// Adds a touched word by its place, its reads, its writes and its hart.
+fn push_word(text: &mut String, place: usize, word: &Word) -> Result<(), AllocError> {
     let reads = word.reads;
     let writes = word.writes;
     match word.owner {
-        Owner::None => Ok(String::new(alloc)),
+        Owner::None => Ok(()),
         Owner::One(hart) => {
             let hart = hart.number();
-            format!(in alloc; "{place} {reads} {writes} {hart};")
+            write!(text, "{place} {reads} {writes} {hart};")
         }
-        Owner::Many => format!(in alloc; "{place} {reads} {writes} many;"),
+        Owner::Many => write!(text, "{place} {reads} {writes} many;"),
     }
 }
 
 fn words_text(alloc: Global, words: &[Word]) -> Result<String, AllocError> {
     let mut text = String::new(alloc);
     for (place, word) in words.iter().enumerate() {
-        text.push_str(&word_text(alloc, place, word)?)?;
+        push_word(&mut text, place, word)?;
     }
     Ok(text)
 }
 
-// An observed line by its base, its start, its count and its verdict.
-fn observed_text(alloc: Global, line: &TrackedLine, words: &[Word]) -> Result<String, AllocError> {
+// Adds an observed line by its base, its start, its count and its verdict.
+fn push_observed(text: &mut String, line: &TrackedLine, words: &[Word]) -> Result<(), AllocError> {
     let base = line.line.range().base;
     let start = line.start;
     let count = line.count;
     let verdict = name_of(verdict(words));
-    format!(in alloc; "{base} {start} {count} {verdict};")
+    write!(text, "{base} {start} {count} {verdict};")
 }
 
-// A tracked line by its kind, base, size, start and count.
-fn tracked_text(alloc: Global, line: &TrackedLine) -> Result<String, AllocError> {
+// Adds a tracked line by its kind, base, size, start and count.
+fn push_tracked(text: &mut String, line: &TrackedLine) -> Result<(), AllocError> {
     let kind = letter_of(line.kind);
     let range = line.line.range();
     let base = range.base;
     let size = range.size;
+    write!(text, "{kind} {base} {size} ")?;
     let start = line.start;
     let count = line.count;
-    format!(in alloc; "{kind} {base} {size} {start} {count};")
+    write!(text, "{start} {count};")
 }
 
 fn tracked_texts(alloc: Global, lines: &[TrackedLine]) -> Result<String, AllocError> {
     let mut text = String::new(alloc);
     for line in lines {
-        text.push_str(&tracked_text(alloc, line)?)?;
+        push_tracked(&mut text, line)?;
     }
     Ok(text)
 }
@@ -115,7 +122,7 @@ fn observed(
     let mut first = String::new(alloc);
     for line in observed_lines(alloc, layout, tracking, &list)?.iter() {
         let words = words_since(alloc, &line.line, line.start, &list)?;
-        lines.push_str(&observed_text(alloc, line, &words)?)?;
+        push_observed(&mut lines, line, &words)?;
         if first.is_empty() {
             first = words_text(alloc, &words)?;
         }
@@ -126,7 +133,17 @@ fn observed(
 // What a list is about, the list, the layout and the tracking threshold, and what is found: each
 // line by its base, start, count and verdict, and the words of the first by place, reads, writes
 // and hart.
-const OBSERVED: [(&str, &str, u32, u32, u64, &str, &str); 12] = [
+type Observed = (
+    &'static str,
+    &'static str,
+    u32,
+    u32,
+    u64,
+    &'static str,
+    &'static str,
+);
+
+const OBSERVED: [Observed; 12] = [
     (
         "neighbouring words",
         "W0:1000 W1:1004 W0:1000",
@@ -237,14 +254,20 @@ const OBSERVED: [(&str, &str, u32, u32, u64, &str, &str); 12] = [
     ),
 ];
 
+// What a row says is found in its list.
+fn shows_observed(rt: &impl Abort, alloc: Global, row: &Observed) -> Result<(), Fail> {
+    let (name, list, size, offset, tracking, lines, words) = *row;
+    let layout = Layout::new(size, offset).ok_or("a layout")?;
+    let found = observed(rt, alloc, list, layout, tracking)?;
+    assert_eq!(rt; found.0.as_str(), lines, "lines: {name}");
+    assert_eq!(rt; found.1.as_str(), words, "words: {name}");
+    Ok(())
+}
+
 #[test]
 fn observes_lines(rt: HostRuntime) -> Result<(), Fail> {
-    let alloc = rt.alloc();
-    for (name, list, size, offset, tracking, lines, words) in OBSERVED {
-        let layout = Layout::new(size, offset).ok_or("a layout")?;
-        let found = observed(&rt, alloc, list, layout, tracking)?;
-        assert_eq!(rt; found.0.as_str(), lines, "lines: {name}");
-        assert_eq!(rt; found.1.as_str(), words, "words: {name}");
+    for row in &OBSERVED {
+        shows_observed(&rt, rt.alloc(), row)?;
     }
     Ok(())
 }
@@ -280,35 +303,48 @@ fn openings(
     ))
 }
 
+// The size of a pair's lines, the lower one's number, the prediction threshold, a list, and where
+// both lines open.
+type Opens = (u32, u64, u64, &'static str, Option<usize>, Option<usize>);
+
+const OPENS: [Opens; 8] = [
+    (64, 65, 2, TURNS, Some(2), Some(2)),
+    (64, 65, 3, TURNS, Some(4), Some(4)),
+    (64, 65, 2, "W0:1000 W1:1040 W0:1000 W1:1040", None, Some(2)),
+    (
+        64,
+        65,
+        2,
+        "W0:1004 W1:1040 W0:1004 W1:1040",
+        Some(2),
+        Some(2),
+    ),
+    (64, 66, 2, "W0:107c W1:1080 W0:107c W1:1080", Some(2), None),
+    (
+        32,
+        129,
+        2,
+        "W0:101c W1:1020 W0:101c W1:1020",
+        Some(2),
+        Some(2),
+    ),
+    (64, 65, 2, "W0:101c W1:1020 W0:101c W1:1020", None, None),
+    (256, 17, 2, TURNS, None, None),
+];
+
+// The lines of a pair open where a row says.
+fn opens(rt: &impl Abort, alloc: Global, row: &Opens) -> Result<(), Fail> {
+    let (size, number, prediction, text, shifted, doubled) = *row;
+    let pair = NativePair::new(size, number, 1, prediction).ok_or("a pair")?;
+    let found = openings(rt, alloc, &pair, text)?;
+    assert_eq!(rt; found, (shifted, doubled), "at {size}, {number}: {text}");
+    Ok(())
+}
+
 #[test]
 fn opens_lines_of_neighbours(rt: HostRuntime) -> Result<(), Fail> {
-    for (size, number, prediction, text, shifted, doubled) in [
-        (64, 65, 2, TURNS, Some(2), Some(2)),
-        (64, 65, 3, TURNS, Some(4), Some(4)),
-        (64, 65, 2, "W0:1000 W1:1040 W0:1000 W1:1040", None, Some(2)),
-        (
-            64,
-            65,
-            2,
-            "W0:1004 W1:1040 W0:1004 W1:1040",
-            Some(2),
-            Some(2),
-        ),
-        (64, 66, 2, "W0:107c W1:1080 W0:107c W1:1080", Some(2), None),
-        (
-            32,
-            129,
-            2,
-            "W0:101c W1:1020 W0:101c W1:1020",
-            Some(2),
-            Some(2),
-        ),
-        (64, 65, 2, "W0:101c W1:1020 W0:101c W1:1020", None, None),
-        (256, 17, 2, TURNS, None, None),
-    ] {
-        let pair = NativePair::new(size, number, 1, prediction).ok_or("a pair")?;
-        let found = openings(&rt, rt.alloc(), &pair, text)?;
-        assert_eq!(rt; found, (shifted, doubled), "at {size}, {number}: {text}");
+    for row in &OPENS {
+        opens(&rt, rt.alloc(), row)?;
     }
     Ok(())
 }
@@ -334,7 +370,16 @@ fn predicted(
 
 // What a list is about, the list, the size and the prediction threshold, and the listed and the
 // predicted lines, each by kind, base, size, start and count.
-const PREDICTED: [(&str, &str, u32, u64, &str, &str); 10] = [
+type Predicted = (
+    &'static str,
+    &'static str,
+    u32,
+    u64,
+    &'static str,
+    &'static str,
+);
+
+const PREDICTED: [Predicted; 10] = [
     ("no access", "", 64, 2, "", ""),
     (
         "words on both sides of a line's end",
@@ -410,12 +455,19 @@ const PREDICTED: [(&str, &str, u32, u64, &str, &str); 10] = [
     ),
 ];
 
+// What a row says is found in its list.
+fn shows_predicted(rt: &impl Abort, alloc: Global, row: &Predicted) -> Result<(), Fail> {
+    let (name, text, size, prediction, listed, all) = *row;
+    let found = predicted(rt, alloc, text, size, prediction)?;
+    assert_eq!(rt; found.0.as_str(), listed, "listed: {name}");
+    assert_eq!(rt; found.1.as_str(), all, "predicted: {name}");
+    Ok(())
+}
+
 #[test]
 fn predicts_lines(rt: HostRuntime) -> Result<(), Fail> {
-    for (name, text, size, prediction, listed, all) in PREDICTED {
-        let found = predicted(&rt, rt.alloc(), text, size, prediction)?;
-        assert_eq!(rt; found.0.as_str(), listed, "listed: {name}");
-        assert_eq!(rt; found.1.as_str(), all, "predicted: {name}");
+    for row in &PREDICTED {
+        shows_predicted(&rt, rt.alloc(), row)?;
     }
     Ok(())
 }

@@ -5,11 +5,9 @@ use virtual_lines::{doubled_range, shifted_range};
 #[test]
 fn shifted_and_doubled_ranges(rt: HostRuntime) -> Result<(), Fail> {
     let shifted = shifted_range(0x101c, 0x1020, 32).ok_or("neighbouring words")?;
-    assert_eq!(rt; shifted.base, 0x1010);
-    assert_eq!(rt; shifted.size, 32);
-    assert_eq!(rt; shifted_range(0x1000, 0x1020, 32), None);
+    assert!(rt; shifted.base == 0x1010 && shifted.size == 32);
+    assert!(rt; shifted_range(0x1000, 0x1020, 32).is_none());
     let doubled = doubled_range(0x1020, 32);
-    assert_eq!(rt; doubled.base, 0x1000);
-    assert_eq!(rt; doubled.size, 64);
+    assert!(rt; doubled.base == 0x1000 && doubled.size == 64);
     Ok(())
 }

@@ -7,6 +7,8 @@ mod calls;
 #[cfg(test)]
 mod files;
 #[cfg(test)]
+mod guests;
+#[cfg(test)]
 mod memories;
 #[cfg(test)]
 mod program_file;

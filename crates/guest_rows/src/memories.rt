@@ -44,11 +44,11 @@ const SLICES: [(u32, u32, Option<&[u8]>); 5] = [
 #[test]
 fn a_store_is_loaded_fetched_and_sliced(rt: HostRuntime) -> Result<(), Fail> {
     let memory = stored(rt.alloc())?;
-    assert_eq!(rt; loads(&memory), [Ok(0x80f7_a2b3), Ok(0x80f7), Ok(0xa2)]);
+    assert!(rt; loads(&memory) == [Ok(0x80f7_a2b3), Ok(0x80f7), Ok(0xa2)]);
     for (addr, len, bytes) in &SLICES {
-        assert_eq!(rt; memory.slice(*addr, *len), *bytes);
+        assert!(rt; memory.slice(*addr, *len) == *bytes, "at {addr:x}");
     }
-    assert_eq!(rt; memory.fetch(0x10004), Ok(0x80f7_a2b3));
+    assert!(rt; memory.fetch(0x10004) == Ok(0x80f7_a2b3));
     Ok(())
 }
 
@@ -78,23 +78,22 @@ const FETCH_FAULTS: [(u32, MemFault); 3] = [
     (0x11000, MemFault::NotExecutable),
 ];
 
-// The fault of a store of four bytes.
-fn store_fault(memory: &mut Memory, addr: u32) -> Option<MemFault> {
-    memory.store(addr, 4, 1).err()
+// Whether a store of four bytes has this fault, told before it is made too.
+fn is_unstored(memory: &mut Memory, addr: u32, fault: MemFault) -> bool {
+    memory.store_fault(addr, 4) == Some(fault) && memory.store(addr, 4, 1) == Err(fault)
 }
 
 #[test]
 fn the_first_fault_is_told(rt: HostRuntime) -> Result<(), Fail> {
     let mut memory = two_pages(rt.alloc())?;
-    assert_eq!(rt; refused_loads(&memory), LOAD_FAULTS);
+    assert!(rt; refused_loads(&memory) == LOAD_FAULTS);
     for (addr, fault) in &FETCH_FAULTS {
-        assert_eq!(rt; memory.fetch(*addr), Err(*fault));
+        assert!(rt; memory.fetch(*addr) == Err(*fault), "at {addr:x}");
     }
     for (addr, fault) in &STORE_FAULTS {
-        assert_eq!(rt; memory.store_fault(*addr, 4), Some(*fault));
-        assert_eq!(rt; store_fault(&mut memory, *addr), Some(*fault));
+        assert!(rt; is_unstored(&mut memory, *addr, *fault), "at {addr:x}");
     }
-    assert_eq!(rt; memory.store_fault(0x10000, 4), None);
+    assert!(rt; memory.store_fault(0x10000, 4).is_none());
     Ok(())
 }
 
@@ -102,6 +101,6 @@ fn the_first_fault_is_told(rt: HostRuntime) -> Result<(), Fail> {
 fn pages_have_their_rights(rt: HostRuntime) -> Result<(), Fail> {
     let memory = two_pages(rt.alloc())?;
     assert!(rt; memory.executable(0x10fff) && !memory.executable(0x11000));
-    assert_eq!(rt; (memory.base(), memory.size()), (0x10000, 0x3000));
+    assert!(rt; (memory.base(), memory.size()) == (0x10000, 0x3000));
     Ok(())
 }

@@ -1,13 +1,8 @@
 // A small program, recorded.
-ghost use Rattle.std.specs.Prelude.{◌≡◌, ◌≤◌, ◌^◌, IfOk};
 ghost use Rattle.outputs.specs.OnTheirWay.{AreApart};
 ghost use Rattle.run_recorder.specs.Recorded.{names_of};
-ghost use Rattle.guest_run.specs.Runs.{IsShort, rest_of};
 
-use crate::program_file::file_of;
-use elf_loader::{ElfView, Space, place};
-use guest_run::{Guest, RunSettings};
-use hart_scheduler::Schedule;
+use crate::guests::guest_of;
 use predator_base::{Ending, NoMemory, Outcome};
 use run_recorder::{Content, RunFile, record_run};
 use shelf::{Failing, MemoryShelf, ShelfError};
@@ -27,39 +22,8 @@ const WRITER: [u32; 7] = [
     0x0000_0073, // ecall
 ];
 
-// The guest of a program, of 8 harts.
-fn guest_of(alloc: Global, program: &[u32]) -> Result<Guest, Fail>
-    ensures short { IfOk result (λ guest. IsShort guest.setup (rest_of guest)) }
-    ensures budget { IfOk result (λ guest. guest.setup.budget ≤ 2 ^ 36) }
-    ensures harts { IfOk result (λ guest. guest.setup.harts ≡ 8) }
-{
-    let file = file_of(alloc, program)?;
-    let view = ElfView::read(&file)?;
-    let space = Space {
-        memory: 0x1_0000,
-        stack: 0x1000,
-        harts: 8,
-    };
-    let Ok(image) = place(alloc, &view, space) else {
-        return Err("not placed".into());
-    };
-    if image.entry % 4 != 0 {
-        return Err("misaligned".into());
-    }
-    let schedule = Schedule::read(alloc, b"", 8, 100)?;
-    let settings = RunSettings {
-        harts: 8,
-        quantum: 100,
-        budget: 1000,
-    };
-    match Guest::new(alloc, image, schedule, settings) {
-        Ok(guest) => Ok(guest),
-        Err(refused) => Err(refused.into()),
-    }
-}
-
 // Counts the records that it sees.
-#[derive(Drop)]
+#[derive(Clone, Copy)]
 struct Counter {
     seen: usize,
 }
@@ -88,7 +52,7 @@ fn record(
 ) -> Result<Result<bool, ShelfError>, Fail>
     requires { AreApart (names_of files.now) }
 {
-    let guest = guest_of(alloc, &WRITER)?;
+    let guest = guest_of(alloc, &WRITER, b"", 8, 1000)?;
     let wanted = Ending {
         outcome: Outcome::Exit(4),
         steps: 7,
@@ -107,18 +71,31 @@ fn file_for<'a>(name: &'a str, content: Content) -> [RunFile<'a>; 1]
     [RunFile { name, content }]
 }
 
+// Whether these bytes were written under the name.
+fn holds(shelf: &MemoryShelf, name: &str, bytes: &[u8]) -> bool {
+    match shelf.written(name) {
+        Some(file) => file == bytes,
+        None => false,
+    }
+}
+
+// Whether so many bytes were written under the name.
+fn has_length(shelf: &MemoryShelf, name: &str, count: usize) -> bool {
+    match shelf.written(name) {
+        Some(file) => file.len() == count,
+        None => false,
+    }
+}
+
 #[test]
 fn what_is_put_out_is_written(rt: HostRuntime) -> Result<(), Fail> {
     let alloc = rt.alloc();
     let mut shelf = shelf_with(alloc, &[])?;
     let files = file_for("o", Content::Output);
     let mut counter = Counter { seen: 0 };
-    assert!(rt; record(alloc, &mut shelf, &mut counter, &files)??);
-    assert_eq!(rt; counter.seen, 1);
-    assert_eq!(rt;
-        shelf.written("o"),
-        Some([0x93, 0x08, 0x00, 0x04].as_slice())
-    );
+    assert!(rt; record(alloc, &mut shelf, &mut counter, &files)? == Ok(true));
+    assert!(rt; counter.seen == 1);
+    assert!(rt; holds(&shelf, "o", &[0x93, 0x08, 0x00, 0x04]));
     Ok(())
 }
 
@@ -127,8 +104,8 @@ fn a_trace_has_a_beginning_and_an_end(rt: HostRuntime) -> Result<(), Fail> {
     let alloc = rt.alloc();
     let mut shelf = shelf_with(alloc, &[])?;
     let files = file_for("t", Content::Trace);
-    assert!(rt; record(alloc, &mut shelf, &mut Counter { seen: 0 }, &files)??);
-    assert_eq!(rt; shelf.written("t").map(|bytes| bytes.len()), Some(45));
+    assert!(rt; record(alloc, &mut shelf, &mut Counter { seen: 0 }, &files)? == Ok(true));
+    assert!(rt; has_length(&shelf, "t", 45));
     Ok(())
 }
 
@@ -138,9 +115,9 @@ fn a_failing_call_leaves_a_front(rt: HostRuntime) -> Result<(), Fail> {
     let alloc = rt.alloc();
     let mut shelf = shelf_with(alloc, &[Failing { call: 2, keep: 8 }])?;
     let files = file_for("t", Content::Trace);
-    let refused = record(alloc, &mut shelf, &mut Counter { seen: 0 }, &files)?.err();
-    assert_eq!(rt; refused, Some(ShelfError::Failed));
-    assert_eq!(rt; shelf.written("t"), Some(b"PRDTRC01".as_slice()));
+    let answer = record(alloc, &mut shelf, &mut Counter { seen: 0 }, &files)?;
+    assert!(rt; answer == Err(ShelfError::Failed));
+    assert!(rt; holds(&shelf, "t", b"PRDTRC01"));
     Ok(())
 }
 
@@ -148,6 +125,6 @@ fn a_failing_call_leaves_a_front(rt: HostRuntime) -> Result<(), Fail> {
 fn a_run_without_files_calls_no_shelf(rt: HostRuntime) -> Result<(), Fail> {
     let alloc = rt.alloc();
     let mut shelf = shelf_with(alloc, &[Failing { call: 1, keep: 0 }])?;
-    assert!(rt; record(alloc, &mut shelf, &mut Counter { seen: 0 }, &[])??);
+    assert!(rt; record(alloc, &mut shelf, &mut Counter { seen: 0 }, &[])? == Ok(true));
     Ok(())
 }

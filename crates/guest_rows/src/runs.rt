@@ -1,9 +1,7 @@
 // Small programs, run to their ends.
 
-use crate::program_file::file_of;
-use elf_loader::{ElfView, Space, place};
-use guest_run::{Event, Guest, RunSettings, Turn};
-use hart_scheduler::Schedule;
+use crate::guests::guest_of;
+use guest_run::{Event, Guest, Turn};
 use predator_base::{Cause, Ending, Hart, Outcome};
 use std::alloc::Global;
 use std::test::Fail;
@@ -19,6 +17,15 @@ struct Seen {
 }
 
 impl Seen {
+    fn new(alloc: Global) -> Seen {
+        Seen {
+            harts: Vec::new(alloc),
+            blocks: Vec::new(alloc),
+            freed: Vec::new(alloc),
+            output: Vec::new(alloc),
+        }
+    }
+
     fn see(&mut self, guest: &Guest, event: Event) -> Result<(), Fail> {
         match event {
             Event::Quiet => {}
@@ -67,50 +74,24 @@ struct Row {
     wanted: Wanted,
 }
 
-// The guest of a program.
-fn guest_of(alloc: Global, row: &Row) -> Result<Guest, Fail> {
+// The guest of a row's program.
+fn guest_in(alloc: Global, row: &Row) -> Result<Guest, Fail> {
     let harts = row.harts;
     if harts == 0 || harts > 256 {
         return Err("no such harts".into());
     }
-    let file = file_of(alloc, row.program)?;
-    let view = ElfView::read(&file)?;
-    let space = Space {
-        memory: 0x1_0000,
-        stack: 0x1000,
-        harts,
-    };
-    let Ok(image) = place(alloc, &view, space) else {
-        return Err("not placed".into());
-    };
-    if image.entry % 4 != 0 {
-        return Err("misaligned".into());
-    }
-    let schedule = Schedule::read(alloc, row.schedule, harts, 100)?;
-    let settings = RunSettings {
-        harts,
-        quantum: 100,
-        budget: row.budget,
-    };
-    Ok(Guest::new(alloc, image, schedule, settings)?)
+    guest_of(alloc, row.program, row.schedule, harts, row.budget)
 }
 
 // A whole run of at most 100 turns: its end, and what is seen of it.
-fn run(alloc: Global, mut guest: Guest) -> Result<(Ending, Seen), Fail> {
-    let mut seen = Seen {
-        harts: Vec::new(alloc),
-        blocks: Vec::new(alloc),
-        freed: Vec::new(alloc),
-        output: Vec::new(alloc),
-    };
+fn run(guest: &mut Guest, seen: &mut Seen) -> Result<Option<Ending>, Fail> {
     for _turn in 0..100u32 {
         match guest.step()? {
-            Turn::Ran(event) => seen.see(&guest, event)?,
+            Turn::Ran(event) => seen.see(guest, event)?,
             Turn::Ended(_) => break,
         }
     }
-    let ending = guest.ending().ok_or("no end")?;
-    Ok((ending, seen))
+    Ok(guest.ending())
 }
 
 fn is_wanted(seen: &Seen, wanted: &Wanted) -> bool {
@@ -120,16 +101,22 @@ fn is_wanted(seen: &Seen, wanted: &Wanted) -> bool {
         && seen.output.as_slice() == wanted.output
 }
 
-// Whether a program runs as its row says.
-fn is_run(alloc: Global, row: &Row) -> Result<bool, Fail> {
-    let guest = guest_of(alloc, row)?;
-    let (ending, seen) = run(alloc, guest)?;
+// Whether a guest runs as its row says.
+fn runs_as(alloc: Global, guest: &mut Guest, row: &Row) -> Result<bool, Fail> {
+    let mut seen = Seen::new(alloc);
+    let ending = run(guest, &mut seen)?;
     let wanted = Ending {
         outcome: row.outcome,
         steps: row.steps,
         accesses: row.accesses,
     };
-    Ok(ending == wanted && is_wanted(&seen, &row.wanted))
+    Ok(ending == Some(wanted) && is_wanted(&seen, &row.wanted))
+}
+
+// Whether a program runs as its row says.
+fn is_run(alloc: Global, row: &Row) -> Result<bool, Fail> {
+    let mut guest = guest_in(alloc, row)?;
+    runs_as(alloc, &mut guest, row)
 }
 
 // The call that makes a hart, which begins behind it; both add to a word, and end.

@@ -13,6 +13,11 @@ fn empty_lines(alloc: Global, count: usize) -> Result<Vec<u8>, AllocError>
     Vec::from_elem(alloc, b'\n', count)
 }
 
+fn fault_of_empty_lines(alloc: Global, count: usize) -> Result<Option<ScheduleFault>, AllocError> {
+    let text = empty_lines(alloc, count)?;
+    Ok(Schedule::read(alloc, text.as_slice(), 8, 100).err())
+}
+
 #[test]
 fn a_schedule_is_refused_at_its_first_bad_line(rt: HostRuntime) -> Result<(), Fail> {
     let refused = [
@@ -24,18 +29,15 @@ fn a_schedule_is_refused_at_its_first_bad_line(rt: HostRuntime) -> Result<(), Fa
         (b"0 0\n8 1\n".as_slice(), ScheduleFault::ZeroCount(1)),
     ];
     for (text, fault) in refused {
-        assert_eq!(rt; Schedule::read(rt.alloc(), text, 8, 100).err(), Some(fault));
+        assert!(rt; Schedule::read(rt.alloc(), text, 8, 100).err() == Some(fault));
     }
     Ok(())
 }
 
 #[test]
 fn a_schedule_has_at_most_1_mib(rt: HostRuntime) -> Result<(), Fail> {
-    let longest = empty_lines(rt.alloc(), 1_048_576)?;
-    assert!(rt; Schedule::read(rt.alloc(), longest.as_slice(), 8, 100).is_ok());
-    let longer = empty_lines(rt.alloc(), 1_048_577)?;
-    let fault = Schedule::read(rt.alloc(), longer.as_slice(), 8, 100).err();
-    assert_eq!(rt; fault, Some(ScheduleFault::TooLong));
+    assert!(rt; fault_of_empty_lines(rt.alloc(), 1_048_576)?.is_none());
+    assert!(rt; fault_of_empty_lines(rt.alloc(), 1_048_577)? == Some(ScheduleFault::TooLong));
     Ok(())
 }
 
@@ -46,16 +48,26 @@ fn chosen(schedule: &mut Schedule, runnable: [bool; 3]) -> Option<u16>
     schedule.next(&runnable).map(Hart::number)
 }
 
+// Who is chosen where none can run, twice where all can, where the last alone can, and where all
+// can again.
+fn choices(schedule: &mut Schedule) -> [Option<u16>; 5]
+    requires { schedule.old.harts ≡ 3 }
+    ensures { schedule.new.harts ≡ 3 }
+{
+    let all = [true, true, true];
+    let none = chosen(schedule, [false, false, false]);
+    let first = chosen(schedule, all);
+    let second = chosen(schedule, all);
+    let alone = chosen(schedule, [false, false, true]);
+    [none, first, second, alone, chosen(schedule, all)]
+}
+
 #[test]
 fn the_list_comes_first_and_then_turns(rt: HostRuntime) -> Result<(), Fail> {
     let mut schedule = Schedule::read(rt.alloc(), b"2 1\n\n1 4294967295\n0 1", 3, 2)?;
     let all = [true, true, true];
-    assert_eq!(rt; chosen(&mut schedule, [false, false, false]), None);
-    assert_eq!(rt; chosen(&mut schedule, all), Some(2));
-    assert_eq!(rt; chosen(&mut schedule, all), Some(1));
-    assert_eq!(rt; chosen(&mut schedule, [false, false, true]), Some(2));
-    assert_eq!(rt; chosen(&mut schedule, all), Some(2));
-    assert_eq!(rt; schedule.peek(&all), Hart::new(0));
-    assert_eq!(rt; chosen(&mut schedule, all), Some(0));
+    assert!(rt; choices(&mut schedule) == [None, Some(2), Some(1), Some(2), Some(2)]);
+    assert!(rt; schedule.peek(&all) == Hart::new(0));
+    assert!(rt; chosen(&mut schedule, all) == Some(0));
     Ok(())
 }

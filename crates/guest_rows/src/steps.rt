@@ -1,5 +1,5 @@
 // Steps whose results come from outside, and the rules of reservations and traps.
-ghost use Rattle.std.specs.Prelude.{◌≡◌, ◌≤◌};
+ghost use Rattle.std.specs.Prelude.{◌≡◌, ◌≤◌, length};
 
 use crate::programs::PROGRAMS;
 use guest_memory::Memory;
@@ -39,17 +39,23 @@ fn memory_of(rt: &impl Abort, alloc: Global, words: &[u32]) -> Result<Memory, Fa
 
 #[test]
 fn random_programs_end_as_under_qemu(rt: HostRuntime) -> Result<(), Fail> {
-    for (words, registers) in PROGRAMS {
-        let mut memory = memory_of(&rt, rt.alloc(), &words)?;
-        let mut state = HartState::new(BASE, 0, 0, 0);
-        for _ in words {
-            assert!(rt; goes_on(&rt, rt.alloc(), &mut state, &mut memory)?);
-        }
+    for (words, registers) in &PROGRAMS {
+        let state = after_all(&rt, rt.alloc(), words)?;
         for (number, value) in registers.iter().enumerate() {
-            assert_eq!(rt; state.reg(reg(&rt, number as u8)), *value, "x{number}");
+            assert!(rt; state.reg(reg(&rt, number as u8)) == *value, "x{number}");
         }
     }
     Ok(())
+}
+
+// Hart 0 after all steps of a program, each of which goes on.
+fn after_all(rt: &impl Abort, alloc: Global, words: &[u32]) -> Result<HartState, Fail> {
+    let mut memory = memory_of(rt, alloc, words)?;
+    let mut state = HartState::new(BASE, 0, 0, 0);
+    for _ in words {
+        assert!(rt; goes_on(rt, alloc, &mut state, &mut memory)?);
+    }
+    Ok(state)
 }
 
 // One step of hart 0, where nothing is reserved.
@@ -87,7 +93,7 @@ fn x3_after(rt: &impl Abort, alloc: Global, word: u32, x1: u32, x2: u32) -> Resu
 fn traps(rt: &impl Abort, alloc: Global, word: u32, x1: u32, cause: Cause) -> Result<(), Fail> {
     let mut memory = memory_of(rt, alloc, &[word])?;
     let end = one(rt, alloc, &mut memory, x1, 5)?;
-    assert_eq!(rt; end, (StepEnd::Trap(cause), 77), "{word:08x}");
+    assert!(rt; end == (StepEnd::Trap(cause), 77), "{word:08x}");
     Ok(())
 }
 
@@ -115,7 +121,10 @@ fn division_has_its_edges(rt: HostRuntime) -> Result<(), Fail> {
         (0x0220_e1b3, 0xffff_fff9, 2, 0xffff_ffff),
     ];
     for (word, x1, x2, x3) in rows {
-        assert_eq!(rt; x3_after(&rt, rt.alloc(), word, x1, x2)?, x3, "{word:08x}");
+        assert!(rt;
+            x3_after(&rt, rt.alloc(), word, x1, x2)? == x3,
+            "{word:08x}"
+        );
     }
     Ok(())
 }
@@ -140,49 +149,63 @@ fn each_trap_has_its_cause(rt: HostRuntime) -> Result<(), Fail> {
     for (word, x1, cause) in rows {
         traps(&rt, rt.alloc(), word, x1, cause)?;
     }
-    let mut memory = memory_of(&rt, rt.alloc(), &[0x0000_0073])?;
-    assert_eq!(rt;
-        one(&rt, rt.alloc(), &mut memory, 0, 0)?,
-        (StepEnd::Call, 77)
-    );
-    let mut unmapped = Memory::new(rt.alloc(), BASE, 0x1000)?;
-    let end = one(&rt, rt.alloc(), &mut unmapped, 0, 0)?;
-    assert_eq!(rt; end, (StepEnd::Trap(Cause::FetchOutside), 77));
+    assert!(rt; end_unmapped(&rt, rt.alloc())? == (StepEnd::Trap(Cause::FetchOutside), 77));
     Ok(())
 }
 
-// Hart 0 does LR at x1, hart 1 stores a byte by this word, and hart 0 does SC: its x3, whether it
-// wrote four bytes, and whether a reservation is left.
-fn reserved(rt: &impl Abort, alloc: Global, byte_store: u32) -> Result<(u32, bool, bool), Fail> {
-    let mut memory = memory_of(rt, alloc, &[0x1000_a1af, byte_store, 0x1820_a1af])?;
-    let mut held = Reservations::new(alloc, 2)?;
+// How a step ends where nothing is mapped.
+fn end_unmapped(rt: &impl Abort, alloc: Global) -> Result<(StepEnd, u32), Fail> {
+    let mut memory = Memory::new(alloc, BASE, 0x1000)?;
+    one(rt, alloc, &mut memory, 0, 0)
+}
+
+#[test]
+fn a_call_is_no_trap(rt: HostRuntime) -> Result<(), Fail> {
+    let mut memory = memory_of(&rt, rt.alloc(), &[0x0000_0073])?;
+    assert!(rt; one(&rt, rt.alloc(), &mut memory, 0, 0)? == (StepEnd::Call, 77));
+    Ok(())
+}
+
+// Hart 0 does LR at x1, hart 1 the store behind it, and hart 0 the SC behind that: its x3, whether
+// it wrote four bytes, and whether a reservation is left.
+fn reserve_and_store(
+    rt: &impl Abort,
+    memory: &mut Memory,
+    held: &mut Reservations,
+) -> (u32, bool, bool)
+    requires { length held.old ≡ 2 }
+{
     let mut first = HartState::new(BASE, 0, 0, 0);
     let mut second = HartState::new(BASE + 4, 0, 0, 0);
     first.set_reg(reg(rt, 1), BASE + 0x400);
     second.set_reg(reg(rt, 1), BASE + 0x400);
-    step(hart(rt, 0), &mut first, &mut memory, &mut held);
-    assert_eq!(rt; held.held(hart(rt, 0)), Some(BASE + 0x400));
-    step(hart(rt, 1), &mut second, &mut memory, &mut held);
+    step(hart(rt, 0), &mut first, memory, held);
+    assert!(rt; held.held(hart(rt, 0)) == Some(BASE + 0x400));
+    step(hart(rt, 1), &mut second, memory, held);
     first.advance();
-    let end = step(hart(rt, 0), &mut first, &mut memory, &mut held);
+    let end = step(hart(rt, 0), &mut first, memory, held);
     let writes = match end {
         StepEnd::Next(_, Some(access)) => access.kind() == Kind::Write && access.size() == 4,
         _ => false,
     };
-    Ok((
-        first.reg(reg(rt, 3)),
-        writes,
-        held.held(hart(rt, 0)).is_some(),
-    ))
+    let is_held = held.held(hart(rt, 0)).is_some();
+    (first.reg(reg(rt, 3)), writes, is_held)
+}
+
+// The same in a memory with this store.
+fn reserved(rt: &impl Abort, alloc: Global, byte_store: u32) -> Result<(u32, bool, bool), Fail> {
+    let mut memory = memory_of(rt, alloc, &[0x1000_a1af, byte_store, 0x1820_a1af])?;
+    let mut held = Reservations::new(alloc, 2)?;
+    Ok(reserve_and_store(rt, &mut memory, &mut held))
 }
 
 #[test]
 fn a_byte_in_the_word_ends_its_reservation(rt: HostRuntime) -> Result<(), Fail> {
     // sb x2, 3(x1) and sb x2, 4(x1)
-    assert_eq!(rt; reserved(&rt, rt.alloc(), 0x0020_81a3)?, (1, false, false));
-    assert_eq!(rt; reserved(&rt, rt.alloc(), 0x0020_8223)?, (0, true, false));
+    assert!(rt; reserved(&rt, rt.alloc(), 0x0020_81a3)? == (1, false, false));
+    assert!(rt; reserved(&rt, rt.alloc(), 0x0020_8223)? == (0, true, false));
     let mut held = Reservations::new(rt.alloc(), 2)?;
     held.clear(hart(&rt, 1));
-    assert_eq!(rt; held.harts(), 2);
+    assert!(rt; held.harts() == 2);
     Ok(())
 }

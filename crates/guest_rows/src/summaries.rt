@@ -1,5 +1,5 @@
 // The summary of a small program.
-use elf_loader::{ElfView, Space, place};
+use elf_loader::{ElfView, Image, Space, place};
 use program_summary::{note_symbols, summary};
 use std::alloc::{AllocError, Global};
 use std::test::Fail;
@@ -49,17 +49,22 @@ const SPACE: Space = Space {
     harts: 8,
 };
 
-// The summary of a file.
-fn summary_of(alloc: Global, file: &[u8]) -> Result<String, Fail> {
+// The summary of a file that is placed so.
+fn summary_of(alloc: Global, view: &ElfView<'_>, image: &Image) -> Result<String, Fail> {
+    let symbols = note_symbols(alloc, view.symbols()?)?;
+    Ok(summary(alloc, view, image, &symbols)?)
+}
+
+// Whether a file has this summary.
+fn is_told(alloc: Global, file: &[u8], text: &str) -> Result<bool, Fail> {
     let view = ElfView::read(file)?;
     let image = place(alloc, &view, SPACE)?;
-    let symbols = note_symbols(alloc, view.symbols()?)?;
-    Ok(summary(alloc, &view, &image, &symbols)?)
+    Ok(summary_of(alloc, &view, &image)?.as_str() == text)
 }
 
 #[test]
 fn tells_of_a_program(rt: HostRuntime) -> Result<(), Fail> {
     let file = plain_file(rt.alloc())?;
-    assert_eq!(rt; summary_of(rt.alloc(), &file)?.as_str(), SUMMARY);
+    assert!(rt; is_told(rt.alloc(), &file, SUMMARY)?);
     Ok(())
 }

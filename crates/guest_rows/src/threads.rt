@@ -1,27 +1,37 @@
 // A short life of three harts: the calls that take memory, and the phases that each call leaves.
+ghost use Rattle.std.specs.Prelude.{◌≡◌};
+ghost use Rattle.thread_calls.specs.Phases.{first_phases};
 
 use predator_base::Hart;
+use std::process::Abort;
 use std::test::Fail;
-use thread_calls::{HartPhase, JoinEnd, Threads};
+use thread_calls::{JoinEnd, Threads};
+
+// Hart 0 makes a hart and joins it, this one waits, is woken and ends, and then hart 0 ends.
+fn live(rt: &impl Abort, threads: &mut Threads) -> Result<(), Fail>
+    requires { threads.old ≡ first_phases 3 }
+{
+    let main = Hart::new(0).ok_or("hart 0")?;
+    assert!(rt; threads.runnable() == [true, false, false].as_slice());
+    assert!(rt; threads.lone() == Some(main));
+
+    let worker = threads.spawn().ok_or("a free hart")?;
+    assert!(rt; worker.number() == 1);
+    assert!(rt; threads.lone().is_none());
+    assert!(rt; threads.join(main, 1) == JoinEnd::Waits);
+    assert!(rt; threads.lone() == Some(worker));
+    threads.wait(worker, 64);
+    assert!(rt; threads.runnable() == [false, false, false].as_slice());
+    assert!(rt; threads.wake(64, 5) == 1);
+    assert!(rt; threads.exit(worker, 7) == Some(main));
+    assert!(rt; threads.finished().is_none());
+    assert!(rt; threads.exit(main, 3).is_none());
+    assert!(rt; threads.finished() == Some(3));
+    Ok(())
+}
 
 #[test]
 fn a_hart_is_joined_woken_and_ends(rt: HostRuntime) -> Result<(), Fail> {
-    let main = Hart::new(0).ok_or("hart 0")?;
     let mut threads = Threads::new(rt.alloc(), 3)?;
-    assert_eq!(rt; threads.runnable(), [true, false, false].as_slice());
-    assert_eq!(rt; threads.lone(), Some(main));
-
-    let worker = threads.spawn().ok_or("a free hart")?;
-    assert_eq!(rt; worker.number(), 1);
-    assert_eq!(rt; threads.lone(), None);
-    assert_eq!(rt; threads.join(main, 1), JoinEnd::Waits);
-    assert_eq!(rt; threads.lone(), Some(worker));
-    threads.wait(worker, 64);
-    assert_eq!(rt; threads.runnable(), [false, false, false].as_slice());
-    assert_eq!(rt; threads.wake(64, 5), 1);
-    assert_eq!(rt; threads.exit(worker, 7), Some(main));
-    assert_eq!(rt; threads.finished(), None);
-    assert_eq!(rt; threads.exit(main, 3), None);
-    assert_eq!(rt; threads.finished(), Some(3));
-    Ok(())
+    live(&rt, &mut threads)
 }

@@ -256,15 +256,13 @@ const DYING: [(u64, u32, u32, [u32; 4]); 2] = [
 
 const LIVING: [(u64, u32, u32, [u32; 4]); 2] = [(7, 0x1020, 4, [0; 4]), (8, 0x1030, 4, [0; 4])];
 
-// What stands on a line, beside it, or died before.
-fn objects_of(alloc: Global) -> Result<ObjectTable, Fail> {
-    let mut objects = ObjectTable::new(alloc);
-    note_symbols(&mut objects)?;
-    note_blocks(&mut objects, &DYING)?;
+// Notes what stands on a line, beside it, or died before.
+fn note_all(objects: &mut ObjectTable) -> Result<(), Fail> {
+    note_symbols(objects)?;
+    note_blocks(objects, &DYING)?;
     objects.note_free(2, 0x1020);
     objects.note_free(3, 0x1000);
-    note_blocks(&mut objects, &LIVING)?;
-    Ok(objects)
+    note_blocks(objects, &LIVING)
 }
 
 const BLANK: [Row; 1] = [Row {
@@ -282,9 +280,15 @@ const ONE_LINE: Case = Case {
     text: WITH_OBJECTS,
 };
 
+// Whether a line is shown with what stands on it.
+fn shows_objects(rt: &impl Abort, alloc: Global) -> Result<bool, Fail> {
+    let mut objects = ObjectTable::new(alloc);
+    note_all(&mut objects)?;
+    shows(rt, alloc, Outcome::Part, &ONE_LINE, &objects)
+}
+
 #[test]
 fn tells_what_stands_on_a_line(rt: HostRuntime) -> Result<(), Fail> {
-    let objects = objects_of(rt.alloc())?;
-    assert!(rt; shows(&rt, rt.alloc(), Outcome::Part, &ONE_LINE, &objects)?);
+    assert!(rt; shows_objects(&rt, rt.alloc())?);
     Ok(())
 }

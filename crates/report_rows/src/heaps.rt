@@ -36,25 +36,40 @@ const OF_ONE_ADDRESS: [Told; 4] = [
     (SymbolKind::Object, 0x1000, 64, b""),
 ];
 
-#[test]
-fn each_place_is_noted_once(rt: HostRuntime) -> Result<(), Fail> {
-    let mut table = ObjectTable::new(rt.alloc());
-    note_symbols(&mut table, &OF_ONE_ADDRESS)?;
-    assert_eq!(rt; table.symbol_count(), 3);
-    let first = table.symbol(0).ok_or("no first symbol")?;
-    assert_eq!(rt; first.name.bytes(), b"counters".as_slice());
-    let last = table.symbol(2).ok_or("no last symbol")?;
-    assert_eq!(rt; last.size, 64);
+// Whether the symbol at a place has this size and this name.
+fn is_symbol(table: &ObjectTable, i: usize, size: u32, name: &[u8]) -> bool {
+    match table.symbol(i) {
+        Some(symbol) => symbol.size == size && symbol.name.bytes() == name,
+        None => false,
+    }
+}
+
+fn notes_each_place_once(rt: &impl Abort, table: &mut ObjectTable) -> Result<(), Fail> {
+    note_symbols(table, &OF_ONE_ADDRESS)?;
+    assert!(rt; table.symbol_count() == 3);
+    assert!(rt; is_symbol(table, 0, 32, b"counters"));
+    assert!(rt; is_symbol(table, 2, 64, b""));
     assert!(rt; table.symbol(3).is_none());
     Ok(())
 }
 
 #[test]
+fn each_place_is_noted_once(rt: HostRuntime) -> Result<(), Fail> {
+    let mut table = ObjectTable::new(rt.alloc());
+    notes_each_place_once(&rt, &mut table)
+}
+
+// How much is kept of a name of some length.
+fn kept_of(alloc: Global, length: usize) -> Result<usize, Fail> {
+    let text = text_of_length(alloc, length)?;
+    let name = Name::new(alloc, text.as_slice())?;
+    Ok(name.bytes().len())
+}
+
+#[test]
 fn a_long_name_is_cut(rt: HostRuntime) -> Result<(), Fail> {
     for (length, kept) in [(0, 0), (1024, 1024), (1030, 1024)] {
-        let text = text_of_length(rt.alloc(), length)?;
-        let name = Name::new(rt.alloc(), text.as_slice())?;
-        assert_eq!(rt; name.bytes().len(), kept);
+        assert_eq!(rt; kept_of(rt.alloc(), length)?, kept);
     }
     Ok(())
 }
@@ -106,9 +121,13 @@ fn odd_sizes_and_frees_are_answered(rt: HostRuntime) -> Result<(), Fail> {
     let mut heap = GuestHeap::new(rt.alloc(), 0x20000, 0x20060);
     makes(&rt, &mut heap, &ODD_SIZES)?;
     frees(&rt, &mut heap, &ODD_FREES);
-    // no room at all
-    let mut none = GuestHeap::new(rt.alloc(), 0x20000, 0x20000);
-    makes(&rt, &mut none, &[(0, None)])
+    Ok(())
+}
+
+#[test]
+fn no_block_is_made_without_room(rt: HostRuntime) -> Result<(), Fail> {
+    let mut heap = GuestHeap::new(rt.alloc(), 0x20000, 0x20000);
+    makes(&rt, &mut heap, &[(0, None)])
 }
 
 fn note_block(table: &mut ObjectTable, position: u64, size: u32) -> Result<(), Fail> {
@@ -134,18 +153,26 @@ const LIVES: [(u32, u64, Option<u64>, u32); 3] = [
     (u32::MAX, 7, None, 0x100b0),
 ];
 
-#[test]
-fn blocks_live_and_die(rt: HostRuntime) -> Result<(), Fail> {
-    let mut table = ObjectTable::new(rt.alloc());
-    note_blocks(&mut table, &[(0, 24)])?;
+fn note_lives(table: &mut ObjectTable) -> Result<(), Fail> {
+    note_blocks(table, &[(0, 24)])?;
     table.note_free(2, 0x2000);
     table.note_free(3, 0x2000);
-    note_blocks(&mut table, &[(4, 0), (7, u32::MAX)])?;
+    note_blocks(table, &[(4, 0), (7, u32::MAX)])
+}
+
+fn tells_of_lives(rt: &impl Abort, table: &mut ObjectTable) -> Result<(), Fail> {
+    note_lives(table)?;
     assert_eq!(rt; table.blocks().len(), LIVES.len());
     for (block, wanted) in table.blocks().iter().zip(&LIVES) {
         assert_eq!(rt; life(block), *wanted);
     }
     Ok(())
+}
+
+#[test]
+fn blocks_live_and_die(rt: HostRuntime) -> Result<(), Fail> {
+    let mut table = ObjectTable::new(rt.alloc());
+    tells_of_lives(&rt, &mut table)
 }
 
 const NAMED: [Told; 4] = [
@@ -162,14 +189,25 @@ const NAMES: [(u32, &[u8]); 4] = [
     (u32::MAX, b""),
 ];
 
-#[test]
-fn the_first_function_is_named(rt: HostRuntime) -> Result<(), Fail> {
-    let mut table = ObjectTable::new(rt.alloc());
-    note_symbols(&mut table, &NAMED)?;
+// Whether the function at an address has this name.
+fn is_function(table: &ObjectTable, pc: u32, name: &[u8]) -> bool {
+    match table.function_at(pc) {
+        Some(found) => found.bytes() == name,
+        None => false,
+    }
+}
+
+fn names_the_first_function(rt: &impl Abort, table: &mut ObjectTable) -> Result<(), Fail> {
+    note_symbols(table, &NAMED)?;
     for (pc, name) in &NAMES {
-        let found = table.function_at(*pc).ok_or("no function")?;
-        assert_eq!(rt; found.bytes(), *name);
+        assert!(rt; is_function(table, *pc, name), "at {pc:x}");
     }
     assert!(rt; table.function_at(0xffff).is_none());
     Ok(())
+}
+
+#[test]
+fn the_first_function_is_named(rt: HostRuntime) -> Result<(), Fail> {
+    let mut table = ObjectTable::new(rt.alloc());
+    names_the_first_function(&rt, &mut table)
 }

@@ -144,11 +144,21 @@ fn an_unknown_key_is_named(rt: HostRuntime) {
     }
 }
 
+// Whether a comment of some length is read as the usual settings.
+fn is_usual(alloc: Global, length: usize) -> Result<bool, AllocError> {
+    let text = comment_of_length(alloc, length)?;
+    Ok(gives(alloc, text.as_slice(), &USUAL))
+}
+
+// Whether it is too long.
+fn is_too_long(alloc: Global, length: usize) -> Result<bool, AllocError> {
+    let text = comment_of_length(alloc, length)?;
+    Ok(is_refused(alloc, text.as_slice(), &SettingsFault::TooLong))
+}
+
 #[test]
 fn a_file_has_at_most_64_kib(rt: HostRuntime) -> Result<(), Fail> {
-    let whole = comment_of_length(rt.alloc(), 65_536)?;
-    assert!(rt; gives(rt.alloc(), whole.as_slice(), &USUAL));
-    let long = comment_of_length(rt.alloc(), 65_537)?;
-    assert!(rt; is_refused(rt.alloc(), long.as_slice(), &SettingsFault::TooLong));
+    assert!(rt; is_usual(rt.alloc(), 65_536)?);
+    assert!(rt; is_too_long(rt.alloc(), 65_537)?);
     Ok(())
 }

@@ -6,7 +6,7 @@
 // - `symbol object 1000 32 counters`: what it names, its address, its size and its name
 // - `exit 7 9 2`: an end with a status, steps and accesses
 use heap_objects::{Name, SymbolKind};
-use predator_base::{Access, Ending, Hart, Kind, Outcome};
+use predator_base::{Access, Ending, Hart, Kind, NoMemory, Outcome};
 use std::alloc::Global;
 use std::test::Fail;
 use trace_grammar::{Header, TraceRecord, Version};
@@ -16,40 +16,77 @@ fn address_of(word: &str) -> Option<u32> {
     u32::from_str_radix(word, 16).ok()
 }
 
-fn access_of(touch: &str, addr: &str, size: &str) -> Option<TraceRecord> {
+fn kind_and_hart(touch: &str) -> Option<(Kind, Hart)> {
     let (kind, hart) = match touch.strip_prefix('W') {
         Some(hart) => (Kind::Write, hart),
         None => (Kind::Read, touch.strip_prefix('R')?),
     };
-    let hart = Hart::new(hart.parse().ok()?)?;
+    Some((kind, Hart::new(hart.parse().ok()?)?))
+}
+
+fn touch_of(touch: &str, addr: &str, size: &str) -> Option<TraceRecord> {
+    let (kind, hart) = kind_and_hart(touch)?;
     let access = Access::new(hart, address_of(addr)?, kind, size.parse().ok()?)?;
     Some(TraceRecord::Touch(access))
 }
 
-fn block_of(addr: &str, size: &str, site: &str) -> Option<TraceRecord> {
+fn access_of(touch: &str, rest: &[&str]) -> Option<TraceRecord> {
+    match rest {
+        [addr] => touch_of(touch, addr, "4"),
+        [addr, size] => touch_of(touch, addr, size),
+        _ => None,
+    }
+}
+
+fn made_at(addr: &str, size: &str, site: &str) -> Option<TraceRecord> {
     let addr = address_of(addr)?;
     let size = size.parse().ok()?;
     let sites = [address_of(site)?, 0, 0, 0];
     Some(TraceRecord::Alloc { addr, size, sites })
 }
 
-fn symbol_of(kind: &str, addr: &str, size: &str, name: Name) -> Option<TraceRecord> {
+fn block_of(rest: &[&str]) -> Option<TraceRecord> {
+    match rest {
+        [addr, size] => made_at(addr, size, "0"),
+        [addr, size, site] => made_at(addr, size, site),
+        _ => None,
+    }
+}
+
+fn free_of(rest: &[&str]) -> Option<TraceRecord> {
+    match rest {
+        [addr] => address_of(addr).map(|addr| TraceRecord::Free { addr }),
+        _ => None,
+    }
+}
+
+// The kind, the address and the size of a symbol.
+fn place_of(kind: &str, addr: &str, size: &str) -> Option<(SymbolKind, u32, u32)> {
     let kind = match kind {
         "object" => SymbolKind::Object,
         "function" => SymbolKind::Function,
         _ => return None,
     };
-    let addr = address_of(addr)?;
-    let size = size.parse().ok()?;
-    Some(TraceRecord::Symbol {
+    Some((kind, address_of(addr)?, size.parse().ok()?))
+}
+
+fn symbol_of(alloc: Global, rest: &[&str]) -> Result<Option<TraceRecord>, NoMemory> {
+    let [kind, addr, size, name] = rest else {
+        return Ok(None);
+    };
+    let Some((kind, addr, size)) = place_of(kind, addr, size) else {
+        return Ok(None);
+    };
+    let name = Name::new(alloc, name.as_bytes())?;
+    Ok(Some(TraceRecord::Symbol {
         kind,
         addr,
         size,
         name,
-    })
+    }))
 }
 
-fn exit_of(status: &str, steps: &str, accesses: &str) -> Option<TraceRecord> {
+fn ending_of(status: &str, steps: &str, accesses: &str) -> Option<TraceRecord> {
     Some(TraceRecord::End(Ending {
         outcome: Outcome::Exit(status.parse().ok()?),
         steps: steps.parse().ok()?,
@@ -57,22 +94,31 @@ fn exit_of(status: &str, steps: &str, accesses: &str) -> Option<TraceRecord> {
     }))
 }
 
+fn exit_of(rest: &[&str]) -> Option<TraceRecord> {
+    match rest {
+        [status, steps, accesses] => ending_of(status, steps, accesses),
+        _ => None,
+    }
+}
+
+// The record that words tell.
+fn told_by(alloc: Global, words: &[&str]) -> Result<Option<TraceRecord>, NoMemory> {
+    let Some((first, rest)) = words.split_first() else {
+        return Ok(None);
+    };
+    match *first {
+        "alloc" => Ok(block_of(rest)),
+        "free" => Ok(free_of(rest)),
+        "symbol" => symbol_of(alloc, rest),
+        "exit" => Ok(exit_of(rest)),
+        touch => Ok(access_of(touch, rest)),
+    }
+}
+
 // The record that a line tells.
 fn record_of(alloc: Global, line: &str) -> Result<TraceRecord, Fail> {
     let words: Vec<&str> = line.split_whitespace().collect(alloc)?;
-    let record = match words.as_slice() {
-        ["alloc", addr, size] => block_of(addr, size, "0"),
-        ["alloc", addr, size, site] => block_of(addr, size, site),
-        ["free", addr] => address_of(addr).map(|addr| TraceRecord::Free { addr }),
-        ["symbol", kind, addr, size, name] => {
-            symbol_of(kind, addr, size, Name::new(alloc, name.as_bytes())?)
-        }
-        ["exit", status, steps, accesses] => exit_of(status, steps, accesses),
-        [touch, addr] => access_of(touch, addr, "4"),
-        [touch, addr, size] => access_of(touch, addr, size),
-        _ => None,
-    };
-    Ok(record.ok_or("a line tells a record")?)
+    Ok(told_by(alloc, words.as_slice())?.ok_or("a line tells a record")?)
 }
 
 // The records that lines tell.
@@ -108,12 +154,9 @@ fn put_symbol(
 // Appends a record. An end is an exit.
 fn put(writer: &mut TraceWriter, record: &TraceRecord, into: &mut Vec<u8>) -> Result<(), Fail> {
     match record {
-        TraceRecord::Touch(access) => writer.item(&TraceRecord::Touch(*access), into)?,
-        TraceRecord::Alloc { addr, size, sites } => {
-            let (addr, size, sites) = (*addr, *size, *sites);
-            writer.item(&TraceRecord::Alloc { addr, size, sites }, into)?;
+        TraceRecord::Touch(_) | TraceRecord::Alloc { .. } | TraceRecord::Free { .. } => {
+            writer.item(record, into)?;
         }
-        TraceRecord::Free { addr } => writer.item(&TraceRecord::Free { addr: *addr }, into)?,
         TraceRecord::Symbol {
             kind,
             addr,

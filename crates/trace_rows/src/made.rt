@@ -1,7 +1,7 @@
 // Small traces, made.
-use crate::held::shelf_with;
+use crate::held::{holds, shelf_with};
 use predator_base::NoMemory;
-use shelf::{Failing, ShelfError};
+use shelf::{Failing, MemoryShelf, ShelfError};
 use std::alloc::Global;
 use std::test::Fail;
 use trace_grammar::TraceRecord;
@@ -40,23 +40,30 @@ const OF_ONE_ACCESS: [u8; 53] = *b"PRDTRC01\0\0\0\0\0\0\0\0\x08\0\0\0\
 \x02\x04\0\x70\x0d\x01\0\x04\
 \x06\0\0\0\0\0\0\0\0\x01\0\0\0\0\0\0\0\x01\0\0\0\0\0\0\0";
 
+// Whether a trace of so many accesses, of whose calls these fail, gets an answer and this file.
+fn is_made(
+    alloc: Global,
+    failing: &[Failing],
+    count: u16,
+    answer: Result<(), ShelfError>,
+    file: &[u8],
+) -> Result<bool, Fail> {
+    let mut shelf = shelf_with(alloc, b"", failing)?;
+    let is = make_trace(alloc, &mut shelf, "f", u64::from(count), &mut begin_tally()) == answer;
+    Ok(is && holds(&shelf, "f", file))
+}
+
 #[test]
 fn one_access_is_written(rt: HostRuntime) -> Result<(), Fail> {
-    let alloc = rt.alloc();
-    let mut shelf = shelf_with(alloc, b"", &[])?;
-    make_trace(alloc, &mut shelf, "f", 1, &mut begin_tally())?;
-    assert_eq!(rt; shelf.written("f"), Some(OF_ONE_ACCESS.as_slice()));
+    assert!(rt; is_made(rt.alloc(), &[], 1, Ok(()), &OF_ONE_ACCESS)?);
     Ok(())
 }
 
 // The calls are the begin, and an append of what waits at the end.
 #[test]
 fn a_failing_append_leaves_a_front(rt: HostRuntime) -> Result<(), Fail> {
-    let alloc = rt.alloc();
-    let mut shelf = shelf_with(alloc, b"", &[Failing { call: 2, keep: 3 }])?;
-    let refused = make_trace(alloc, &mut shelf, "f", 3, &mut begin_tally()).err();
-    assert_eq!(rt; refused, Some(ShelfError::Failed));
-    assert_eq!(rt; shelf.written("f"), Some(b"PRD".as_slice()));
+    let failing = [Failing { call: 2, keep: 3 }];
+    assert!(rt; is_made(rt.alloc(), &failing, 3, Err(ShelfError::Failed), b"PRD")?);
     Ok(())
 }
 
@@ -74,6 +81,14 @@ fn read_again(alloc: Global, trace: &[u8]) -> Result<(Tally, u64), Fail> {
     }
 }
 
+// The same of the trace that was written to the shelf.
+fn written_again(alloc: Global, shelf: &MemoryShelf) -> Result<(Tally, u64), Fail> {
+    match shelf.written("f") {
+        Some(trace) => read_again(alloc, trace),
+        None => Err("nothing is written".into()),
+    }
+}
+
 // What is made is read again, and a reader sees as many accesses as were made.
 #[test]
 fn what_is_made_is_a_trace(rt: HostRuntime) -> Result<(), Fail> {
@@ -85,8 +100,7 @@ fn what_is_made_is_a_trace(rt: HostRuntime) -> Result<(), Fail> {
         accesses: 300,
         ended: true,
     };
-    assert_eq!(rt; made, seen);
-    let trace = shelf.written("f").ok_or("nothing is written")?;
-    assert_eq!(rt; read_again(alloc, trace)?, (seen, 300));
+    assert!(rt; made == seen);
+    assert!(rt; written_again(alloc, &shelf)? == (seen, 300));
     Ok(())
 }

@@ -4,7 +4,7 @@ ghost use Rattle.std.specs.Prelude.{◌≡◌, ◌≤◌, ◌^◌, IfOk, length,
 
 use heap_objects::{ObjectTable, SymbolKind};
 use object_states::{resume_objects, save_objects};
-use predator_base::ResumeFault;
+use predator_base::{NoMemory, ResumeFault};
 use std::alloc::{AllocError, Global};
 use std::test::Fail;
 
@@ -35,13 +35,12 @@ fn number_in(bytes: &[u8]) -> u64 {
 // What stands behind a good symbol, and what it names.
 fn after_symbol(bytes: &[u8]) -> Option<(&[u8], (u8, u64))> {
     let (head, rest) = bytes.split_at_checked(12)?;
-    let long = number_in(head.get(10..)?) as usize;
+    let long = number_in(&head[10..]) as usize;
     let (name, rest) = rest.split_at_checked(long)?;
-    let sized = number_in(head.get(6..10)?) > 0;
-    if head.first() == Some(&5) && sized && long <= 1024 && !name.contains(&0) {
-        let kind = *head.get(1)?;
-        let place = number_in(head.get(2..10)?);
-        (kind == 1 || kind == 2).then_some((rest, (kind, place)))
+    let kind = head[1];
+    let named = long <= 1024 && !name.contains(&0);
+    if head[0] == 5 && (kind == 1 || kind == 2) && number_in(&head[6..10]) > 0 && named {
+        Some((rest, (kind, number_in(&head[2..10]))))
     } else {
         None
     }
@@ -50,12 +49,12 @@ fn after_symbol(bytes: &[u8]) -> Option<(&[u8], (u8, u64))> {
 // What stands behind a good block, and its address if it lives.
 fn after_block(bytes: &[u8]) -> Option<(&[u8], Option<u64>)> {
     let (block, rest) = bytes.split_at_checked(41)?;
-    let born = number_in(block.get(25..33)?);
-    let died = number_in(block.get(33..)?);
+    let born = number_in(&block[25..33]);
+    let died = number_in(&block[33..]);
     let live = died == u64::MAX;
     let in_order = born <= POSITION && (live || (born <= died && died <= POSITION));
-    if block.first() == Some(&3) && in_order {
-        let addr = number_in(block.get(1..5)?);
+    if block[0] == 3 && in_order {
+        let addr = number_in(&block[1..5]);
         Some((rest, live.then_some(addr)))
     } else {
         None
@@ -92,13 +91,18 @@ fn left_at_fault(alloc: Global, part: &[u8]) -> Result<Option<usize>, AllocError
     Ok((!rest.is_empty()).then_some(rest.len()))
 }
 
+// Whether a table is saved as this part.
+fn is_saved_as(table: &ObjectTable, part: &[u8]) -> Result<bool, NoMemory> {
+    Ok(save_objects(table)?.as_slice() == part)
+}
+
 // Whether a part is taken up and saved again as it is, or is at fault where the slow reading says.
 fn is_read_alike(alloc: Global, part: &[u8]) -> Result<bool, Fail>
     requires { length part.now ≤ 2 ^ 20 }
 {
     let left = left_at_fault(alloc, part)?;
     match resume_objects(alloc, part, PLACE, POSITION) {
-        Ok(table) => Ok(left.is_none() && save_objects(&table)?.as_slice() == part),
+        Ok(table) => Ok(left.is_none() && is_saved_as(&table, part)?),
         Err(ResumeFault::BadState(place)) => {
             let end = PLACE + part.len() as u64;
             Ok(left == Some(end.wrapping_sub(place) as usize))
@@ -136,18 +140,34 @@ fn read_otherwise(alloc: Global, part: &[u8]) -> Result<u64, Fail>
     Ok(count)
 }
 
-#[test]
-fn a_saved_table_is_taken_up(rt: HostRuntime) -> Result<(), Fail> {
-    let mut table = ObjectTable::new(rt.alloc());
+// Notes what `PART` holds.
+fn note_part(table: &mut ObjectTable) -> Result<(), NoMemory> {
     table.note_symbol(SymbolKind::Object, 0x1000, 32, b"c")?;
     table.note_alloc(1, 0x2000, 24, [0x100b0, 0, 0, 0])?;
-    table.note_alloc(5, 0x2000, 8, [0; 4])?;
-    let part = save_objects(&table)?;
-    assert_eq!(rt; part.as_slice(), PART.as_slice());
-    let again = resume_objects(rt.alloc(), PART.as_slice(), PLACE, POSITION);
-    let again = again.ok().ok_or("it is at fault")?;
-    assert_eq!(rt; again.symbol_count(), 1);
-    assert_eq!(rt; again.blocks().len(), 2);
+    table.note_alloc(5, 0x2000, 8, [0; 4])
+}
+
+// Whether the table of what `PART` holds is saved as that.
+fn is_part_saved(alloc: Global) -> Result<bool, NoMemory> {
+    let mut table = ObjectTable::new(alloc);
+    note_part(&mut table)?;
+    is_saved_as(&table, PART.as_slice())
+}
+
+// How many symbols and blocks are taken up from a part.
+fn counts_in(alloc: Global, part: &[u8]) -> Result<(usize, usize), ResumeFault>
+    requires { length part.now ≤ 2 ^ 20 }
+{
+    match resume_objects(alloc, part, PLACE, POSITION) {
+        Ok(table) => Ok((table.symbol_count(), table.blocks().len())),
+        Err(fault) => Err(fault),
+    }
+}
+
+#[test]
+fn a_saved_table_is_taken_up(rt: HostRuntime) -> Result<(), Fail> {
+    assert!(rt; is_part_saved(rt.alloc())?);
+    assert!(rt; counts_in(rt.alloc(), PART.as_slice()) == Ok((1, 2)));
     Ok(())
 }
 
@@ -158,18 +178,26 @@ fn each_part_is_read_as_slowly(rt: HostRuntime) -> Result<(), Fail> {
     Ok(())
 }
 
+// A part that tells these numbers of symbols and of blocks, and ends there.
+fn telling(alloc: Global, symbols: u64, blocks: u64) -> Result<Vec<u8>, AllocError>
+    ensures { IfOk result (λ v. vec_len v ≡ 16) }
+{
+    let mut part = Vec::from_slice(alloc, symbols.to_le_bytes().as_slice())?;
+    part.extend_from_slice(blocks.to_le_bytes().as_slice())?;
+    Ok(part)
+}
+
 #[test]
 fn numbers_of_more_than_there_is_are_at_fault(rt: HostRuntime) -> Result<(), Fail> {
+    let fault = ResumeFault::BadState(PLACE + 16);
     for (symbols, blocks) in [
         (u64::MAX, 0),
         (0, u64::MAX),
         (u64::MAX, u64::MAX),
         (1 << 63, 1),
     ] {
-        let mut part = Vec::from_slice(rt.alloc(), symbols.to_le_bytes().as_slice())?;
-        part.extend_from_slice(blocks.to_le_bytes().as_slice())?;
-        let answer = resume_objects(rt.alloc(), part.as_slice(), PLACE, POSITION);
-        assert_eq!(rt; answer.err(), Some(ResumeFault::BadState(PLACE + 16)));
+        let part = telling(rt.alloc(), symbols, blocks)?;
+        assert!(rt; counts_in(rt.alloc(), part.as_slice()) == Err(fault));
     }
     Ok(())
 }

@@ -1,5 +1,5 @@
 // Many pieces and a large one, calls that fail, and two files at a time.
-ghost use Rattle.std.specs.Prelude.{◌≡◌, ◌∷◌, [], IfOk, codes, length};
+ghost use Rattle.std.specs.Prelude.{◌≡◌, ◌≤◌, ◌∷◌, [], IfOk, codes, length};
 ghost use Rattle.shelf.specs.MemoryShelf.{memory_outside};
 ghost use Rattle.outputs.specs.OnTheirWay.{AreBegun, names_of};
 
@@ -38,56 +38,100 @@ fn two(alloc: Global, shelf: &mut MemoryShelf) -> Result<Outputs<'static>, Shelf
     }
 }
 
+// Puts two pieces to a first file. The answer is whether it is empty up to then.
+fn put_two(
+    outputs: &mut Outputs<'_>,
+    shelf: &mut MemoryShelf,
+    first: &[u8],
+    second: &[u8],
+) -> Result<bool, ShelfError>
+    requires count { 1 ≤ length outputs.old }
+    requires begun { AreBegun (names_of outputs.old) (memory_outside shelf.old) }
+    ensures begun { IfOk result (λ is. AreBegun (names_of outputs.new) (memory_outside shelf.new)) }
+{
+    match outputs.put(shelf, 0, first) {
+        Ok(()) => {}
+        Err(error) => return Err(error),
+    }
+    let is = holds(shelf, "a", b"");
+    match outputs.put(shelf, 0, second) {
+        Ok(()) => Ok(is),
+        Err(error) => Err(error),
+    }
+}
+
 #[test]
 fn pieces_come_to_the_file_in_their_order(rt: HostRuntime) -> Result<(), Fail> {
     let alloc = rt.alloc();
     let mut shelf = shelf_with(alloc, b"", &[])?;
     let mut outputs = one(alloc, &mut shelf)?;
-    outputs.put(&mut shelf, 0, b"one")?;
-    outputs.put(&mut shelf, 0, b" two")?;
+    assert!(rt; put_two(&mut outputs, &mut shelf, b"one", b" two")?);
     assert!(rt; holds(&shelf, "a", b""));
     outputs.finish(&mut shelf)?;
     assert!(rt; holds(&shelf, "a", b"one two"));
     Ok(())
 }
 
+// Whether the first file is so long.
+fn is_long(shelf: &MemoryShelf, count: usize) -> bool {
+    match shelf.written("a") {
+        Some(file) => file.len() == count,
+        None => false,
+    }
+}
+
 #[test]
 fn bytes_go_to_the_file_once_there_are_64_kib(rt: HostRuntime) -> Result<(), Fail> {
     let alloc = rt.alloc();
+    let almost = filler(alloc, 65_528)?;
     let mut shelf = shelf_with(alloc, b"", &[])?;
     let mut outputs = one(alloc, &mut shelf)?;
-    let almost = filler(alloc, 65_528)?;
-    outputs.put(&mut shelf, 0, &almost)?;
-    assert!(rt; holds(&shelf, "a", b""));
-    outputs.put(&mut shelf, 0, b"8 bytes.")?;
-    assert_eq!(rt; shelf.written("a").map(|file| file.len()), Some(65_536));
+    assert!(rt; put_two(&mut outputs, &mut shelf, &almost, b"8 bytes.")?);
+    assert!(rt; is_long(&shelf, 65_536));
     Ok(())
+}
+
+// Puts pieces to two files in turn, and makes the files whole.
+fn put_in_turn(
+    alloc: Global,
+    shelf: &mut MemoryShelf,
+    pieces: [&[u8]; 3],
+) -> Result<(), ShelfError> {
+    let mut outputs = two(alloc, shelf)?;
+    let [first, second, third] = pieces;
+    outputs.put(shelf, 0, first)?;
+    outputs.put(shelf, 1, second)?;
+    outputs.put(shelf, 0, third)?;
+    outputs.finish(shelf)
+}
+
+// Whether three pieces of whose calls these fail get an answer and these files.
+fn are_put(
+    alloc: Global,
+    failing: &[Failing],
+    pieces: [&[u8]; 3],
+    answer: Result<(), ShelfError>,
+    files: [&[u8]; 2],
+) -> Result<bool, Fail> {
+    let mut shelf = shelf_with(alloc, b"", failing)?;
+    let is = put_in_turn(alloc, &mut shelf, pieces) == answer;
+    let [first, second] = files;
+    Ok(is && holds(&shelf, "a", first) && holds(&shelf, "b", second))
 }
 
 // The third call is the append to the first file.
 #[test]
 fn a_failing_append_leaves_fronts(rt: HostRuntime) -> Result<(), Fail> {
-    let alloc = rt.alloc();
-    let mut shelf = shelf_with(alloc, b"", &[Failing { call: 3, keep: 5 }])?;
-    let mut outputs = two(alloc, &mut shelf)?;
-    outputs.put(&mut shelf, 0, b"one two")?;
-    outputs.put(&mut shelf, 1, b"three")?;
-    assert_eq!(rt; outputs.finish(&mut shelf), Err(ShelfError::Failed));
-    assert!(rt; holds(&shelf, "a", b"one t"));
-    assert!(rt; holds(&shelf, "b", b""));
+    let failing = [Failing { call: 3, keep: 5 }];
+    let answer = Err(ShelfError::Failed);
+    let pieces: [&[u8]; 3] = [b"one two", b"three", b""];
+    assert!(rt; are_put(rt.alloc(), &failing, pieces, answer, [b"one t", b""])?);
     Ok(())
 }
 
 #[test]
 fn two_files_do_not_meet(rt: HostRuntime) -> Result<(), Fail> {
-    let alloc = rt.alloc();
-    let mut shelf = shelf_with(alloc, b"", &[])?;
-    let mut outputs = two(alloc, &mut shelf)?;
-    outputs.put(&mut shelf, 0, b"one")?;
-    outputs.put(&mut shelf, 1, b"two")?;
-    outputs.put(&mut shelf, 0, b"!")?;
-    outputs.finish(&mut shelf)?;
-    assert!(rt; holds(&shelf, "a", b"one!"));
-    assert!(rt; holds(&shelf, "b", b"two"));
+    let pieces: [&[u8]; 3] = [b"one", b"two", b"!"];
+    assert!(rt; are_put(rt.alloc(), &[], pieces, Ok(()), [b"one!", b"two"])?);
     Ok(())
 }

@@ -62,15 +62,28 @@ fn header_of(alloc: Global, harts: u8) -> Result<Vec<u8>, NoMemory> {
     Ok(bytes)
 }
 
-// A trace of so many writes at one address.
-fn trace_of(alloc: Global, count: u64) -> Result<Vec<u8>, NoMemory> {
-    let mut bytes = header_of(alloc, 8)?;
+// Appends so many writes at one address, and the end.
+fn put_writes(bytes: &mut Vec<u8>, count: u64) -> Result<(), NoMemory> {
     for _ in 0..count {
         bytes.extend_from_slice(&[2, 0, 0, 0, 0x10, 0, 0, 4])?;
     }
     bytes.extend_from_slice(&[6, 0, 0, 0, 0, 0, 0, 0, 0])?;
     bytes.extend_from_slice(&count.to_le_bytes())?;
     bytes.extend_from_slice(&count.to_le_bytes())?;
+    Ok(())
+}
+
+// A trace of so many writes at one address.
+fn trace_of(alloc: Global, count: u64) -> Result<Vec<u8>, NoMemory> {
+    let mut bytes = header_of(alloc, 8)?;
+    put_writes(&mut bytes, count)?;
+    Ok(bytes)
+}
+
+// A trace by some harts with a byte that tells no record.
+fn odd_trace_of(alloc: Global, harts: u8) -> Result<Vec<u8>, NoMemory> {
+    let mut bytes = header_of(alloc, harts)?;
+    bytes.push(9)?;
     Ok(bytes)
 }
 
@@ -97,8 +110,7 @@ fn a_header_is_refused_before_a_fault(rt: HostRuntime) -> Result<(), Fail> {
         (8, 5, Refusal::Position { saved: 5, first: 0 }),
         (8, 0, Refusal::Trace(TraceFault::BadTag(20))),
     ] {
-        let mut content = header_of(alloc, harts)?;
-        content.push(9)?;
+        let content = odd_trace_of(alloc, harts)?;
         let fault = tallied(alloc, &content, &[], first)?;
         assert_eq!(rt; fault, Err(PassFault::Refused(refusal)));
     }

@@ -109,32 +109,55 @@ fn any_changed_byte_gives_one_answer(rt: HostRuntime) -> Result<(), Fail> {
     Ok(())
 }
 
+// Whether some bytes in pieces of a size are read as these records.
+fn is_read_as(
+    alloc: Global,
+    bytes: &[u8],
+    size: usize,
+    records: &Vec<TraceRecord>,
+) -> Result<bool, NoMemory> {
+    let answer = answer_in(alloc, bytes, size)?;
+    Ok(answer.records == *records && answer.fault.is_none())
+}
+
+// Whether the trace of a text is read again, in pieces of several sizes.
+fn is_read_again(alloc: Global, version: Version, text: &str) -> Result<bool, Fail> {
+    let records = records_of(alloc, text)?;
+    let bytes = trace_of(alloc, version, text)?;
+    let whole = is_read_as(alloc, &bytes, bytes.len(), &records)?;
+    let single = is_read_as(alloc, &bytes, 1, &records)?;
+    let sevens = is_read_as(alloc, &bytes, 7, &records)?;
+    Ok(whole && single && sevens)
+}
+
 #[test]
 fn a_trace_is_read_again(rt: HostRuntime) -> Result<(), Fail> {
     for text in [EACH_KIND, WORKER, TWO_BLOCKS] {
-        let records = records_of(rt.alloc(), text)?;
         for version in [Version::One, Version::Two] {
-            let bytes = trace_of(rt.alloc(), version, text)?;
-            for size in [1, 7, bytes.len()] {
-                let answer = answer_in(rt.alloc(), &bytes, size)?;
-                assert!(rt; answer.records == records);
-                assert!(rt; answer.fault.is_none());
-            }
+            assert!(rt; is_read_again(rt.alloc(), version, text)?);
         }
     }
     Ok(())
 }
 
-#[test]
-fn version_and_header_are_told(rt: HostRuntime) -> Result<(), Fail> {
-    let bytes = trace_of(rt.alloc(), Version::Two, "symbol object 1000 32 it")?;
-    let mut reader = TraceReader::new(rt.alloc())?;
-    let mut records = Vec::new(rt.alloc());
+const A_SYMBOL: &str = "symbol object 1000 32 it";
+
+// What a reader tells of some bytes without a fault, in pieces of three.
+fn told_of(alloc: Global, bytes: &[u8]) -> Result<(Option<Version>, Option<Header>), TraceFault> {
+    let mut reader = TraceReader::new(alloc)?;
+    let mut records = Vec::new(alloc);
     for piece in bytes.chunks(3) {
         reader.feed(piece, &mut records)?;
     }
-    assert!(rt; records == records_of(rt.alloc(), "symbol object 1000 32 it")?);
-    assert_eq!(rt; reader.version(), Some(Version::Two));
-    assert_eq!(rt; reader.header(), Some(Header { first: 0, harts: 8 }));
+    Ok((reader.version(), reader.header()))
+}
+
+#[test]
+fn version_and_header_are_told(rt: HostRuntime) -> Result<(), Fail> {
+    let bytes = trace_of(rt.alloc(), Version::Two, A_SYMBOL)?;
+    let header = Header { first: 0, harts: 8 };
+    assert!(rt; told_of(rt.alloc(), &bytes) == Ok((Some(Version::Two), Some(header))));
+    let records = records_of(rt.alloc(), A_SYMBOL)?;
+    assert!(rt; answer_in(rt.alloc(), &bytes, 3)?.records == records);
     Ok(())
 }

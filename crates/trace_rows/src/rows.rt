@@ -72,43 +72,60 @@ fn the_bytes_are_those_of_their_lines(rt: HostRuntime) -> Result<(), Fail> {
 
 #[test]
 fn good_traces_have_no_fault(rt: HostRuntime) -> Result<(), Fail> {
-    assert!(rt; fault_of(rt.alloc(), &NO_ACCESSES)?.is_none());
-    assert!(rt; fault_of(rt.alloc(), &THREE_WRITES)?.is_none());
-    assert!(rt; fault_of(rt.alloc(), &LAST_WORD)?.is_none());
+    for bytes in [
+        NO_ACCESSES.as_slice(),
+        THREE_WRITES.as_slice(),
+        LAST_WORD.as_slice(),
+    ] {
+        assert!(rt; fault_of(rt.alloc(), bytes)?.is_none());
+    }
     Ok(())
 }
 
+const NONE_COUNTED: TraceFault = TraceFault::CountMismatch {
+    told: 3,
+    counted: 0,
+};
+
+// Mistakes in the first trace and in the second: a place, the byte there, and the fault.
+const IN_NO_ACCESSES: [(usize, u8, TraceFault); 6] = [
+    (0, 0x51, TraceFault::BadMagic),
+    (14, 1, TraceFault::BadField(8)),
+    (16, 0, TraceFault::BadHarts),
+    (20, 9, TraceFault::BadTag(20)),
+    (21, 5, TraceFault::BadField(21)),
+    (37, 3, NONE_COUNTED),
+];
+
+const IN_THREE_WRITES: [(usize, u8, TraceFault); 3] = [
+    (13, 1, TraceFault::TooLong),
+    (20, 1, TraceFault::BadTag(20)),
+    (23, 0, TraceFault::BadField(22)),
+];
+
 #[test]
 fn a_mistake_is_told_by_its_place(rt: HostRuntime) -> Result<(), Fail> {
-    for (place, value, fault) in [
-        (0, 0x51, TraceFault::BadMagic),
-        (14, 1, TraceFault::BadField(8)),
-        (16, 0, TraceFault::BadHarts),
-        (20, 9, TraceFault::BadTag(20)),
-        (21, 5, TraceFault::BadField(21)),
-    ] {
-        assert!(rt; fault_with(rt.alloc(), &NO_ACCESSES, place, value)? == Some(fault));
+    for (place, value, fault) in &IN_NO_ACCESSES {
+        assert!(rt; fault_with(rt.alloc(), &NO_ACCESSES, *place, *value)? == Some(*fault));
     }
-    assert!(rt;
-        fault_with(rt.alloc(), &NO_ACCESSES, 37, 3)?
-            == Some(TraceFault::CountMismatch {
-                told: 3,
-                counted: 0
-            })
-    );
-    assert!(rt; fault_with(rt.alloc(), &THREE_WRITES, 13, 1)? == Some(TraceFault::TooLong));
-    assert!(rt; fault_with(rt.alloc(), &THREE_WRITES, 20, 1)? == Some(TraceFault::BadTag(20)));
-    assert!(rt; fault_with(rt.alloc(), &THREE_WRITES, 23, 0)? == Some(TraceFault::BadField(22)));
+    for (place, value, fault) in &IN_THREE_WRITES {
+        assert!(rt; fault_with(rt.alloc(), &THREE_WRITES, *place, *value)? == Some(*fault));
+    }
     Ok(())
+}
+
+// The first fault of some bytes with one more behind them.
+fn fault_behind(alloc: Global, bytes: &[u8], value: u8) -> Result<Option<TraceFault>, NoMemory> {
+    let mut long = Vec::from_slice(alloc, bytes)?;
+    long.push(value)?;
+    fault_of(alloc, &long)
 }
 
 #[test]
 fn a_trace_ends_where_its_end_does(rt: HostRuntime) -> Result<(), Fail> {
     let (short, _) = NO_ACCESSES.split_at(44);
     assert!(rt; fault_of(rt.alloc(), short)? == Some(TraceFault::Truncated(44)));
-    let mut long = Vec::from_slice(rt.alloc(), &NO_ACCESSES)?;
-    long.push(0)?;
-    assert!(rt; fault_of(rt.alloc(), &long)? == Some(TraceFault::AfterEnd(45)));
+    assert!(rt; fault_behind(rt.alloc(), &NO_ACCESSES, 0)? == Some(TraceFault::AfterEnd(45)));
     assert!(rt; fault_of(rt.alloc(), &[7; 10])? == Some(TraceFault::Truncated(10)));
     Ok(())
 }

@@ -3,7 +3,7 @@ ghost use Rattle.std.specs.Prelude.{◌<◌, ◌^◌};
 
 use crate::held::{filler, holds, one_file, shelf_with};
 use shelf::{Failing, FetchError, MemoryShelf, NeverFails, Shelf, ShelfError, fetch};
-use std::alloc::Global;
+use std::alloc::{AllocError, Global};
 use std::test::Fail;
 
 // The errors of calls that write two pieces to the file `a`, once it is begun, and print a text.
@@ -22,16 +22,33 @@ fn puts(
     Ok([one, two, shelf.print(text).err()])
 }
 
+// Two pieces that are written, a text that is printed, and the errors and the file that this gives.
+struct Kept {
+    pieces: [&'static [u8]; 2],
+    text: &'static [u8],
+    errors: [Option<ShelfError>; 3],
+    file: &'static [u8],
+}
+
+// Whether a shelf of whose calls these fail keeps so much.
+fn is_kept(alloc: Global, failing: &[Failing], kept: &Kept) -> Result<bool, Fail> {
+    let mut shelf = shelf_with(alloc, b"hello", failing)?;
+    let [first, second] = kept.pieces;
+    let is = puts(&mut shelf, first, second, kept.text) == Ok(kept.errors);
+    let is_read = shelf.written("t").is_none();
+    Ok(is && is_read && holds(&shelf, "a", kept.file) && shelf.printed() == kept.text)
+}
+
+const ALL: Kept = Kept {
+    pieces: [b"one", b" two"],
+    text: b"done",
+    errors: [None, None, None],
+    file: b"one two",
+};
+
 #[test]
 fn a_memory_shelf_keeps_what_is_written_and_printed(rt: HostRuntime) -> Result<(), Fail> {
-    let mut shelf = shelf_with(rt.alloc(), b"hello", &[])?;
-    assert_eq!(rt;
-        puts(&mut shelf, b"one", b" two", b"done")?,
-        [None, None, None]
-    );
-    assert!(rt; holds(&shelf, "a", b"one two"));
-    assert!(rt; shelf.written("t").is_none());
-    assert_eq!(rt; shelf.printed(), b"done".as_slice());
+    assert!(rt; is_kept(rt.alloc(), &[], &ALL)?);
     Ok(())
 }
 
@@ -50,15 +67,16 @@ const FAILING: [Failing; 3] = [
     Failing { call: 4, keep: 9 },
 ];
 
+const SOME: Kept = Kept {
+    pieces: [b"hello", b"p"],
+    text: b"text",
+    errors: [Some(ShelfError::Failed), None, Some(ShelfError::Failed)],
+    file: b"help",
+};
+
 #[test]
 fn a_failing_call_keeps_what_its_first_entry_says(rt: HostRuntime) -> Result<(), Fail> {
-    let mut shelf = shelf_with(rt.alloc(), b"", &FAILING)?;
-    assert_eq!(rt;
-        puts(&mut shelf, b"hello", b"p", b"text")?,
-        [Some(ShelfError::Failed), None, Some(ShelfError::Failed)]
-    );
-    assert!(rt; holds(&shelf, "a", b"help"));
-    assert_eq!(rt; shelf.printed(), b"text".as_slice());
+    assert!(rt; is_kept(rt.alloc(), &FAILING, &SOME)?);
     Ok(())
 }
 
@@ -74,46 +92,52 @@ fn fetched<S: Shelf>(
     Ok(fetch(alloc, shelf, name, limit)?.len())
 }
 
+// Whether these bytes are fetched of a file.
+fn is_fetched(alloc: Global, shelf: &mut MemoryShelf, limit: u32, bytes: &[u8]) -> bool {
+    match fetch(alloc, shelf, "t", u64::from(limit)) {
+        Ok(content) => content.as_slice() == bytes,
+        Err(_) => false,
+    }
+}
+
 #[test]
 fn a_file_is_fetched_whole_up_to_the_limit(rt: HostRuntime) -> Result<(), Fail> {
     let alloc = rt.alloc();
     let mut shelf = shelf_with(alloc, b"hello", &[])?;
-    assert_eq!(rt;
-        fetch(alloc, &mut shelf, "t", 5)?.as_slice(),
-        b"hello".as_slice()
-    );
-    assert_eq!(rt;
-        fetched(alloc, &mut shelf, "t", 4),
-        Err(FetchError::TooLong)
-    );
-    assert_eq!(rt;
-        fetched(alloc, &mut shelf, "u", 5),
-        Err(FetchError::ReadFault)
-    );
+    assert!(rt; is_fetched(alloc, &mut shelf, 5, b"hello"));
+    assert!(rt; fetched(alloc, &mut shelf, "t", 4) == Err(FetchError::TooLong));
+    assert!(rt; fetched(alloc, &mut shelf, "u", 5) == Err(FetchError::ReadFault));
     Ok(())
+}
+
+// A shelf with a file of so many bytes.
+fn shelf_of_length(alloc: Global, count: usize) -> Result<NeverFails, AllocError> {
+    let content = filler(alloc, count)?;
+    Ok(NeverFails::new(one_file(alloc, &content)?))
 }
 
 #[test]
 fn a_file_of_several_pieces_is_fetched_whole(rt: HostRuntime) -> Result<(), Fail> {
     let alloc = rt.alloc();
-    let content = filler(alloc, 150_000)?;
-    let mut shelf = NeverFails::new(one_file(alloc, &content)?);
-    assert_eq!(rt; fetched(alloc, &mut shelf, "t", 150_000), Ok(150_000));
-    assert_eq!(rt;
-        fetched(alloc, &mut shelf, "t", 149_999),
-        Err(FetchError::TooLong)
-    );
+    let mut shelf = shelf_of_length(alloc, 150_000)?;
+    assert!(rt; fetched(alloc, &mut shelf, "t", 150_000) == Ok(150_000));
+    assert!(rt; fetched(alloc, &mut shelf, "t", 149_999) == Err(FetchError::TooLong));
     Ok(())
+}
+
+// Writes a file `a` and prints a text.
+fn put_on(shelf: &mut NeverFails) -> Result<(), ShelfError> {
+    shelf.begin("a")?;
+    shelf.append("a", b"one")?;
+    shelf.print(b"done")
 }
 
 #[test]
 fn a_shelf_that_never_fails_keeps_nothing(rt: HostRuntime) -> Result<(), Fail> {
     let alloc = rt.alloc();
     let mut shelf = NeverFails::new(one_file(alloc, b"hello")?);
-    shelf.begin("a")?;
-    shelf.append("a", b"one")?;
-    shelf.print(b"done")?;
-    assert_eq!(rt; fetched(alloc, &mut shelf, "t", 5), Ok(5));
-    assert_eq!(rt; fetched(alloc, &mut shelf, "a", 5), Ok(0));
+    assert!(rt; put_on(&mut shelf).is_ok());
+    assert!(rt; fetched(alloc, &mut shelf, "t", 5) == Ok(5));
+    assert!(rt; fetched(alloc, &mut shelf, "a", 5) == Ok(0));
     Ok(())
 }

@@ -1,5 +1,6 @@
 // One call of the program, and how it is to end.
 use crate::trouble::Trouble;
+use crate::words::number;
 use predator_cli::predator;
 use shelf::{Failing, HeldFile, MemoryShelf};
 use std::alloc::{AllocError, Global};
@@ -10,13 +11,20 @@ use std::alloc::{AllocError, Global};
 #[derive(Drop)]
 pub(crate) struct Call {
     line: String,
-    pub(crate) printed: Vec<u8>,
-    pub(crate) front: Option<usize>,
-    pub(crate) status: u8,
-    pub(crate) failing: Vec<Failing>,
+    printed: Vec<u8>,
+    front: Option<usize>,
+    status: usize,
+    failing: Vec<Failing>,
     pub(crate) writes: Vec<HeldFile>,
-    pub(crate) kept: Vec<String>,
-    pub(crate) absent: Vec<String>,
+    kept: Vec<String>,
+    absent: Vec<String>,
+}
+
+// A call of the shelf that fails: its number, and how many bytes it keeps.
+fn failing_of(call: &str, keep: Option<&str>) -> Option<Failing> {
+    let call = number(call)? as u64;
+    let keep = u32::try_from(number(keep?)?).ok()?;
+    Some(Failing { call, keep })
 }
 
 fn words_of(alloc: Global, line: &str) -> Result<Vec<String>, AllocError> {
@@ -56,6 +64,12 @@ fn has_left(shelf: &MemoryShelf, names: &[String]) -> bool {
         }
     }
     true
+}
+
+// Adds a name.
+fn note(alloc: Global, names: &mut Vec<String>, name: &str) -> Result<(), AllocError> {
+    names.push(String::from_str(alloc, name)?)?;
+    Ok(())
 }
 
 // Puts what was written under these names among the files, and answers whether all were written.
@@ -109,6 +123,34 @@ impl Call {
         Ok(())
     }
 
+    // Notes what a line says beside the text: the status, a name, the front or a failure.
+    pub(crate) fn want(&mut self, alloc: Global, line: &str) -> Result<(), Trouble> {
+        let mut words = line.split_whitespace();
+        let what = words.next();
+        let word = words.next().ok_or(Trouble::BadLine)?;
+        match what {
+            Some("absent") => note(alloc, &mut self.absent, word)?,
+            Some("keeps") => note(alloc, &mut self.kept, word)?,
+            Some("front") => self.front = Some(number(word).ok_or(Trouble::BadLine)?),
+            Some("status") => self.status = number(word).ok_or(Trouble::BadLine)?,
+            _ => {
+                let failing = failing_of(word, words.next()).ok_or(Trouble::BadLine)?;
+                self.failing.push(failing)?;
+            }
+        }
+        Ok(())
+    }
+
+    // The shelf of these files, whose calls fail as the call says.
+    fn shelf_of(&self, alloc: Global, held: &[HeldFile]) -> Result<MemoryShelf, Trouble> {
+        let files = copies_of(alloc, held)?;
+        let failing = self.failing.to_vec(alloc)?;
+        match MemoryShelf::new(alloc, files, failing) {
+            Ok(shelf) => Ok(shelf),
+            Err(_) => Err(Trouble::NoMemory),
+        }
+    }
+
     // Runs the program over these files, says what is other than wanted, and answers whether
     // nothing is. What it is to keep is put among the files.
     pub(crate) fn passes<R: Print + AllocGlobal>(
@@ -116,30 +158,53 @@ impl Call {
         rt: &R,
         held: &mut Vec<HeldFile>,
     ) -> Result<bool, Trouble> {
-        let alloc = rt.alloc();
-        let files = copies_of(alloc, held)?;
-        let failing = self.failing.to_vec(alloc)?;
-        let Ok(mut shelf) = MemoryShelf::new(alloc, files, failing) else {
-            return Err(Trouble::NoMemory);
-        };
-        let status = predator(alloc, &words_of(alloc, &self.line)?, &mut shelf).number();
-        let mut passes = true;
+        let mut shelf = self.shelf_of(rt.alloc(), held)?;
+        self.passes_over(rt, &mut shelf, held)
+    }
+
+    fn passes_over<R: Print + AllocGlobal>(
+        &self,
+        rt: &R,
+        shelf: &mut MemoryShelf,
+        held: &mut Vec<HeldFile>,
+    ) -> Result<bool, Trouble> {
+        let words = words_of(rt.alloc(), &self.line)?;
+        let status = usize::from(predator(rt.alloc(), &words, shelf).number());
+        let ends = self.ends_well(rt, status)?;
+        let prints = self.prints_well(rt, shelf.printed())?;
+        let writes = self.writes_well(rt, shelf, held)?;
+        Ok(ends && prints && writes)
+    }
+
+    fn ends_well<R: Print + AllocGlobal>(&self, rt: &R, status: usize) -> Result<bool, Trouble> {
         if status != self.status {
             println!(rt;
                 "{}: status {status}, and {} is wanted",
                 self.line, self.status
             )?;
-            passes = false;
         }
-        if shelf.printed() != self.wanted() {
-            let text = String::from_utf8_lossy(alloc, shelf.printed())?;
-            println!(rt; "{}: another text is printed:\n{text}", self.line)?;
-            passes = false;
+        Ok(status == self.status)
+    }
+
+    fn prints_well<R: Print + AllocGlobal>(&self, rt: &R, printed: &[u8]) -> Result<bool, Trouble> {
+        if printed == self.wanted() {
+            return Ok(true);
         }
-        let has_kept = keep(alloc, &shelf, &self.kept, held)?;
-        if !has_kept || !has_written(&shelf, &self.writes) || !has_left(&shelf, &self.absent) {
+        let text = String::from_utf8_lossy(rt.alloc(), printed)?;
+        println!(rt; "{}: another text is printed:\n{text}", self.line)?;
+        Ok(false)
+    }
+
+    fn writes_well<R: Print + AllocGlobal>(
+        &self,
+        rt: &R,
+        shelf: &MemoryShelf,
+        held: &mut Vec<HeldFile>,
+    ) -> Result<bool, Trouble> {
+        let has_kept = keep(rt.alloc(), shelf, &self.kept, held)?;
+        let passes = has_kept && has_written(shelf, &self.writes) && has_left(shelf, &self.absent);
+        if !passes {
             println!(rt; "{}: other files are written", self.line)?;
-            passes = false;
         }
         Ok(passes)
     }

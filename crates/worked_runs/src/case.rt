@@ -16,9 +16,10 @@
 //     front N                 of the text only the first N bytes are to be printed
 //     fails N KEEP            the N-th call of the shelf fails, and keeps so many bytes
 use crate::call::Call;
-use crate::content::{Content, Form, byte_of};
+use crate::content::{Content, Form};
 use crate::trouble::Trouble;
-use shelf::{Failing, HeldFile};
+use crate::words::{byte_of, number};
+use shelf::HeldFile;
 use std::alloc::Global;
 use std::fs;
 use std::rt::Files;
@@ -95,32 +96,34 @@ impl Case {
         match words.next() {
             None => Ok(()),
             Some(word) if word.starts_with('#') => Ok(()),
-            Some("$") => {
-                self.make_call(rt)?;
-                self.call = Some(Call::new(self.alloc, line.strip_prefix("$").unwrap_or(""))?);
-                Ok(())
-            }
-            Some("status") => self.want_status(words.next()),
-            Some("absent") => self.want_absent(words.next()),
-            Some("keeps") => self.want_kept(words.next()),
-            Some("front") => self.want_front(words.next()),
-            Some("fails") => self.fail(words),
+            Some("status" | "absent" | "keeps" | "front" | "fails") => self.want(line),
             Some("writes") => {
                 let word = words.next().ok_or(Trouble::BadLine)?;
                 self.begin_file(rt, word, words, true)
             }
-            Some("resize") => {
-                self.make_call(rt)?;
-                self.resize(words)
-            }
-            Some("patch") => {
-                self.make_call(rt)?;
-                self.patch(words)
-            }
             Some(word) => {
                 self.make_call(rt)?;
-                self.begin_file(rt, word, words, false)
+                self.change(rt, line, word, words)
             }
+        }
+    }
+
+    // Begins a call, or changes a file that is held.
+    fn change<R: Files + AllocGlobal>(
+        &mut self,
+        rt: &R,
+        line: &str,
+        word: &str,
+        words: SplitWhitespace<'_>,
+    ) -> Result<(), Trouble> {
+        match word {
+            "$" => {
+                self.call = Some(Call::new(self.alloc, line.strip_prefix("$").unwrap_or(""))?);
+                Ok(())
+            }
+            "resize" => self.resize(words),
+            "patch" => self.patch(words),
+            _ => self.begin_file(rt, word, words, false),
         }
     }
 
@@ -134,48 +137,17 @@ impl Case {
         if let Some(spelling) = &mut self.spelling {
             return spelling.content.add(text);
         }
-        let call = self.call.as_mut().ok_or(Trouble::BadLine)?;
-        call.wants(text)?;
-        Ok(())
+        match &mut self.call {
+            Some(call) => Ok(call.wants(text)?),
+            None => Err(Trouble::BadLine),
+        }
     }
 
-    fn want_status(&mut self, word: Option<&str>) -> Result<(), Trouble> {
-        let call = self.call.as_mut().ok_or(Trouble::BadLine)?;
-        let word = word.ok_or(Trouble::BadLine)?;
-        call.status = word.parse().ok().ok_or(Trouble::BadLine)?;
-        Ok(())
-    }
-
-    fn want_absent(&mut self, word: Option<&str>) -> Result<(), Trouble> {
-        let call = self.call.as_mut().ok_or(Trouble::BadLine)?;
-        let name = String::from_str(self.alloc, word.ok_or(Trouble::BadLine)?)?;
-        call.absent.push(name)?;
-        Ok(())
-    }
-
-    fn want_kept(&mut self, word: Option<&str>) -> Result<(), Trouble> {
-        let call = self.call.as_mut().ok_or(Trouble::BadLine)?;
-        let name = String::from_str(self.alloc, word.ok_or(Trouble::BadLine)?)?;
-        call.kept.push(name)?;
-        Ok(())
-    }
-
-    fn want_front(&mut self, word: Option<&str>) -> Result<(), Trouble> {
-        let call = self.call.as_mut().ok_or(Trouble::BadLine)?;
-        let word = word.ok_or(Trouble::BadLine)?;
-        call.front = Some(word.parse().ok().ok_or(Trouble::BadLine)?);
-        Ok(())
-    }
-
-    fn fail(&mut self, mut words: SplitWhitespace<'_>) -> Result<(), Trouble> {
-        let number = words.next().and_then(|word| word.parse().ok());
-        let keep = words.next().and_then(|word| word.parse().ok());
-        let call = self.call.as_mut().ok_or(Trouble::BadLine)?;
-        call.failing.push(Failing {
-            call: number.ok_or(Trouble::BadLine)?,
-            keep: keep.ok_or(Trouble::BadLine)?,
-        })?;
-        Ok(())
+    fn want(&mut self, line: &str) -> Result<(), Trouble> {
+        match &mut self.call {
+            Some(call) => call.want(self.alloc, line),
+            None => Err(Trouble::BadLine),
+        }
     }
 
     // Begins a file of a form: one that is read, or one that the call is to write.
@@ -186,14 +158,15 @@ impl Case {
         mut words: SplitWhitespace<'_>,
         is_written: bool,
     ) -> Result<(), Trouble> {
-        let name = String::from_str(self.alloc, words.next().ok_or(Trouble::BadLine)?)?;
+        let name = words.next().ok_or(Trouble::BadLine)?;
         if form == "file" {
             let content = fs::read(rt, words.next().ok_or(Trouble::BadLine)?)?;
-            return self.put(name, content, is_written);
+            return self.put(String::from_str(self.alloc, name)?, content, is_written);
         }
         let form = form_of(form).ok_or(Trouble::BadLine)?;
-        let steps = words.next().and_then(|word| word.parse().ok());
+        let steps = words.next().and_then(number).map(|steps| steps as u64);
         let content = Content::new(self.alloc, form)?;
+        let name = String::from_str(self.alloc, name)?;
         self.spelling = Some(Spelling {
             name,
             is_written,
@@ -238,15 +211,14 @@ impl Case {
 
     fn resize(&mut self, mut words: SplitWhitespace<'_>) -> Result<(), Trouble> {
         let bytes = self.bytes_of(words.next())?;
-        let length = words.next().and_then(|word| word.parse().ok());
-        bytes.resize(length.ok_or(Trouble::BadLine)?, 0)?;
+        let length = words.next().and_then(number).ok_or(Trouble::BadLine)?;
+        bytes.resize(length, 0)?;
         Ok(())
     }
 
     fn patch(&mut self, mut words: SplitWhitespace<'_>) -> Result<(), Trouble> {
         let bytes = self.bytes_of(words.next())?;
-        let place = words.next().and_then(|word| word.parse().ok());
-        let mut place: usize = place.ok_or(Trouble::BadLine)?;
+        let mut place = words.next().and_then(number).ok_or(Trouble::BadLine)?;
         for word in words {
             *bytes.get_mut(place).ok_or(Trouble::BadLine)? = byte_of(word).ok_or(Trouble::BadLine)?;
             place = place.saturating_add(1);

@@ -1,5 +1,6 @@
 // The content of a file, as a case spells it line by line.
 use crate::trouble::Trouble;
+use crate::words::{byte_of, hexadecimal, number};
 use std::alloc::{AllocError, Global};
 use std::str::SplitWhitespace;
 
@@ -30,35 +31,13 @@ const HEADER: [u8; 20] = [
     0x50, 0x52, 0x44, 0x54, 0x52, 0x43, 0x30, 0x31, 0, 0, 0, 0, 0, 0, 0, 0, 8, 0, 0, 0,
 ];
 
-fn digit(letter: u8) -> Option<u32> {
-    match letter {
-        b'0'..=b'9' => Some(u32::from(letter - b'0')),
-        b'a'..=b'f' => Some(u32::from(letter - b'a') + 10),
-        _ => None,
-    }
-}
-
-// The number of hexadecimal digits.
-fn hexadecimal(word: &str) -> Option<u32> {
-    let mut number = 0u32;
-    for letter in word.bytes() {
-        number = number.checked_mul(16)?.checked_add(digit(letter)?)?;
-    }
-    Some(number)
-}
-
-// The byte of two hexadecimal digits.
-pub(crate) fn byte_of(word: &str) -> Option<u8> {
-    u8::try_from(hexadecimal(word)?).ok()
-}
-
 // The tag of an access's record, and its hart: `W0` is a write by hart 0.
 fn touch(word: &str) -> Option<(u8, u16)> {
     if let Some(hart) = word.strip_prefix('R') {
-        return Some((1, hart.parse().ok()?));
+        return Some((1, u16::try_from(number(hart)?).ok()?));
     }
     let hart = word.strip_prefix('W')?;
-    Some((2, hart.parse().ok()?))
+    Some((2, u16::try_from(number(hart)?).ok()?))
 }
 
 // The number of a kind of symbols.
@@ -155,8 +134,8 @@ impl Content {
 
     // A number of bytes, in decimal digits.
     fn add_size(&mut self, word: Option<&str>) -> Result<(), Trouble> {
-        let word = word.ok_or(Trouble::BadLine)?;
-        let size: u32 = word.parse().ok().ok_or(Trouble::BadLine)?;
+        let size = word.and_then(number).ok_or(Trouble::BadLine)?;
+        let size = u32::try_from(size).ok().ok_or(Trouble::BadLine)?;
         self.bytes.extend_from_slice(&size.to_le_bytes())?;
         Ok(())
     }
@@ -164,10 +143,8 @@ impl Content {
     fn add_access(&mut self, word: &str, mut words: SplitWhitespace<'_>) -> Result<(), Trouble> {
         let (tag, hart) = touch(word).ok_or(Trouble::BadLine)?;
         let addr = words.next().and_then(hexadecimal).ok_or(Trouble::BadLine)?;
-        let size = match words.next() {
-            Some(word) => word.parse().ok().ok_or(Trouble::BadLine)?,
-            None => 4u8,
-        };
+        let size = number(words.next().unwrap_or("4")).ok_or(Trouble::BadLine)?;
+        let size = u8::try_from(size).ok().ok_or(Trouble::BadLine)?;
         self.bytes.push(tag)?;
         self.bytes.extend_from_slice(&hart.to_le_bytes())?;
         self.bytes.extend_from_slice(&addr.to_le_bytes())?;

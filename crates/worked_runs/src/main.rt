@@ -8,6 +8,7 @@ mod call;
 mod case;
 mod content;
 mod trouble;
+mod words;
 
 use crate::case::Case;
 use crate::trouble::Trouble;
@@ -39,12 +40,14 @@ fn play<R: Files + Print + AllocGlobal>(
     case.end(rt)
 }
 
-// Runs the case of a name, says how it went, and answers whether each of its calls ended as it
-// says.
-fn pass<R: Files + Print + AllocGlobal>(rt: &R, name: &str) -> Result<bool, Trouble> {
-    let text = fs::read_to_string(rt, name)?;
-    let mut case = Case::new(rt.alloc());
-    play(rt, &mut case, &text)?;
+// Plays a case, says how it went, and answers whether each of its calls ended as it says.
+fn tell<R: Files + Print + AllocGlobal>(
+    rt: &R,
+    name: &str,
+    case: &mut Case,
+    text: &str,
+) -> Result<bool, Trouble> {
+    play(rt, case, text)?;
     let (passed, failed) = (case.passed(), case.failed());
     if failed == 0 {
         println!(rt; "{name}: {passed} passed")?;
@@ -52,6 +55,13 @@ fn pass<R: Files + Print + AllocGlobal>(rt: &R, name: &str) -> Result<bool, Trou
         println!(rt; "{name}: {passed} passed, {failed} failed")?;
     }
     Ok(failed == 0)
+}
+
+// The same of the case of a name.
+fn pass<R: Files + Print + AllocGlobal>(rt: &R, name: &str) -> Result<bool, Trouble> {
+    let text = fs::read_to_string(rt, name)?;
+    let mut case = Case::new(rt.alloc());
+    tell(rt, name, &mut case, &text)
 }
 
 fn pass_all<R: Files + Print + AllocGlobal>(rt: &R) -> Result<bool, Trouble> {

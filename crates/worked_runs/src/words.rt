@@ -1,0 +1,28 @@
+// What a word of a case spells.
+
+// The number of decimal digits.
+pub(crate) fn number(word: &str) -> Option<usize> {
+    word.parse().ok()
+}
+
+fn digit(letter: u8) -> Option<u32> {
+    match letter {
+        b'0'..=b'9' => Some(u32::from(letter - b'0')),
+        b'a'..=b'f' => Some(u32::from(letter - b'a') + 10),
+        _ => None,
+    }
+}
+
+// The number of hexadecimal digits.
+pub(crate) fn hexadecimal(word: &str) -> Option<u32> {
+    let mut number = 0u32;
+    for letter in word.bytes() {
+        number = number.checked_mul(16)?.checked_add(digit(letter)?)?;
+    }
+    Some(number)
+}
+
+// The byte of two hexadecimal digits.
+pub(crate) fn byte_of(word: &str) -> Option<u8> {
+    u8::try_from(hexadecimal(word)?).ok()
+}
