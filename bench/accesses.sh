@@ -1,7 +1,7 @@
 #!/usr/bin/env bash
-# How fast the detector is over accesses made in memory: over 64 and over 65,536 lines, with 8 and with 256 harts, under usual
-# thresholds and where each second write searches, beside sha256sum of as many bytes as a trace of these accesses has. Processor
-# time, the least of three runs. A benchmark, no test.
+# How fast the detector is over accesses made in memory: over 64 lines and over 65,536, at random and in order, with 8 and with
+# 256 harts, under usual thresholds and where each second write searches, beside sha256sum of as many bytes as a trace of these
+# accesses has. Processor time, the least of three runs. A benchmark, no test.
 set -eu
 top=$(cd "$(dirname "$0")/.." && pwd)
 program=$top/crates/benches/out/benches
@@ -19,6 +19,7 @@ runs = [
     ("64 lines, 256 harts", 400, "64 256 16 64"),
     ("65,536 lines, 8 harts", 200, "65536 8 16 64"),
     ("65,536 lines, 256 harts", 200, "65536 256 16 64"),
+    ("65,536 lines in order, 8 harts", 200, "65536 8 16 64 sweep"),
     ("64 lines, 8 harts, a search at each second write", 100, "64 8 1 2"),
 ]
 

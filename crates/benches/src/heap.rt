@@ -4,7 +4,7 @@
 // as many blocks and frees. It prints what was done. Without words there are 1,000 blocks.
 ghost use Rattle.std.specs.Prelude.{◌+◌, ◌*◌, ◌≤◌, ◌<◌, ◌^◌};
 
-use crate::Words;
+use crate::{Words, number_or};
 use heap_objects::{GuestHeap, ObjectTable};
 use predator_base::NoMemory;
 use std::alloc::Global;
@@ -12,7 +12,7 @@ use std::io;
 
 const START: u32 = 0x10000;
 
-const MOST: u32 = 1 << 20;
+const MOST: u64 = 1 << 20;
 
 // The address of the block that is freed at a turn.
 fn freed_at(turn: u32, count: u32, is_reverse: bool) -> u32
@@ -61,23 +61,30 @@ fn use_table(alloc: Global, count: u32, is_reverse: bool) -> Result<(usize, usiz
     Ok((blocks.len(), died))
 }
 
-pub(crate) fn bench<R: Print + AllocGlobal>(rt: &R, words: &mut Words) -> io::Result<()> {
-    let asked = words
-        .next()
-        .and_then(|word| word.parse::<u32>().ok())
-        .unwrap_or(1000);
-    let count = asked.min(MOST);
-    let kind = words.next();
-    let kind = kind.as_ref().map_or("", |word| word.as_str());
-    let is_reverse = kind.starts_with("reverse");
-    if kind.ends_with("table") {
-        let Ok((made, died)) = use_table(rt.alloc(), count, is_reverse) else {
-            return println!(rt; "no memory");
-        };
-        return println!(rt; "noted {made} died {died}");
+fn bench_table<R: Print + AllocGlobal>(rt: &R, count: u32, is_reverse: bool) -> io::Result<()>
+    requires { count ≤ 2 ^ 20 }
+{
+    match use_table(rt.alloc(), count, is_reverse) {
+        Ok((made, died)) => println!(rt; "noted {made} died {died}"),
+        Err(_) => println!(rt; "no memory"),
     }
-    let Ok((made, freed)) = use_heap(rt.alloc(), count, is_reverse) else {
-        return println!(rt; "no memory");
-    };
-    println!(rt; "made {made} freed {freed}")
+}
+
+fn bench_heap<R: Print + AllocGlobal>(rt: &R, count: u32, is_reverse: bool) -> io::Result<()>
+    requires { count ≤ 2 ^ 20 }
+{
+    match use_heap(rt.alloc(), count, is_reverse) {
+        Ok((made, freed)) => println!(rt; "made {made} freed {freed}"),
+        Err(_) => println!(rt; "no memory"),
+    }
+}
+
+pub(crate) fn bench<R: Print + AllocGlobal>(rt: &R, words: &mut Words) -> io::Result<()> {
+    let count = number_or(words, 1000).min(MOST) as u32;
+    match words.next().as_deref() {
+        Some("reverse-table") => bench_table(rt, count, true),
+        Some("table") => bench_table(rt, count, false),
+        Some("reverse") => bench_heap(rt, count, true),
+        _ => bench_heap(rt, count, false),
+    }
 }

@@ -18,6 +18,14 @@ use std::{env, io};
 // The words that are left.
 pub(crate) type Words = Skip<Args<Global>>;
 
+// The next word as a number: the usual one where there is none, or where it is no number.
+pub(crate) fn number_or(words: &mut Words, usual: u64) -> u64 {
+    words
+        .next()
+        .and_then(|word| word.parse().ok())
+        .unwrap_or(usual)
+}
+
 // Each bench, with what it does without words.
 fn bench_all<R: Print + AllocGlobal>(rt: &R, words: &mut Words) -> io::Result<()> {
     accesses::bench(rt, words)?;

@@ -4,8 +4,8 @@
 ghost use Rattle.std.specs.Prelude.{◌<◌, ◌≡◌, ◌%◌, IfOk, length};
 ghost use Rattle.guest_memory.specs.Space.{IsRange};
 
-use crate::Words;
 use crate::step_program::program;
+use crate::{Words, number_or};
 use guest_memory::Memory;
 use predator_base::{Hart, NoMemory};
 use rv32_decode::encode;
@@ -52,18 +52,12 @@ fn memory_of(alloc: Global) -> Result<Memory, NoMemory> {
 }
 
 pub(crate) fn bench<R: Print + AllocGlobal>(rt: &R, words: &mut Words) -> io::Result<()> {
-    let steps = words
-        .next()
-        .and_then(|word| word.parse().ok())
-        .unwrap_or(1000);
-    let harts = words
-        .next()
-        .and_then(|word| word.parse().ok())
-        .unwrap_or(1u16);
+    let steps = number_or(words, 1000);
+    let harts = number_or(words, 1).clamp(1, 256) as u16;
     let Ok(mut memory) = memory_of(rt.alloc()) else {
         return println!(rt; "no memory");
     };
-    let Ok(mut held) = Reservations::new(rt.alloc(), harts.clamp(1, 256)) else {
+    let Ok(mut held) = Reservations::new(rt.alloc(), harts) else {
         return println!(rt; "no memory");
     };
     let Some(hart) = Hart::new(0) else {

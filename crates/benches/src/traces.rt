@@ -3,7 +3,7 @@
 // Without words it reads two pieces of version 1.
 ghost use Rattle.std.specs.Prelude.{◌≡◌, ◌<◌, IfOk};
 
-use crate::Words;
+use crate::{Words, number_or};
 use predator_base::{Access, Hart, Kind, NoMemory};
 use std::alloc::Global;
 use std::io;
@@ -55,7 +55,7 @@ fn pieces_of(alloc: Global, version: Version) -> Result<(Vec<u8>, Vec<u8>), NoMe
 }
 
 // How many accesses are read in so many pieces.
-fn read(alloc: Global, version: Version, pieces: u32) -> Result<u64, TraceFault> {
+fn read(alloc: Global, version: Version, pieces: u64) -> Result<u64, TraceFault> {
     let (front, piece) = match pieces_of(alloc, version) {
         Ok(both) => both,
         Err(_) => return Err(TraceFault::NoMemory),
@@ -84,11 +84,7 @@ pub(crate) fn bench<R: Print + AllocGlobal>(rt: &R, words: &mut Words) -> io::Re
         Some("2") => Version::Two,
         _ => Version::One,
     };
-    let pieces = words
-        .next()
-        .and_then(|word| word.parse().ok())
-        .unwrap_or(2u32);
-    match read(rt.alloc(), version, pieces) {
+    match read(rt.alloc(), version, number_or(words, 2)) {
         Ok(count) => println!(rt; "accesses {count}"),
         Err(_) => println!(rt; "no memory"),
     }

@@ -4,8 +4,8 @@
 // 1,000 steps of 8 harts in turn.
 ghost use Rattle.std.specs.Prelude.{◌≡◌, ◌+◌, ◌*◌, ◌≤◌};
 
-use crate::Words;
 use crate::turn_program::{CODE, program};
+use crate::{Words, number_or};
 use elf_loader::Image;
 use guest_memory::Memory;
 use guest_run::{Guest, RunSettings, Turn};
@@ -101,25 +101,15 @@ fn steps_of(alloc: Global, settings: RunSettings, running: u16) -> Result<u64, N
 }
 
 pub(crate) fn bench<R: Print + AllocGlobal>(rt: &R, words: &mut Words) -> io::Result<()> {
-    let steps = words
-        .next()
-        .and_then(|word| word.parse().ok())
-        .unwrap_or(1000);
-    let harts = words
-        .next()
-        .and_then(|word| word.parse().ok())
-        .unwrap_or(8u16);
-    let running = words
-        .next()
-        .and_then(|word| word.parse().ok())
-        .unwrap_or(8u16);
-    let quantum = words.next().and_then(|word| word.parse().ok()).unwrap_or(1);
+    let steps = number_or(words, 1000);
+    let harts = number_or(words, 8).clamp(1, 256) as u16;
+    let running = number_or(words, 8).clamp(1, 256) as u16;
     let settings = RunSettings {
-        harts: harts.clamp(1, 256),
-        quantum,
+        harts,
+        quantum: number_or(words, 1).min(1 << 20) as u32,
         budget: steps,
     };
-    match steps_of(rt.alloc(), settings, running.clamp(1, 256)) {
+    match steps_of(rt.alloc(), settings, running) {
         Ok(made) => println!(rt; "steps {made}"),
         Err(NoMemory) => println!(rt; "no memory"),
     }
