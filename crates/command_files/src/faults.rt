@@ -1,7 +1,8 @@
 // The lines of refusals and of faults of the outside.
-ghost use Rattle.std.specs.Prelude.{◌≡◌, IfOk, string_bytes};
+ghost use Rattle.std.specs.Prelude.{◌≡◌, ◌++◌, IfOk, string_bytes, codes};
 ghost use Rattle.command_files.specs.Faults.{elf_text, fault_text, schedule_text, settings_text};
 ghost use Rattle.command_files.specs.Faults.{state_text, trace_text, usage_text};
+ghost use Rattle.command_files.specs.Texts.{line};
 
 use crate::status::{StateFault, Status};
 use elf_loader::ElfFault;
@@ -110,6 +111,14 @@ fn state_name(alloc: Global, fault: StateFault) -> Result<String, AllocError>
     }
 }
 
+// The line of a fault: of what, and what it is called.
+fn line_of(alloc: Global, kind: &str, name: &str) -> Result<String, AllocError>
+    ensures { IfOk result (λ text. string_bytes text
+        ≡ codes "predator: " ++ kind.now ++ codes " " ++ line name.now) }
+{
+    format!(in alloc; "predator: {kind} {name}\n")
+}
+
 /// The lines that are printed at a refusal and at a fault of the outside, none at another end. It
 /// fails where memory runs out.
 pub fn fault_line(alloc: Global, status: &Status) -> Result<String, AllocError>
@@ -120,25 +129,22 @@ pub fn fault_line(alloc: Global, status: &Status) -> Result<String, AllocError>
             Ok(String::new(alloc))
         }
         Status::Usage => String::from_str(alloc, USAGE),
-        Status::Elf(fault) => {
-            let name = elf_name(*fault);
-            format!(in alloc; "predator: elf {name}\n")
-        }
+        Status::Elf(fault) => line_of(alloc, "elf", elf_name(*fault)),
         Status::Schedule(fault) => {
             let name = schedule_name(alloc, *fault)?;
-            format!(in alloc; "predator: schedule {name}\n")
+            line_of(alloc, "schedule", name.as_str())
         }
         Status::Settings(fault) => {
             let name = settings_name(alloc, fault)?;
-            format!(in alloc; "predator: settings {name}\n")
+            line_of(alloc, "settings", name.as_str())
         }
         Status::Trace(fault) => {
             let name = trace_name(alloc, *fault)?;
-            format!(in alloc; "predator: trace {name}\n")
+            line_of(alloc, "trace", name.as_str())
         }
         Status::State(fault) => {
             let name = state_name(alloc, *fault)?;
-            format!(in alloc; "predator: state {name}\n")
+            line_of(alloc, "state", name.as_str())
         }
         Status::ReadFault => String::from_str(alloc, "predator: read fault\n"),
         Status::WriteFault => String::from_str(alloc, "predator: write fault\n"),

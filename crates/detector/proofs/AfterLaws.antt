@@ -1,5 +1,6 @@
 -- What the code does at an access is what the exact step says.
 use Rattle.std.proofs.Common.{◌≡◌, ℕ, ◌+◌, ◌%◌, ◌<◌, ◌≤◌, ◌^◌, Bool, true, false, eqb, leb, ltb, ◌&&◌, ◌||◌, List, [], ◌++◌, Option, Some}
+use Rattle.std.proofs.Common.{Fits, w64}
 use Rattle.std.proofs.Common.{None, map, length, refl, sym, ap, ◌∙◌, subst, arith, inl, inr}
 use Rattle.std.proofs.lemmas.Bool.{cases_Bool, false≢true, and_parts, and_left, or_parts, eqb-true, leb-true}
 use Rattle.std.proofs.lemmas.Bool.Decides.{nat_tests}
@@ -271,3 +272,18 @@ indexed-empty m g T p is = record {
     none Observed k = ap (λ (x : LineEntry). x.track) (blank k)
     none Shifted k = ap (λ (x : LineEntry). x.shifted) (blank k)
     none Doubled k = ap (λ (x : LineEntry). x.doubled) (blank k)
+
+-- steps that are few stay so with room for more
+pub steps-within : (s most room : ℕ) → s ≤ most → s ≤ most + room
+steps-within s most room few = omega arith
+
+-- an entry that was lent counts few writes, and can count one more
+pub writes-few : (f : ℕ → LineEntry) (g : Grid) (xs : List Kept) (T p k : ℕ) (e : LineEntry) → IsIndexed f g xs T p → p < 2 ^ 40
+    → e ≡ f k → e.writes < 2 ^ 40
+writes-few f g xs T p k e indexed early is =
+    let written = indexed.written k in
+    let same : e.writes ≡ (f k).writes = ap (λ (x : LineEntry). x.writes) is in
+    omega arith
+
+pub one-more-fits : (n : ℕ) → n < 2 ^ 40 → Fits w64 (n + 1)
+one-more-fits n few = omega arith

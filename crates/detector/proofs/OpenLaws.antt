@@ -7,6 +7,7 @@ use Rattle.std.proofs.lemmas.Option.{same_Some, none-some, slice_get-get_or}
 use Rattle.std.specs.Prelude.{if◌then◌else◌, nat_abs, is_some, option_map, MatchOption}
 use Rattle.std.specs.Option.{SomeIff}
 use Rattle.predator_base.specs.declared.layout.Range.{Range}
+use Rattle.line_counters.specs.declared.line_entry.LineEntry.{LineEntry}
 use Rattle.sharing_rules.specs.Lines.{is_inside, line_from, native_line, range_of}
 use Rattle.sharing_rules.specs.Opened.{even_lower}
 use Rattle.sharing_rules.specs.Pairs.{best_pair_of}
@@ -21,7 +22,7 @@ use Rattle.detector.specs.Named.{track_named}
 use Rattle.detector.specs.Openings.{best_of_two, doubled_opens, shifted_opens}
 use Rattle.detector.specs.Pairs.{AreAround, ArePair, IsPairOf, doubled_between, kept_at, native_grid, shifted_between}
 use Rattle.detector.proofs.Gets.{slice_cases}
-use Rattle.detector.proofs.PairLaws.{best-is_pair, doubled-begins, native-abs, native-begins, native-is, native-neighbours, shifted-begins}
+use Rattle.detector.proofs.PairLaws.{best-is_pair, doubled-begins, native-abs, native-begins, native-is, native-neighbours, pair-words, shifted-begins}
 
 -- what is read at a place that is named
 pub read_at : (xs ys : List Kept) (o : Option ℕ) (i : ℕ) (x : Kept) → o ≡ Some i → ys ≡ xs → i < length xs → x ≡ get_or ys i x
@@ -99,6 +100,48 @@ shifted-shaped n k xs lower upper pair o r P native found value e =
     subst (IsShaped (native_grid n) k Shifted) (sym is)
     (found.some, refl, shifted-begins n k found.places (native-is n native) found.some found.lower_in found.upper_in found.near)
 
+some_where : {X : Type 0} (o : Option X) (P : Type 0) (v : X) → SomeIff o P v → P → o ≡ Some v
+some_where None P v h p = absurd (h p)
+some_where (Some x) P v h p = ap Some h.1
+
+-- the words of a pair of neighbours
+pub record AreBeside (n x y : ℕ) : Type 0 where
+  pub words : (x % 4 ≡ 0) × (y % 4 ≡ 0)
+  pub neighbours : x / n + 1 ≡ y / n
+
+pub pair-beside : (n k : ℕ) (xs : List Kept) (lower upper : Option ℕ) (within : ℕ) (pair : Pair) → is_native_size n ≡ true
+    → IsPairOf n k xs lower upper within pair → AreBeside n pair.x pair.y
+pair-beside n k xs lower upper within pair native found =
+    let words = pair-words n k found.places (native-is n native) found.some found.lower_in found.upper_in in
+    let low : pair.x / n + 1 ≡ k = ap (λ z. z / n + 1) found.lower_at ∙ words.lower_in in
+    let high : pair.y / n + 1 ≡ k + 1 = ap (λ z. z / n + 1) found.upper_at ∙ words.upper_in in
+    record {
+      words = (ap (λ z. z % 4) found.lower_at ∙ words.lower_words, ap (λ z. z % 4) found.upper_at ∙ words.upper_words);
+      neighbours = omega (arith, low, high);
+    }
+
+-- one line can hold the words of such a pair
+pair-near : (n k : ℕ) (xs : List Kept) (lower upper : Option ℕ) (pair : Pair) → is_native_size n ≡ true
+    → IsPairOf n k xs lower upper n pair → pair.y + 4 ≤ pair.x + n
+pair-near n k xs lower upper pair native found =
+    let size = native-is n native in
+    let words = pair-words n k found.places size found.some found.lower_in found.upper_in in
+    omega (arith, size.words, found.near, found.lower_at, found.upper_at, words.begins, words.upper_is)
+
+-- the shifted line that opens for two lines with a pair
+pub shifted-value : (n k : ℕ) (xs : List Kept) (lower upper : LineEntry) (pair : Pair) (o : Option Range) → is_native_size n ≡ true
+    → is_some lower.shifted ≡ false → IsPairOf n k xs lower.track upper.track n pair
+    → SomeIff o (pair.y + 4 ≤ pair.x + n) (range_of (line_from n (shifted_base n pair.x pair.y)))
+    → o ≡ shifted_between n k xs lower upper
+shifted-value n k xs lower upper pair o native none found value =
+    some_where o (pair.y + 4 ≤ pair.x + n) (range_of (line_from n (shifted_base n pair.x pair.y))) value
+    (pair-near n k xs lower.track upper.track pair native found)
+    ∙ ap (λ z. Some (range_of (line_from n (shifted_base n z pair.y)))) found.lower_at
+    ∙ ap (λ z. Some (range_of (line_from n (shifted_base n (word_address n k found.places.0) z)))) found.upper_at
+    ∙ sym (ap (option_map (λ p. range_of (shifted_around n k p))) found.best)
+    ∙ sym (ap (λ b. if b then None else option_map (λ p. range_of (shifted_around n k p))
+    (best_of_two (kept_at xs lower.track) (kept_at xs upper.track) n)) none)
+
 -- the lower word of a pair is in the lower line
 pub pair-inside : (n k : ℕ) (xs : List Kept) (lower upper : Option ℕ) (within : ℕ) (pair : Pair) → IsPairOf n k xs lower upper within pair
     → (is_inside (native_line n k) pair.x || is_inside (native_line n (k + 1)) pair.x) ≡ true
@@ -109,6 +152,16 @@ pair-inside n k xs lower upper within pair found =
     let is : pair.x + n - 0 ≡ k * n + 4 * found.places.0 = omega arith in
     or_left (is_inside (native_line n k) pair.x) (is_inside (native_line n (k + 1)) pair.x)
     (eq-eqb ((pair.x + n - 0) / n) k (ap (λ z. z / n) is ∙ div-mul-add k n (4 * found.places.0) less))
+
+-- the doubled line that opens for two lines with a pair
+pub doubled-value : (n k : ℕ) (xs : List Kept) (lower upper : LineEntry) (pair : Pair) (r : Range) → is_some lower.doubled ≡ false
+    → IsPairOf n k xs lower.track upper.track (2 * n) pair → r ≡ range_of (doubled_line n k)
+    → Some r ≡ doubled_between n k xs lower upper
+doubled-value n k xs lower upper pair r none found is =
+    ap Some is
+    ∙ sym (ap (option_map (λ p. range_of (doubled_line n k))) found.best)
+    ∙ sym (ap (λ b. if b then None else option_map (λ p. range_of (doubled_line n k))
+    (best_of_two (kept_at xs lower.track) (kept_at xs upper.track) (2 * n))) none)
 
 pub doubled-shaped : (n k : ℕ) (r : Range) → is_native_size n ≡ true → 1 ≤ k → k % 2 ≡ 1 → r ≡ range_of (doubled_line n k)
     → IsShaped (native_grid n) k Doubled r

@@ -3,10 +3,13 @@ use Rattle.std.proofs.Common.{◌≡◌, ◌≢◌, ℕ, ◌+◌, ◌-◌, ◌<�
 use Rattle.std.proofs.Common.{ap, ◌∙◌, subst, arith, inl, inr}
 use Rattle.std.proofs.lemmas.Bool.{cases_Bool, cases_eq, eqb-true, eq-eqb}
 use Rattle.std.proofs.lemmas.Option.{none-some}
-use Rattle.std.specs.Prelude.{if◌then◌else◌, option_map}
+use Rattle.std.proofs.Math.Bool.{and-false, and-true}
+use Rattle.std.specs.Prelude.{if◌then◌else◌, ◌&&◌, option_map}
+use Rattle.std.specs.Option.{option_or}
 use Rattle.predator_base.specs.Lines.{Grid}
 use Rattle.predator_base.specs.declared.layout.Range.{Range}
 use Rattle.line_counters.specs.declared.line_entry.LineEntry.{LineEntry}
+use Rattle.sharing_rules.specs.Listed.{rank}
 use Rattle.sharing_rules.specs.Opened.{even_lower}
 use Rattle.sharing_rules.specs.declared.line_kind.LineKind.{LineKind}
 use Rattle.sharing_rules.specs.declared.line_kind.LineKind.TheVariants.{Observed, Shifted, Doubled}
@@ -53,6 +56,37 @@ counted-names f h k each = changed-names f h k (counted (f k)) each places
     places Shifted = refl
     places Doubled = refl
 
+-- an entry with a place names it
+pub placed-names : (f h : ℕ → LineEntry) (k : ℕ) (kind : LineKind) (o : Option ℕ) (e : LineEntry)
+    → ((q : ℕ) → h q ≡ (if eqb q k then e else f q)) → e ≡ with_place (f k) kind o → names_in h ≡ with_name (names_in f) kind k o
+placed-names f h k kind o e each is = λ i j q. by_line j q i
+  where
+    placed : (x : LineEntry) (kind j : LineKind)
+        → place_in (with_place x kind o) j ≡ (if eqb (rank j) (rank kind) then option_or o (place_in x j) else place_in x j)
+    placed x Observed Observed = refl
+    placed x Observed Shifted = refl
+    placed x Observed Doubled = refl
+    placed x Shifted Observed = refl
+    placed x Shifted Shifted = refl
+    placed x Shifted Doubled = refl
+    placed x Doubled Observed = refl
+    placed x Doubled Shifted = refl
+    placed x Doubled Doubled = refl
+
+    by_line : (j : LineKind) (q : ℕ) → place_in (h q) j ≡ with_name (names_in f) kind k o j q
+    by_line j q =
+        ap (λ (x : LineEntry). place_in x j) (each q)
+        ∙ elim (cases_Bool (eqb q k)) [
+          | inl here ↦ ap (λ b. place_in (if b then e else f q) j) here
+              ∙ ap (λ (x : LineEntry). place_in x j) (is ∙ ap (λ z. with_place (f z) kind o) (sym (eqb-true q k here)))
+              ∙ placed (f q) kind j
+              ∙ ap (λ b. if b then option_or o (place_in (f q) j) else place_in (f q) j)
+              (sym (and-true (eqb (rank j) (rank kind))) ∙ ap (λ b. eqb (rank j) (rank kind) && b) (sym here))
+          | inr other ↦ ap (λ b. place_in (if b then e else f q) j) other
+              ∙ ap (λ b. if b then option_or o (place_in (f q) j) else place_in (f q) j)
+              (sym (and-false (eqb (rank j) (rank kind))) ∙ ap (λ b. eqb (rank j) (rank kind) && b) (sym other))
+        ]
+
 pub counted-writes : (f h : ℕ → LineEntry) (k : ℕ) → ((q : ℕ) → h q ≡ (if eqb q k then counted (f k) else f q)) → (q : ℕ)
     → (h q).writes ≡ (if eqb q k then (f k).writes + 1 else (f q).writes)
 counted-writes f h k each q = ap (λ (e : LineEntry). e.writes) (each q)
@@ -75,6 +109,10 @@ counted-some f h k q each some =
 pub settled-written : (f h : ℕ → LineEntry) (k q : ℕ) (o : Option ℕ) → ((q : ℕ) → h q ≡ (if eqb q k then counted (f k) else f q))
     → ((p : ℕ) → o ≡ Some p → q ≢ k → 0 < (f q).writes) → (p : ℕ) → o ≡ Some p → 0 < (h q).writes
 settled-written f h k q o each some p e = counted-some f h k q each (some p e)
+
+-- naming leaves a line written
+pub still-written : (f h : ℕ → LineEntry) (q r : ℕ) → (h q).writes ≡ (f q).writes → q ≡ r → 0 < (f r).writes → 0 < (h q).writes
+still-written f h q r same is some = subst (λ n. 0 < n) (sym (same ∙ ap (λ z. (f z).writes) is)) some
 
 -- the names after all is settled
 pub named-turn : (N : Names) (g : Grid) (xs : List Kept) (k : ℕ) (own : Option ℕ) (searches : Bool) (o : Openings)

@@ -290,3 +290,24 @@ turned-indexed f h g xs ys T p k a begins own o places indexed is names named ow
               let at : (f q).track ≡ Some i = sym (ap (λ b. if b then option_or own (f q).track else (f q).track) other) ∙ e in
               rw (writes q, other) (indexed.late q i at)
         ]
+
+-- the tracks that were there are kept
+pub kept-after : (xs ys zs : List Kept) → zs ≡ xs ++ ys → take (length xs) zs ≡ xs
+kept-after xs ys zs is = ap (take (length xs)) is ∙ take_at xs ys (length xs) refl
+
+-- three tracks that open, one after the other
+pub opened-all : (xs ys zs ws : List Kept) (o : Openings) → ys ≡ xs ++ waiting_for Shifted o.below
+    → zs ≡ ys ++ waiting_for Shifted o.here → ws ≡ zs ++ waiting_for Doubled o.doubled → ws ≡ xs ++ opened_tracks o
+opened-all xs ys zs ws o below here doubled =
+    rw (doubled, here, below) (simp append_assoc)
+
+-- and their places
+pub opened-where : (xs ys zs : List Kept) (o : Openings) (b h d : Option ℕ) → ys ≡ xs ++ waiting_for Shifted o.below
+    → zs ≡ ys ++ waiting_for Shifted o.here → b ≡ option_map (λ r. length xs) o.below → h ≡ option_map (λ r. length ys) o.here
+    → d ≡ option_map (λ r. length zs) o.doubled
+    → ◌≡◌ {A = Opened} (record { below = b; here = h; doubled = d }) (opened_places (length xs) o)
+opened-where xs ys zs o b h d below here at at_here at_doubled =
+    let len₁ : length ys ≡ length xs + length (waiting_for Shifted o.below) = ap length below ∙ length-append xs (waiting_for Shifted o.below) in
+    let len₂ : length zs ≡ length xs + length (waiting_for Shifted o.below) + length (waiting_for Shifted o.here) =
+    ap length here ∙ length-append ys (waiting_for Shifted o.here) ∙ ap (λ n. n + length (waiting_for Shifted o.here)) len₁ in
+    rw (at, at_here, at_doubled, len₁, len₂) refl

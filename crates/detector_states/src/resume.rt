@@ -1,12 +1,17 @@
 // A detector, taken up again.
-ghost use Rattle.std.specs.Prelude.{◌≡◌, ◌≢◌, ◌^◌, ◌++◌, ℕ, List, Err, IfErr, IfOk, IsTrue, Ok};
+ghost use Rattle.std.specs.Prelude.{◌≡◌, ◌≢◌, ◌^◌, ◌≤◌, ◌++◌, ℕ, List, Err, IfErr, IfOk, IsTrue, Ok};
+ghost use Rattle.std.specs.Prelude.{Some, length};
 ghost use Rattle.predator_base.specs.Levels.{Levels, is_from_to};
 ghost use Rattle.predator_base.specs.Lines.{Grid};
 ghost use Rattle.predator_base.specs.declared.faults.ResumeFault.TheVariants as faults;
 ghost use Rattle.line_counters.specs.Entries.{no_entries};
 ghost use Rattle.sharing_rules.specs.AccessLists.{AccessList};
+ghost use Rattle.sharing_rules.specs.Listed.{may_predict};
+ghost use Rattle.detector.specs.Adding.{nothing_kept};
 ghost use Rattle.state_grammar.specs.OfLists.{MayKeep, state_of_list};
+ghost use Rattle.state_grammar.specs.Parts.{header_meant};
 ghost use Rattle.state_grammar.specs.Reading.{BeginsWith, read_state};
+ghost use Rattle.state_grammar.specs.Units.{header_in};
 ghost use Rattle.detector_states.specs.Resuming.{IsResumedFrom, resumption, resumption_in};
 ghost use Rattle.detector_states.specs.Saving.{state_of};
 
@@ -16,7 +21,7 @@ use crate::tracks::read_tracks;
 use detector::Detector;
 use line_counters::LineIndex;
 use predator_base::ResumeFault;
-use state_grammar::read_header;
+use state_grammar::{StateHeader, read_header};
 use std::alloc::Global;
 
 // How many bytes a header has.
@@ -32,6 +37,48 @@ pub struct Resumed<I: LineIndex> {
     pub harts: u16,
     /// The place behind the last track.
     pub used: usize,
+}
+
+// Reads the lines and the tracks of the state that begins a part into a detector of which nothing
+// is kept, and gives the place behind them.
+fn read_parts<I: LineIndex>(
+    alloc: Global,
+    detector: &mut Detector<I>,
+    header: &StateHeader,
+    part: &[u8],
+) -> Result<usize, ResumeFault>
+    requires header { header_in part.now ≡ Some (header_meant header.now) }
+    requires blank { detector.old
+        ≡ nothing_kept header.now.layout header.now.thresholds header.now.position }
+    requires native { IsTrue (may_predict header.now.layout header.now.thresholds) }
+    requires long { 64 ≤ length part.now }
+    requires harts { header.now.harts ≤ 256 }
+    requires early { header.now.position ≤ 2 ^ 40 }
+    ensures refused { IfErr result (λ fault. fault ≢ faults.NoMemory
+        → resumption_in header.now.thresholds.report part.now ≡ Err fault) }
+    ensures resumed { IfOk result (λ used. resumption_in header.now.thresholds.report part.now
+        ≡ Ok (resumption detector.new header.now.harts used)) }
+    ensures state { IfOk result (λ used.
+        read_state part.now ≡ Ok (state_of header.now.harts detector.new, used)) }
+{
+    let mut due = Vec::new(alloc);
+    let lines = Rest {
+        place: HEADER_LENGTH,
+        bytes: part.split_at(HEADER_LENGTH).1,
+    };
+    let tracks = match read_lines(detector, &mut due, header, lines) {
+        Ok(rest) => rest,
+        Err(fault) => return Err(fault),
+    };
+    let rest = match read_tracks(alloc, detector, &due, header, tracks) {
+        Ok(rest) => rest,
+        Err(fault) => return Err(fault),
+    };
+    // Where a due line has no track, the unit that stands in its place is at fault.
+    if detector.tracks().len() < due.len() {
+        return Err(fault_at(rest));
+    }
+    Ok(rest.place)
 }
 
 /// The detector of the state that begins a part, over an index with no entry, with a report
@@ -67,26 +114,12 @@ pub fn resume_detector<I: LineIndex + Drop>(
     };
     let (layout, thresholds) = (header.layout, header.thresholds);
     let mut detector = Detector::at(alloc, index, layout, thresholds, header.position);
-    let mut due = Vec::new(alloc);
-    let lines = Rest {
-        place: HEADER_LENGTH,
-        bytes: part.split_at(HEADER_LENGTH).1,
-    };
-    let tracks = match read_lines(&mut detector, &mut due, &header, lines) {
-        Ok(rest) => rest,
-        Err(fault) => return Err(fault),
-    };
-    let rest = match read_tracks(alloc, &mut detector, &due, &header, tracks) {
-        Ok(rest) => rest,
-        Err(fault) => return Err(fault),
-    };
-    // Where a due line has no track, the unit that stands in its place is at fault.
-    if detector.tracks().len() < due.len() {
-        return Err(fault_at(rest));
+    match read_parts(alloc, &mut detector, &header, part) {
+        Ok(used) => Ok(Resumed {
+            detector,
+            harts: header.harts,
+            used,
+        }),
+        Err(fault) => Err(fault),
     }
-    Ok(Resumed {
-        detector,
-        harts: header.harts,
-        used: rest.place,
-    })
 }

@@ -60,6 +60,22 @@ fn fault_of(count: &mut u64, error: &io::Error) -> ShelfError
     ShelfError::Failed
 }
 
+// Says why a call of the system failed, and counts it. A line of long work is taken away before.
+fn tell_and_count<R: Eprint + AllocGlobal>(
+    runtime: &R,
+    progress: &mut Progress,
+    count: &mut u64,
+    name: &str,
+    error: io::Error,
+) -> ShelfError
+    ensures counted { count.new ≡ after_fault count.old result }
+    ensures later { count.old ≤ count.new }
+{
+    progress.clear(runtime);
+    tell_fault(runtime, name, &error);
+    fault_of(count, &error)
+}
+
 // How many bytes a call has read, and how many the file has.
 #[derive(Clone, Copy)]
 struct ReadBytes {
@@ -170,22 +186,26 @@ impl<R: Files + Print + Eprint + Clock + AllocGlobal> Shelf for DiskShelf<'_, R>
                 self.progress.show_read(self.runtime, at, read.length);
                 Ok(read.count)
             }
-            Err(error) => {
-                self.progress.clear(self.runtime);
-                tell_fault(self.runtime, name, &error);
-                Err(fault_of(&mut self.reads, &error))
-            }
+            Err(error) => Err(tell_and_count(
+                self.runtime,
+                &mut self.progress,
+                &mut self.reads,
+                name,
+                error,
+            )),
         }
     }
 
     fn begin(&mut self, name: &str) -> Result<(), ShelfError> {
         match create(self.runtime, &mut self.known, name) {
             Ok(()) => Ok(()),
-            Err(error) => {
-                self.progress.clear(self.runtime);
-                tell_fault(self.runtime, name, &error);
-                Err(fault_of(&mut self.writes, &error))
-            }
+            Err(error) => Err(tell_and_count(
+                self.runtime,
+                &mut self.progress,
+                &mut self.writes,
+                name,
+                error,
+            )),
         }
     }
 
@@ -195,11 +215,13 @@ impl<R: Files + Print + Eprint + Clock + AllocGlobal> Shelf for DiskShelf<'_, R>
                 self.progress.show_written(self.runtime, length);
                 Ok(())
             }
-            Err(error) => {
-                self.progress.clear(self.runtime);
-                tell_fault(self.runtime, name, &error);
-                Err(fault_of(&mut self.writes, &error))
-            }
+            Err(error) => Err(tell_and_count(
+                self.runtime,
+                &mut self.progress,
+                &mut self.writes,
+                name,
+                error,
+            )),
         }
     }
 

@@ -1,10 +1,12 @@
 -- A content put among the bytes, seen at each address.
-use Rattle.std.proofs.Common.{◌≡◌, ℕ, ◌+◌, ◌-◌, ◌<◌, ◌≤◌, ◌∙◌, ◌++◌, cond, List, length, take, drop, get_or, refl, ap, arith, inl, inr}
+use Rattle.std.proofs.Common.{◌≡◌, ℕ, ◌+◌, ◌-◌, ◌<◌, ◌≤◌, ◌∙◌, ◌++◌, cond, List, length, take, drop, get_or, refl, ap, arith, inl, inr, sym, Vec}
 use Rattle.std.proofs.Common.{nat_lt, nat_le}
 use Rattle.std.proofs.lemmas.Bool.{ltb-false, ltb-true, leb-true, leb-false, lt-leb, cases_Bool}
 use Rattle.std.proofs.lemmas.List.{length-append, length-take-le, length-drop, get_or-take, get_or-drop, get_or_append_left}
-use Rattle.std.proofs.lemmas.List.{get_or-append_right, append_assoc}
-use Rattle.guest_memory.specs.Space.{Space, IsRange, byte_at, is_among}
+use Rattle.std.proofs.lemmas.List.{get_or-append_right, append_assoc, drop-drop, with_items_is}
+use Rattle.std.specs.Vec.{with_items}
+use borrow.Rule.Slice.PartMut.{put_mid}
+use Rattle.guest_memory.specs.Space.{Space, IsRange, IsSpace, byte_at, is_among}
 use Rattle.guest_memory.specs.Changes.{Fills}
 
 abbrev pub spliced : List ℕ → ℕ → List ℕ → List ℕ
@@ -80,3 +82,39 @@ fills m at content range = record {
   pages = refl;
   bytes = at_address m at content range;
 }
+
+-- a content put over as many bytes
+put_there : (bytes : List ℕ) (i : ℕ) (content : List ℕ) → put_mid i (i + length content - i) bytes content ≡ spliced bytes i content
+put_there bytes i content =
+    let some : i + length content - i ≡ length content = omega arith in
+    rw (some, append_assoc) (ap (λ l. take i bytes ++ (content ++ l)) (drop-drop (length content) i bytes ∙ ap (λ n. drop n bytes) (omega arith)))
+
+-- what the code leaves of the bytes
+pub bytes_put : {Z : Type 0} (v : Vec ℕ Z) (m : Space) (at : ℕ) (old put content : List ℕ) → v.items ≡ m.bytes
+    → IsRange m at (length content) → old ≡ v.items → put ≡ content
+    → (with_items v (put_mid (at - m.base) (at - m.base + length content - (at - m.base)) old put)).items
+    ≡ spliced m.bytes (at - m.base) content
+bytes_put v m at old put content whole range is same =
+    let i : ℕ = at - m.base in
+    let put_is : put_mid i (i + length content - i) old put ≡ spliced m.bytes i content =
+    rw (is, same, whole) (put_there m.bytes i content) in
+    let long : length (put_mid i (i + length content - i) old put) ≡ length v.items =
+    ap length put_is ∙ length-spliced m.bytes i content (omega (arith, range.0, range.1)) ∙ ap length (sym whole) in
+    with_items_is v (put_mid i (i + length content - i) old put) (long ∙ sym v.ok.0) ∙ put_is
+
+-- bytes that are those of a filled memory make one
+pub filled : (m : Space) (at : ℕ) (bytes content : List ℕ) → IsRange m at (length content)
+    → bytes ≡ spliced m.bytes (at - m.base) content → Fills m (record m { bytes = bytes }) at content
+filled m at bytes content range e = rw e (fills m at content range)
+
+-- a filled memory is a memory
+pub still_space : (m : Space) (at : ℕ) (bytes content : List ℕ) → IsRange m at (length content)
+    → bytes ≡ spliced m.bytes (at - m.base) content → IsSpace m → IsSpace (record m { bytes = bytes })
+still_space m at bytes content range e space =
+    let long : length bytes ≡ length m.bytes = ap length e ∙ length-spliced m.bytes (at - m.base) content (omega (arith, range.0, range.1)) in
+    record {
+      aligned = space.aligned;
+      whole = long ∙ space.whole;
+      room = omega (arith, space.room, long);
+      rights = space.rights;
+    }

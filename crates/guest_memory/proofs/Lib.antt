@@ -5,3 +5,4 @@ pub mod Stores
 pub mod Slices
 pub mod Freshness
 pub mod Rights
+pub mod Mappings

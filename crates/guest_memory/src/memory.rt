@@ -82,7 +82,6 @@ impl Memory {
     /// Maps each page that the `len` bytes from `at` on touch. A page keeps the rights that it
     /// has,
     /// and gains those that are given. Its bytes stay, and all other pages.
-    #[tactic(auto, using(crate::proofs::Rights::granted_rights))]
     pub fn map(&mut self, at: u32, len: u32, writable: bool, executable: bool)
         requires { IsRange self.old at len }
         ensures { Maps self.old self.new at len writable executable }
@@ -96,7 +95,6 @@ impl Memory {
     }
 
     /// Puts the content at `at`, whatever the rights there. All else stays.
-    #[tactic(auto, using(crate::proofs::Fillings::fills))]
     pub fn fill(&mut self, at: u32, content: &[u8])
         requires { IsRange self.old at (length content.now) }
         ensures { Fills self.old self.new at content.now }

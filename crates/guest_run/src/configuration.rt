@@ -1,10 +1,12 @@
 // What the steps of a guest change.
-ghost use Rattle.std.specs.Prelude.{◌≡◌, ◌%◌, ◌<◌, ◌≤◌, [], length, replicate, IfOk, IfSome};
+ghost use Rattle.std.specs.Prelude.{◌≡◌, ◌%◌, ◌<◌, ◌≤◌, [], length, replicate, slice_set, None};
+ghost use Rattle.std.specs.Prelude.{IfOk, IfSome};
 ghost use Rattle.hart_scheduler.specs.Choices.{choice};
-ghost use Rattle.thread_calls.specs.Phases.{phase_of};
+ghost use Rattle.rv32_machine.specs.Registers.{started};
+ghost use Rattle.thread_calls.specs.Phases.{first_phases, phase_of};
 ghost use Rattle.thread_calls.specs.declared.phase.HartPhase.TheVariants.{Runnable};
 ghost use Rattle.guest_run.specs.Configs.{answered, first_config, given, noted, passed, state_of};
-ghost use Rattle.guest_run.specs.Configs.{unused, value_in};
+ghost use Rattle.guest_run.specs.Configs.{stack_end, unused, value_in};
 ghost use Rattle.guest_run.specs.Turns.{IsNext, chosen, runnable_in};
 ghost use Rattle.guest_run.specs.Inside.{config_of};
 
@@ -76,6 +78,41 @@ fn no_calls(alloc: Global, harts: u16) -> Result<Vec<CallList>, NoMemory>
     Ok(calls)
 }
 
+// What is kept of each hart.
+#[derive(Drop)]
+struct Harts {
+    states: Vec<HartState>,
+    held: Reservations,
+    threads: Threads,
+    calls: Vec<CallList>,
+}
+
+impl Harts {
+    // Hart 0 at the entry, and the others free.
+    fn first(alloc: Global, setup: &Setup, entry: u32) -> Result<Harts, NoMemory>
+        requires some { 1 ≤ setup.now.harts }
+        requires most { setup.now.harts ≤ 256 }
+        requires aligned { entry % 4 ≡ 0 }
+        ensures states { IfOk result (λ x. x.states.items ≡ slice_set
+            (replicate setup.now.harts unused) 0 (started entry (stack_end setup.now 0) 0 0)) }
+        ensures held { IfOk result (λ x. x.held ≡ replicate setup.now.harts None) }
+        ensures phases { IfOk result (λ x. x.threads ≡ first_phases setup.now.harts) }
+        ensures calls { IfOk result (λ x. x.calls.items ≡ replicate setup.now.harts []) }
+    {
+        let mut states = unused_harts(alloc, setup.harts)?;
+        states[0] = HartState::new(entry, setup.top, 0, 0);
+        let held = Reservations::new(alloc, setup.harts)?;
+        let threads = Threads::new(alloc, setup.harts)?;
+        let calls = no_calls(alloc, setup.harts)?;
+        Ok(Harts {
+            states,
+            held,
+            threads,
+            calls,
+        })
+    }
+}
+
 impl Configuration {
     /// The first configuration of a run. It takes memory for what is kept of each hart.
     pub fn first(
@@ -92,11 +129,12 @@ impl Configuration {
         ensures { IfOk result (λ x. config_of x
             ≡ first_config setup.now memory heap entry schedule) }
     {
-        let mut states = unused_harts(alloc, setup.harts)?;
-        states[0] = HartState::new(entry, setup.top, 0, 0);
-        let held = Reservations::new(alloc, setup.harts)?;
-        let threads = Threads::new(alloc, setup.harts)?;
-        let calls = no_calls(alloc, setup.harts)?;
+        let Harts {
+            states,
+            held,
+            threads,
+            calls,
+        } = Harts::first(alloc, setup, entry)?;
         Ok(Configuration {
             memory,
             states,

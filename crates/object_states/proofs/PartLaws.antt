@@ -15,7 +15,7 @@ use Rattle.predator_base.specs.declared.faults.ResumeFault.{ResumeFault}
 use Rattle.predator_base.specs.declared.faults.ResumeFault.TheVariants.{BadState}
 use Rattle.trace_grammar.specs.ByteLaws.{below_64, bytes_of, from_part, spelled_64}
 use Rattle.trace_grammar.specs.Judging.{number_at}
-use Rattle.object_states.specs.Judging.{all_taken, block_form, objects_judged, symbol_form, with_blocks, with_symbols}
+use Rattle.object_states.specs.Judging.{all_taken, block_form, objects_judged, symbol_form, units_judged, with_blocks, with_symbols}
 use Rattle.object_states.specs.Rules.{IsPartOf, IsSavable, IsSavedBlock, IsSavedSymbol}
 use Rattle.object_states.specs.Spelling.{spell_block, spell_counts, spell_objects, spell_saved_symbol}
 use Rattle.object_states.specs.Units.{fault_at, units_at}
@@ -24,9 +24,7 @@ use Rattle.object_states.proofs.SymbolUnits.{RecordsFound, symbols_again, symbol
 use Rattle.object_states.proofs.UnitLaws.{IsByte, all_again, all_found}
 
 pub judged_enough : (place position : ℕ) (part : List ℕ) → 16 ≤ length part
-    → objects_judged place position part
-    ≡ with_symbols position (place + length part) (number_at w64 8 part)
-    (units_at symbol_form (place + length part) (number_at w64 0 part) [] (drop 16 part))
+    → objects_judged place position part ≡ units_judged position (place + length part) part
 unfolding objects_judged
 judged_enough place position part long =
     let enough : ltb (length part) 16 ≡ false = grind (arith, nat_tests) in
@@ -39,19 +37,16 @@ judged_short place position part short =
     rw few refl
 
 -- what the units of a part say of it
-module _ (place position : ℕ) (part : List ℕ) (long : 16 ≤ length part) where
-  pub bad_symbols : (fault : ResumeFault)
-      → units_at symbol_form (place + length part) (number_at w64 0 part) [] (drop 16 part) ≡ Err fault
-      → objects_judged place position part ≡ Err fault
-  bad_symbols fault e =
-      judged_enough place position part long ∙ ap (with_symbols position (place + length part) (number_at w64 8 part)) e
+module _ (position end : ℕ) (part : List ℕ) where
+  pub bad_symbols : (fault : ResumeFault) → units_at symbol_form end (number_at w64 0 part) [] (drop 16 part) ≡ Err fault
+      → units_judged position end part ≡ Err fault
+  bad_symbols fault e = ap (with_symbols position end (number_at w64 8 part)) e
 
   module _ (symbols : List Symbol) (behind : List ℕ)
-      (read : units_at symbol_form (place + length part) (number_at w64 0 part) [] (drop 16 part) ≡ Ok (symbols, behind)) where
-    pub blocks_judged : objects_judged place position part
-        ≡ with_blocks (place + length part) symbols
-        (units_at (block_form position) (place + length part) (number_at w64 8 part) [] behind)
-    blocks_judged = judged_enough place position part long ∙ ap (with_symbols position (place + length part) (number_at w64 8 part)) read
+      (read : units_at symbol_form end (number_at w64 0 part) [] (drop 16 part) ≡ Ok (symbols, behind)) where
+    pub blocks_judged : units_judged position end part
+        ≡ with_blocks end symbols (units_at (block_form position) end (number_at w64 8 part) [] behind)
+    blocks_judged = ap (with_symbols position end (number_at w64 8 part)) read
 
 -- no bytes are left, or the first of them is at fault
 pub none_left : (end : ℕ) (o : Objects) (bytes : List ℕ) → length bytes ≡ 0 → all_taken end o bytes ≡ Ok o

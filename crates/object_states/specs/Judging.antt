@@ -93,11 +93,15 @@ with_symbols position end blocks (Err fault) = Err fault
 with_symbols position end blocks (Ok found) =
     with_blocks end found.0 (units_at (block_form position) end blocks [] found.1)
 
+-- what the units say of a part that ends at a place, by its counts
+abbrev pub units_judged : ℕ → ℕ → List ℕ → Result Objects ResumeFault
+units_judged position end part =
+    with_symbols position end (number_at w64 8 part)
+    (units_at symbol_form end (number_at w64 0 part) [] (drop 16 part))
+
 -- What the bytes of a part say that begins at a place, for a list up to a position. The counts are
 -- its first unit.
 unfoldable pub objects_judged : ℕ → ℕ → List ℕ → Result Objects ResumeFault
 objects_judged place position part =
-    let end = place + length part in
     if nat_lt (length part) 16 then Err (BadState place)
-    else with_symbols position end (number_at w64 8 part)
-    (units_at symbol_form end (number_at w64 0 part) [] (drop 16 part))
+    else units_judged position (place + length part) part

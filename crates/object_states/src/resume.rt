@@ -1,7 +1,8 @@
 // A saved table of objects, taken up again.
-ghost use Rattle.std.specs.Prelude.{◌≡◌, ◌≢◌, ◌≤◌, ◌<◌, ◌+◌, ◌^◌, Err, IfOk, length};
+ghost use Rattle.std.specs.Prelude.{◌≡◌, ◌≢◌, ◌≤◌, ◌<◌, ◌+◌, ◌^◌, Err, IfErr, IfOk, length};
 ghost use Rattle.predator_base.specs.declared.faults.ResumeFault.TheVariants as faults;
-ghost use Rattle.object_states.specs.Judging.{objects_judged};
+ghost use Rattle.heap_objects.specs.Objects.{no_objects};
+ghost use Rattle.object_states.specs.Judging.{all_taken, objects_judged, units_judged};
 ghost use Rattle.object_states.specs.Rules.{IsPartOf};
 
 use crate::blocks::read_blocks;
@@ -15,6 +16,34 @@ use trace_reader::u64_at;
 
 // How many bytes the numbers of symbols and blocks have.
 const COUNTS_LENGTH: usize = 16;
+
+// Reads what the units of a part say into a table that has nothing, and gives the bytes behind
+// them.
+fn read_units<'a>(
+    table: &mut ObjectTable,
+    part: &'a [u8],
+    position: u64,
+    end: u64,
+) -> Result<&'a [u8], ResumeFault>
+    requires empty { table.old ≡ no_objects }
+    requires long { 16 ≤ length part.now }
+    requires ends { length part.now ≤ end }
+    ensures read { IfOk result (λ rest.
+        units_judged position end part.now ≡ all_taken end table.new rest.now) }
+    ensures shorter { IfOk result (λ rest. length rest.now ≤ length part.now) }
+    ensures refused { IfErr result (λ fault. fault ≢ faults.NoMemory
+        → units_judged position end part.now ≡ Err fault) }
+{
+    let (symbols, blocks) = (u64_at(part, 0), u64_at(part, 8));
+    let rest = match read_symbols(table, symbols, part.split_at(COUNTS_LENGTH).1, end) {
+        Ok(rest) => rest,
+        Err(fault) => return Err(fault),
+    };
+    match read_blocks(table, blocks, rest, position, end) {
+        Ok(rest) => Ok(rest),
+        Err(fault) => Err(fault),
+    }
+}
 
 // The table that the bytes of a part say.
 fn read_objects(
@@ -30,13 +59,8 @@ fn read_objects(
         return Err(ResumeFault::BadState(place));
     }
     let end = place + part.len() as u64;
-    let (symbols, blocks) = (u64_at(part, 0), u64_at(part, 8));
     let mut table = ObjectTable::new(alloc);
-    let rest = match read_symbols(&mut table, symbols, part.split_at(COUNTS_LENGTH).1, end) {
-        Ok(rest) => rest,
-        Err(fault) => return Err(fault),
-    };
-    let rest = match read_blocks(&mut table, blocks, rest, position, end) {
+    let rest = match read_units(&mut table, part, position, end) {
         Ok(rest) => rest,
         Err(fault) => return Err(fault),
     };

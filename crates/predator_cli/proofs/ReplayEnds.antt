@@ -32,6 +32,13 @@ use Rattle.predator_cli.proofs.WriteEnds.{IsToWrite, names_in, writing_cut, writ
 told_back : (P : Files → Type 0) (a b : Outside) → b ≡ a → Told b.held P → Told a.held P
 told_back P a b same is = subst (λ (o : Outside). Told o.held P) same is
 
+-- the settings are refused
+pub settings_stopped : (d : ReplayDemand) (a b : Outside) (s : Status) → IsStopped (settings_readings d.settings) a b s
+    → IsStopped (replay_readings d) a b s
+settings_stopped d a b s stopped =
+    stopped_first (settings_readings d.settings) (state_readings (grid_in d) (levels_in d) d.resume
+    ++ trace_reading (λ files. wanted_after (begun_in d files)) d.trace ∷ []) a b s stopped
+
 -- the layout and the thresholds are those of the settings, which were read
 module _ (d : ReplayDemand) (s : Settings) (g : Grid) (v : Levels) (grid_is : g ≡ layout_of d.layout s)
     (levels_is : v ≡ levels_of d.layout s)

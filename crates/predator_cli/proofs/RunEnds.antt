@@ -31,9 +31,8 @@ use Rattle.command_files.specs.SettingsFiles.{levels_of, native_of, settings_in,
 use Rattle.command_files.specs.Statuses.{status_of_writing}
 use Rattle.command_files.specs.Works.{Work, done_with, output_for}
 use Rattle.command_files.specs.declared.status.Status.{Status}
-use Rattle.command_files.specs.declared.status.Status.TheVariants as status
 use Rattle.command_files.specs.Laws.Settings.{settings_chosen, settings_pass}
-use Rattle.command_files.specs.Laws.Readings.{none_alone, only_same, passed}
+use Rattle.command_files.specs.Laws.Readings.{none_alone, passed}
 use Rattle.command_files.specs.Laws.Told.{told_both}
 use Rattle.predator_cli.specs.Again.{RepeatsReport, RunRepeats, whole_replay}
 use Rattle.predator_cli.specs.Answer.{answer_of}
@@ -45,7 +44,7 @@ use Rattle.predator_cli.specs.Replay.{wanted_after, whole}
 use Rattle.predator_cli.specs.Run.{IsReady, file_for, outputs_of_run, run_for_demand, run_readings, status_for}
 use Rattle.predator_cli.specs.Run.{trace_for_demand, work_of_run}
 use Rattle.predator_cli.specs.TraceFaults.{status_of_refusal}
-use Rattle.predator_cli.proofs.Ends.{accepted_answer, memory_faulty}
+use Rattle.predator_cli.proofs.Ends.{accepted_answer}
 use Rattle.predator_cli.proofs.SpelledAgain.{spelled_again, spelled_wanted}
 use Rattle.predator_cli.proofs.WriteEnds.{IsToWrite, names_in, or_false, writing_cut, written_worked}
 
@@ -237,44 +236,23 @@ ready_now d s t r a m ready = record {
 }
 
 -- the same where the files are those that the options name
-handed_on : (options : RunOptions) (harts : ℕ) (symbols : List TraceRecord) (r : Run) (files : List RunFile)
+pub handed_on : (options : RunOptions) (harts : ℕ) (symbols : List TraceRecord) (r : Run) (files : List RunFile)
     → files ≡ file_for options.trace Content.Trace ++ file_for options.output Content.Output
     → outputs_for harts symbols r files ≡ outputs_of_run (run_meaning options) (trace_for harts symbols r) r
 handed_on options harts symbols r files is = ap (outputs_for harts symbols r) is ∙ files_left options harts symbols r
 
-pub shown_worked : (options : RunOptions) (s : Settings) (symbols : List TraceRecord) (old m b : Outside) (r : Run) (files : List RunFile)
-    (st : Status) (text : List ℕ)
-    → IsReady (run_meaning options) s (trace_for s.harts symbols r) r old m
-    → files ≡ file_for options.trace Content.Trace ++ file_for options.output Content.Output → st ≡ status_for r.ending.outcome
-    → text ≡ report_of (levels_of None s) (native_of s) (trace_for s.harts symbols r)
-    → IsKept (trace_for s.harts symbols r) → AreWritten (outputs_for s.harts symbols r files) m b
-    → IsWorked (run (run_meaning options)) old b st text
-shown_worked options s symbols old m b r files st text ready is ends told_text good written =
-    let d = run_meaning options in
-    let t = trace_for s.harts symbols r in
-    let from_m : AreWritten (outputs_of_run d t r) m b = subst (λ outputs. AreWritten outputs m b)
-    (handed_on options s.harts symbols r files is) written in
-    run_worked d s old b t r st text (ready_now d s t r old m ready) ends told_text good refl
-    (subst (λ (o : Outside). AreWritten (outputs_of_run d t r) o b) ready.accepted.same from_m)
+pub shown_worked : (d : RunDemand) (s : Settings) (t : Trace) (old m b : Outside) (r : Run) (st : Status) (text : List ℕ)
+    → IsReady d s t r old m → st ≡ status_for r.ending.outcome → text ≡ report_of (levels_of None s) (native_of s) t → IsKept t
+    → t.header.first ≡ 0 → AreWritten (outputs_of_run d t r) m b → IsWorked (run d) old b st text
+shown_worked d s t old m b r st text ready ends told_text good first written =
+    run_worked d s old b t r st text (ready_now d s t r old m ready) ends told_text good first
+    (subst (λ (o : Outside). AreWritten (outputs_of_run d t r) o b) ready.accepted.same written)
 
-pub shown_cut : (options : RunOptions) (s : Settings) (symbols : List TraceRecord) (old m b : Outside) (r : Run) (files : List RunFile)
-    (error : ShelfError)
-    → IsReady (run_meaning options) s (trace_for s.harts symbols r) r old m
-    → files ≡ file_for options.trace Content.Trace ++ file_for options.output Content.Output
-    → AreCut (outputs_for s.harts symbols r files) m b error
-    → IsFaulty (Some (run (run_meaning options))) old b (status_of_writing error)
-shown_cut options s symbols old m b r files error ready is cut =
-    let d = run_meaning options in
-    let t = trace_for s.harts symbols r in
-    let from_m : AreCut (outputs_of_run d t r) m b error = subst (λ outputs. AreCut outputs m b error)
-    (handed_on options s.harts symbols r files is) cut in
+pub shown_cut : (d : RunDemand) (s : Settings) (t : Trace) (old m b : Outside) (r : Run) (error : ShelfError) → IsReady d s t r old m
+    → AreCut (outputs_of_run d t r) m b error → IsFaulty (Some (run d)) old b (status_of_writing error)
+shown_cut d s t old m b r error ready cut =
     run_cut d s old b t r error (ready_now d s t r old m ready)
-    (subst (λ (o : Outside). AreCut (outputs_of_run d t r) o b error) ready.accepted.same from_m)
-
--- there was no memory for the names
-pub unnamed_cut : (d : RunDemand) (s : Settings) (t : Trace) (r : Run) (old m : Outside) → IsReady d s t r old m
-    → IsFaulty (Some (run d)) old m status.NoMemory
-unnamed_cut d s t r old m ready = memory_faulty (Some (run d)) old m (only_same old m ready.accepted.same)
+    (subst (λ (o : Outside). AreCut (outputs_of_run d t r) o b error) ready.accepted.same cut)
 
 pub handed_apart : (options : RunOptions) (files : List RunFile) → files ≡ file_for options.trace Content.Trace ++ file_for options.output
     Content.Output → AreApart (run_outputs (run_meaning options)) → AreApart (names_of files)

@@ -1,5 +1,5 @@
 // The command `gen`.
-ghost use Rattle.std.specs.Prelude.{◌≡◌, ◌++◌, ◌≤◌, ◌^◌, IfErr, IfOk, IsTrue, OnOk, Some};
+ghost use Rattle.std.specs.Prelude.{◌≡◌, ◌++◌, ◌≤◌, ◌^◌, [], IfErr, IfOk, IsTrue, OnOk, Some};
 ghost use Rattle.std.specs.Prelude.{string_bytes};
 ghost use Rattle.command_line.specs.Gen.{gen_meaning};
 ghost use Rattle.command_line.specs.Words.{gen as asks};
@@ -7,6 +7,7 @@ ghost use Rattle.detector.specs.Standing.{StandsFor};
 ghost use Rattle.outputs.specs.Files.{AreCut, AreWritten};
 ghost use Rattle.sharing_rules.specs.AccessLists.{AccessList};
 ghost use Rattle.sharing_rules.specs.Listed.{may_predict};
+ghost use Rattle.sightings.specs.Seen.{HasSeen, begins_at};
 ghost use Rattle.trace_maker.specs.Made.{made_file};
 ghost use Rattle.track_totals.specs.TotalsOf.{totals_of};
 ghost use Rattle.predator_cli.specs.Gen.{made_accesses, summary_of, summary_text};
@@ -60,8 +61,35 @@ fn summary_of_seen(alloc: Global, count: u64, sightings: &Sightings) -> Result<S
     }
 }
 
-// Makes the trace of so many accesses, and counts them under a layout and thresholds as they are
-// made.
+// Makes the trace of so many accesses, and counts them as they are made, seen from nothing on.
+fn make_seen<S: Shelf>(
+    alloc: Global,
+    shelf: &mut S,
+    name: &str,
+    count: u64,
+    sightings: &mut Sightings,
+) -> Result<String, ShelfError>
+    requires few { count ≤ 10 ^ 9 }
+    requires begins { begins_at sightings.old 0 }
+    requires fresh { HasSeen sightings.old sightings.old [] }
+    requires stands { StandsFor [] sightings.old.watch }
+    ensures text { IfOk result (λ text. string_bytes text ≡ summary_text count (totals_of
+        sightings.old.watch.grid sightings.old.watch.levels (made_accesses count))) }
+    ensures written { OnOk result (AreWritten (made_file name.now count)
+        (S.outside shelf.old) (S.outside shelf.new)) }
+    ensures cut { IfErr result (AreCut (made_file name.now count)
+        (S.outside shelf.old) (S.outside shelf.new)) }
+{
+    match make_trace(alloc, shelf, name, count, sightings) {
+        Ok(()) => match summary_of_seen(alloc, count, sightings) {
+            Ok(text) => Ok(text),
+            Err(NoMemory) => Err(ShelfError::NoMemory),
+        },
+        Err(error) => Err(error),
+    }
+}
+
+// The same under a layout and thresholds.
 fn make_under<S: Shelf>(
     alloc: Global,
     shelf: &mut S,
@@ -80,13 +108,7 @@ fn make_under<S: Shelf>(
         (S.outside shelf.old) (S.outside shelf.new)) }
 {
     let mut sightings = Sightings::new(alloc, layout, thresholds);
-    match make_trace(alloc, shelf, name, count, &mut sightings) {
-        Ok(()) => match summary_of_seen(alloc, count, &sightings) {
-            Ok(text) => Ok(text),
-            Err(NoMemory) => Err(ShelfError::NoMemory),
-        },
-        Err(error) => Err(error),
-    }
+    make_seen(alloc, shelf, name, count, &mut sightings)
 }
 
 // The same under the usual settings.

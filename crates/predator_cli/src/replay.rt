@@ -19,7 +19,6 @@ ghost use Rattle.predator_cli.specs.Meets.{Meets};
 ghost use Rattle.predator_cli.specs.Replay.{IsCounted, IsToShow, replay_readings, shown};
 ghost use Rattle.predator_cli.specs.Replay.{trace_reading, wanted_after};
 ghost use Rattle.predator_cli.specs.States.{state_of_records, state_of_sighted};
-ghost use Rattle.predator_cli.specs.declared.state_file.Begun.{Begun as Before};
 
 use crate::endings::{finish, refuse, stop};
 use crate::state_file::{Begun, read_state};
@@ -127,18 +126,19 @@ fn see_trace<S: Shelf>(
     }
 }
 
-// What the replay of a whole trace gives.
+// What the replay of a whole trace gives, which is seen from nothing on.
 fn count_whole<S: Shelf>(
     alloc: Global,
     options: &ReplayOptions<'_>,
     shelf: &mut S,
-    layout: Layout,
-    thresholds: Thresholds,
+    sightings: &mut Sightings,
 ) -> Result<Counted, Status>
-    requires { IsTrue (may_predict layout thresholds) }
-    ensures counted { IfOk result (λ counted.
+    requires begins { begins_at sightings.old 0 }
+    requires fresh { HasSeen sightings.old sightings.old [] }
+    ensures counted { (g : Grid) (v : Levels) → sightings.old ≡ nothing_sighted g v
+        → IfOk result (λ counted.
         IsReadFrom (S.outside shelf.old).held options.now.trace.now (λ bytes.
-        IsCounted (text_of options.now.save) layout thresholds None bytes
+        IsCounted (text_of options.now.save) g v None bytes
         counted.text.items counted.state.items)) }
     ensures accepted { OnOk result (IsAccepted
         (trace_reading (λ _. wanted_after None) options.now.trace.now ∷ [])
@@ -147,11 +147,10 @@ fn count_whole<S: Shelf>(
         (trace_reading (λ _. wanted_after None) options.now.trace.now ∷ [])
         (S.outside shelf.old) (S.outside shelf.new)) }
 {
-    let mut sightings = Sightings::new(alloc, layout, thresholds);
-    match see_trace(alloc, shelf, options.trace, &WHOLE, &mut sightings) {
+    match see_trace(alloc, shelf, options.trace, &WHOLE, sightings) {
         Ok(passed) => {
             let (harts, ending) = (passed.header.harts, passed.ending);
-            match counted_of(alloc, options.save, &sightings, harts, &ending) {
+            match counted_of(alloc, options.save, sightings, harts, &ending) {
                 Ok(counted) => Ok(counted),
                 Err(NoMemory) => Err(Status::NoMemory),
             }
@@ -160,41 +159,39 @@ fn count_whole<S: Shelf>(
     }
 }
 
-// What the replay of a trace gives that goes on from a state. It is reported with all accesses,
-// those before the trace with its own.
+// What the replay of a trace of so many harts gives that goes on from what was seen. It is reported
+// with all accesses, those before the trace with its own.
 fn count_on<S: Shelf>(
     alloc: Global,
     options: &ReplayOptions<'_>,
     shelf: &mut S,
-    begun: Begun,
+    harts: u16,
+    sightings: &mut Sightings,
 ) -> Result<Counted, Status>
     ensures counted { IfOk result (λ counted. (g : Grid) (v : Levels)
         → IsReadFrom (S.outside shelf.old).held options.now.trace.now (λ bytes.
-        IsCounted (text_of options.now.save) g v (Some begun) bytes
+        IsCounted (text_of options.now.save) g v
+        (Some (record { sightings = sightings.old; harts = harts })) bytes
         counted.text.items counted.state.items)) }
-    ensures accepted { OnOk result (IsAccepted
-        (trace_reading (λ _. wanted_after (Some begun)) options.now.trace.now ∷ [])
-        (S.outside shelf.old) (S.outside shelf.new)) }
-    ensures stopped { IfErr result (IsStopped
-        (trace_reading (λ _. wanted_after (Some begun)) options.now.trace.now ∷ [])
-        (S.outside shelf.old) (S.outside shelf.new)) }
+    ensures accepted { OnOk result (IsAccepted (trace_reading
+        (λ _. wanted_after (Some (record { sightings = sightings.old; harts = harts })))
+        options.now.trace.now ∷ []) (S.outside shelf.old) (S.outside shelf.new)) }
+    ensures stopped { IfErr result (IsStopped (trace_reading
+        (λ _. wanted_after (Some (record { sightings = sightings.old; harts = harts })))
+        options.now.trace.now ∷ []) (S.outside shelf.old) (S.outside shelf.new)) }
 {
-    let Begun {
-        mut sightings,
-        harts,
-    } = begun;
     let wanted = Wanted {
         harts: Some(harts),
         first: Some(sightings.position()),
     };
-    match see_trace(alloc, shelf, options.trace, &wanted, &mut sightings) {
+    match see_trace(alloc, shelf, options.trace, &wanted, sightings) {
         Ok(passed) => {
             let harts = passed.header.harts;
             let ending = Ending {
                 accesses: sightings.position(),
                 ..passed.ending
             };
-            match counted_of(alloc, options.save, &sightings, harts, &ending) {
+            match counted_of(alloc, options.save, sightings, harts, &ending) {
                 Ok(counted) => Ok(counted),
                 Err(NoMemory) => Err(Status::NoMemory),
             }
@@ -225,8 +222,16 @@ fn count_from<S: Shelf>(
         (S.outside shelf.old) (S.outside shelf.new)) }
 {
     match begun {
-        None => count_whole(alloc, options, shelf, layout, thresholds),
-        Some(begun) => count_on(alloc, options, shelf, begun),
+        None => {
+            let mut sightings = Sightings::new(alloc, layout, thresholds);
+            count_whole(alloc, options, shelf, &mut sightings)
+        }
+        Some(
+            Begun {
+                mut sightings,
+                harts,
+            },
+        ) => count_on(alloc, options, shelf, harts, &mut sightings),
     }
 }
 

@@ -1,6 +1,6 @@
 // The command `run`.
 ghost use Rattle.std.specs.Prelude.{◌≡◌, ℕ, ◌≤◌, ◌%◌, ◌^◌, ◌++◌, IfErr, IfOk, List, [], Ok, OnOk};
-ghost use Rattle.std.specs.Prelude.{Option, Some, length, IsTrue, None};
+ghost use Rattle.std.specs.Prelude.{Option, Some, length, take, IsTrue, None};
 ghost use Rattle.command_line.specs.Demands.{text_of};
 ghost use Rattle.command_line.specs.Run.{run_meaning, run_outputs};
 ghost use Rattle.command_line.specs.Words.{run as asks};
@@ -11,15 +11,19 @@ ghost use Rattle.run_recorder.specs.Recorded.{IsKept, IsSymbolRecord, names_of, 
 ghost use Rattle.run_recorder.specs.Recorded.{trace_for};
 ghost use Rattle.std.specs.List.{All};
 ghost use Rattle.command_files.specs.ProgramFiles.{IsStartable};
+ghost use Rattle.predator_base.specs.Levels.{Levels};
+ghost use Rattle.predator_base.specs.Lines.{Grid};
 ghost use Rattle.settings.specs.Allowed.{IsAllowed};
+ghost use Rattle.sightings.specs.Seen.{HasSeen, begins_at};
+ghost use Rattle.sightings.specs.Sights.{nothing_sighted};
 ghost use Rattle.shelf.specs.Shelf.{Outside, Told, content};
 ghost use Rattle.command_files.specs.Readings.{IsAccepted, IsJudged, IsReadFrom, IsStopped};
 ghost use Rattle.command_files.specs.SettingsFiles.{levels_of, native_of, settings_in};
 ghost use Rattle.command_files.specs.Statuses.{kind_of, done};
 ghost use Rattle.predator_cli.specs.Meets.{Meets};
 ghost use Rattle.predator_cli.specs.Replay.{report_of};
-ghost use Rattle.predator_cli.specs.Run.{IsReady, file_for, run_for_demand, run_readings};
-ghost use Rattle.predator_cli.specs.Run.{schedule_in, schedule_readings, status_for};
+ghost use Rattle.predator_cli.specs.Run.{IsReady, file_for, outputs_of_run, run_for_demand};
+ghost use Rattle.predator_cli.specs.Run.{run_readings, schedule_in, schedule_readings, status_for};
 ghost use Rattle.predator_cli.specs.Run.{symbol_records, whole_run};
 
 use crate::endings::{finish, refuse, stop};
@@ -262,32 +266,26 @@ fn load_guest<S: Shelf>(
     }
 }
 
-// Adds a file, if its name is given.
-fn push_file<'a>(
-    files: &mut Vec<RunFile<'a>>,
-    name: Option<&'a str>,
-    content: Content,
-) -> Result<(), NoMemory>
-    ensures { OnOk result (files.new.items ≡ files.old.items ++ file_for name.entry content) }
+// The files that are named, in the order in which they are begun, and how many there are.
+fn files_of<'a>(options: &RunOptions<'a>) -> ([RunFile<'a>; 2], usize)
+    ensures few { result.1 ≤ 2 }
+    ensures files { take result.1 result.0 ≡ file_for options.now.trace Content.Trace
+        ++ file_for options.now.output Content.Output }
 {
-    match name {
-        Some(name) => {
-            files.push(RunFile { name, content })?;
-            Ok(())
-        }
-        None => Ok(()),
+    let trace = RunFile {
+        name: options.trace.unwrap_or(""),
+        content: Content::Trace,
+    };
+    let output = RunFile {
+        name: options.output.unwrap_or(""),
+        content: Content::Output,
+    };
+    match (options.trace, options.output) {
+        (Some(_), Some(_)) => ([trace, output], 2),
+        (Some(_), None) => ([trace, output], 1),
+        (None, Some(_)) => ([output, trace], 1),
+        (None, None) => ([trace, output], 0),
     }
-}
-
-// The files that are named, in the order in which they are begun.
-fn files_of<'a>(alloc: Global, options: &RunOptions<'a>) -> Result<Vec<RunFile<'a>>, NoMemory>
-    ensures { IfOk result (λ files. files.items
-        ≡ file_for options.now.trace Content.Trace ++ file_for options.now.output Content.Output) }
-{
-    let mut files = Vec::new(alloc);
-    push_file(&mut files, options.trace, Content::Trace)?;
-    push_file(&mut files, options.output, Content::Output)?;
-    Ok(files)
 }
 
 // What a run shows: how the program is to end, and its report.
@@ -297,14 +295,59 @@ struct Shown {
     text: Vec<u8>,
 }
 
-// The run of a guest, recorded, and its report.
-fn run_guest<S: Shelf>(
+// The run of a guest, recorded, and its report, which is seen from nothing on.
+fn show_run<S: Shelf>(
     alloc: Global,
     shelf: &mut S,
-    loaded: Loaded,
+    guest: Guest,
+    symbols: &[TraceRecord],
     files: &[RunFile<'_>],
+    sightings: &mut Sightings,
 ) -> Result<Shown, ShelfError>
     requires apart { AreApart (names_of files.now) }
+    requires told { All IsSymbolRecord symbols.now }
+    requires few { length symbols.now ≤ 2 ^ 20 }
+    requires short { IsShort guest.setup (rest_of guest) }
+    requires budget { guest.setup.budget ≤ 2 ^ 36 }
+    requires some { 1 ≤ guest.setup.harts }
+    requires most { guest.setup.harts ≤ 256 }
+    requires begins { begins_at sightings.old 0 }
+    requires fresh { HasSeen sightings.old sightings.old [] }
+    ensures status { IfOk result (λ shown. shown.status
+        ≡ status_for (rest_of guest).ending.outcome) }
+    ensures done { IfOk result (λ shown. kind_of shown.status ≡ done) }
+    ensures text { (g : Grid) (v : Levels) → sightings.old ≡ nothing_sighted g v
+        → IfOk result (λ shown. shown.text.items
+        ≡ report_of v g (trace_for guest.setup.harts symbols.now (rest_of guest))) }
+    ensures good { OnOk result (IsKept
+        (trace_for guest.setup.harts symbols.now (rest_of guest))) }
+    ensures written { OnOk result (AreWritten
+        (outputs_for guest.setup.harts symbols.now (rest_of guest) files.now)
+        (S.outside shelf.old) (S.outside shelf.new)) }
+    ensures cut { IfErr result (AreCut
+        (outputs_for guest.setup.harts symbols.now (rest_of guest) files.now)
+        (S.outside shelf.old) (S.outside shelf.new)) }
+{
+    match record_run(alloc, shelf, guest, sightings, symbols, files) {
+        Ok(ending) => match sightings.report(alloc, &ending) {
+            Ok(text) => Ok(Shown {
+                status: status_of(ending.outcome),
+                text,
+            }),
+            Err(NoMemory) => Err(ShelfError::NoMemory),
+        },
+        Err(error) => Err(error),
+    }
+}
+
+// The run of a guest that is loaded, recorded in the files that are named, and its report.
+fn run_guest<S: Shelf>(
+    alloc: Global,
+    options: &RunOptions<'_>,
+    loaded: Loaded,
+    shelf: &mut S,
+) -> Result<Shown, ShelfError>
+    requires apart { AreApart (run_outputs (run_meaning options.now)) }
     requires allowed { IsAllowed loaded.settings }
     requires told { All IsSymbolRecord loaded.symbols.items }
     requires few { length loaded.symbols.items ≤ 2 ^ 20 }
@@ -319,13 +362,14 @@ fn run_guest<S: Shelf>(
         (trace_for loaded.settings.harts loaded.symbols.items (rest_of loaded.guest))) }
     ensures good { OnOk result (IsKept
         (trace_for loaded.settings.harts loaded.symbols.items (rest_of loaded.guest))) }
-    ensures written { OnOk result (AreWritten
-        (outputs_for loaded.settings.harts loaded.symbols.items (rest_of loaded.guest) files.now)
-        (S.outside shelf.old) (S.outside shelf.new)) }
-    ensures cut { IfErr result (AreCut
-        (outputs_for loaded.settings.harts loaded.symbols.items (rest_of loaded.guest) files.now)
-        (S.outside shelf.old) (S.outside shelf.new)) }
+    ensures written { OnOk result (AreWritten (outputs_of_run (run_meaning options.now)
+        (trace_for loaded.settings.harts loaded.symbols.items (rest_of loaded.guest))
+        (rest_of loaded.guest)) (S.outside shelf.old) (S.outside shelf.new)) }
+    ensures cut { IfErr result (AreCut (outputs_of_run (run_meaning options.now)
+        (trace_for loaded.settings.harts loaded.symbols.items (rest_of loaded.guest))
+        (rest_of loaded.guest)) (S.outside shelf.old) (S.outside shelf.new)) }
 {
+    let (files, count) = files_of(options);
     let Loaded {
         guest,
         symbols,
@@ -333,16 +377,14 @@ fn run_guest<S: Shelf>(
     } = loaded;
     let thresholds = thresholds_of(&settings, None);
     let mut sightings = Sightings::new(alloc, native_layout(&settings), thresholds);
-    match record_run(alloc, shelf, guest, &mut sightings, &symbols, files) {
-        Ok(ending) => match sightings.report(alloc, &ending) {
-            Ok(text) => Ok(Shown {
-                status: status_of(ending.outcome),
-                text,
-            }),
-            Err(NoMemory) => Err(ShelfError::NoMemory),
-        },
-        Err(error) => Err(error),
-    }
+    show_run(
+        alloc,
+        shelf,
+        guest,
+        &symbols,
+        &files[..count],
+        &mut sightings,
+    )
 }
 
 // Runs a guest, and prints the report.
@@ -365,11 +407,7 @@ fn run_loaded<S: Shelf>(
         (rest_of loaded.guest) old (S.outside shelf.old)
         → Meets (Some (asks (run_meaning options.now))) old (S.outside shelf.new) result }
 {
-    let files = match files_of(alloc, options) {
-        Ok(files) => files,
-        Err(NoMemory) => return refuse(alloc, shelf, Status::NoMemory),
-    };
-    match run_guest(alloc, shelf, loaded, &files) {
+    match run_guest(alloc, options, loaded, shelf) {
         Ok(shown) => finish(shelf, shown.status, &shown.text),
         Err(error) => refuse(alloc, shelf, Status::from(error)),
     }

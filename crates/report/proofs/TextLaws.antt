@@ -21,7 +21,10 @@ use Rattle.predator_base.specs.declared.ending.Ending.{Ending}
 use Rattle.heap_objects.specs.Objects.{Objects}
 use Rattle.report.specs.Shown.{ShownLine}
 use Rattle.report.specs.Reports.{ending_lines, lines_of, report_lines, setting_lines}
-use Rattle.report.specs.Lines.{TextLine, owner_words, rest_of_line, word_line, word_lines}
+use Rattle.heap_objects.specs.declared.block.Block.{Block}
+use Rattle.heap_objects.specs.Symbols.{Symbol}
+use Rattle.text_forms.specs.Names.{name_text}
+use Rattle.report.specs.Lines.{TextLine, block_line, death_words, owner_words, rest_of_line, symbol_line, word_line, word_lines}
 
 -- a line is its first word and what follows it
 pub line_text-cons : (w : List ℕ) (ws : TextLine) → line_text (w ∷ ws) ≡ w ++ rest_of_line ws
@@ -141,3 +144,33 @@ report_pieces n m whole ending g v objects listed counted ended =
     (flat_map (lines_of objects k) listed) ++ codes "end\n") ended
     ∙ four whole (ending_lines ending) (setting_lines g v (length listed)) (flat_map (lines_of objects ending.accesses) listed)
     ((codes "end" ∷ []) ∷ [])
+
+named : (before n : List ℕ) (ws : TextLine)
+    → before ++ codes "object symbol " ++ n ++ rest_of_line ws
+    ≡ before ++ (codes "object" ++ rest_of_line (codes "symbol" ∷ n ∷ ws))
+named before n ws = simp append_assoc
+
+-- the line of a symbol: its name, its place and its size
+pub symbol_pieces : (s : Symbol) (before : List ℕ)
+    → before ++ codes "object symbol " ++ name_text s.name ++ rest_of_line (address_text (pos s.addr) ∷ decimal s.size ∷ [])
+    ≡ before ++ line_text (symbol_line s)
+symbol_pieces s before =
+    let place : TextLine = address_text (pos s.addr) ∷ decimal s.size ∷ [] in
+    named before (name_text s.name) place
+    ∙ ap (λ t. before ++ t) (sym (line_text-cons (codes "object") (codes "symbol" ∷ name_text s.name ∷ place)))
+
+lived : (before a d e : List ℕ) (ws : TextLine)
+    → before ++ codes "object block " ++ a ++ codes " " ++ d ++ codes " born " ++ e ++ rest_of_line ws
+    ≡ before ++ (codes "object" ++ rest_of_line (codes "block" ∷ a ∷ d ∷ codes "born" ∷ e ∷ ws))
+lived before a d e ws = simp append_assoc
+
+-- the line of a block: its place and its life, and how that ended
+pub block_pieces : (b : Block) (before : List ℕ)
+    → before ++ codes "object block " ++ address_text (pos b.addr) ++ codes " " ++ decimal b.size ++ codes " born " ++ decimal b.born
+    ++ rest_of_line (death_words b.died)
+    ≡ before ++ line_text (block_line b)
+block_pieces b before =
+    lived before (address_text (pos b.addr)) (decimal b.size) (decimal b.born) (death_words b.died)
+    ∙ ap (λ t. before ++ t)
+    (sym (line_text-cons (codes "object") (codes "block" ∷ address_text (pos b.addr) ∷ decimal b.size ∷ codes "born" ∷ decimal b.born
+    ∷ death_words b.died)))

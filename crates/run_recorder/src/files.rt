@@ -1,5 +1,5 @@
 // The files of a run, on their way.
-ghost use Rattle.std.specs.Prelude.{◌≡◌, ◌<◌, ◌++◌, List, ℕ, [], length, map, IfOk, IfErr, OnOk};
+ghost use Rattle.std.specs.Prelude.{◌≡◌, ◌<◌, ◌++◌, List, ℕ, [], length, map, IfErr, OnOk};
 ghost use Rattle.shelf.specs.Shelf.{Outside};
 ghost use Rattle.outputs.specs.Files.{Output, AreCut, AreWritten};
 ghost use Rattle.outputs.specs.OnTheirWay.{AreApart, AreBegun, IsOutputs, outputs_with};
@@ -32,51 +32,57 @@ impl<'a> Model for RunOutputs<'a> {
     ghost view = { λ o. o.outputs };
 }
 
-// Begins the files, in their order.
+// Begins the files, in their order, where there are none.
 fn begin_outputs<'a, S: Shelf>(
     alloc: Global,
     shelf: &mut S,
     files: &[RunFile<'a>],
-) -> Result<Outputs<'a>, ShelfError>
-    requires { AreApart (names_of files.now) }
-    ensures outputs { IfOk result (λ outputs. IsOutputs outputs (outputs_of files.now no_bytes)
+    outputs: &mut Outputs<'a>,
+) -> Result<(), ShelfError>
+    requires none { (outside : Outside) → IsOutputs outputs.old [] outside outside }
+    requires apart { AreApart (names_of files.now) }
+    ensures outputs { OnOk result (IsOutputs outputs.new (outputs_of files.now no_bytes)
         (S.outside shelf.old) (S.outside shelf.new)) }
     ensures cut { IfErr result (λ error. AreCut (outputs_of files.now no_bytes)
         (S.outside shelf.old) (S.outside shelf.new) error) }
 {
-    let mut outputs = Outputs::new(alloc);
     for place in 0..files.len() {
         match outputs.begin(alloc, shelf, files[place].name) {
             Ok(()) => {}
             Err(error) => return Err(error),
         }
     }
-    Ok(outputs)
+    Ok(())
 }
 
 impl<'a> RunOutputs<'a> {
-    // Begins the files, in their order, with nothing put.
+    // No file yet.
+    pub(crate) fn new(alloc: Global) -> RunOutputs<'a>
+        ensures { (outside : Outside) → IsOutputs result [] outside outside }
+    {
+        RunOutputs {
+            outputs: Outputs::new(alloc),
+            piece: Vec::new(alloc),
+        }
+    }
+
+    // Begins the files, in their order, with nothing put, where there are none.
     pub(crate) fn begin<S: Shelf>(
+        &mut self,
         alloc: Global,
         shelf: &mut S,
         files: &[RunFile<'a>],
-    ) -> Result<RunOutputs<'a>, ShelfError>
-        requires { AreApart (names_of files.now) }
-        ensures outputs { IfOk result (λ outputs. IsOutputs outputs (outputs_of files.now no_bytes)
+    ) -> Result<(), ShelfError>
+        requires none { (outside : Outside) → IsOutputs self.old [] outside outside }
+        requires apart { AreApart (names_of files.now) }
+        ensures outputs { OnOk result (IsOutputs self.new (outputs_of files.now no_bytes)
             (S.outside shelf.old) (S.outside shelf.new)) }
-        ensures begun { IfOk result
-            (λ outputs. AreBegun (waiting_names outputs) (S.outside shelf.new)) }
-        ensures count { IfOk result (λ outputs. length outputs ≡ length files.now) }
+        ensures begun { OnOk result (AreBegun (waiting_names self.new) (S.outside shelf.new)) }
+        ensures count { OnOk result (length self.new ≡ length files.now) }
         ensures cut { IfErr result (λ error. AreCut (outputs_of files.now no_bytes)
             (S.outside shelf.old) (S.outside shelf.new) error) }
     {
-        match begin_outputs(alloc, shelf, files) {
-            Ok(outputs) => Ok(RunOutputs {
-                outputs,
-                piece: Vec::new(alloc),
-            }),
-            Err(error) => Err(error),
-        }
+        begin_outputs(alloc, shelf, files, &mut self.outputs)
     }
 
     // Puts what the trace gets of a moment into the file at a place.

@@ -4,7 +4,8 @@ ghost use Rattle.std.specs.Prelude.{length};
 ghost use Rattle.std.specs.List.{All};
 ghost use Rattle.shelf.specs.Shelf.{Outside};
 ghost use Rattle.outputs.specs.Files.{AreCut, AreWritten};
-ghost use Rattle.outputs.specs.OnTheirWay.{AreApart, AreBegun, names_of as waiting_names};
+ghost use Rattle.outputs.specs.OnTheirWay.{AreApart, AreBegun, IsOutputs};
+ghost use Rattle.outputs.specs.OnTheirWay.{names_of as waiting_names};
 ghost use Rattle.trace_grammar.specs.Rules.{IsAllowedEnd, IsGoodRecord};
 ghost use Rattle.trace_grammar.specs.declared.record.TraceRecord.{TraceRecord as ARecord};
 ghost use Rattle.trace_grammar.specs.declared.record.TraceRecord.TheVariants as records;
@@ -27,29 +28,28 @@ use std::alloc::Global;
 use trace_grammar::TraceRecord;
 use trace_passes::Observer;
 
-// Begins the files, and puts the beginning of the trace into those that hold it.
+// Begins the files, where there are none, and puts the beginning of the trace into those that hold
+// it.
 fn begin<'a, S: Shelf>(
     alloc: Global,
     shelf: &mut S,
     harts: u16,
     files: &[RunFile<'a>],
-) -> Result<RunOutputs<'a>, ShelfError>
+    outputs: &mut RunOutputs<'a>,
+) -> Result<(), ShelfError>
+    requires none { (outside : Outside) → IsOutputs outputs.old [] outside outside }
     requires apart { AreApart (names_of files.now) }
     requires some { 1 ≤ harts }
     requires most { harts ≤ 256 }
-    ensures noted { IfOk result (λ outputs. AreNoted harts [] [] files.now outputs
+    ensures noted { OnOk result (AreNoted harts [] [] files.now outputs.new
         (S.outside shelf.old) (S.outside shelf.new)) }
-    ensures begun { IfOk result (λ outputs. AreBegun (waiting_names outputs)
-        (S.outside shelf.new)) }
-    ensures count { IfOk result (λ outputs. length outputs ≡ length files.now) }
+    ensures begun { OnOk result (AreBegun (waiting_names outputs.new) (S.outside shelf.new)) }
+    ensures count { OnOk result (length outputs.new ≡ length files.now) }
     ensures cut { IfErr result (λ error. AreCutAfter harts [] [] files.now
         (S.outside shelf.old) (S.outside shelf.new) error) }
 {
-    match RunOutputs::begin(alloc, shelf, files) {
-        Ok(mut outputs) => match outputs.put(shelf, files, &Moment::Start(harts)) {
-            Ok(()) => Ok(outputs),
-            Err(error) => Err(error),
-        },
+    match outputs.begin(alloc, shelf, files) {
+        Ok(()) => outputs.put(shelf, files, &Moment::Start(harts)),
         Err(error) => Err(error),
     }
 }
@@ -190,6 +190,56 @@ fn end<S: Shelf, O: Observer>(
     }
 }
 
+// Records a run whose guest, files on their way and observer are another's. No file is begun yet.
+fn note_run<'a, S: Shelf, O: Observer>(
+    alloc: Global,
+    shelf: &mut S,
+    files: &[RunFile<'a>],
+    guest: &mut Guest,
+    outputs: &mut RunOutputs<'a>,
+    observer: &mut O,
+    symbols: &[TraceRecord],
+) -> Result<Ending, ShelfError>
+    requires none { (outside : Outside) → IsOutputs outputs.old [] outside outside }
+    requires apart { AreApart (names_of files.now) }
+    requires begins { O.begins observer.old 0 }
+    requires fresh { O.given observer.old observer.old [] }
+    requires symbols { All IsSymbolRecord symbols.now }
+    requires few { length symbols.now ≤ 2 ^ 20 }
+    requires short { IsShort guest.old.setup (rest_of guest.old) }
+    requires budget { guest.old.setup.budget ≤ 2 ^ 36 }
+    requires some { 1 ≤ guest.old.setup.harts }
+    requires most { guest.old.setup.harts ≤ 256 }
+    ensures ending { IfOk result (λ ending. ending ≡ (rest_of guest.old).ending) }
+    ensures given { OnOk result (O.given observer.old observer.new
+        (all_records (trace_for guest.old.setup.harts symbols.now (rest_of guest.old)))) }
+    ensures good { OnOk result
+        (IsKept (trace_for guest.old.setup.harts symbols.now (rest_of guest.old))) }
+    ensures written { OnOk result
+        (AreWritten (outputs_for guest.old.setup.harts symbols.now (rest_of guest.old) files.now)
+        (S.outside shelf.old) (S.outside shelf.new)) }
+    ensures cut { IfErr result (λ error.
+        AreCut (outputs_for guest.old.setup.harts symbols.now (rest_of guest.old) files.now)
+        (S.outside shelf.old) (S.outside shelf.new) error) }
+{
+    match begin(alloc, shelf, guest.harts(), files, outputs) {
+        Ok(()) => {}
+        Err(error) => return Err(error),
+    }
+    match note_symbols(shelf, files, outputs, observer, symbols) {
+        Ok(()) => {}
+        Err(error) => return Err(error),
+    }
+    let ending = match follow(shelf, files, guest, outputs, observer) {
+        Ok(ending) => ending,
+        Err(error) => return Err(error),
+    };
+    match end(shelf, files, outputs, observer, &ending) {
+        Ok(()) => Ok(ending),
+        Err(error) => Err(error),
+    }
+}
+
 /// Runs a guest to its end. The observer sees each record of the run's trace, the end last: the
 /// symbols, and then what each step tells. The files are written while the run goes on, each with
 /// what its content says.
@@ -232,20 +282,14 @@ pub fn record_run<S: Shelf, O: Observer>(
         (S.outside shelf.old) (S.outside shelf.new) error) }
 {
     let mut guest = guest;
-    let mut outputs = match begin(alloc, shelf, guest.harts(), files) {
-        Ok(outputs) => outputs,
-        Err(error) => return Err(error),
-    };
-    match note_symbols(shelf, files, &mut outputs, observer, symbols) {
-        Ok(()) => {}
-        Err(error) => return Err(error),
-    }
-    let ending = match follow(shelf, files, &mut guest, &mut outputs, observer) {
-        Ok(ending) => ending,
-        Err(error) => return Err(error),
-    };
-    match end(shelf, files, &mut outputs, observer, &ending) {
-        Ok(()) => Ok(ending),
-        Err(error) => Err(error),
-    }
+    let mut outputs = RunOutputs::new(alloc);
+    note_run(
+        alloc,
+        shelf,
+        files,
+        &mut guest,
+        &mut outputs,
+        observer,
+        symbols,
+    )
 }

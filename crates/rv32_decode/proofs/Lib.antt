@@ -3,6 +3,7 @@ pub mod Signs
 pub mod Forms
 pub mod Meeting
 pub mod Spelled
+pub mod Extended
 pub mod Found
 pub mod Again
 pub mod Nowhere

@@ -90,6 +90,7 @@ pub(crate) fn imm_u_of(word: u32) -> u32
     word >> 12 << 12
 }
 
+#[tactic(auto, using(crate::proofs::Extended::jump))]
 #[inline]
 pub(crate) fn imm_j_of(word: u32) -> i32
     ensures { result ≡ imm_j word }

@@ -2,14 +2,15 @@
 use Rattle.std.proofs.Common.{◌≡◌, ◌≢◌, ℕ, ◌+◌, ◌<◌, ◌≤◌, ◌∙◌, true, false, List, length, set, min, refl, sym, ap, arith, inl, inr}
 use Rattle.std.proofs.Common.{get_or-set_same, get_or-set_other}
 use Rattle.std.specs.List.{count_by}
-use Rattle.std.proofs.lemmas.Bool.{cases_Bool, cases_eq, lt-ltb, le-ltb, and_left, and_right}
-use Rattle.std.proofs.lemmas.List.{length-set, ext_get_or, take_all}
+use Rattle.std.proofs.lemmas.Bool.{cases_Bool, cases_eq, cases_lt, both_ways, lt-ltb, le-ltb, and_left, and_right}
+use Rattle.std.proofs.lemmas.List.{length-set, ext_get_or, get_or_past, take_all}
 use Rattle.std.proofs.lemmas.List.FromFn.{length-map-range_with_len, get_or-map-range_with_len}
 use Rattle.std.proofs.lemmas.List.Sums.{count_by_more_yes, count_by_more_no}
 use Rattle.thread_calls.specs.declared.phase.HartPhase.{HartPhase}
 use Rattle.thread_calls.specs.declared.phase.HartPhase.TheVariants.{Free, Runnable}
 use Rattle.thread_calls.specs.Phases.{phase_of, is_waiting_at}
 use Rattle.thread_calls.specs.Calls.{waiters_below, is_woken, woken_phase, woken, woken_count}
+use Rattle.thread_calls.specs.Facts.{WakesLowest}
 
 -- the harts below a place were woken, those that are to be, and `count` is how many
 pub record WakesBelow (old new : List HartPhase) (addr most place count : ℕ) : Type 0 where
@@ -114,3 +115,27 @@ pub counts_all : (old new : List HartPhase) (addr most place count : ℕ) → Wa
     → count ≡ woken_count old addr most
 counts_all old new addr most place count so_far end = so_far.counted
     ∙ ap (λ (low : List HartPhase). min most (count_by (is_waiting_at addr) low)) (take_all place old end)
+
+pub wakes_lowest : (old new : List HartPhase) (addr most place count : ℕ) → WakesBelow old new addr most place count → length old ≤ place
+    → WakesLowest old new addr most
+wakes_lowest old new addr most place count so_far end = record {
+  harts = so_far.same_length;
+  woken = λ k waits few.
+      elim (cases_lt k place) [
+        | inl below ↦ so_far.done k below ∙ woken_at old addr most k waits few
+        | inr past ↦
+            let none : phase_of old k ≡ Free = get_or_past old k Free (omega arith) in
+            let idle : is_waiting_at addr (phase_of old k) ≡ false = rw none refl in
+            absurd (both_ways _ idle waits)
+      ];
+  later = λ k many.
+      elim (cases_lt k place) [
+        | inl below ↦ so_far.done k below ∙ stays_at old addr most k (and_right _ _ (le-ltb _ _ many))
+        | inr past ↦ so_far.left k past
+      ];
+  others = λ k idle.
+      elim (cases_lt k place) [
+        | inl below ↦ so_far.done k below ∙ stays_at old addr most k (and_left _ _ idle)
+        | inr past ↦ so_far.left k past
+      ];
+}

@@ -23,6 +23,10 @@ use Rattle.trace_passes.specs.PassLaws.{is_wanted, refused_for_fault, refused_fo
 use Rattle.trace_passes.specs.Rooms.{HasRoom}
 use Rattle.trace_passes.specs.Cursors.{IsRead}
 
+-- an answer is no error
+pub ok_is_no_err : {T E : Type 0} (t : T) (e : E) → Ok t ≢ Err e
+ok_is_no_err t e = λ same. cc
+
 pub no_fault : (f : Option TraceFault) (u : Unit {0}) → Ok u ≡ answer_at f → f ≡ None
 no_fault None u e = refl
 no_fault (Some fault) u e = absurd cc

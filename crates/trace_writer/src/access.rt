@@ -55,6 +55,16 @@ fn more(z: u32) -> u8
     (z % 128) as u8 + 128
 }
 
+// Appends bytes. At `NoMemory` nothing is appended.
+#[inline]
+pub(crate) fn put_bytes(bytes: &[u8], into: &mut Vec<u8>) -> Result<(), NoMemory>
+    ensures ok { OnOk result (into.new.items ≡ into.old.items ++ bytes.now) }
+    ensures err { OnErr result (into.new.items ≡ into.old.items) }
+{
+    into.extend_from_slice(bytes)?;
+    Ok(())
+}
+
 // Appends two bytes and the groups of a number. At `NoMemory` nothing is appended.
 #[tactic(auto, using(std::proofs::lemmas::Bool::Decides::nat_tests))]
 fn put_groups(tag: u8, hart: u8, z: u32, into: &mut Vec<u8>) -> Result<(), NoMemory>
@@ -66,14 +76,14 @@ fn put_groups(tag: u8, hart: u8, z: u32, into: &mut Vec<u8>) -> Result<(), NoMem
     let fourth = third / 128;
     let fifth = fourth / 128;
     if z < 128 {
-        into.extend_from_slice(&[tag, hart, z as u8])?;
+        put_bytes(&[tag, hart, z as u8], into)
     } else if second < 128 {
-        into.extend_from_slice(&[tag, hart, more(z), second as u8])?;
+        put_bytes(&[tag, hart, more(z), second as u8], into)
     } else if third < 128 {
-        into.extend_from_slice(&[tag, hart, more(z), more(second), third as u8])?;
+        put_bytes(&[tag, hart, more(z), more(second), third as u8], into)
     } else if fourth < 128 {
         let bytes = [tag, hart, more(z), more(second), more(third), fourth as u8];
-        into.extend_from_slice(&bytes)?;
+        put_bytes(&bytes, into)
     } else {
         let bytes = [
             tag,
@@ -84,9 +94,8 @@ fn put_groups(tag: u8, hart: u8, z: u32, into: &mut Vec<u8>) -> Result<(), NoMem
             more(fourth),
             fifth as u8,
         ];
-        into.extend_from_slice(&bytes)?;
+        put_bytes(&bytes, into)
     }
-    Ok(())
 }
 
 // Appends an access against the address of the one before. At `NoMemory` nothing is appended.
@@ -113,10 +122,7 @@ pub(crate) fn put_touch(
     ensures err { OnErr result (into.new.items ≡ into.old.items) }
 {
     match version {
-        Version::One => {
-            into.extend_from_slice(&touch_bytes(access))?;
-            Ok(())
-        }
+        Version::One => put_bytes(&touch_bytes(access), into),
         Version::Two => put_step(last, access, into),
     }
 }

@@ -6,7 +6,7 @@ ghost use Rattle.heap_objects.specs.Names.{longest_name};
 ghost use Rattle.trace_grammar.specs.Spelling.{kind_number, spell_alloc, spell_free, spell_record};
 ghost use Rattle.trace_grammar.specs.Spelling.{spell_symbol};
 
-use crate::access::put_touch;
+use crate::access::{put_bytes, put_touch};
 use crate::ending::ending_bytes;
 use heap_objects::{Name, SymbolKind};
 use predator_base::NoMemory;
@@ -113,19 +113,13 @@ pub(crate) fn put_record(
     match item {
         TraceRecord::Touch(access) => put_touch(version, last, access, into),
         TraceRecord::Alloc { addr, size, sites } => alloc_bytes(*addr, *size, sites, into),
-        TraceRecord::Free { addr } => {
-            into.extend_from_slice(&free_bytes(*addr))?;
-            Ok(())
-        }
+        TraceRecord::Free { addr } => put_bytes(&free_bytes(*addr), into),
         TraceRecord::Symbol {
             kind,
             addr,
             size,
             name,
         } => symbol_bytes(*kind, *addr, *size, name, into),
-        TraceRecord::End(ending) => {
-            into.extend_from_slice(&ending_bytes(ending))?;
-            Ok(())
-        }
+        TraceRecord::End(ending) => put_bytes(&ending_bytes(ending), into),
     }
 }

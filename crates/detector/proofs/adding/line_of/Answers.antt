@@ -3,6 +3,16 @@ use Rattle.std.proofs.lemmas.Int.{ints}
 use Rattle.detector.proofs.AddLaws.{begins-line, shaped-begins}
 use Rattle.detector.proofs.adding.line_of.Goals as goal
 
+pub overflow_add-place : goal.overflow_add-place
+overflow_add-place c =
+    let w = shaped-begins c.args.layout _ c.args.kind c.args.range c.size.ensures.allowed c.requires.small c.requires.shaped in
+    omega (arith, ints, w.1, w.2)
+
+pub overflow_sub-place : goal.overflow_sub-place
+overflow_sub-place c =
+    let w = shaped-begins c.args.layout _ c.args.kind c.args.range c.size.ensures.allowed c.requires.small c.requires.shaped in
+    omega (arith, ints, w.1, w.2)
+
 pub returns : goal.returns
 returns c =
     let w = shaped-begins c.args.layout _ c.args.kind c.args.range c.size.ensures.allowed c.requires.small c.requires.shaped in

@@ -8,7 +8,7 @@ use Rattle.line_counters.specs.declared.line_entry.LineEntry.{LineEntry}
 use Rattle.detector.specs.Counts.{counts_of, with_write}
 use Rattle.detector.specs.Turns.{counted}
 use Rattle.detector.proofs.AfterLaws.{after-read, after-turn, after-write, counts-read, counts-write, due-lent, first-written, native-grid}
-use Rattle.detector.proofs.AfterLaws.{notable, plain-indexed, quiet, read-indexed, searches-is, turn-lent}
+use Rattle.detector.proofs.AfterLaws.{notable, one-more-fits, plain-indexed, quiet, read-indexed, searches-is, steps-within, turn-lent, writes-few}
 use Rattle.detector.proofs.CountLaws.{counts-with_entry, left-alone}
 use Rattle.detector.proofs.SettleLaws.{counted-lent, counted-names}
 use Rattle.detector.proofs.touch.touch.Goals as goal
@@ -36,7 +36,16 @@ returns-in-Read-clause-indexed g c =
     c.args.thresholds.tracking c.args.position c.args.access c.requires.indexed c.note.ensures.tracks
 
 pub returns-in-Read-clause-steps : goal.returns-in-Read-clause-steps
-returns-in-Read-clause-steps g c = let s = c.note.ensures.steps in omega (arith, s)
+returns-in-Read-clause-steps g c = steps-within c.note.new.steps (c.args.steps.now + 4) _ c.note.ensures.steps
+
+pub returns-in-Read-clause-known : goal.returns-in-Read-clause-known
+returns-in-Read-clause-known g c = λ none. refl
+
+pub turn_of-turn-requires : goal.turn_of-turn-requires
+turn_of-turn-requires g c = record {
+  few = writes-few (entry_at (g.I.LineIndex.entries c.args.index.now)) c.args.layout c.args.tracks.now c.args.thresholds.tracking
+      c.args.position c.args.line c.in-Ok.entry.now c.requires.indexed c.requires.early c.in-Ok.ensures.value;
+}
 
 pub take_turn-requires-clause-turn : goal.take_turn-requires-clause-turn
 take_turn-requires-clause-turn g c =
@@ -120,6 +129,12 @@ returns-then-is_due-clause-steps g c =
     c.in-Write.is)) turn)
     c.take_turn.ensures.steps
 
+pub overflow_add-entry : goal.overflow_add-entry
+overflow_add-entry g c =
+    one-more-fits c.in-Ok.entry.now.writes
+    (writes-few (entry_at (g.I.LineIndex.entries c.args.index.now)) c.args.layout c.args.tracks.now c.args.thresholds.tracking
+    c.args.position c.args.line c.in-Ok.entry.now c.requires.indexed c.requires.early c.in-Ok.ensures.value)
+
 pub note-requires-in-Ok-clause-notable : goal.note-requires-in-Ok-clause-notable
 note-requires-in-Ok-clause-notable g c =
     let m = g.I.LineIndex.entries c.args.index.now in
@@ -160,6 +175,12 @@ returns-else-is_due-clause-indexed g c =
     let each = counted-lent (entry_at m) (entry_at n) c.args.line c.in-Ok.entry.now c.in-Ok.ensures.value change.each in
     plain-indexed (entry_at m) (entry_at n) c.args.layout c.args.tracks.now c.note-in-Ok.new.tracks c.args.thresholds.tracking
     c.args.position c.args.line c.args.access c.requires.indexed each c.note-in-Ok.ensures.tracks
+
+pub returns-else-is_due-clause-known : goal.returns-else-is_due-clause-known
+returns-else-is_due-clause-known g c = λ none. refl
+
+pub returns-else-is_due-clause-steps : goal.returns-else-is_due-clause-steps
+returns-else-is_due-clause-steps g c = steps-within c.note-in-Ok.new.steps (c.args.steps.now + 4) _ c.note-in-Ok.ensures.steps
 
 pub returns-in-Err-clause-known : goal.returns-in-Err-clause-known
 returns-in-Err-clause-known g c =

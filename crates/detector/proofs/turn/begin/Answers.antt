@@ -1,13 +1,34 @@
-use Rattle.std.proofs.Common.{◌≡◌, ℕ, ◌++◌, ◌∷◌, [], Some, ap, ◌∙◌}
+use Rattle.std.proofs.Common.{◌≡◌, ℕ, ◌++◌, ◌∷◌, [], Some, sym, ap, ◌∙◌, subst}
+use Rattle.std.proofs.lemmas.Option.{same_Some, slice_get_within}
 use Rattle.std.specs.Prelude.{slice_get, slice_set}
-use Rattle.predator_base.specs.Ranges.{line_range}
+use Rattle.predator_base.specs.Ranges.{holds_address, line_range}
 use Rattle.predator_base.specs.Lines.{line_number}
 use Rattle.predator_base.specs.declared.layout.Range.{Range}
 use Rattle.sharing_rules.specs.declared.line_kind.LineKind.TheVariants.{Observed}
-use Rattle.virtual_lines.specs.Kept.{Kept, note_kept, waiting}
+use Rattle.virtual_lines.specs.Kept.{CanNote, Kept, note_kept, waiting}
 use Rattle.detector.proofs.Gets.{slice_get-end}
 use Rattle.detector.proofs.TurnLaws.{set_end}
 use Rattle.detector.proofs.turn.begin.Goals as goal
+
+pub note-requires-clause-there : goal.note-requires-clause-there
+note-requires-clause-there g c =
+    let at : slice_get c.add.new.tracks c.in-Ok.place ≡ Some (waiting Observed c.line_of.result) =
+    ap (λ zs. slice_get zs c.in-Ok.place) c.in-Ok.ensures.added
+    ∙ ap (slice_get (c.args.tracks.now ++ waiting Observed c.line_of.result ∷ [])) c.in-Ok.ensures.place
+    ∙ slice_get-end c.args.tracks.now (waiting Observed c.line_of.result) in
+    slice_get_within c.add.new.tracks c.in-Ok.place (waiting Observed c.line_of.result) at
+
+pub note-requires-clause-ready : goal.note-requires-clause-ready
+note-requires-clause-ready g c = λ x got.
+    let at : slice_get c.add.new.tracks c.in-Ok.place ≡ Some (waiting Observed c.line_of.result) =
+    ap (λ zs. slice_get zs c.in-Ok.place) c.in-Ok.ensures.added
+    ∙ ap (slice_get (c.args.tracks.now ++ waiting Observed c.line_of.result ∷ [])) c.in-Ok.ensures.place
+    ∙ slice_get-end c.args.tracks.now (waiting Observed c.line_of.result) in
+    subst (λ (z : Kept). CanNote z c.args.position c.args.access.addr) (same_Some (waiting Observed c.line_of.result) x (sym at ∙ got))
+    (record {
+      inside = ap (holds_address c.line_of.result) (sym c.addr.ensures) ∙ c.line_of.ensures.line.holds;
+      in_time = tt;
+    })
 
 pub returns-in-Ok-clause-begun : goal.returns-in-Ok-clause-begun
 returns-in-Ok-clause-begun g c =

@@ -1,5 +1,6 @@
-use Rattle.std.proofs.Common.{length}
+use Rattle.std.proofs.Common.{length, refl, ap, ◌∙◌}
 use Rattle.line_counters.specs.Entries.{entry_at}
+use Rattle.detector.specs.Turns.{turn_opens}
 use Rattle.detector.proofs.ChangeLaws.{turn-begun, turn-below, turn-doubled, turn-indexed, turn-kept, turn-tracks}
 use Rattle.detector.proofs.turn.change.Goals as goal
 
@@ -52,6 +53,21 @@ returns-in-Ok-open-clause-indexed g c = λ T due.
     c.requires.turn b due c.openings_at-openings.ensures.value c.openings_at-openings.ensures.shaped_here c.in-Ok-open.ensures.places
     c.in-Ok-open.ensures.added
     c.settle.ensures.names c.settle.ensures.writes c.in-Ok-open.ensures.few
+
+pub returns-in-Err-clause-known : goal.returns-in-Err-clause-known
+returns-in-Err-clause-known g c = λ still none. c.in-Err.ensures.known still
+
+pub returns-in-Ok-open-clause-known : goal.returns-in-Ok-open-clause-known
+returns-in-Ok-open-clause-known g c = λ still none. refl
+
+pub returns-in-Err-open-clause-known : goal.returns-in-Err-open-clause-known
+returns-in-Err-open-clause-known g c = λ still none.
+    let f = entry_at (g.I.LineIndex.entries c.args.index.now) in
+    let b = turn-begun f c.args.layout c.args.tracks.now c.own_place.new.tracks c.args.line _ c.args.turn c.args.position c.args.access
+    c.in-Ok.own c.peek-named.result c.requires.turn c.requires.line
+    c.in-Ok.ensures.tracks c.in-Ok.ensures.place c.peek-named.ensures in
+    c.in-Err-open.ensures.known
+    (c.openings_at-openings.ensures.value ∙ ap (turn_opens c.args.layout c.args.line c.args.turn.searches) b.tracks ∙ none)
 
 pub returns-in-Err-open-clause-kept : goal.returns-in-Err-open-clause-kept
 returns-in-Err-open-clause-kept g c =

@@ -1,11 +1,22 @@
-use Rattle.std.proofs.Common.{◌≡◌, ap, ◌∙◌}
-use Rattle.std.specs.Prelude.{is_ok}
+use Rattle.std.proofs.Common.{◌≡◌, ap, sym, ◌∙◌}
+use Rattle.std.specs.Prelude.{Some, is_ok}
 use Rattle.line_counters.specs.Entries.{entry_at}
 use Rattle.line_counters.specs.declared.line_entry.LineEntry.{LineEntry}
 use Rattle.detector.specs.Counts.{counts_of}
+use Rattle.detector.specs.Index.{names_in}
+use Rattle.detector.specs.Turns.{with_name, with_place}
 use Rattle.detector.proofs.CountLaws.{counts-same}
-use Rattle.detector.proofs.SettleLaws.{with_place-writes}
+use Rattle.detector.proofs.SettleLaws.{placed-names, with_place-writes}
 use Rattle.detector.proofs.turn.name.Goals as goal
+
+pub returns-in-Ok-clause-names : goal.returns-in-Ok-clause-names
+returns-in-Ok-clause-names g c =
+    let f = entry_at (g.I.LineIndex.entries c.args.index.now) in
+    let change = (c.entry.follows.holds c.set_place.new.entry (ap is_ok c.in-Ok.is)).0 in
+    placed-names f (entry_at (g.I.LineIndex.entries (c.entry.follows.lender c.set_place.new.entry))) c.args.line c.args.kind
+    (Some c.in-Some.place) c.set_place.new.entry change.each
+    (c.set_place.ensures ∙ ap (λ (e : LineEntry). with_place e c.args.kind (Some c.in-Some.place)) c.in-Ok.ensures.value)
+    ∙ ap (with_name (names_in f) c.args.kind c.args.line) (sym c.in-Some.is)
 
 pub returns-in-Ok-clause-counts : goal.returns-in-Ok-clause-counts
 returns-in-Ok-clause-counts g c =

@@ -1,114 +1,26 @@
-use Rattle.std.proofs.Common.{◌≡◌, ◌∙◌, ◌^◌, [], Some, Ok, Err, ap, drop, length, subst, sym, arith}
-use Rattle.predator_base.specs.declared.faults.ResumeFault.{ResumeFault}
-use Rattle.state_grammar.specs.Laws.Again.{in_range, rules_of}
-use Rattle.state_grammar.specs.Laws.Reading.{header_is, read_is_spelled}
-use Rattle.state_grammar.specs.Parts.{header_meant}
-use Rattle.state_grammar.specs.Units.{header_in}
-use Rattle.detector.specs.Adding.{nothing_kept}
-use Rattle.detector.specs.Watch.{Watch}
-use Rattle.detector_states.specs.Ready.{IsReady, due_numbers, lines_at, lines_read}
-use Rattle.detector_states.specs.Saving.{counted_lines, state_of}
-use Rattle.detector_states.proofs.ResumeLaws.{all_read, bad_lines, bad_tracks, missing, no_due, no_lines, ready_start, state_read}
+use Rattle.std.proofs.Common.{◌∙◌, ap, sym}
+use Rattle.state_grammar.specs.Laws.Reading.{read_is_spelled}
+use Rattle.detector_states.specs.Resuming.{resumption_in}
+use Rattle.detector_states.specs.Saving.{state_of}
 use Rattle.detector_states.proofs.ListLaws.{resumed_from}
-use Rattle.detector_states.proofs.resume.resume_detector.Given.{Over}
 use Rattle.detector_states.proofs.resume.resume_detector.Goals as goal
-use Rattle.detector_states.proofs.resume.resume_detector.Goals.{In-Ok, In-Some}
 
-header : (g : Over) (c : In-Some g) → header_in c.args.part.now ≡ Some (header_meant c.in-Some.header)
-header g c = sym c.in-Some.ensures.value
-
-pub read_lines-requires-clause-ready : goal.read_lines-requires-clause-ready
-read_lines-requires-clause-ready g c =
-    let h = c.in-Some.header in
-    let rules = rules_of (header_meant h) (header_is c.args.part.now (header_meant h)
-    (header g (goal.at.read_lines-requires-clause-ready g c).In-Some)).is_good in
-    subst (IsReady (header_meant h)) (sym c.at-detector.ensures)
-    (ready_start h (in_range 1 (2 ^ 32) h.thresholds.tracking rules.tracking).0 rules.layout c.in-Some.ensures.native)
-
-pub read_lines-requires-clause-none : goal.read_lines-requires-clause-none
-read_lines-requires-clause-none g c = ap (λ (w : Watch). counted_lines w.writes) c.at-detector.ensures ∙ no_lines
-
-pub read_lines-requires-clause-due : goal.read_lines-requires-clause-due
-read_lines-requires-clause-due g c =
-    let h = c.in-Some.header in
-    c.new-due.ensures.items ∙ sym (no_due (header_meant h) h.layout h.thresholds h.position)
-    ∙ ap (due_numbers (header_meant h)) (sym c.at-detector.ensures)
+pub read_parts-requires-clause-header : goal.read_parts-requires-clause-header
+read_parts-requires-clause-header g c = sym c.in-Some.ensures.value
 
 pub returns-in-Err-clause-refused : goal.returns-in-Err-clause-refused
 returns-in-Err-clause-refused g c = λ memory.
-    let h = c.in-Some.header in
-    let at = c.at-detector.ensures in
-    let back = c.split_at.ensures.back in
-    bad_lines c.args.report (header_meant h) h.layout h.thresholds h.position c.args.part.now
-    (header g (goal.at.returns-in-Err-clause-refused g c).In-Some) c.in-Err.fault
-    ((λ i. lines_read (header_meant h) h.lines (sym at i) 64 (sym back i)) ∙ c.in-Err.ensures.refused memory)
+    ap (λ n. resumption_in n c.args.part.now) (sym c.in-Some.ensures.levels) ∙ c.in-Err.ensures.refused memory
 
--- the lines that were read, from the beginning on
-lines : (g : Over) (c : In-Ok g) → lines_read (header_meant c.in-Some.header) c.in-Some.header.lines
-    (nothing_kept c.in-Some.header.layout c.in-Some.header.thresholds c.in-Some.header.position) 64 (drop 64 c.args.part.now)
-    ≡ Ok (lines_at c.read_lines.new.detector c.in-Ok.rest.place c.in-Ok.rest.bytes.now)
-lines g c =
-    let h = c.in-Some.header in
-    let at = c.at-detector.ensures in
-    let back = c.split_at.ensures.back in
-    (λ i. lines_read (header_meant h) h.lines (sym at i) 64 (sym back i)) ∙ c.in-Ok.ensures.read
+pub returns-in-Ok-clause-resumed : goal.returns-in-Ok-clause-resumed
+returns-in-Ok-clause-resumed g c =
+    ap (λ n. resumption_in n c.args.part.now) (sym c.in-Some.ensures.levels) ∙ c.in-Ok.ensures.resumed
 
-trackless : (g : Over) (c : In-Ok g) → c.read_lines.new.detector.tracks ≡ []
-trackless g c = c.in-Ok.ensures.tracks ∙ ap (λ (w : Watch). w.tracks) c.at-detector.ensures
+pub returns-in-Ok-clause-spelled : goal.returns-in-Ok-clause-spelled
+returns-in-Ok-clause-spelled g c =
+    read_is_spelled c.args.part.now (state_of c.in-Some.header.harts c.read_parts.new.detector) c.in-Ok.used c.in-Ok.ensures.state
 
-pub returns-in-Err-read_tracks-clause-refused : goal.returns-in-Err-read_tracks-clause-refused
-returns-in-Err-read_tracks-clause-refused g c = λ memory.
-    let h = c.in-Some.header in
-    let read = (goal.at.returns-in-Err-read_tracks-clause-refused g c).In-Ok in
-    bad_tracks c.args.report (header_meant h) h.layout h.thresholds h.position c.args.part.now
-    (header g (goal.at.returns-in-Err-read_tracks-clause-refused g c).In-Some) c.read_lines.new.detector c.in-Ok.rest.place
-    c.in-Ok.rest.bytes.now (lines g read) (trackless g read) c.in-Err-read_tracks.fault (c.in-Err-read_tracks.ensures.refused memory)
-
-pub returns-then-tracks-len-clause-refused : goal.returns-then-tracks-len-clause-refused
-returns-then-tracks-len-clause-refused g c = λ memory.
-    let h = c.in-Some.header in
-    let read = (goal.at.returns-then-tracks-len-clause-refused g c).In-Ok in
-    missing c.args.report (header_meant h) h.layout h.thresholds h.position c.args.part.now
-    (header g (goal.at.returns-then-tracks-len-clause-refused g c).In-Some) c.read_lines.new.detector c.in-Ok.rest.place
-    c.in-Ok.rest.bytes.now (lines g read) (trackless g read) c.read_tracks.new.detector c.in-Ok-read_tracks.rest.place
-    c.in-Ok-read_tracks.rest.bytes.now c.in-Ok-read_tracks.ensures.read
-    (omega (arith, c.if-tracks-len.true, c.len.ensures, ap length c.tracks.ensures.value, ap length c.in-Ok.ensures.due))
-    ∙ ap (λ (f : ResumeFault). Err f) (sym c.fault_at.ensures)
-
-pub returns-clause-resumed : goal.returns-clause-resumed
-returns-clause-resumed g c =
-    let h = c.in-Some.header in
-    let read = (goal.at.returns-clause-resumed g c).In-Ok in
-    let report = c.in-Some.ensures.levels in
-    let levels : c.read_tracks.new.detector.levels ≡ h.thresholds =
-    c.in-Ok-read_tracks.ensures.levels ∙ c.in-Ok.ensures.levels ∙ ap (λ (w : Watch). w.levels) c.at-detector.ensures in
-    let told : c.read_tracks.new.detector.levels
-    ≡ record { tracking = h.thresholds.tracking; prediction = h.thresholds.prediction; report = c.args.report } =
-    levels ∙ (λ i. record { tracking = h.thresholds.tracking; prediction = h.thresholds.prediction; report = report i }) in
-    all_read c.args.report (header_meant h) h.layout h.thresholds h.position c.args.part.now
-    (header g (goal.at.returns-clause-resumed g c).In-Some) c.read_lines.new.detector c.in-Ok.rest.place
-    c.in-Ok.rest.bytes.now (lines g read) (trackless g read) c.read_tracks.new.detector c.in-Ok-read_tracks.rest.place
-    c.in-Ok-read_tracks.rest.bytes.now c.in-Ok-read_tracks.ensures.read
-    (omega (arith, c.if-tracks-len.false, c.len.ensures, ap length c.tracks.ensures.value, ap length c.in-Ok.ensures.due))
-    c.in-Ok-read_tracks.ensures.ready c.in-Ok-read_tracks.ensures.writes told
-
-pub returns-clause-state : goal.returns-clause-state
-returns-clause-state g c =
-    let h = c.in-Some.header in
-    let read = (goal.at.returns-clause-state g c).In-Ok in
-    state_read c.args.report (header_meant h) h.layout h.thresholds h.position c.args.part.now
-    (header g (goal.at.returns-clause-state g c).In-Some) c.read_lines.new.detector c.in-Ok.rest.place
-    c.in-Ok.rest.bytes.now (lines g read) (trackless g read) c.read_tracks.new.detector c.in-Ok-read_tracks.rest.place
-    c.in-Ok-read_tracks.rest.bytes.now c.in-Ok-read_tracks.ensures.read
-    (omega (arith, c.if-tracks-len.false, c.len.ensures, ap length c.tracks.ensures.value, ap length c.in-Ok.ensures.due))
-    c.in-Ok-read_tracks.ensures.ready c.in-Ok-read_tracks.ensures.writes
-
-pub returns-clause-spelled : goal.returns-clause-spelled
-returns-clause-spelled g c =
-    read_is_spelled c.args.part.now (state_of c.in-Some.header.harts c.read_tracks.new.detector) c.in-Ok-read_tracks.rest.place
-    (returns-clause-state g c)
-
-pub returns-clause-of_list : goal.returns-clause-of_list
-returns-clause-of_list g c = λ grid v harts t more may is.
-    resumed_from c.args.part.now more grid v harts t c.read_tracks.new.detector c.in-Some.header.harts c.in-Ok-read_tracks.rest.place
-    (returns-clause-state g c) may is
+pub returns-in-Ok-clause-of_list : goal.returns-in-Ok-clause-of_list
+returns-in-Ok-clause-of_list g c = λ grid v harts t more may is.
+    resumed_from c.args.part.now more grid v harts t c.read_parts.new.detector c.in-Some.header.harts c.in-Ok.used
+    c.in-Ok.ensures.state may is

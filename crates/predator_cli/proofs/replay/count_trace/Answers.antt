@@ -1,6 +1,11 @@
 use Rattle.command_line.specs.Replay.{replay_meaning}
-use Rattle.predator_cli.proofs.ReplayEnds.{state_stopped, trace_counted, trace_stopped}
+use Rattle.predator_cli.proofs.ReplayEnds.{settings_stopped, state_stopped, trace_counted, trace_stopped}
 use Rattle.predator_cli.proofs.replay.count_trace.Goals as goal
+
+pub returns-in-Err-clause-stopped : goal.returns-in-Err-clause-stopped
+returns-in-Err-clause-stopped g c =
+    settings_stopped (replay_meaning c.args.options.now) (g.S.Shelf.outside c.args.shelf.now)
+    (g.S.Shelf.outside c.read_settings.new.shelf) c.in-Err.status c.in-Err.ensures.stopped
 
 pub returns-in-Err-read_state-clause-stopped : goal.returns-in-Err-read_state-clause-stopped
 returns-in-Err-read_state-clause-stopped g c =

@@ -1,34 +1,59 @@
-use Rattle.std.proofs.Common.{List, subst}
+use Rattle.std.proofs.Common.{◌≡◌, ◌∙◌, ℕ, List, None, IfErr, IfOk, OnOk, subst, take}
 use Rattle.guest_run.specs.Runs.{rest_of}
-use Rattle.outputs.specs.Files.{AreCut, AreWritten}
-use Rattle.run_recorder.specs.Recorded.{outputs_for}
+use Rattle.outputs.specs.Files.{AreCut, AreWritten, Output}
+use Rattle.run_recorder.specs.Recorded.{outputs_for, trace_for}
+use Rattle.sightings.specs.Sights.{nothing_sighted}
 use Rattle.trace_grammar.specs.declared.record.TraceRecord.{TraceRecord}
-use Rattle.predator_cli.proofs.WriteEnds.{written_cut}
+use Rattle.command_files.specs.SettingsFiles.{levels_of, native_of}
+use Rattle.predator_cli.specs.Replay.{report_of}
+use Rattle.predator_cli.proofs.RunEnds.{handed_apart, handed_on}
 use Rattle.predator_cli.proofs.run.run_guest.Goals as goal
 
-pub returns-in-Ok-report-clause-written : goal.returns-in-Ok-report-clause-written
-returns-in-Ok-report-clause-written g c =
-    let a = g.S.Shelf.outside c.args.shelf.now in
-    let b = g.S.Shelf.outside c.record_run.new.shelf in
-    let r = rest_of c.args.loaded.guest in
-    subst (λ (l : List TraceRecord). AreWritten (outputs_for c.args.loaded.settings.harts l r c.args.files.now) a b) c.deref.ensures.value
-    (subst (λ harts. AreWritten (outputs_for harts c.deref.result.now r c.args.files.now) a b) c.requires.harts c.in-Ok.ensures.written)
+pub show_run-requires-clause-apart : goal.show_run-requires-clause-apart
+show_run-requires-clause-apart g c =
+    handed_apart c.args.options.now
+    (take c.files_of-count.result.1 c.files_of-count.result.0) c.files_of-count.ensures.files c.requires.apart
 
-pub returns-in-Ok-clause-cut : goal.returns-in-Ok-clause-cut
-returns-in-Ok-clause-cut g c =
-    let a = g.S.Shelf.outside c.args.shelf.now in
-    let b = g.S.Shelf.outside c.record_run.new.shelf in
+-- what is told by the guest's number of harts and its symbols is told by those that are loaded
+as_loaded : (P : ℕ → List TraceRecord → Type 0) (h harts : ℕ) (l symbols : List TraceRecord)
+    → h ≡ harts → l ≡ symbols → P h l → P harts symbols
+as_loaded P h harts l symbols harts_are symbols_are p =
+    subst (λ n. P n symbols) harts_are (subst (P h) symbols_are p)
+
+pub returns-clause-text : goal.returns-clause-text
+returns-clause-text g c =
+    let s = c.args.loaded.settings in
+    as_loaded (λ harts l. IfOk c.show_run.result (λ shown. shown.text.items
+    ≡ report_of (levels_of None s) (native_of s) (trace_for harts l (rest_of c.args.loaded.guest))))
+    c.args.loaded.guest.setup.harts s.harts c.deref.result.now c.args.loaded.symbols.items
+    c.requires.harts c.deref.ensures.value
+    (c.show_run.ensures.text (native_of s) (levels_of None s) (c.new-sightings.ensures.blank
+    ∙ λ i. nothing_sighted (c.native_layout.ensures i) (c.thresholds_of-thresholds.ensures.value i)))
+
+pub returns-clause-written : goal.returns-clause-written
+returns-clause-written g c =
+    let s = c.args.loaded.settings in
+    let symbols = c.args.loaded.symbols.items in
     let r = rest_of c.args.loaded.guest in
-    written_cut (outputs_for c.args.loaded.settings.harts c.args.loaded.symbols.items r c.args.files.now) a b
-    (subst (λ (l : List TraceRecord). AreWritten (outputs_for c.args.loaded.settings.harts l r c.args.files.now) a b) c.deref.ensures.value
-    (subst (λ harts. AreWritten (outputs_for harts c.deref.result.now r c.args.files.now) a b) c.requires.harts c.in-Ok.ensures.written))
+    let a = g.S.Shelf.outside c.args.shelf.now in
+    let b = g.S.Shelf.outside c.show_run.new.shelf in
+    let files = take c.files_of-count.result.1 c.files_of-count.result.0 in
+    subst (λ (o : List Output). OnOk c.show_run.result (AreWritten o a b))
+    (handed_on c.args.options.now s.harts symbols r files c.files_of-count.ensures.files)
+    (as_loaded (λ harts l. OnOk c.show_run.result (AreWritten (outputs_for harts l r files) a b))
+    c.args.loaded.guest.setup.harts s.harts c.deref.result.now symbols c.requires.harts c.deref.ensures.value
+    c.show_run.ensures.written)
 
 pub returns-clause-cut : goal.returns-clause-cut
 returns-clause-cut g c =
-    let a = g.S.Shelf.outside c.args.shelf.now in
-    let b = g.S.Shelf.outside c.record_run.new.shelf in
+    let s = c.args.loaded.settings in
+    let symbols = c.args.loaded.symbols.items in
     let r = rest_of c.args.loaded.guest in
-    subst (λ (l : List TraceRecord). AreCut (outputs_for c.args.loaded.settings.harts l r c.args.files.now) a b c.in-Err.error)
-    c.deref.ensures.value
-    (subst (λ harts. AreCut (outputs_for harts c.deref.result.now r c.args.files.now) a b c.in-Err.error) c.requires.harts
-    c.in-Err.ensures.cut)
+    let a = g.S.Shelf.outside c.args.shelf.now in
+    let b = g.S.Shelf.outside c.show_run.new.shelf in
+    let files = take c.files_of-count.result.1 c.files_of-count.result.0 in
+    subst (λ (o : List Output). IfErr c.show_run.result (AreCut o a b))
+    (handed_on c.args.options.now s.harts symbols r files c.files_of-count.ensures.files)
+    (as_loaded (λ harts l. IfErr c.show_run.result (AreCut (outputs_for harts l r files) a b))
+    c.args.loaded.guest.setup.harts s.harts c.deref.result.now symbols c.requires.harts c.deref.ensures.value
+    c.show_run.ensures.cut)

@@ -6,7 +6,7 @@ pub begin-requires : goal.begin-requires
 begin-requires g c =
     next_new c.args.files.now c.loop-place.place (file_at c.args.files.now c.loop-place.place) c.loop-place.outputs
     (g.S.Shelf.outside c.args.shelf.now) (g.S.Shelf.outside c.loop-place.shelf) c.loop-place-test.true
-    (at_place c.args.files.now c.loop-place.place c.loop-place-test.true) c.requires c.loop-place.invariant
+    (at_place c.args.files.now c.loop-place.place c.loop-place-test.true) c.requires.apart c.loop-place.invariant
 
 pub returns-in-Err-clause-cut : goal.returns-in-Err-clause-cut
 returns-in-Err-clause-cut g c =

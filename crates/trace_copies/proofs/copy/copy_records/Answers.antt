@@ -1,4 +1,6 @@
-use Rattle.std.proofs.Common.{◌++◌, ℕ, List, All, sym, subst, take}
+use Rattle.std.proofs.Common.{◌≢◌, ◌++◌, ℕ, List, All, Ok, Err, Option, refl, sym, ap, subst, take}
+use Rattle.trace_passes.specs.declared.passes.PassFault.{PassFault}
+use Rattle.trace_passes.specs.declared.passes.Passed.{Passed}
 use Rattle.shelf.specs.Shelf.{Outside}
 use Rattle.outputs.specs.Files.{AreCut}
 use Rattle.outputs.specs.OnTheirWay.{IsOutputs}
@@ -9,6 +11,10 @@ use Rattle.trace_copies.proofs.Pieces.{come_at, cut_at, end_at, ended_at, next_a
 use Rattle.trace_copies.proofs.Pieces.{was_refused}
 use Rattle.trace_copies.proofs.Readings.{same_outside}
 use Rattle.trace_copies.proofs.copy.copy_records.Goals as goal
+
+-- an answer is no fault
+no_fault : (o : Option Passed) (f : PassFault) → Ok o ≢ Err f
+no_fault o f = λ e. cc
 
 pub pieces-init : goal.pieces-init
 pieces-init g c =
@@ -30,13 +36,13 @@ put_all-requires g c =
     let mid = g.S.Shelf.outside c.pieces.shelf in
     let next = c.advance.new.self in
     let on = on_at g.T.Target.waiting g.T.Target.files g.T.Target.has c.args.name.now c.args.target.now c.pieces.target c.pieces.cursor
-    old mid c.pieces.invariant c.any.result c.any.ensures next (e.more (cc)) in
+    old mid c.pieces.invariant c.any.result c.any.ensures next (e.more (ap Ok none)) in
     record {
       writable = subst (All IsWritable) (sym c.items.ensures)
           (piece_writable old.held c.args.name.now c.pieces.invariant.bytes next on);
       way = way_at g.T.Target.waiting g.T.Target.files g.T.Target.has c.args.name.now c.args.target.now c.pieces.target c.pieces.cursor
           old mid (g.S.Shelf.outside c.advance.new.shelf) c.requires.way.0 c.requires.way.1 c.pieces.invariant
-          (same_outside mid (g.S.Shelf.outside c.advance.new.shelf) e.only (e.cause.quiet (λ x. cc)));
+          (same_outside mid (g.S.Shelf.outside c.advance.new.shelf) e.only (e.cause.quiet (no_fault _ _)));
     }
 
 pub pieces-preserved : goal.pieces-preserved
@@ -52,9 +58,9 @@ pieces-preserved g c =
     let next = c.advance.new.self in
     let has = g.T.Target.has in
     let on = on_at g.T.Target.waiting g.T.Target.files has c.args.name.now c.args.target.now now c.pieces.cursor
-    old mid c.pieces.invariant c.any.result c.any.ensures next (e.more (cc)) in
+    old mid c.pieces.invariant c.any.result c.any.ensures next (e.more (ap Ok none)) in
     next_at g.T.Target.waiting g.T.Target.files has c.args.name.now c.args.target.now now c.pieces.cursor
-    old mid c.pieces.invariant next read e.only (e.cause.quiet (λ x. cc)) on later new c.requires.way.0 c.requires.way.1
+    old mid c.pieces.invariant next read e.only (e.cause.quiet (no_fault _ _)) on later new c.requires.way.0 c.requires.way.1
     c.put_all.ensures.files
     (subst (λ (items : List TraceRecord). (seen : List TraceRecord) → has now seen → has later (seen ++ items))
     c.items.ensures c.in-Ok-put_all.ensures.has)
@@ -64,14 +70,14 @@ pieces-preserved g c =
     c.items.ensures c.in-Ok-put_all.ensures.outputs)
 
 pub pieces-smaller : goal.pieces-smaller
-pieces-smaller g c = let none = c.in-Ok-None.field-0-is in c.in-Ok-None.ensures.fewer (cc)
+pieces-smaller g c = let none = c.in-Ok-None.field-0-is in c.in-Ok-None.ensures.fewer (ap Ok none)
 
 pub returns-in-Err-clause-short : goal.returns-in-Err-clause-short
 returns-in-Err-clause-short g c = λ before began.
     let old = g.S.Shelf.outside c.args.shelf.now in
     rw c.second_fault.ensures
     (short_none old.held c.args.name.now (g.T.Target.files c.args.target.now) (g.T.Target.waiting c.args.target.now) c.in-Err.fault
-    (c.in-Err.ensures.memory c.in-Err.fault (cc)) old before began)
+    (c.in-Err.ensures.memory c.in-Err.fault refl) old before began)
 
 pub returns-in-Ok-Some-clause-copied : goal.returns-in-Ok-Some-clause-copied
 returns-in-Ok-Some-clause-copied g c =
@@ -81,9 +87,9 @@ returns-in-Ok-Some-clause-copied g c =
     let mid = g.S.Shelf.outside c.pieces.shelf in
     let passed = c.in-Ok-Some.passed in
     let ended = end_at g.T.Target.waiting g.T.Target.files g.T.Target.has c.args.name.now c.args.target.now c.pieces.target c.pieces.cursor
-    old mid c.pieces.invariant c.any.result c.any.ensures passed (e.ended passed (cc)) in
+    old mid c.pieces.invariant c.any.result c.any.ensures passed (e.ended passed (ap Ok some)) in
     ended_at g.T.Target.waiting g.T.Target.files g.T.Target.has c.args.name.now c.args.target.now c.pieces.target c.pieces.cursor
-    old mid c.pieces.invariant passed (g.S.Shelf.outside c.advance.new.shelf) e.only (e.cause.quiet (λ x. cc)) ended
+    old mid c.pieces.invariant passed (g.S.Shelf.outside c.advance.new.shelf) e.only (e.cause.quiet (no_fault _ _)) ended
 
 pub returns-in-Err-put_all-clause-short : goal.returns-in-Err-put_all-clause-short
 returns-in-Err-put_all-clause-short g c = λ before began.
@@ -97,10 +103,10 @@ returns-in-Err-put_all-clause-short g c = λ before began.
     let next = c.advance.new.self in
     let error = c.in-Err-put_all.error in
     let on = on_at g.T.Target.waiting g.T.Target.files g.T.Target.has c.args.name.now c.args.target.now now c.pieces.cursor
-    old mid c.pieces.invariant c.any.result c.any.ensures next (e.more (cc)) in
+    old mid c.pieces.invariant c.any.result c.any.ensures next (e.more (ap Ok none)) in
     rw c.write_fault.ensures
     (cut_at g.T.Target.waiting g.T.Target.files g.T.Target.has c.args.name.now c.args.target.now now c.pieces.cursor
-    old mid c.pieces.invariant next read e.only (e.cause.quiet (λ x. cc)) on new error
+    old mid c.pieces.invariant next read e.only (e.cause.quiet (no_fault _ _)) on new error
     (subst (λ (items : List TraceRecord). (k : ℕ) × ((seen : List TraceRecord) (b : Outside) → g.T.Target.has now seen
     → IsOutputs (g.T.Target.waiting now) (g.T.Target.files now seen) b read
     → AreCut (g.T.Target.files now (seen ++ take k items)) b new error)) c.items.ensures c.in-Err-put_all.ensures.cut)

@@ -3,8 +3,7 @@ use Rattle.trace_grammar.specs.declared.record.TraceRecord.{TraceRecord}
 use Rattle.trace_reader.specs.States.{ReadsOn}
 use Rattle.trace_passes.specs.declared.wanted.Refusal.{Refusal}
 use Rattle.trace_passes.specs.Passes.{head_of, header_refusal}
-use Rattle.trace_passes.proofs.Pieces.{first_not_memory, is_memory, no_fault, now_seen, read_now, refused_first, refused_now, that_fault}
-use Rattle.trace_passes.proofs.Pieces.{first_not_memory, is_memory, no_fault, now_seen, read_now, refused_first, refused_now, that_fault}
+use Rattle.trace_passes.proofs.Pieces.{first_not_memory, is_memory, no_fault, now_seen, ok_is_no_err, read_now, refused_first, refused_now, that_fault}
 use Rattle.trace_passes.proofs.cursor.take_piece.Goals as goal
 
 pub returns-in-Some-clause-refused : goal.returns-in-Some-clause-refused
@@ -14,7 +13,7 @@ returns-in-Some-clause-refused c = λ refusal same bytes more from.
     let new = c.feed.new.self in
     let after = c.feed.new.into.items in
     let on : ReadsOn old piece new [] after =
-    subst (λ (xs : List TraceRecord). ReadsOn old piece new xs after) c.requires.empty (c.in-Ok.ensures.read (λ e. cc)) in
+    subst (λ (xs : List TraceRecord). ReadsOn old piece new xs after) c.requires.empty (c.in-Ok.ensures.read (ok_is_no_err _ _)) in
     let told : header_refusal c.args.wanted.now (head_of new.progress) ≡ Some c.in-Some.refusal =
     ap (header_refusal c.args.wanted.now) (sym c.header.ensures) ∙ sym c.refusal.ensures ∙ c.in-Some.is in
     let is : c.in-Some.refusal ≡ refusal = cc in
@@ -27,7 +26,7 @@ returns-in-None-clause-read c = λ bytes from.
     let new = c.feed.new.self in
     let after = c.feed.new.into.items in
     let on : ReadsOn old piece new [] after =
-    subst (λ (xs : List TraceRecord). ReadsOn old piece new xs after) c.requires.empty (c.in-Ok.ensures.read (λ e. cc)) in
+    subst (λ (xs : List TraceRecord). ReadsOn old piece new xs after) c.requires.empty (c.in-Ok.ensures.read (ok_is_no_err _ _)) in
     let unrefused : header_refusal c.args.wanted.now (head_of new.progress) ≡ None =
     ap (header_refusal c.args.wanted.now) (sym c.header.ensures) ∙ sym c.refusal.ensures ∙ c.in-None.is in
     let clean : new.fault ≡ None = no_fault new.fault c.in-Ok.field-0 (c.in-Ok.ensures.answer) in
@@ -40,7 +39,7 @@ returns-in-None-clause-records c = λ bytes from.
     let new = c.feed.new.self in
     let after = c.feed.new.into.items in
     let on : ReadsOn old piece new [] after =
-    subst (λ (xs : List TraceRecord). ReadsOn old piece new xs after) c.requires.empty (c.in-Ok.ensures.read (λ e. cc)) in
+    subst (λ (xs : List TraceRecord). ReadsOn old piece new xs after) c.requires.empty (c.in-Ok.ensures.read (ok_is_no_err _ _)) in
     sym (now_seen old new piece after on bytes from)
 
 pub returns-in-Err-clause-refused : goal.returns-in-Err-clause-refused

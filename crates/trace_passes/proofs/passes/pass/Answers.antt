@@ -1,4 +1,4 @@
-use Rattle.std.proofs.Common.{◌≡◌, ◌++◌, ◌∙◌, ℕ, [], List, Option, Some, All, refl, sym, ap, subst, arith, length}
+use Rattle.std.proofs.Common.{◌≡◌, ◌≤◌, ◌++◌, ◌∙◌, ℕ, [], List, Ok, Option, Some, All, refl, sym, ap, subst, arith, length}
 use Rattle.shelf.specs.Shelf.{Files, Told, content}
 use Rattle.trace_grammar.specs.declared.record.TraceRecord.{TraceRecord}
 use Rattle.trace_grammar.specs.Reading.{Reading, reading_of}
@@ -7,9 +7,12 @@ use Rattle.trace_passes.specs.Cursors.{GoesOn, HasCome, HasEnded}
 use Rattle.trace_passes.specs.Passes.{refusal_of}
 use Rattle.trace_passes.specs.Rooms.{HasRoom}
 use Rattle.trace_passes.proofs.Fronts.{nothing_read, only_both}
-use Rattle.trace_passes.proofs.Pieces.{all_writable, room_for_all}
+use Rattle.trace_passes.proofs.Pieces.{all_writable, ok_is_no_err, room_for_all}
 use Rattle.trace_passes.proofs.Closings.{accepted_then, has_passed}
 use Rattle.trace_passes.proofs.passes.pass.Goals as goal
+
+no_fewer : (m n : ℕ) → m ≡ n → n ≤ m
+no_fewer m n same = omega arith
 
 pub pieces-init : goal.pieces-init
 pieces-init g c = record {
@@ -40,7 +43,7 @@ note_all-requires g c =
     let next = c.advance.new.self in
     let none = c.in_default.is in
     let come = subst (λ (h : Option Files). HasCome h name w bytes c.pieces.cursor) (sym x.only.held) x.way.come in
-    let on : GoesOn (g.S.Shelf.outside c.pieces.shelf).held name w bytes next = c.in_ok-passed.ensures.more (cc) bytes come in
+    let on : GoesOn (g.S.Shelf.outside c.pieces.shelf).held name w bytes next = c.in_ok-passed.ensures.more (ap Ok none) bytes come in
     let items = next.items in
     record {
       good = subst (All IsWritable) (sym c.items.ensures) (all_writable bytes on.more items on.records);
@@ -59,7 +62,7 @@ pieces-preserved g c =
     let none = c.in_default.is in
     let given = g.O.Observer.given c.args.observer.now c.note_all.new.observer in
     let come = subst (λ (h : Option Files). HasCome h name w bytes c.pieces.cursor) (sym x.only.held) x.way.come in
-    let later : GoesOn (g.S.Shelf.outside c.pieces.shelf).held name w bytes next = c.in_ok-passed.ensures.more (cc) bytes come in
+    let later : GoesOn (g.S.Shelf.outside c.pieces.shelf).held name w bytes next = c.in_ok-passed.ensures.more (ap Ok none) bytes come in
     let on : GoesOn (g.S.Shelf.outside c.args.shelf.now).held name w bytes next =
     subst (λ (h : Option Files). GoesOn h name w bytes next) x.only.held later in
     record {
@@ -71,11 +74,11 @@ pieces-preserved g c =
       };
       only = only_both (g.S.Shelf.outside c.args.shelf.now) (g.S.Shelf.outside c.pieces.shelf) (g.S.Shelf.outside c.advance.new.shelf)
           x.only c.in_ok-passed.ensures.only;
-      quiet = c.in_ok-passed.ensures.cause.quiet (λ e. cc) ∙ x.quiet;
+      quiet = c.in_ok-passed.ensures.cause.quiet (ok_is_no_err _ _) ∙ x.quiet;
     }
 
 pub pieces-smaller : goal.pieces-smaller
-pieces-smaller g c = let none = c.in_default.is in c.in_ok-passed.ensures.fewer (cc)
+pieces-smaller g c = let none = c.in_default.is in c.in_ok-passed.ensures.fewer (ap Ok none)
 
 pub returns-in-Some : goal.returns-in-Some
 returns-in-Some g c =
@@ -88,19 +91,19 @@ returns-in-Some g c =
     let held = (g.S.Shelf.outside c.args.shelf.now).held in
     let come = subst (λ (h : Option Files). HasCome h name w bytes c.pieces.cursor) (sym x.only.held) x.way.come in
     let later : HasEnded (g.S.Shelf.outside c.pieces.shelf).held name w bytes passed =
-    c.in_ok-passed.ensures.ended passed (cc) bytes come in
+    c.in_ok-passed.ensures.ended passed (ap Ok some) bytes come in
     let ended : HasEnded held name w bytes passed =
     subst (λ (h : Option Files). HasEnded h name w bytes passed) x.only.held later in
-    let quiet = c.in_ok-passed.ensures.cause.quiet (λ e. cc) ∙ x.quiet in
+    let quiet = c.in_ok-passed.ensures.cause.quiet (ok_is_no_err _ _) ∙ x.quiet in
     record {
       passed = has_passed held name w bytes passed (g.O.Observer.given c.args.observer.now c.pieces.observer) ended x.way.saw;
       head = (ended.header, ended.wanted);
       accepted = accepted_then held name w bytes passed ended;
-      refused = λ refusal same. absurd cc;
-      memory = λ same. cc;
+      refused = λ refusal same. absurd (ok_is_no_err _ _ same);
+      memory = ok_is_no_err _ _;
       cause = record {
-        later = λ n. (let at = ap (λ (f : List ℕ → ℕ). f n) quiet in omega (arith, at));
-        failed = λ same. absurd cc;
+        later = λ n. no_fewer _ _ (ap (λ (f : List ℕ → ℕ). f n) quiet);
+        failed = λ same. absurd (ok_is_no_err _ _ same);
         quiet = λ no. quiet;
       };
       only = only_both (g.S.Shelf.outside c.args.shelf.now) (g.S.Shelf.outside c.pieces.shelf) (g.S.Shelf.outside c.advance.new.shelf)

@@ -1,5 +1,5 @@
 -- What `touch` leaves is the value with one access more.
-use Rattle.std.proofs.Common.{◌≡◌, ◌∷◌, ◌++◌, [], sym, ap, ◌∙◌, subst, arith}
+use Rattle.std.proofs.Common.{◌≡◌, ◌∷◌, ◌++◌, [], refl, sym, ap, ◌∙◌, subst, arith}
 use Rattle.predator_base.specs.Lines.{line_number}
 use Rattle.detector.specs.Named.{number_of}
 use Rattle.detector.specs.Standing.{StandsFor}
@@ -32,6 +32,9 @@ returns-in-Ok-clause-watched g c =
     watched-is (g.I.LineIndex.entries d.index) (g.I.LineIndex.entries c.touch.new.index) d.tracks c.touch.new.tracks d.layout d.thresholds
     d.position c.number_of-line.result c.args.access line c.in-Ok.ensures.tracks c.in-Ok.ensures.counts
     ∙ ap (λ (w : Watch). watched w c.args.access) c.self.view_is
+
+pub returns-in-Ok-clause-known : goal.returns-in-Ok-clause-known
+returns-in-Ok-clause-known g c = λ none. refl
 
 pub returns-in-Ok-clause-stands : goal.returns-in-Ok-clause-stands
 returns-in-Ok-clause-stands g c = λ t stands.

@@ -3,5 +3,5 @@ use Rattle.disk_shelf.proofs.disk.DiskShelfShelf.append.Goals as goal
 
 pub returns-in-Err-clause-cause : goal.returns-in-Err-clause-cause
 returns-in-Err-clause-cause g c =
-    rw (← c.self.view_is) (fault_cause_at c.args.name.now c.self.inside.writes c.fault_of.new.count c.fault_of.result
-    c.fault_of.ensures.later c.fault_of.ensures.counted)
+    rw (← c.self.view_is) (fault_cause_at c.args.name.now c.self.inside.writes c.tell_and_count.new.count c.tell_and_count.result
+    c.tell_and_count.ensures.later c.tell_and_count.ensures.counted)

@@ -1,6 +1,7 @@
-use Rattle.std.proofs.Common.{◌≡◌, ◌∙◌, ap, List, length, arith}
+use Rattle.std.proofs.Common.{◌≡◌, ◌∙◌, ℕ, ap, cond, refl, set, sym, List, length, arith}
+use Rattle.std.specs.List.{count_by}
 use Rattle.thread_calls.specs.declared.phase.HartPhase.{HartPhase}
-use Rattle.thread_calls.specs.Phases.{lone_runnable}
+use Rattle.thread_calls.specs.Phases.{is_runnable, lone_runnable}
 use Rattle.thread_calls.proofs.Alone.{count_after}
 use Rattle.thread_calls.proofs.Keeps.{set_kept}
 use Rattle.thread_calls.proofs.threads.Threads.set.Goals as goal
@@ -15,3 +16,23 @@ invariant_of-self c =
     c.index.result.now
     c.args.phase (omega arith) c.self.invariant.counted c.index.ensures c.running_in-ran.ensures c.running_in.ensures).after
     (c.lone_in-self-inside.ensures ∙ ap (λ (xs : List HartPhase). lone_runnable xs) c.as_slice.ensures.value)
+
+pub returns : goal.returns
+returns c =
+    ap (λ (place : ℕ). set c.self.inside.phases.items place c.args.phase) (c.from-place.ensures ∙ c.number.ensures.value)
+    ∙ ap (λ (xs : List HartPhase). set xs c.args.hart c.args.phase) c.self.view_is
+
+pub lone_in-self-inside-requires-clause-running : goal.lone_in-self-inside-requires-clause-running
+lone_in-self-inside-requires-clause-running c =
+    let whole : length c.self.inside.phases.items ≡ length c.args.self.now = ap (λ (xs : List HartPhase). length xs) c.self.view_is in
+    (count_after c.self.inside.phases.items c.self.inside.running c.running_in-ran.result c.running_in.result c.from-place.result
+    c.index.result.now
+    c.args.phase (omega arith) c.self.invariant.counted c.index.ensures c.running_in-ran.ensures c.running_in.ensures).after
+    ∙ ap (λ (xs : List HartPhase). count_by is_runnable xs) (sym c.as_slice.ensures.value)
+
+pub overflow_sub-self : goal.overflow_sub-self
+overflow_sub-self c =
+    let whole : length c.self.inside.phases.items ≡ length c.args.self.now = ap (λ (xs : List HartPhase). length xs) c.self.view_is in
+    (count_after c.self.inside.phases.items c.self.inside.running c.running_in-ran.result (cond (is_runnable c.args.phase) 1 0)
+    c.from-place.result c.index.result.now c.args.phase (omega arith) c.self.invariant.counted c.index.ensures
+    c.running_in-ran.ensures refl).had

@@ -1,11 +1,19 @@
 use Rattle.std.proofs.Common.{◌≡◌, arith, sym, ap, ◌∙◌, List, length}
 use Rattle.thread_calls.specs.declared.phase.HartPhase.{HartPhase}
 use Rattle.thread_calls.proofs.Keeps.{keeps_runnable}
-use Rattle.thread_calls.proofs.Wakes.{wakes_one, passes_waiter, passes_other, wakes_all}
+use Rattle.thread_calls.proofs.Wakes.{counts_all, passes_other, passes_waiter, wakes_all, wakes_lowest, wakes_none, wakes_one}
 use Rattle.thread_calls.proofs.threads.Threads.wake.Goals as goal
 use Rattle.thread_calls.proofs.threads.Threads.wake.Goals.{then-count-most+then-is_waiting, else-count-most}
 use Rattle.thread_calls.proofs.threads.Threads.wake.Goals.{else-count-most-via-then-count-most+else-is_waiting}
 use Rattle.thread_calls.proofs.threads.Threads.wake.Goals.{else-count-most-via-else-count-most}
+
+pub loop-place-init : goal.loop-place-init
+loop-place-init c = wakes_none c.args.self.now c.args.addr c.args.most
+
+pub set-requires-clause-within : goal.set-requires-clause-within
+set-requires-clause-within c =
+    let whole : length c.self.inside.phases.items ≡ length c.args.self.now = ap (λ (xs : List HartPhase). length xs) c.self.view_is in
+    omega (arith, whole, c.hart_at.ensures, c.loop-place.invariant.same_length)
 
 pub set-requires-clause-keeps : goal.set-requires-clause-keeps
 set-requires-clause-keeps c = λ sound.
@@ -39,4 +47,16 @@ pub returns-clause-after : goal.returns-clause-after
 returns-clause-after c =
     let whole : length c.self.inside.phases.items ≡ length c.args.self.now = ap (λ (xs : List HartPhase). length xs) c.self.view_is in
     wakes_all c.args.self.now c.loop-place.self c.args.addr c.args.most c.loop-place.place c.loop-place.count c.loop-place.invariant
+    (omega (arith, whole))
+
+pub returns-clause-answer : goal.returns-clause-answer
+returns-clause-answer c =
+    let whole : length c.self.inside.phases.items ≡ length c.args.self.now = ap (λ (xs : List HartPhase). length xs) c.self.view_is in
+    counts_all c.args.self.now c.loop-place.self c.args.addr c.args.most c.loop-place.place c.loop-place.count c.loop-place.invariant
+    (omega (arith, whole))
+
+pub returns-clause-tells : goal.returns-clause-tells
+returns-clause-tells c =
+    let whole : length c.self.inside.phases.items ≡ length c.args.self.now = ap (λ (xs : List HartPhase). length xs) c.self.view_is in
+    wakes_lowest c.args.self.now c.loop-place.self c.args.addr c.args.most c.loop-place.place c.loop-place.count c.loop-place.invariant
     (omega (arith, whole))
