@@ -161,8 +161,9 @@ def build(stage, log):
             free = lanes - sum(jobs for _, jobs, _ in running.values())
             for at, name in enumerate(ready):
                 if free > 0:
-                    # A crate gets the processors that nothing else wants.
-                    jobs = max(1, free - (len(ready) - at - 1))
+                    # A crate gets the processors that nothing else wants, and all where nothing else can begin before it is done.
+                    is_awaited = all(name in all_below(it, stage.crates) for it in waiting if it != name)
+                    jobs = lanes if is_awaited else max(1, free - (len(ready) - at - 1))
                     out = open(f"{stage.home(name)}/said", "w+", encoding="utf-8", errors="replace")
                     running[name] = stage.begin(name, jobs, out), jobs, out
                     waiting.remove(name)
