@@ -2,7 +2,7 @@
 """Runs the gate and says what it took.
 
 bench/gate.py [NAME ..] runs `rt ci [NAME ..]`, and puts the processor minutes that each crate took, for its library, its tests
-and its edits, into the table of docs/GATE.md. A crate that was kept from an earlier run keeps its row. The times are those of
+and its edits, into the table of docs/GATE.md. What was kept from an earlier run keeps its times there. The times are those of
 the prover's processes, which are looked at twice a second. With no names, on a machine where nothing is kept, it measures the
 whole gate in one piece. It ends with the status of `rt ci`."""
 
@@ -112,12 +112,15 @@ def main(names):
     wall = (time.monotonic() - begun) / 60
     took = {}
     for number, (crate, part) in parts.items():
-        took.setdefault(crate, dict.fromkeys(PARTS, 0.0))[part] += seconds.get(number, 0) / 60
+        took.setdefault(crate, {}).setdefault(part, 0.0)
+        took[crate][part] += seconds.get(number, 0) / 60
     rows, today = old_rows(), datetime.date.today().isoformat()
     for crate, found in took.items():
         folder = os.path.join(TOP, "crates", crate, "must-fail")
         edits = sum(it.endswith(".edit") for it in os.listdir(folder)) if os.path.isdir(folder) else 0
-        rows[crate] = [f"{found[it]:.1f}" for it in PARTS] + [str(edits), today]
+        # Where the library was kept, so was what isn't among these times.
+        old = rows.get(crate, ["0.0"] * 3) if "library" not in found else ["0.0"] * 3
+        rows[crate] = [f"{found[it]:.1f}" if it in found else kept for it, kept in zip(PARTS, old)] + [str(edits), today]
     made = table(rows)
     text = read(PAGE).decode()
     text = re.sub(r"(?ms)^\| Crate \|.*?\n(?!\|)", lambda _: made, text + "\n").rstrip("\n") + "\n"

@@ -1,0 +1,41 @@
+#!/usr/bin/env python3
+"""Says what the parts of a crate's proof take.
+
+bench/modules.py CRATE [COUNT] proves a crate from nothing, over libraries that are built, and prints how many seconds its COUNT
+(20) dearest modules took. The prover writes a file for each module once it is checked, so the time between two files is that of
+the later one. What `out/` holds of the crate is put aside, and comes back; what `rt ci` kept on this machine counts as proved."""
+
+import os
+import shutil
+import subprocess
+import sys
+
+TOP = os.path.join(os.path.dirname(os.path.abspath(__file__)), "..")
+
+
+def times(folder):
+    """The seconds of each module, by the files' times."""
+    files = sorted((os.stat(os.path.join(at, it)).st_mtime, it) for at, _, names in os.walk(folder) for it in names)
+    return [(now - before, name) for (before, _), (now, name) in zip(files, files[1:])]
+
+
+def main(name, count=20):
+    crate = os.path.join(TOP, "crates", name)
+    out, aside = os.path.join(crate, "out"), os.path.join(crate, "out.aside")
+    shutil.rmtree(aside, ignore_errors=True)
+    if os.path.isdir(out):
+        os.rename(out, aside)
+    try:
+        status = subprocess.run(["rt", "check", "--jobs", "1"], cwd=crate, stdout=subprocess.DEVNULL).returncode
+        found = times(os.path.join(out, "incremental"))
+    finally:
+        shutil.rmtree(out, ignore_errors=True)
+        if os.path.isdir(aside):
+            os.rename(aside, out)
+    for seconds, module in sorted(found, reverse=True)[: int(count)]:
+        print(f"{seconds:7.1f} {module.removesuffix('.oantt')}")
+    print(f"{sum(it for it, _ in found):7.1f} all")
+    return status
+
+
+sys.exit(main(*sys.argv[1:3]))
