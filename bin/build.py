@@ -161,9 +161,11 @@ def build(stage, log):
             free = lanes - sum(jobs for _, jobs, _ in running.values())
             for at, name in enumerate(ready):
                 if free > 0:
-                    # A crate gets the processors that nothing else wants, and all where nothing else can begin before it is done.
+                    # A crate gets the processors that nothing else wants, and all where nothing else can begin before it is done;
+                    # the program gets one, since it takes little but loading, which each would do again.
                     is_awaited = all(name in all_below(it, stage.crates) for it in waiting if it != name)
                     jobs = lanes if is_awaited else max(1, free - (len(ready) - at - 1))
+                    jobs = 1 if name == PROGRAM else jobs
                     out = open(f"{stage.home(name)}/said", "w+", encoding="utf-8", errors="replace")
                     running[name] = stage.begin(name, jobs, out), jobs, out
                     waiting.remove(name)
