@@ -1,8 +1,8 @@
-// How fast the detector is: `benches accesses ROUNDS LINES HARTS T P ORDER` gives it 65,536 accesses,
-// made in memory, so many times over, on so many lines of 64 bytes, by so many harts, under a
-// tracking and a prediction threshold, and prints how many it has seen and how many tracks it has.
-// The lines come at random, and where the last word is `sweep` one after the other. Without words it
-// goes once at random over 64 lines with 8 harts, with 16 and 64.
+// How fast the detector is: `benches accesses ROUNDS LINES HARTS T P ORDER` gives it 65,536
+// accesses, made in memory, so many times over, on so many lines of 64 bytes, by so many harts,
+// under a tracking and a prediction threshold, and prints how many it has seen and how many tracks
+// it has. The lines come at random, and where the last word is `sweep` one after the other. Without
+// words it goes once at random over 64 lines with 8 harts, with 16 and 64.
 ghost use Rattle.std.specs.Prelude.{◌≡◌, ◌<◌, ◌≤◌, ◌^◌, IfSome, IsTrue};
 ghost use Rattle.sharing_rules.specs.Listed.{may_predict};
 

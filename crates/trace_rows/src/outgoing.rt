@@ -91,21 +91,22 @@ fn bytes_go_to_the_file_once_there_are_64_kib(rt: HostRuntime) -> Result<(), Fai
     Ok(())
 }
 
-// Puts pieces to two files in turn, and makes the files whole.
+// Puts pieces to two files in turn, and gives what came of making the files whole.
 fn put_in_turn(
     alloc: Global,
     shelf: &mut MemoryShelf,
     pieces: [&[u8]; 3],
-) -> Result<(), ShelfError> {
+) -> Result<Result<(), ShelfError>, ShelfError> {
     let mut outputs = two(alloc, shelf)?;
     let [first, second, third] = pieces;
     outputs.put(shelf, 0, first)?;
     outputs.put(shelf, 1, second)?;
     outputs.put(shelf, 0, third)?;
-    outputs.finish(shelf)
+    Ok(outputs.finish(shelf))
 }
 
-// Whether three pieces of whose calls these fail get an answer and these files.
+// Whether three pieces are put, where these calls fail, and making the files whole gets an answer
+// and leaves these files.
 fn are_put(
     alloc: Global,
     failing: &[Failing],
@@ -114,7 +115,7 @@ fn are_put(
     files: [&[u8]; 2],
 ) -> Result<bool, Fail> {
     let mut shelf = shelf_with(alloc, b"", failing)?;
-    let is = put_in_turn(alloc, &mut shelf, pieces) == answer;
+    let is = put_in_turn(alloc, &mut shelf, pieces)? == answer;
     let [first, second] = files;
     Ok(is && holds(&shelf, "a", first) && holds(&shelf, "b", second))
 }
