@@ -9,11 +9,7 @@ mod lines;
 mod placing;
 mod rest;
 mod resume;
-#[cfg(test)]
-mod resume_tests;
 mod save;
-#[cfg(test)]
-mod save_tests;
 mod tracks;
 
 pub use laws::the_state_of_a_list_is_taken_up;

@@ -3,4 +3,3 @@ mod Records
 mod NotedLaws
 mod ObjectLaws
 mod OriginLaws
-mod Worked

@@ -1,5 +1,5 @@
 -- What has been seen, with one record more.
-use Rattle.std.proofs.Common.{◌≡◌, ℕ, ◌+◌, ◌<◌, ◌≤◌, List, [], ◌∷◌, ◌++◌, length, map, refl, sym, ap, ◌∙◌, subst, append_assoc, arith}
+use Rattle.std.proofs.Common.{◌≡◌, ℕ, ◌+◌, ◌≤◌, List, [], ◌∷◌, ◌++◌, length, map, refl, sym, ap, ◌∙◌, subst, append_assoc, arith}
 use Rattle.std.proofs.Math.Nat.{add-zero}
 use Rattle.std.proofs.lemmas.List.{append-nil, length-append}
 use Rattle.std.proofs.lemmas.List.Elements.{filter_map-append}
@@ -260,26 +260,3 @@ pub whole_ok : {T E : Type 0} (r : Result T E) (old new : List Symbol) (one : Sy
     → OnOk r ((list : List Symbol) → old ≡ symbols_of list → new ≡ symbols_of (list ++ one ∷ []))
 whole_ok (Ok x) old new one each = each
 whole_ok (Err e) old new one each = tt
-
-one_at_most : (x : TraceRecord) → length (touches_in (x ∷ [])) ≤ 1
-one_at_most (records.Touch a) = omega arith
-one_at_most (records.Alloc addr size sites) = omega arith
-one_at_most (records.Free addr) = omega arith
-one_at_most (records.Symbol kind addr size name) = omega arith
-one_at_most (records.End e) = omega arith
-
--- a record moves the position on by one at most
-pub counted_one_more : (p : ℕ) (x : TraceRecord) → counted_after p x ≤ p + 1
-counted_one_more p x = omega (arith, counted-one p x, one_at_most x)
-
--- before the last position there is room for one record more
-pub room_from : (now : Sighted) (x : TraceRecord) → HasSeen now now [] → now.watch.position < last_position
-    → HasRoom begins_at HasSeen now (x ∷ [])
-room_from now x begun low = record {
-  begun = now;
-  first = now.watch.position;
-  seen = [];
-  begins_there = refl;
-  given_so_far = begun;
-  room = omega (arith, one_at_most x);
-}

@@ -4,8 +4,6 @@
 
 mod laws;
 mod sightings;
-#[cfg(test)]
-mod tests;
 
 pub use laws::{an_end_shows_nothing, what_is_noted_is_seen, what_stands_was_noted};
 pub use sightings::Sightings;

@@ -2,8 +2,8 @@
 ghost use Rattle.std.specs.Prelude.{◌≡◌};
 ghost use Rattle.line_counters.specs.Entries.{no_entries};
 
-use crate::save_detector;
 use detector::{Detector, LineIndex, MapIndex, PagedIndex, see};
+use detector_states::save_detector;
 use predator_base::Kind::{Read, Write};
 use predator_base::{Access, Hart, Kind, Layout, Thresholds};
 use std::alloc::Global;
@@ -13,9 +13,25 @@ use std::test::Fail;
 // An access of 4 bytes, told by its hart, its address and its kind.
 pub(crate) type Told = (u16, u32, Kind);
 
-pub(crate) fn access_of(told: &Told) -> Option<Access> {
+fn access_of(told: &Told) -> Option<Access> {
     let (hart, addr, kind) = *told;
     Access::new(Hart::new(hart)?, addr, kind, 4)
+}
+
+// The state of a detector once it has seen accesses.
+pub(crate) fn saved_after<I: LineIndex>(
+    rt: &impl Abort,
+    alloc: Global,
+    detector: &mut Detector<I>,
+    harts: u16,
+    told: &[Told],
+) -> Result<Vec<u8>, Fail> {
+    for one in told {
+        let access = access_of(one).ok_or("an access")?;
+        assert!(rt; detector.position() < 1 << 40);
+        see(detector, access)?;
+    }
+    Ok(save_detector(alloc, detector, harts)?)
 }
 
 // The state after these accesses under lines of 32 bytes, for 2 harts. A line is tracked from its
@@ -31,12 +47,7 @@ pub(crate) fn state_over<I: LineIndex + Drop>(
     let layout = Layout::new(32, 0).ok_or("a layout")?;
     let thresholds = Thresholds::new(1, Some(2), 1).ok_or("thresholds")?;
     let mut detector = Detector::new(alloc, index, layout, thresholds);
-    for one in told {
-        let access = access_of(one).ok_or("an access")?;
-        assert!(rt; detector.position() < 1 << 40);
-        see(&mut detector, access)?;
-    }
-    Ok(save_detector(alloc, &detector, 2)?)
+    saved_after(rt, alloc, &mut detector, 2, told)
 }
 
 // The value of a digit of a byte as it is written.
@@ -52,18 +63,18 @@ fn is_written(byte: u8, high: u8, low: u8) -> bool {
     digit(high) == Some(byte / 16) && digit(low) == Some(byte % 16)
 }
 
-// The bytes are those that are written in these rows, two digits each.
-fn reads(rt: &impl Abort, bytes: &[u8], rows: &[&str]) -> Result<(), Fail> {
-    let mut place = 0;
+// Whether bytes are those that are written in some rows, two digits each.
+fn are_written(bytes: &[u8], rows: &[&str]) -> bool {
+    let mut rest = bytes;
     for row in rows {
         for pair in row.as_bytes().chunks_exact(2) {
-            let byte = bytes.get(place).ok_or("a byte more")?;
-            assert!(rt; is_written(*byte, pair[0], pair[1]));
-            place += 1;
+            match rest.split_first() {
+                Some((byte, more)) if is_written(*byte, pair[0], pair[1]) => rest = more,
+                _ => return false,
+            }
         }
     }
-    assert_eq!(rt; bytes.len(), place);
-    Ok(())
+    rest.is_empty()
 }
 
 // Line 0x1000 and then line 0x1020 are written, and a search opens both lines across.
@@ -113,40 +124,49 @@ const STATE: [&str; 32] = [
     "0000000000000000ffff000000000000000000000000000000000000ffff0000",
 ];
 
+// The state after the accesses across both lines is the one above.
+fn is_state<I: LineIndex + Drop>(rt: &impl Abort, alloc: Global, index: I) -> Result<(), Fail>
+    requires { I.entries index ≡ no_entries }
+{
+    let bytes = state_over(rt, alloc, index, &ACROSS)?;
+    assert!(rt; are_written(&bytes, &STATE));
+    Ok(())
+}
+
 #[test]
 fn a_state_is_these_bytes(rt: HostRuntime) -> Result<(), Fail> {
     let alloc = rt.alloc();
-    reads(
-        &rt,
-        &state_over(&rt, alloc, MapIndex::new(alloc), &ACROSS)?,
-        &STATE,
-    )?;
-    reads(
-        &rt,
-        &state_over(&rt, alloc, PagedIndex::new(alloc), &ACROSS)?,
-        &STATE,
-    )
+    is_state(&rt, alloc, MapIndex::new(alloc))?;
+    is_state(&rt, alloc, PagedIndex::new(alloc))
 }
 
-// Each state with the bytes of its first track from its base on, up to its start.
-fn begins_with(rt: &impl Abort, bytes: &[u8], row: &str) -> Result<(), Fail> {
-    let track = bytes.get(104..120).ok_or("a track")?;
-    reads(rt, track, &[row])
+const UPPER_FIRST: [Told; 2] = [(1, 0x1020, Write), (0, 0x101c, Write)];
+
+// The first track of their state, from its base on up to its start.
+const LOWER: &str = "00100000000000000100000000000000";
+
+fn begins_with(bytes: &[u8], row: &str) -> bool {
+    match bytes.get(104..120) {
+        Some(track) => are_written(track, &[row]),
+        None => false,
+    }
+}
+
+fn begins_with_lower<I: LineIndex + Drop>(
+    rt: &impl Abort,
+    alloc: Global,
+    index: I,
+) -> Result<(), Fail>
+    requires { I.entries index ≡ no_entries }
+{
+    let bytes = state_over(rt, alloc, index, &UPPER_FIRST)?;
+    assert!(rt; begins_with(&bytes, LOWER));
+    Ok(())
 }
 
 #[test]
 fn the_line_that_opened_last_may_come_first(rt: HostRuntime) -> Result<(), Fail> {
     let alloc = rt.alloc();
-    let upper_first: [Told; 2] = [(1, 0x1020, Write), (0, 0x101c, Write)];
-    let row = "00100000000000000100000000000000";
-    begins_with(
-        &rt,
-        &state_over(&rt, alloc, MapIndex::new(alloc), &upper_first)?,
-        row,
-    )?;
-    begins_with(
-        &rt,
-        &state_over(&rt, alloc, PagedIndex::new(alloc), &upper_first)?,
-        row,
-    )
+    begins_with_lower(&rt, alloc, MapIndex::new(alloc))?;
+    begins_with_lower(&rt, alloc, PagedIndex::new(alloc))
 }

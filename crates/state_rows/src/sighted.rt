@@ -3,10 +3,10 @@ ghost use Rattle.std.specs.Prelude.{[], ◌∷◌};
 ghost use Rattle.trace_grammar.specs.Rules.{IsWritable};
 ghost use Rattle.trace_passes.specs.Rooms.{HasRoom};
 
-use crate::Sightings;
 use heap_objects::{Name, SymbolKind};
 use predator_base::Kind::Write;
 use predator_base::{Access, Ending, Hart, Layout, NoMemory, Outcome, Thresholds};
+use sightings::Sightings;
 use std::alloc::Global;
 use std::process::Abort;
 use std::test::Fail;
@@ -142,15 +142,23 @@ const REPORT: &str = "predator report 1\n\
     word 0x00002004 reads 0 writes 1 hart 1\n\
     end\n";
 
+fn is_reported(alloc: Global, sightings: &Sightings, text: &str) -> Result<bool, Fail> {
+    let written = sightings.report(alloc, &ENDING)?;
+    Ok(written.as_slice() == text.as_bytes())
+}
+
+// Blank sightings tell of the trace once they have seen it.
+fn tell(rt: &impl Abort, alloc: Global, sightings: &mut Sightings) -> Result<(), Fail> {
+    note_all(rt, alloc, sightings, &BEFORE_THE_FREE)?;
+    free(rt, sightings, 0x2000)?;
+    note(rt, sightings, &TraceRecord::End(ENDING))?;
+    assert!(rt; counts(sightings) == (2, 2, 1));
+    assert!(rt; is_reported(alloc, sightings, REPORT)?);
+    Ok(())
+}
+
 #[test]
 fn tells_of_accesses_and_objects(rt: HostRuntime) -> Result<(), Fail> {
-    let alloc = rt.alloc();
-    let mut sightings = blank(alloc)?;
-    note_all(&rt, alloc, &mut sightings, &BEFORE_THE_FREE)?;
-    free(&rt, &mut sightings, 0x2000)?;
-    note(&rt, &mut sightings, &TraceRecord::End(ENDING))?;
-    assert_eq!(rt; counts(&sightings), (2, 2, 1));
-    let text = sightings.report(alloc, &ENDING)?;
-    assert_eq!(rt; text.as_slice(), REPORT.as_bytes());
-    Ok(())
+    let mut sightings = blank(rt.alloc())?;
+    tell(&rt, rt.alloc(), &mut sightings)
 }

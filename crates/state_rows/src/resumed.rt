@@ -1,10 +1,10 @@
 // A worked state taken up again, whole, cut and changed.
-ghost use Rattle.std.specs.Prelude.{◌≡◌, ◌≤◌, length};
+ghost use Rattle.std.specs.Prelude.{◌≡◌};
 ghost use Rattle.line_counters.specs.Entries.{no_entries};
 
-use crate::save_tests::{ACROSS, Told, access_of, state_over};
-use crate::{resume_detector, save_detector};
-use detector::{LineIndex, MapIndex, PagedIndex, see};
+use crate::saved::{ACROSS, Told, saved_after, state_over};
+use detector::{LineIndex, MapIndex, PagedIndex};
+use detector_states::resume_detector;
 use predator_base::ResumeFault;
 use std::alloc::Global;
 use std::process::Abort;
@@ -77,50 +77,74 @@ fn state_after<I: LineIndex + Drop>(
         return Err(Fail::from("a good state"));
     };
     assert_eq!(rt; resumed.used, bytes.len());
-    for one in told {
-        let access = access_of(one).ok_or("an access")?;
-        assert!(rt; resumed.detector.position() < 1 << 40);
-        see(&mut resumed.detector, access)?;
-    }
-    Ok(save_detector(alloc, &resumed.detector, resumed.harts)?)
+    saved_after(rt, alloc, &mut resumed.detector, resumed.harts, told)
+}
+
+// Whether a state, with more accesses to come, ends as this one.
+fn goes_on_to<I: LineIndex + Drop>(
+    rt: &impl Abort,
+    alloc: Global,
+    index: I,
+    saved: &[u8],
+    later: &[Told],
+    whole: &[u8],
+) -> Result<bool, Fail>
+    requires { I.entries index ≡ no_entries }
+{
+    let after = state_after(rt, alloc, index, saved, later)?;
+    Ok(after.as_slice() == whole)
+}
+
+// The state of the first accesses goes on with the later ones, over both indexes, to that of all.
+fn goes_on(
+    rt: &impl Abort,
+    alloc: Global,
+    first: &[Told],
+    later: &[Told],
+    whole: &[u8],
+) -> Result<(), Fail> {
+    let saved = state_over(rt, alloc, PagedIndex::new(alloc), first)?;
+    assert!(rt; goes_on_to(rt, alloc, MapIndex::new(alloc), &saved, later, whole)?);
+    assert!(rt; goes_on_to(rt, alloc, PagedIndex::new(alloc), &saved, later, whole)?);
+    Ok(())
 }
 
 #[test]
 fn a_state_goes_on_as_if_never_saved(rt: HostRuntime) -> Result<(), Fail> {
-    let alloc = rt.alloc();
-    let whole = state_over(&rt, alloc, MapIndex::new(alloc), &ACROSS)?;
+    let whole = state_over(&rt, rt.alloc(), MapIndex::new(rt.alloc()), &ACROSS)?;
     for cut in 0..ACROSS.len() + 1 {
         let (first, later) = ACROSS.split_at(cut);
-        let saved = state_over(&rt, alloc, PagedIndex::new(alloc), first)?;
-        let after = state_after(&rt, alloc, MapIndex::new(alloc), &saved, later)?;
-        assert_eq!(rt; after.as_slice(), whole.as_slice());
-        let paged = state_after(&rt, alloc, PagedIndex::new(alloc), &saved, later)?;
-        assert_eq!(rt; paged.as_slice(), whole.as_slice());
+        goes_on(&rt, rt.alloc(), first, later, &whole)?;
     }
     Ok(())
 }
 
 #[test]
 fn the_unit_that_is_cut_is_at_fault(rt: HostRuntime) -> Result<(), Fail> {
-    let alloc = rt.alloc();
-    let whole = state_over(&rt, alloc, MapIndex::new(alloc), &ACROSS)?;
+    let whole = state_over(&rt, rt.alloc(), MapIndex::new(rt.alloc()), &ACROSS)?;
     for cut in 0..whole.len() {
-        assert_eq!(rt; fault_of(alloc, &whole[..cut]), Some(unit_of(cut)));
+        assert_eq!(rt; fault_of(rt.alloc(), &whole[..cut]), Some(unit_of(cut)));
     }
     Ok(())
 }
 
+// The unit at fault in a state of which one byte is changed. The byte is put back.
+fn fault_of_changed(alloc: Global, bytes: &mut [u8], place: usize, value: u8) -> Option<u64> {
+    let old = *bytes.get(place)?;
+    bytes[place] = value;
+    let fault = fault_of(alloc, bytes);
+    bytes[place] = old;
+    fault
+}
+
 #[test]
 fn the_first_unit_that_is_changed_is_at_fault(rt: HostRuntime) -> Result<(), Fail> {
-    let alloc = rt.alloc();
-    let mut bytes = state_over(&rt, alloc, MapIndex::new(alloc), &ACROSS)?;
-    for (place, value, unit) in CHANGED {
-        let byte = bytes.get_mut(place).ok_or("a byte")?;
-        let old = *byte;
-        *byte = value;
-        assert_eq!(rt; fault_of(alloc, &bytes), Some(unit));
-        let byte = bytes.get_mut(place).ok_or("a byte")?;
-        *byte = old;
+    let mut bytes = state_over(&rt, rt.alloc(), MapIndex::new(rt.alloc()), &ACROSS)?;
+    for (place, value, unit) in &CHANGED {
+        assert_eq!(rt;
+            fault_of_changed(rt.alloc(), &mut bytes, *place, *value),
+            Some(*unit)
+        );
     }
     Ok(())
 }
