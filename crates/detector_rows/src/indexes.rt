@@ -26,23 +26,38 @@ fn set_writes<I: LineIndex>(index: &mut I, line: u64, writes: u64) -> Result<(),
     }
 }
 
-// Lines in two neighbouring pages, and one far away.
-fn finds_written_lines<I: LineIndex>(rt: &impl Abort, index: &mut I) -> Result<(), Fail> {
+const BLANK: LineEntry = LineEntry {
+    writes: 0,
+    track: None,
+    shifted: None,
+    doubled: None,
+};
+
+// From where a search goes, and the written line that it finds.
+const NEXT: [(u64, Option<u64>); 4] = [
+    (0, Some(1)),
+    (2, Some(64)),
+    (66, Some(1 << 26)),
+    ((1 << 26) + 1, None),
+];
+
+// Writes lines in two neighbouring pages, and one far away.
+fn write_lines<I: LineIndex>(index: &mut I) -> Result<(), Fail> {
     set_writes(index, 1, 1)?;
     set_writes(index, 64, 1)?;
     set_writes(index, 65, 1)?;
     set_writes(index, 1 << 26, 1)?;
-    assert_eq!(rt; index.next_from(0), Some(1));
-    assert_eq!(rt; index.next_from(2), Some(64));
-    assert_eq!(rt; index.next_from(66), Some(1 << 26));
-    assert_eq!(rt; index.next_from((1 << 26) + 1), None);
-    let blank = LineEntry {
-        writes: 0,
-        track: None,
-        shifted: None,
-        doubled: None,
-    };
-    assert_eq!(rt; index.peek(63), blank);
+    Ok(())
+}
+
+fn finds_written_lines<I: LineIndex>(rt: &impl Abort, index: &mut I) -> Result<(), Fail> {
+    write_lines(index)?;
+    for row in &NEXT {
+        let (from, next) = *row;
+        assert!(rt; from <= 1 << 30);
+        assert_eq!(rt; index.next_from(from), next, "from {from}");
+    }
+    assert_eq!(rt; index.peek(63), BLANK);
     Ok(())
 }
 

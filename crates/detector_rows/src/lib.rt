@@ -20,6 +20,8 @@ mod standing;
 #[cfg(test)]
 mod states;
 #[cfg(test)]
+mod told;
+#[cfg(test)]
 mod tracks;
 #[cfg(test)]
 mod verdicts;

@@ -130,6 +130,11 @@ fn observed(
     Ok((lines, first))
 }
 
+// A text is found where it is wanted.
+fn shows(rt: &impl Abort, name: &str, what: &str, found: &str, wanted: &str) {
+    assert_eq!(rt; found, wanted, "{what}: {name}");
+}
+
 // What a list is about, the list, the layout and the tracking threshold, and what is found: each
 // line by its base, start, count and verdict, and the words of the first by place, reads, writes
 // and hart.
@@ -259,8 +264,8 @@ fn shows_observed(rt: &impl Abort, alloc: Global, row: &Observed) -> Result<(), 
     let (name, list, size, offset, tracking, lines, words) = *row;
     let layout = Layout::new(size, offset).ok_or("a layout")?;
     let found = observed(rt, alloc, list, layout, tracking)?;
-    assert_eq!(rt; found.0.as_str(), lines, "lines: {name}");
-    assert_eq!(rt; found.1.as_str(), words, "words: {name}");
+    shows(rt, name, "lines", &found.0, lines);
+    shows(rt, name, "words", &found.1, words);
     Ok(())
 }
 
@@ -272,18 +277,31 @@ fn observes_lines(rt: HostRuntime) -> Result<(), Fail> {
     Ok(())
 }
 
+// How many harts came to a line since its last write, and the first of them.
+fn arrived(alloc: Global, line: &CacheLine, text: &str) -> Result<(usize, u16), Fail> {
+    let list = list_of(alloc, text)?;
+    let harts = arrivals_of(alloc, line, &list)?;
+    let first = harts.first().ok_or("a hart")?;
+    Ok((harts.len(), first.number()))
+}
+
+// A list, and how many harts came to the line since its last write, the first of them hart 0.
+const CAME: [(&'static str, usize); 3] = [
+    ("W0:1000 R1:1000 R2:1000", 3),
+    ("W0:1000 R1:1000 R2:1000 W0:1000", 1),
+    ("W0:1000 R1:1000 R2:1000 W0:1000 R0:1000", 1),
+];
+
 #[test]
 fn keeps_who_came_since_the_last_write(rt: HostRuntime) -> Result<(), Fail> {
-    let alloc = rt.alloc();
     let line = CacheLine::at(Layout::new(64, 0).ok_or("a layout")?, 0x1000);
-    for (text, wanted) in [
-        ("W0:1000 R1:1000 R2:1000", 3),
-        ("W0:1000 R1:1000 R2:1000 W0:1000", 1),
-        ("W0:1000 R1:1000 R2:1000 W0:1000 R0:1000", 1),
-    ] {
-        let harts = arrivals_of(alloc, &line, &list_of(alloc, text)?)?;
-        assert_eq!(rt; harts.len(), wanted, "after {text}");
-        assert_eq!(rt; harts.first().ok_or("a hart")?.number(), 0);
+    for row in &CAME {
+        let (text, wanted) = *row;
+        assert_eq!(rt;
+            arrived(rt.alloc(), &line, text)?,
+            (wanted, 0),
+            "after {text}"
+        );
     }
     Ok(())
 }
@@ -349,8 +367,22 @@ fn opens_lines_of_neighbours(rt: HostRuntime) -> Result<(), Fail> {
     Ok(())
 }
 
-// The listed lines of a list under a native layout, where a line is tracked from its first write
-// on and listed from one invalidation on; and the predicted ones, listed or not.
+// The listed lines of a list, and the predicted ones, listed or not.
+fn predicted_in(
+    rt: &impl Abort,
+    alloc: Global,
+    list: &[Access],
+    layout: Layout,
+    thresholds: Thresholds,
+) -> Result<(String, String), Fail> {
+    assert!(rt; may_predict(layout, thresholds) && list.len() <= 1000);
+    let listed = listed_lines(alloc, layout, thresholds, list)?;
+    let all = predicted_lines(alloc, layout, thresholds, list)?;
+    Ok((tracked_texts(alloc, &listed)?, tracked_texts(alloc, &all)?))
+}
+
+// The same under a native layout, where a line is tracked from its first write on and listed from
+// one invalidation on.
 fn predicted(
     rt: &impl Abort,
     alloc: Global,
@@ -360,12 +392,8 @@ fn predicted(
 ) -> Result<(String, String), Fail> {
     let layout = Layout::new(size, 0).ok_or("a layout")?;
     let thresholds = Thresholds::new(1, Some(prediction), 1).ok_or("thresholds")?;
-    assert!(rt; may_predict(layout, thresholds));
     let list = list_of(alloc, text)?;
-    assert!(rt; list.len() <= 1000);
-    let listed = listed_lines(alloc, layout, thresholds, &list)?;
-    let all = predicted_lines(alloc, layout, thresholds, &list)?;
-    Ok((tracked_texts(alloc, &listed)?, tracked_texts(alloc, &all)?))
+    predicted_in(rt, alloc, &list, layout, thresholds)
 }
 
 // What a list is about, the list, the size and the prediction threshold, and the listed and the
@@ -459,8 +487,8 @@ const PREDICTED: [Predicted; 10] = [
 fn shows_predicted(rt: &impl Abort, alloc: Global, row: &Predicted) -> Result<(), Fail> {
     let (name, text, size, prediction, listed, all) = *row;
     let found = predicted(rt, alloc, text, size, prediction)?;
-    assert_eq!(rt; found.0.as_str(), listed, "listed: {name}");
-    assert_eq!(rt; found.1.as_str(), all, "predicted: {name}");
+    shows(rt, name, "listed", &found.0, listed);
+    shows(rt, name, "predicted", &found.1, all);
     Ok(())
 }
 

@@ -1,65 +1,75 @@
 // One search, by hand.
 ghost use Rattle.std.specs.Prelude.{◌≡◌, ◌<◌};
 
+use crate::told::{Told, note_all};
 use hot_pairs::*;
-use predator_base::{Access, Hart, Kind, Range, Steps};
+use predator_base::Kind::{Read, Write};
+use predator_base::{Range, Steps};
 use std::marker::Brand;
 use std::process::Abort;
 use std::sync::ledger::{Blank, Ledger};
 use std::test::Fail;
 use word_shadow::Shadow;
 
+const LOWER: Range = Range {
+    base: 0x1000,
+    size: 32,
+};
+
+const UPPER: Range = Range {
+    base: 0x1020,
+    size: 32,
+};
+
+const WRITES: [Told; 4] = [
+    (0, 0x1000, Write),
+    (0, 0x101c, Write),
+    (0, 0x1000, Write),
+    (0, 0x101c, Write),
+];
+
+const READS: [Told; 4] = [
+    (1, 0x1020, Read),
+    (1, 0x1024, Read),
+    (1, 0x1020, Read),
+    (1, 0x1024, Read),
+];
+
 #[test]
 fn finds_the_best_pair(rt: HostRuntime) -> Result<(), Fail> {
-    let mut lower = Shadow::new(
-        rt.alloc(),
-        Range {
-            base: 0x1000,
-            size: 32,
-        },
-    )?;
-    let mut upper = Shadow::new(
-        rt.alloc(),
-        Range {
-            base: 0x1020,
-            size: 32,
-        },
-    )?;
-    for addr in [0x1000, 0x101c, 0x1000, 0x101c] {
-        note(&rt, &mut lower, 0, addr, Kind::Write)?;
-    }
-    for addr in [0x1020, 0x1024, 0x1020, 0x1024] {
-        note(&rt, &mut upper, 1, addr, Kind::Read)?;
-    }
-    let far = Pair {
-        x: 0x1000,
-        y: 0x1020,
-    };
-    let near = Pair {
-        x: 0x101c,
-        y: 0x1020,
-    };
-    for (within, want) in [(None, Some(far)), (Some(8), Some(near)), (Some(7), None)] {
-        let found = found::<Brand, _>(&rt, Blank::new(1), &lower, &upper, within);
-        assert_eq!(rt; found, want, "within {within:?}");
-    }
+    let mut lower = Shadow::new(rt.alloc(), LOWER)?;
+    let mut upper = Shadow::new(rt.alloc(), UPPER)?;
+    note_all(&rt, &mut lower, &WRITES)?;
+    note_all(&rt, &mut upper, &READS)?;
+    finds_pairs(&rt, &lower, &upper);
     Ok(())
 }
 
-// An access of a word of the shadow.
-fn note(
-    rt: &impl Abort,
-    shadow: &mut Shadow,
-    hart: u16,
-    addr: u32,
-    kind: Kind,
-) -> Result<(), Fail> {
-    let hart = Hart::new(hart).ok_or("a hart")?;
-    let access = Access::new(hart, addr, kind, 4).ok_or("a word")?;
-    assert!(rt; shadow.range().contains(access.addr()));
-    assert!(rt; shadow.total() < 1 << 40);
-    shadow.note(access);
-    Ok(())
+// A greatest distance, and the pair within it.
+const PAIRS: [(Option<u32>, Option<Pair>); 3] = [
+    (
+        None,
+        Some(Pair {
+            x: 0x1000,
+            y: 0x1020,
+        }),
+    ),
+    (
+        Some(8),
+        Some(Pair {
+            x: 0x101c,
+            y: 0x1020,
+        }),
+    ),
+    (Some(7), None),
+];
+
+fn finds_pairs(rt: &impl Abort, lower: &Shadow, upper: &Shadow) {
+    for row in &PAIRS {
+        let (within, want) = *row;
+        let found = found::<Brand, _>(rt, Blank::new(1), lower, upper, within);
+        assert_eq!(rt; found, want, "within {within:?}");
+    }
 }
 
 // The best pair of the lines at 0x1000 and 0x1020.

@@ -2,17 +2,16 @@
 ghost use Rattle.std.specs.Prelude.{◌≡◌};
 ghost use Rattle.line_counters.specs.Entries.{no_entries};
 
+use crate::told::{Told, access_of};
 use detector::{Detector, LineIndex, MapIndex, PagedIndex, see};
 use predator_base::Kind::{Read, Write};
-use predator_base::{Access, Hart, Kind, Layout, Thresholds};
+use predator_base::{Kind, Layout, Thresholds};
+use sharing_oracle::may_predict;
 use std::alloc::Global;
 use std::process::Abort;
 use std::test::Fail;
 use virtual_lines::LineKind::{Doubled, Observed, Shifted};
 use virtual_lines::{LineKind, Track};
-
-// An access of 4 bytes, told by its hart, its address and its kind.
-type Told = (u16, u32, Kind);
 
 // A track, told by its kind, its base, its size, its start and its count.
 type Shown = (LineKind, i64, u32, Option<u64>, u64);
@@ -24,11 +23,6 @@ struct Row {
     prediction: u64,
     told: &'static [Told],
     shown: &'static [Shown],
-}
-
-fn access_of(told: &Told) -> Option<Access> {
-    let (hart, addr, kind) = *told;
-    Access::new(Hart::new(hart)?, addr, kind, 4)
 }
 
 fn is_shown(track: &Track, shown: &Shown) -> bool {
@@ -55,31 +49,49 @@ fn see_all<I: LineIndex>(
     Ok(())
 }
 
-// The tracks of a row are there, in order.
-fn shows_tracks<I: LineIndex>(rt: &impl Abort, detector: &Detector<I>, row: &Row) {
-    let tracks = detector.tracks();
-    assert_eq!(rt; tracks.len(), row.shown.len(), "{}", row.name);
-    for (track, shown) in tracks.iter().zip(row.shown) {
-        assert!(rt; is_shown(track, shown), "{}", row.name);
+// Whether these are the tracks that are told, in order.
+fn are_shown(tracks: &[Track], shown: &[Shown]) -> bool {
+    for (track, one) in tracks.iter().zip(shown) {
+        if !is_shown(track, one) {
+            return false;
+        }
     }
+    tracks.len() == shown.len()
 }
 
 // After the accesses of a row its tracks are there.
+fn shows_tracks<I: LineIndex>(
+    rt: &impl Abort,
+    detector: &mut Detector<I>,
+    row: &Row,
+) -> Result<(), Fail> {
+    see_all(rt, detector, row.told)?;
+    assert!(rt; are_shown(detector.tracks(), row.shown), "{}", row.name);
+    Ok(())
+}
+
+// The same over an index without entries.
 fn shows_over<I: LineIndex + Drop>(
     rt: &impl Abort,
     alloc: Global,
     index: I,
+    layout: Layout,
+    thresholds: Thresholds,
     row: &Row,
 ) -> Result<(), Fail>
     requires { I.entries index ≡ no_entries }
 {
+    assert!(rt; may_predict(layout, thresholds));
+    let mut detector = Detector::new(alloc, index, layout, thresholds);
+    shows_tracks(rt, &mut detector, row)
+}
+
+// The same over both indexes.
+fn shows_row(rt: &impl Abort, alloc: Global, row: &Row) -> Result<(), Fail> {
     let layout = Layout::new(row.size, 0).ok_or("a layout")?;
     let thresholds = Thresholds::new(1, Some(row.prediction), 1).ok_or("thresholds")?;
-    assert!(rt; row.size == 32 || row.size == 64 || row.size == 256);
-    let mut detector = Detector::new(alloc, index, layout, thresholds);
-    see_all(rt, &mut detector, row.told)?;
-    shows_tracks(rt, &detector, row);
-    Ok(())
+    shows_over(rt, alloc, MapIndex::new(alloc), layout, thresholds, row)?;
+    shows_over(rt, alloc, PagedIndex::new(alloc), layout, thresholds, row)
 }
 
 const ACROSS: [Told; 6] = [
@@ -220,10 +232,8 @@ const ROWS: [Row; 9] = [
 
 #[test]
 fn lists_have_their_tracks(rt: HostRuntime) -> Result<(), Fail> {
-    let alloc = rt.alloc();
     for row in &ROWS {
-        shows_over(&rt, alloc, MapIndex::new(alloc), row)?;
-        shows_over(&rt, alloc, PagedIndex::new(alloc), row)?;
+        shows_row(&rt, rt.alloc(), row)?;
     }
     Ok(())
 }
@@ -255,20 +265,28 @@ fn then(
     Ok(first_track(detector))
 }
 
-#[test]
-fn two_entries_are_kept_since_the_last_write(rt: HostRuntime) -> Result<(), Fail> {
-    let alloc = rt.alloc();
-    let layout = Layout::new(64, 0).ok_or("a layout")?;
-    let thresholds = Thresholds::new(1, None, 1).ok_or("thresholds")?;
-    let mut detector = Detector::new(alloc, PagedIndex::new(alloc), layout, thresholds);
-    for (hart, kind, wanted) in [
-        (0, Write, (0, None, 0, 0)),
-        (1, Read, (0, Some(1), 0, 1)),
-        (2, Read, (0, Some(1), 0, 2)),
-        (0, Write, (0, None, 1, 2)),
-        (0, Read, (0, None, 1, 3)),
-    ] {
-        assert_eq!(rt; then(&rt, &mut detector, hart, kind)?, Some(wanted));
+// Each access of the word, and what the track is then.
+const ENTRIES: [(u16, Kind, (u16, Option<u16>, u64, u64)); 5] = [
+    (0, Write, (0, None, 0, 0)),
+    (1, Read, (0, Some(1), 0, 1)),
+    (2, Read, (0, Some(1), 0, 2)),
+    (0, Write, (0, None, 1, 2)),
+    (0, Read, (0, None, 1, 3)),
+];
+
+fn keeps_two_entries(rt: &impl Abort, detector: &mut Detector<PagedIndex>) -> Result<(), Fail> {
+    for row in &ENTRIES {
+        let (hart, kind, wanted) = *row;
+        assert_eq!(rt; then(rt, detector, hart, kind)?, Some(wanted));
     }
     Ok(())
+}
+
+#[test]
+fn two_entries_are_kept_since_the_last_write(rt: HostRuntime) -> Result<(), Fail> {
+    let layout = Layout::new(64, 0).ok_or("a layout")?;
+    let thresholds = Thresholds::new(1, None, 1).ok_or("thresholds")?;
+    let index = PagedIndex::new(rt.alloc());
+    let mut detector = Detector::new(rt.alloc(), index, layout, thresholds);
+    keeps_two_entries(&rt, &mut detector)
 }

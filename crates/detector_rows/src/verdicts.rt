@@ -1,9 +1,33 @@
 // The verdict after each access.
-use predator_base::{Access, Hart, Kind, Range};
+use crate::told::{Told, note_all};
+use predator_base::{Kind, Range};
 use sharing_classifier::verdict;
 use sharing_rules::Verdict;
+use std::process::Abort;
 use std::test::Fail;
 use word_shadow::Shadow;
+
+// A further access, and the verdict then.
+fn then(rt: &impl Abort, shadow: &mut Shadow, told: Told) -> Result<Verdict, Fail> {
+    note_all(rt, shadow, &[told])?;
+    Ok(verdict(shadow))
+}
+
+// Each access, and the verdict after it.
+const ROWS: [(Told, Verdict); 4] = [
+    ((0, 0x1000, Kind::Write), Verdict::FalseSharing),
+    ((1, 0x1004, Kind::Write), Verdict::FalseSharing),
+    ((1, 0x1000, Kind::Read), Verdict::Mixed),
+    ((0, 0x1004, Kind::Read), Verdict::TrueSharing),
+];
+
+fn judges_rows(rt: &impl Abort, shadow: &mut Shadow) -> Result<(), Fail> {
+    for row in &ROWS {
+        let (told, want) = *row;
+        assert_eq!(rt; then(rt, shadow, told)?, want, "after {told:?}");
+    }
+    Ok(())
+}
 
 #[test]
 fn judges_each_access_more(rt: HostRuntime) -> Result<(), Fail> {
@@ -12,18 +36,5 @@ fn judges_each_access_more(rt: HostRuntime) -> Result<(), Fail> {
         size: 32,
     };
     let mut shadow = Shadow::new(rt.alloc(), range)?;
-    for (number, addr, kind, want) in [
-        (0, 0x1000, Kind::Write, Verdict::FalseSharing),
-        (1, 0x1004, Kind::Write, Verdict::FalseSharing),
-        (1, 0x1000, Kind::Read, Verdict::Mixed),
-        (0, 0x1004, Kind::Read, Verdict::TrueSharing),
-    ] {
-        let hart = Hart::new(number).ok_or("a hart")?;
-        let access = Access::new(hart, addr, kind, 4).ok_or("a word")?;
-        assert!(rt; shadow.range().contains(access.addr()));
-        assert!(rt; shadow.total() < 1 << 40);
-        shadow.note(access);
-        assert_eq!(rt; verdict(&shadow), want, "after {access:?}");
-    }
-    Ok(())
+    judges_rows(&rt, &mut shadow)
 }

@@ -13,13 +13,9 @@ use word_shadow::Shadow;
 // An access of 4 bytes: its hart, its address and its kind.
 type Told = (u16, u32, Kind);
 
-fn access_of(told: &Told) -> Result<Access, Fail> {
-    let hart = Hart::new(told.0).ok_or("a hart")?;
-    Ok(Access::new(hart, told.1, told.2, 4).ok_or("a word")?)
-}
-
 fn note(rt: &impl Abort, shadow: &mut Shadow, told: &Told) -> Result<(), Fail> {
-    let access = access_of(told)?;
+    let hart = Hart::new(told.0).ok_or("a hart")?;
+    let access = Access::new(hart, told.1, told.2, 4).ok_or("a word")?;
     assert!(rt; shadow.range().contains(access.addr()));
     assert!(rt; shadow.total() < 1 << 40);
     shadow.note(access);
@@ -50,21 +46,6 @@ fn add(rt: &impl Abort, alloc: Global, tracks: &mut Tracks, row: &Row) -> Result
     assert!(rt; tracks.all().len() < 1 << 31);
     let start = Some((row.start, History::one(hart)));
     tracks.add_saved(row.kind, shadow, start, row.count)?;
-    Ok(())
-}
-
-fn tracks_of(rt: &impl Abort, alloc: Global, rows: &[Row]) -> Result<Tracks, Fail> {
-    let mut tracks = Tracks::new(alloc);
-    for row in rows {
-        add(rt, alloc, &mut tracks, row)?;
-    }
-    Ok(tracks)
-}
-
-// Adds a track that has no start.
-fn add_waiting(rt: &impl Abort, tracks: &mut Tracks) -> Result<(), Fail> {
-    assert!(rt; tracks.all().len() < 1 << 31);
-    tracks.add(LineKind::Observed, Range { base: 0, size: 64 })?;
     Ok(())
 }
 
@@ -101,12 +82,16 @@ struct Case {
     text: &'static str,
 }
 
-fn tracks_in(rt: &impl Abort, alloc: Global, case: &Case) -> Result<Tracks, Fail> {
-    let mut tracks = tracks_of(rt, alloc, case.rows)?;
-    if case.waits {
-        add_waiting(rt, &mut tracks)?;
+// Adds the tracks of a case.
+fn add_all(rt: &impl Abort, alloc: Global, tracks: &mut Tracks, case: &Case) -> Result<(), Fail> {
+    for row in case.rows {
+        add(rt, alloc, tracks, row)?;
     }
-    Ok(tracks)
+    if case.waits {
+        assert!(rt; tracks.all().len() < 1 << 31);
+        tracks.add(LineKind::Observed, Range { base: 0, size: 64 })?;
+    }
+    Ok(())
 }
 
 // Whether a case with these objects has its report.
@@ -117,7 +102,8 @@ fn shows(
     case: &Case,
     objects: &ObjectTable,
 ) -> Result<bool, Fail> {
-    let tracks = tracks_in(rt, alloc, case)?;
+    let mut tracks = Tracks::new(alloc);
+    add_all(rt, alloc, &mut tracks, case)?;
     is_reported(
         alloc,
         outcome,
@@ -280,15 +266,10 @@ const ONE_LINE: Case = Case {
     text: WITH_OBJECTS,
 };
 
-// Whether a line is shown with what stands on it.
-fn shows_objects(rt: &impl Abort, alloc: Global) -> Result<bool, Fail> {
-    let mut objects = ObjectTable::new(alloc);
-    note_all(&mut objects)?;
-    shows(rt, alloc, Outcome::Part, &ONE_LINE, &objects)
-}
-
 #[test]
 fn tells_what_stands_on_a_line(rt: HostRuntime) -> Result<(), Fail> {
-    assert!(rt; shows_objects(&rt, rt.alloc())?);
+    let mut objects = ObjectTable::new(rt.alloc());
+    note_all(&mut objects)?;
+    assert!(rt; shows(&rt, rt.alloc(), Outcome::Part, &ONE_LINE, &objects)?);
     Ok(())
 }

@@ -16,15 +16,9 @@ fn text_of_length(alloc: Global, length: usize) -> Result<Vec<u8>, AllocError>
 // A symbol by its kind, its address, its size and its name.
 type Told = (SymbolKind, u32, u32, &'static [u8]);
 
-fn note_symbol(table: &mut ObjectTable, told: &Told) -> Result<(), Fail> {
-    let (kind, addr, size, name) = *told;
-    table.note_symbol(kind, addr, size, name)?;
-    Ok(())
-}
-
 fn note_symbols(table: &mut ObjectTable, all: &[Told]) -> Result<(), Fail> {
-    for told in all {
-        note_symbol(table, told)?;
+    for (kind, addr, size, name) in all {
+        table.note_symbol(*kind, *addr, *size, name)?;
     }
     Ok(())
 }
@@ -44,19 +38,20 @@ fn is_symbol(table: &ObjectTable, i: usize, size: u32, name: &[u8]) -> bool {
     }
 }
 
-fn notes_each_place_once(rt: &impl Abort, table: &mut ObjectTable) -> Result<(), Fail> {
-    note_symbols(table, &OF_ONE_ADDRESS)?;
-    assert!(rt; table.symbol_count() == 3);
-    assert!(rt; is_symbol(table, 0, 32, b"counters"));
-    assert!(rt; is_symbol(table, 2, 64, b""));
-    assert!(rt; table.symbol(3).is_none());
-    Ok(())
+// Three symbols, of which the first and the last are these.
+fn has_each_once(table: &ObjectTable) -> bool {
+    table.symbol_count() == 3
+        && is_symbol(table, 0, 32, b"counters")
+        && is_symbol(table, 2, 64, b"")
+        && table.symbol(3).is_none()
 }
 
 #[test]
 fn each_place_is_noted_once(rt: HostRuntime) -> Result<(), Fail> {
     let mut table = ObjectTable::new(rt.alloc());
-    notes_each_place_once(&rt, &mut table)
+    note_symbols(&mut table, &OF_ONE_ADDRESS)?;
+    assert!(rt; has_each_once(&table));
+    Ok(())
 }
 
 // How much is kept of a name of some length.
@@ -74,70 +69,72 @@ fn a_long_name_is_cut(rt: HostRuntime) -> Result<(), Fail> {
     Ok(())
 }
 
-// Blocks of some sizes, each with the place that it gets.
-fn makes(rt: &impl Abort, heap: &mut GuestHeap, all: &[(u32, Option<u32>)]) -> Result<(), Fail> {
-    for (size, place) in all {
-        assert_eq!(rt; heap.alloc(*size)?, *place, "{size} bytes");
+// What a guest asks of its heap, with the answer: a block of some size, or to take one back.
+enum Asked {
+    Make(u32, Option<u32>),
+    Free(u32, Result<(), NotLive>),
+}
+
+use Asked::{Free, Make};
+
+// Whether a heap gives the answer.
+fn is_answered(heap: &mut GuestHeap, asked: &Asked) -> Result<bool, Fail> {
+    match asked {
+        Make(size, place) => Ok(heap.alloc(*size)? == *place),
+        Free(addr, answer) => Ok(heap.free(*addr) == *answer),
+    }
+}
+
+// Number `i` of what is asked of a heap, one after the other.
+fn all_are_answered(rt: &impl Abort, heap: &mut GuestHeap, all: &[Asked]) -> Result<(), Fail> {
+    for (i, asked) in all.iter().enumerate() {
+        assert!(rt; is_answered(heap, asked)?, "number {i}");
     }
     Ok(())
 }
 
-// Addresses that are given back, each with the answer.
-fn frees(rt: &impl Abort, heap: &mut GuestHeap, all: &[(u32, Result<(), NotLive>)]) {
-    for (addr, answer) in all {
-        assert_eq!(rt; heap.free(*addr), *answer, "at {addr}");
-    }
-}
-
-const MADE: [(u32, Option<u32>); 2] = [(24, Some(0x20000)), (1, Some(0x20020))];
-
-const MADE_LATER: [(u32, Option<u32>); 3] = [(40, Some(0x20030)), (16, Some(0x20000)), (17, None)];
+const LEAST_PLACES: [Asked; 7] = [
+    Make(24, Some(0x20000)),
+    Make(1, Some(0x20020)),
+    Free(0x20000, Ok(())),
+    Make(40, Some(0x20030)),
+    Make(16, Some(0x20000)),
+    Make(17, None),
+    Free(0x20010, Err(NotLive)),
+];
 
 #[test]
 fn each_block_takes_the_least_place(rt: HostRuntime) -> Result<(), Fail> {
     let mut heap = GuestHeap::new(rt.alloc(), 0x20000, 0x20060);
-    makes(&rt, &mut heap, &MADE)?;
-    frees(&rt, &mut heap, &[(0x20000, Ok(()))]);
-    makes(&rt, &mut heap, &MADE_LATER)?;
-    frees(&rt, &mut heap, &[(0x20010, Err(NotLive))]);
-    Ok(())
+    all_are_answered(&rt, &mut heap, &LEAST_PLACES)
 }
 
-// more than the heap has; no bytes take 16
-const ODD_SIZES: [(u32, Option<u32>); 3] = [
-    (u32::MAX, None),
-    (0, Some(0x20000)),
-    (0, Some(0x20010)),
-];
-// inside a block; a block; freed before
-const ODD_FREES: [(u32, Result<(), NotLive>); 3] = [
-    (0x20004, Err(NotLive)),
-    (0x20000, Ok(())),
-    (0x20000, Err(NotLive)),
+const ODD: [Asked; 6] = [
+    // more than the heap has; no bytes take 16
+    Make(u32::MAX, None),
+    Make(0, Some(0x20000)),
+    Make(0, Some(0x20010)),
+    // inside a block; a block; freed before
+    Free(0x20004, Err(NotLive)),
+    Free(0x20000, Ok(())),
+    Free(0x20000, Err(NotLive)),
 ];
 
 #[test]
 fn odd_sizes_and_frees_are_answered(rt: HostRuntime) -> Result<(), Fail> {
     let mut heap = GuestHeap::new(rt.alloc(), 0x20000, 0x20060);
-    makes(&rt, &mut heap, &ODD_SIZES)?;
-    frees(&rt, &mut heap, &ODD_FREES);
-    Ok(())
+    all_are_answered(&rt, &mut heap, &ODD)
 }
 
 #[test]
 fn no_block_is_made_without_room(rt: HostRuntime) -> Result<(), Fail> {
     let mut heap = GuestHeap::new(rt.alloc(), 0x20000, 0x20000);
-    makes(&rt, &mut heap, &[(0, None)])
-}
-
-fn note_block(table: &mut ObjectTable, position: u64, size: u32) -> Result<(), Fail> {
-    table.note_alloc(position, 0x2000, size, [0x100b0, 0, 0, 0])?;
-    Ok(())
+    all_are_answered(&rt, &mut heap, &[Make(0, None)])
 }
 
 fn note_blocks(table: &mut ObjectTable, all: &[(u64, u32)]) -> Result<(), Fail> {
     for (position, size) in all {
-        note_block(table, *position, *size)?;
+        table.note_alloc(*position, 0x2000, *size, [0x100b0, 0, 0, 0])?;
     }
     Ok(())
 }
@@ -160,19 +157,22 @@ fn note_lives(table: &mut ObjectTable) -> Result<(), Fail> {
     note_blocks(table, &[(4, 0), (7, u32::MAX)])
 }
 
-fn tells_of_lives(rt: &impl Abort, table: &mut ObjectTable) -> Result<(), Fail> {
-    note_lives(table)?;
-    assert_eq!(rt; table.blocks().len(), LIVES.len());
-    for (block, wanted) in table.blocks().iter().zip(&LIVES) {
-        assert_eq!(rt; life(block), *wanted);
-    }
-    Ok(())
+// Whether the blocks of a table have these lives.
+fn has_lives(table: &ObjectTable) -> bool {
+    let blocks = table.blocks();
+    blocks.len() == LIVES.len()
+        && blocks
+            .iter()
+            .zip(&LIVES)
+            .all(|(block, wanted)| life(block) == *wanted)
 }
 
 #[test]
 fn blocks_live_and_die(rt: HostRuntime) -> Result<(), Fail> {
     let mut table = ObjectTable::new(rt.alloc());
-    tells_of_lives(&rt, &mut table)
+    note_lives(&mut table)?;
+    assert!(rt; has_lives(&table));
+    Ok(())
 }
 
 const NAMED: [Told; 4] = [
@@ -197,17 +197,13 @@ fn is_function(table: &ObjectTable, pc: u32, name: &[u8]) -> bool {
     }
 }
 
-fn names_the_first_function(rt: &impl Abort, table: &mut ObjectTable) -> Result<(), Fail> {
-    note_symbols(table, &NAMED)?;
-    for (pc, name) in &NAMES {
-        assert!(rt; is_function(table, *pc, name), "at {pc:x}");
-    }
-    assert!(rt; table.function_at(0xffff).is_none());
-    Ok(())
-}
-
 #[test]
 fn the_first_function_is_named(rt: HostRuntime) -> Result<(), Fail> {
     let mut table = ObjectTable::new(rt.alloc());
-    names_the_first_function(&rt, &mut table)
+    note_symbols(&mut table, &NAMED)?;
+    for (pc, name) in &NAMES {
+        assert!(rt; is_function(&table, *pc, name), "at {pc:x}");
+    }
+    assert!(rt; table.function_at(0xffff).is_none());
+    Ok(())
 }

@@ -92,39 +92,51 @@ fn a_line_has_one_of_four_sizes(rt: HostRuntime) {
     }
 }
 
-const REFUSED: [(&str, SettingsFault); 18] = [
-    ("harts =", SettingsFault::BadToml),
-    ("harts = 8\nharts = 8", SettingsFault::BadToml),
-    ("report = 9223372036854775808", SettingsFault::BadToml),
-    ("line = 96", SettingsFault::OutOfRange(Key::Line)),
-    ("line = 0", SettingsFault::OutOfRange(Key::Line)),
-    ("line = 512", SettingsFault::OutOfRange(Key::Line)),
-    ("line = \"64\"", SettingsFault::OutOfRange(Key::Line)),
-    ("line = 64.0", SettingsFault::OutOfRange(Key::Line)),
-    ("line = -64", SettingsFault::OutOfRange(Key::Line)),
-    ("harts = 300", SettingsFault::OutOfRange(Key::Harts)),
-    ("prediction = 8", SettingsFault::OutOfRange(Key::Prediction)),
-    ("memory = 65537", SettingsFault::OutOfRange(Key::Memory)),
-    ("stack = \"65536\"", SettingsFault::OutOfRange(Key::Stack)),
-    ("tracking = 16.0", SettingsFault::OutOfRange(Key::Tracking)),
-    ("report = -1", SettingsFault::OutOfRange(Key::Report)),
-    ("quantum = 1048577", SettingsFault::OutOfRange(Key::Quantum)),
-    (
-        "budget = [1]\nharts = 0",
-        SettingsFault::OutOfRange(Key::Harts),
-    ),
-    (
-        "line = 48\nbudget = 0",
-        SettingsFault::OutOfRange(Key::Budget),
-    ),
+const NO_TOML: [&[u8]; 4] = [
+    b"harts =",
+    b"harts = 8\nharts = 8",
+    b"report = 9223372036854775808",
+    b"# \xff",
 ];
 
 #[test]
-fn a_file_is_refused_with_its_first_fault(rt: HostRuntime) {
-    for (text, fault) in &REFUSED {
-        assert!(rt; is_refused(rt.alloc(), text.as_bytes(), fault), "at {text}");
+fn what_is_no_toml_is_refused(rt: HostRuntime) {
+    for text in &NO_TOML {
+        assert!(rt; is_refused(rt.alloc(), text, &SettingsFault::BadToml));
     }
-    assert!(rt; is_refused(rt.alloc(), b"# \xff", &SettingsFault::BadToml));
+}
+
+// Whether a text is refused for the value of this key.
+fn is_out_of_range(alloc: Global, text: &str, key: Key) -> bool {
+    match Settings::read(alloc, text.as_bytes()) {
+        Err(SettingsFault::OutOfRange(found)) => found == key,
+        _ => false,
+    }
+}
+
+const OUT_OF_RANGE: [(&str, Key); 15] = [
+    ("line = 96", Key::Line),
+    ("line = 0", Key::Line),
+    ("line = 512", Key::Line),
+    ("line = \"64\"", Key::Line),
+    ("line = 64.0", Key::Line),
+    ("line = -64", Key::Line),
+    ("harts = 300", Key::Harts),
+    ("prediction = 8", Key::Prediction),
+    ("memory = 65537", Key::Memory),
+    ("stack = \"65536\"", Key::Stack),
+    ("tracking = 16.0", Key::Tracking),
+    ("report = -1", Key::Report),
+    ("quantum = 1048577", Key::Quantum),
+    ("budget = [1]\nharts = 0", Key::Harts),
+    ("line = 48\nbudget = 0", Key::Budget),
+];
+
+#[test]
+fn the_first_key_out_of_range_is_named(rt: HostRuntime) {
+    for (text, key) in &OUT_OF_RANGE {
+        assert!(rt; is_out_of_range(rt.alloc(), text, *key), "at {text}");
+    }
 }
 
 // Whether a text is refused for a key of this name.

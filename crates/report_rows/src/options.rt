@@ -19,18 +19,25 @@ fn words_of(alloc: Global, line: &str) -> Result<Vec<String>, AllocError> {
     Ok(words)
 }
 
-// Whether the words of a line get an answer.
-fn is_answered(alloc: Global, line: &str, answer: &Answer<'_>) -> Result<bool, AllocError> {
-    let words = words_of(alloc, line)?;
-    Ok(read_words(alloc, words.as_slice()) == *answer)
+fn is_answer(alloc: Global, words: &[String], answer: &Answer<'_>) -> bool {
+    read_words(alloc, words) == *answer
 }
 
+// The words of a line get an answer.
 fn answers(rt: &impl Abort, alloc: Global, line: &str, answer: &Answer<'_>) -> Result<(), Fail> {
-    assert!(rt; is_answered(alloc, line, answer)?, "{line}");
+    let words = words_of(alloc, line)?;
+    assert!(rt; is_answer(alloc, words.as_slice(), answer), "{line}");
     Ok(())
 }
 
-const ASKED: [(&str, Answer<'static>); 11] = [
+fn all_answer(rt: &impl Abort, alloc: Global, rows: &[(&str, Answer<'_>)]) -> Result<(), Fail> {
+    for (line, answer) in rows {
+        answers(rt, alloc, line, answer)?;
+    }
+    Ok(())
+}
+
+const REPLAYS: [(&str, Answer<'static>); 4] = [
     (
         "replay a",
         Ok(Demand::Replay(ReplayOptions {
@@ -71,13 +78,14 @@ const ASKED: [(&str, Answer<'static>); 11] = [
             resume: Some("a"),
         })),
     ),
-    (
-        "check --settings s p",
-        Ok(Demand::Check(CheckOptions {
-            program: "p",
-            settings: Some("s"),
-        })),
-    ),
+];
+
+#[test]
+fn reads_replays(rt: HostRuntime) -> Result<(), Fail> {
+    all_answer(&rt, rt.alloc(), &REPLAYS)
+}
+
+const RUNS: [(&str, Answer<'static>); 3] = [
     (
         "run p",
         Ok(Demand::Run(RunOptions {
@@ -109,6 +117,21 @@ const ASKED: [(&str, Answer<'static>); 11] = [
             output: None,
         })),
     ),
+];
+
+#[test]
+fn reads_runs(rt: HostRuntime) -> Result<(), Fail> {
+    all_answer(&rt, rt.alloc(), &RUNS)
+}
+
+const OTHERS: [(&str, Answer<'static>); 4] = [
+    (
+        "check --settings s p",
+        Ok(Demand::Check(CheckOptions {
+            program: "p",
+            settings: Some("s"),
+        })),
+    ),
     (
         "gen 1000000000 -",
         Ok(Demand::Gen(GenOptions {
@@ -135,12 +158,8 @@ const ASKED: [(&str, Answer<'static>); 11] = [
 ];
 
 #[test]
-fn reads_each_command(rt: HostRuntime) -> Result<(), Fail> {
-    let alloc = rt.alloc();
-    for (line, answer) in &ASKED {
-        answers(&rt, alloc, line, answer)?;
-    }
-    Ok(())
+fn reads_other_commands(rt: HostRuntime) -> Result<(), Fail> {
+    all_answer(&rt, rt.alloc(), &OTHERS)
 }
 
 // Lines that ask to replay `t`, each with the settings, and the size and offset of the layout.

@@ -11,14 +11,19 @@ fn is_printed(alloc: Global, name: &[u8], text: &str) -> Result<bool, AllocError
     Ok(printed_name(alloc, name)?.as_str() == text)
 }
 
+const ADDRESSES: [(i64, &str); 5] = [
+    (0, "0x00000000"),
+    (0x1020, "0x00001020"),
+    (0xffff_ffc0, "0xffffffc0"),
+    (0x1_0000_0000, "0x100000000"),
+    (-0x20, "-0x00000020"),
+];
+
 #[test]
 fn writes_addresses(rt: HostRuntime) -> Result<(), Fail> {
-    let alloc = rt.alloc();
-    assert!(rt; is_written(alloc, 0, "0x00000000")?);
-    assert!(rt; is_written(alloc, 0x1020, "0x00001020")?);
-    assert!(rt; is_written(alloc, 0xffff_ffc0, "0xffffffc0")?);
-    assert!(rt; is_written(alloc, 0x1_0000_0000, "0x100000000")?);
-    assert!(rt; is_written(alloc, -0x20, "-0x00000020")?);
+    for (at, text) in &ADDRESSES {
+        assert!(rt; is_written(rt.alloc(), *at, text)?, "{text}");
+    }
     Ok(())
 }
 

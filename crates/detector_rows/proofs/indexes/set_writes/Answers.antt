@@ -1,5 +1,5 @@
 -- What the trait says of a lent entry: it is the line's own, and the other lines keep theirs.
-use Rattle.std.proofs.Common.{◌≡◌, ℕ, eqb, false, refl, ap, ◌∙◌}
+use Rattle.std.proofs.Common.{ℕ, eqb, refl, ap, ◌∙◌}
 use Rattle.std.proofs.lemmas.Bool.{eq-eqb, eqb-true, false_from_ne_true}
 use Rattle.std.specs.Prelude.{if◌then◌else◌, is_ok}
 use Rattle.line_counters.specs.Entries.{entry_at}
