@@ -2,24 +2,24 @@
 
 use callsites::CallList;
 use rv32_decode::{Instr, Reg};
+use std::process::Abort;
 use std::test::Fail;
 
-// JAL with a register, or JALR where there is a second one.
-fn link(rd: u8, rs1: Option<u8>) -> Option<Instr> {
-    let rd = Reg::new(rd)?;
-    match rs1 {
-        None => Some(Instr::Jal { rd, offset: 8 }),
-        Some(rs1) => Some(Instr::Jalr {
-            rd,
-            rs1: Reg::new(rs1)?,
-            offset: 0,
-        }),
-    }
+fn reg(rt: &impl Abort, number: u8) -> Reg {
+    Reg::new(number).expect(rt, "a register")
 }
 
-fn note(calls: &mut CallList, rd: u8, rs1: Option<u8>, pc: u32) -> Result<(), Fail> {
-    calls.note(link(rd, rs1).ok_or("a register")?, pc);
-    Ok(())
+// JAL with a register, or JALR where there is a second one.
+fn link(rt: &impl Abort, rd: u8, rs1: Option<u8>) -> Instr {
+    let rd = reg(rt, rd);
+    match rs1 {
+        None => Instr::Jal { rd, offset: 8 },
+        Some(rs1) => Instr::Jalr {
+            rd,
+            rs1: reg(rt, rs1),
+            offset: 0,
+        },
+    }
 }
 
 // The registers of jumps, each with its place and the last four calls after it.
@@ -33,45 +33,46 @@ const JUMPS: [(u8, Option<u8>, u32, [u32; 4]); 7] = [
     (0, Some(5), 0x11c, [0x110, 0x104, 0, 0]), // a return
 ];
 
-#[test]
-fn notes_calls_and_returns(rt: HostRuntime) -> Result<(), Fail> {
-    let mut calls = CallList::new(rt.alloc())?;
+// Notes all jumps, and behind each what is no jump, which changes nothing.
+fn note_jumps(rt: &impl Abort, calls: &mut CallList) {
     for (rd, rs1, pc, four) in &JUMPS {
-        note(&mut calls, *rd, *rs1, *pc)?;
+        calls.note(link(rt, *rd, *rs1), *pc);
         assert!(rt; calls.last_four() == *four);
-        // what is no jump changes nothing
         calls.note(Instr::Ecall, *pc);
         assert!(rt; calls.last_four() == *four);
     }
-    calls.clear();
-    assert!(rt; calls.last_four() == [0, 0, 0, 0]);
-    Ok(())
 }
 
 // Notes so many calls, one behind the other.
-fn note_calls(calls: &mut CallList, count: u16) -> Result<(), Fail> {
+fn note_calls(rt: &impl Abort, calls: &mut CallList, count: u16) {
     for i in 0..count {
-        note(calls, 1, None, 4 * u32::from(i))?;
+        calls.note(link(rt, 1, None), 4 * u32::from(i));
     }
-    Ok(())
 }
 
 // Notes so many returns.
-fn note_returns(calls: &mut CallList, count: u16) -> Result<(), Fail> {
+fn note_returns(rt: &impl Abort, calls: &mut CallList, count: u16) {
     for _i in 0..count {
-        note(calls, 0, Some(1), 0)?;
+        calls.note(link(rt, 0, Some(1)), 0);
     }
-    Ok(())
+}
+
+// Forgets all calls, notes 300, of which the last 256 are kept, and returns from these.
+fn note_more_than_are_kept(rt: &impl Abort, calls: &mut CallList) {
+    calls.clear();
+    assert!(rt; calls.last_four() == [0, 0, 0, 0]);
+    note_calls(rt, calls, 300);
+    assert!(rt; calls.last_four() == [1196, 1192, 1188, 1184]);
+    note_returns(rt, calls, 255);
+    assert!(rt; calls.last_four() == [176, 0, 0, 0]);
+    note_returns(rt, calls, 1);
+    assert!(rt; calls.last_four() == [0, 0, 0, 0]);
 }
 
 #[test]
-fn keeps_256_calls(rt: HostRuntime) -> Result<(), Fail> {
+fn notes_calls_and_returns(rt: HostRuntime) -> Result<(), Fail> {
     let mut calls = CallList::new(rt.alloc())?;
-    note_calls(&mut calls, 300)?;
-    assert!(rt; calls.last_four() == [1196, 1192, 1188, 1184]);
-    note_returns(&mut calls, 255)?;
-    assert!(rt; calls.last_four() == [176, 0, 0, 0]);
-    note_returns(&mut calls, 1)?;
-    assert!(rt; calls.last_four() == [0, 0, 0, 0]);
+    note_jumps(&rt, &mut calls);
+    note_more_than_are_kept(&rt, &mut calls);
     Ok(())
 }

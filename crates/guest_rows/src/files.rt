@@ -1,7 +1,8 @@
 // One good file, some words of it changed, and the file cut at every length.
 
-use elf_loader::{ElfFault, ElfView, Image, PlaceFault, Space, place};
+use elf_loader::{ElfFault, ElfView, Image, PlaceFault, Segment, Space, SymbolView, place};
 use std::alloc::{AllocError, Global};
+use std::process::Abort;
 use std::test::Fail;
 
 // A file of three instructions, with a symbol table after them: nothing, the function `run`, and a
@@ -96,52 +97,64 @@ fn with_sections_first(alloc: Global) -> Result<Vec<u8>, AllocError> {
     Ok(file)
 }
 
-// The fault of a file with some words of it changed.
-fn fault_of(alloc: Global, changes: &[(usize, u32)]) -> Result<Option<ElfFault>, Fail> {
+// The first fault of a file, or of its symbols.
+fn fault_in(file: &[u8]) -> Option<ElfFault> {
+    match ElfView::read(file) {
+        Ok(view) => view.symbols().err(),
+        Err(fault) => Some(fault),
+    }
+}
+
+// The same of a file with some words of it changed.
+fn fault_of(alloc: Global, changes: &[(usize, u32)]) -> Result<Option<ElfFault>, AllocError> {
     let file = changed(alloc, changes)?;
-    Ok(ElfView::read(&file).err())
+    Ok(fault_in(&file))
 }
 
-// The fault of the symbols of a file that can be read.
-fn symbol_fault_of(alloc: Global, change: (usize, u32)) -> Result<Option<ElfFault>, Fail> {
-    let file = changed(alloc, &[change])?;
-    let view = ElfView::read(&file)?;
-    Ok(view.symbols().err())
+// Whether there is a segment of this address, size and flags, with so many bytes.
+fn is_segment(segment: Option<Segment<'_>>, wanted: (u32, u32, u32, usize)) -> bool {
+    match segment {
+        Some(one) => (one.addr, one.size, one.flags, one.content.len()) == wanted,
+        None => false,
+    }
 }
 
-fn is_entry(file: &[u8], wanted: u32) -> Result<bool, ElfFault> {
-    Ok(ElfView::read(file)?.entry() == wanted)
+// Whether there is a symbol of this name, address and size.
+fn is_symbol(symbol: Option<SymbolView<'_>>, wanted: (&[u8], u32, u32)) -> bool {
+    match symbol {
+        Some(one) => (one.name, one.addr, one.size) == wanted,
+        None => false,
+    }
 }
 
-// The one segment of a file: its address, its size, its flags and how many bytes of it there are.
-fn is_only_segment(file: &[u8], wanted: (u32, u32, u32, usize)) -> Result<bool, Fail> {
-    let view = ElfView::read(file)?;
+// Whether a file has one segment: the code, in memory and in the file.
+fn is_one_segment(view: &ElfView<'_>) -> bool {
     let mut segments = view.segments();
-    let segment = segments.next().ok_or("no segment")?;
-    let found = (
-        segment.addr,
-        segment.size,
-        segment.flags,
-        segment.content.len(),
-    );
-    Ok(found == wanted && segments.next().is_none())
+    is_segment(segments.next(), (0x10000, 12, 7, 12)) && segments.next().is_none()
 }
 
-// The one symbol of a file: its name, its address and its size.
-fn is_only_symbol(file: &[u8], wanted: (&[u8], u32, u32)) -> Result<bool, Fail> {
-    let view = ElfView::read(file)?;
-    let mut symbols = view.symbols()?;
-    let symbol = symbols.next().ok_or("no symbol")?;
-    let found = (symbol.name, symbol.addr, symbol.size);
-    Ok(found == wanted && symbols.next().is_none())
+// Whether a file has one symbol: the function.
+fn is_one_symbol(view: &ElfView<'_>) -> bool {
+    match view.symbols() {
+        Ok(mut symbols) => {
+            is_symbol(symbols.next(), (b"run".as_slice(), 0x10000, 12)) && symbols.next().is_none()
+        }
+        Err(_) => false,
+    }
+}
+
+// Whether a file can be read, with its entry, its segment and its symbol.
+fn is_good(file: &[u8]) -> bool {
+    match ElfView::read(file) {
+        Ok(view) => view.entry() == 0x10000 && is_one_segment(&view) && is_one_symbol(&view),
+        Err(_) => false,
+    }
 }
 
 #[test]
 fn reads_a_file(rt: HostRuntime) -> Result<(), Fail> {
     let file = good(rt.alloc())?;
-    assert!(rt; is_entry(&file, 0x10000)?);
-    assert!(rt; is_only_segment(&file, (0x10000, 12, 7, 12))?);
-    assert!(rt; is_only_symbol(&file, (b"run".as_slice(), 0x10000, 12))?);
+    assert!(rt; is_good(&file));
     Ok(())
 }
 
@@ -170,17 +183,6 @@ const FIRST_FAULTS: [(usize, u32, ElfFault); 22] = [
     (15, 0xffff_fff5, ElfFault::SegmentSizes),
 ];
 
-#[test]
-fn refuses_the_first_fault(rt: HostRuntime) -> Result<(), Fail> {
-    for (at, word, fault) in &FIRST_FAULTS {
-        assert!(rt;
-            fault_of(rt.alloc(), &[(*at, *word)])? == Some(*fault),
-            "word {at}"
-        );
-    }
-    Ok(())
-}
-
 const SYMBOL_FAULTS: [(usize, u32, ElfFault); 11] = [
     (57, 24, ElfFault::BadSymbols),
     (53, 40, ElfFault::BadSymbols),
@@ -195,14 +197,25 @@ const SYMBOL_FAULTS: [(usize, u32, ElfFault); 11] = [
     (63, 3, ElfFault::BadSymbolName),
 ];
 
-#[test]
-fn refuses_symbols(rt: HostRuntime) -> Result<(), Fail> {
-    for (at, word, fault) in &SYMBOL_FAULTS {
+// Changes one word of a file, as each row says.
+fn judge(
+    rt: &impl Abort,
+    alloc: Global,
+    rows: &[(usize, u32, ElfFault)],
+) -> Result<(), AllocError> {
+    for (at, word, fault) in rows {
         assert!(rt;
-            symbol_fault_of(rt.alloc(), (*at, *word))? == Some(*fault),
+            fault_of(alloc, &[(*at, *word)])? == Some(*fault),
             "word {at}"
         );
     }
+    Ok(())
+}
+
+#[test]
+fn refuses_the_first_fault(rt: HostRuntime) -> Result<(), Fail> {
+    judge(&rt, rt.alloc(), &FIRST_FAULTS)?;
+    judge(&rt, rt.alloc(), &SYMBOL_FAULTS)?;
     Ok(())
 }
 
@@ -263,39 +276,55 @@ fn plain_fault_at(n: usize) -> Option<ElfFault> {
     }
 }
 
+// Whether a file that is cut after so many bytes can be read, and its symbols are at fault.
+fn has_cut_symbols(file: &[u8], n: usize) -> bool {
+    match file.split_at_checked(n) {
+        Some((front, _)) => fault_in(front) == Some(ElfFault::BadSymbols),
+        None => false,
+    }
+}
+
+// Cuts a file after each number of bytes below its own.
+fn cut_everywhere(rt: &impl Abort, file: &[u8]) {
+    for n in 0..file.len() {
+        assert!(rt; cut_fault(file, n) == Some(fault_at(n)), "cut at {n}");
+    }
+}
+
+// The same of a file without sections, which may end behind its segment.
+fn cut_plain_everywhere(rt: &impl Abort, file: &[u8]) {
+    for n in 0..=file.len() {
+        assert!(rt; cut_fault(file, n) == plain_fault_at(n), "cut at {n}");
+    }
+}
+
+// The same in the symbols, with which a file can still be read.
+fn cut_symbols_everywhere(rt: &impl Abort, file: &[u8]) {
+    for n in 216..file.len() {
+        assert!(rt; has_cut_symbols(file, n), "cut at {n}");
+    }
+}
+
 #[test]
 fn judges_every_cut(rt: HostRuntime) -> Result<(), Fail> {
     let file = good(rt.alloc())?;
-    for n in 0..file.len() {
-        assert!(rt; cut_fault(&file, n) == Some(fault_at(n)), "cut at {n}");
-    }
+    cut_everywhere(&rt, &file);
     Ok(())
 }
 
 #[test]
 fn judges_every_cut_without_sections(rt: HostRuntime) -> Result<(), Fail> {
     let file = changed(rt.alloc(), &[(12, 0)])?;
-    for n in 0..=file.len() {
-        assert!(rt; cut_fault(&file, n) == plain_fault_at(n), "cut at {n}");
-    }
+    cut_plain_everywhere(&rt, &file);
     Ok(())
-}
-
-// Whether the symbols of a file that is cut after so many bytes are at fault.
-fn has_cut_symbols(file: &[u8], n: usize) -> Result<bool, Fail> {
-    let (front, _) = file.split_at_checked(n).ok_or("a shorter file")?;
-    let view = ElfView::read(front)?;
-    Ok(view.symbols().err() == Some(ElfFault::BadSymbols))
 }
 
 // A file that is cut in its symbols or in their names can be read.
 #[test]
 fn judges_every_cut_of_symbols(rt: HostRuntime) -> Result<(), Fail> {
     let file = with_sections_first(rt.alloc())?;
-    for n in 216..file.len() {
-        assert!(rt; has_cut_symbols(&file, n)?);
-    }
-    assert!(rt; is_only_symbol(&file, (b"run".as_slice(), 0x10000, 12))?);
+    cut_symbols_everywhere(&rt, &file);
+    assert!(rt; is_good(&file));
     Ok(())
 }
 
@@ -305,29 +334,45 @@ const SPACE: Space = Space {
     harts: 8,
 };
 
-// The image of the file.
-fn good_image(alloc: Global) -> Result<Image, Fail> {
-    let file = good(alloc)?;
-    let view = ElfView::read(&file)?;
-    Ok(place(alloc, &view, SPACE)?)
+// Whether an image is that of the file.
+fn is_good_image(image: &Image) -> bool {
+    (image.memory.base(), image.top) == (0x1_0000, 0x11_0000)
+        && (image.heap_start, image.heap_end) == (0x1_1000, 0x9_0000)
+        && image.memory.fetch(image.entry) == Ok(0x05d0_0893)
+        && image.memory.load(0x1_000c, 4) == Ok(0)
+        && !image.memory.executable(0x1_1000)
+}
+
+// Whether a file can be read and placed, and has that image.
+fn is_placed(alloc: Global, file: &[u8]) -> bool {
+    let Ok(view) = ElfView::read(file) else {
+        return false;
+    };
+    match place(alloc, &view, SPACE) {
+        Ok(image) => is_good_image(&image),
+        Err(_) => false,
+    }
 }
 
 #[test]
 fn places_a_file(rt: HostRuntime) -> Result<(), Fail> {
-    let image = good_image(rt.alloc())?;
-    assert!(rt; (image.memory.base(), image.top) == (0x1_0000, 0x11_0000));
-    assert!(rt; (image.heap_start, image.heap_end) == (0x1_1000, 0x9_0000));
-    assert!(rt; image.memory.fetch(image.entry) == Ok(0x05d0_0893));
-    assert!(rt; image.memory.load(0x1_000c, 4) == Ok(0));
-    assert!(rt; !image.memory.executable(0x1_1000));
+    let file = good(rt.alloc())?;
+    assert!(rt; is_placed(rt.alloc(), &file));
     Ok(())
 }
 
-// Why a file with a word changed, which can be read, is not placed.
-fn refusal_of(alloc: Global, change: (usize, u32)) -> Result<Option<PlaceFault>, Fail> {
+// Why a file that can be read is not placed.
+fn refusal(alloc: Global, file: &[u8]) -> Option<PlaceFault> {
+    match ElfView::read(file) {
+        Ok(view) => place(alloc, &view, SPACE).err(),
+        Err(_) => None,
+    }
+}
+
+// The same of a file with a word changed.
+fn refusal_of(alloc: Global, change: (usize, u32)) -> Result<Option<PlaceFault>, AllocError> {
     let file = changed(alloc, &[change])?;
-    let view = ElfView::read(&file)?;
-    Ok(place(alloc, &view, SPACE).err())
+    Ok(refusal(alloc, &file))
 }
 
 const MISPLACED: [(usize, u32, ElfFault); 7] = [

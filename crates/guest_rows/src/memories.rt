@@ -2,6 +2,7 @@
 
 use guest_memory::{MemFault, Memory};
 use predator_base::NoMemory;
+use std::process::Abort;
 use std::test::Fail;
 
 fn two_pages(alloc: std::alloc::Global) -> Result<Memory, NoMemory> {
@@ -12,16 +13,9 @@ fn two_pages(alloc: std::alloc::Global) -> Result<Memory, NoMemory> {
     Ok(memory)
 }
 
-// The same after two stores, of which the second changes a byte of the first.
-fn stored(alloc: std::alloc::Global) -> Result<Memory, Fail> {
-    let mut memory = two_pages(alloc)?;
-    let first = memory.store(0x10004, 4, 0x8091_a2b3);
-    let second = memory.store(0x10006, 1, 0x1234_56f7);
-    if first.is_ok() && second.is_ok() {
-        Ok(memory)
-    } else {
-        Err("a store is refused".into())
-    }
+// Two stores, of which the second changes a byte of the first.
+fn store_twice(memory: &mut Memory) -> bool {
+    memory.store(0x10004, 4, 0x8091_a2b3).is_ok() && memory.store(0x10006, 1, 0x1234_56f7).is_ok()
 }
 
 // A word, half of it and a byte.
@@ -41,14 +35,20 @@ const SLICES: [(u32, u32, Option<&[u8]>); 5] = [
     (0xffff, 2, None),
 ];
 
-#[test]
-fn a_store_is_loaded_fetched_and_sliced(rt: HostRuntime) -> Result<(), Fail> {
-    let memory = stored(rt.alloc())?;
-    assert!(rt; loads(&memory) == [Ok(0x80f7_a2b3), Ok(0x80f7), Ok(0xa2)]);
+// What is stored is there.
+fn find_stored(rt: &impl Abort, memory: &Memory) {
+    assert!(rt; loads(memory) == [Ok(0x80f7_a2b3), Ok(0x80f7), Ok(0xa2)]);
     for (addr, len, bytes) in &SLICES {
         assert!(rt; memory.slice(*addr, *len) == *bytes, "at {addr:x}");
     }
     assert!(rt; memory.fetch(0x10004) == Ok(0x80f7_a2b3));
+}
+
+#[test]
+fn a_store_is_loaded_fetched_and_sliced(rt: HostRuntime) -> Result<(), Fail> {
+    let mut memory = two_pages(rt.alloc())?;
+    assert!(rt; store_twice(&mut memory));
+    find_stored(&rt, &memory);
     Ok(())
 }
 
@@ -83,17 +83,22 @@ fn is_unstored(memory: &mut Memory, addr: u32, fault: MemFault) -> bool {
     memory.store_fault(addr, 4) == Some(fault) && memory.store(addr, 4, 1) == Err(fault)
 }
 
-#[test]
-fn the_first_fault_is_told(rt: HostRuntime) -> Result<(), Fail> {
-    let mut memory = two_pages(rt.alloc())?;
-    assert!(rt; refused_loads(&memory) == LOAD_FAULTS);
+// Each access is refused with its first fault, and one without a fault is not.
+fn refuse_all(rt: &impl Abort, memory: &mut Memory) {
+    assert!(rt; refused_loads(memory) == LOAD_FAULTS);
     for (addr, fault) in &FETCH_FAULTS {
         assert!(rt; memory.fetch(*addr) == Err(*fault), "at {addr:x}");
     }
     for (addr, fault) in &STORE_FAULTS {
-        assert!(rt; is_unstored(&mut memory, *addr, *fault), "at {addr:x}");
+        assert!(rt; is_unstored(memory, *addr, *fault), "at {addr:x}");
     }
     assert!(rt; memory.store_fault(0x10000, 4).is_none());
+}
+
+#[test]
+fn the_first_fault_is_told(rt: HostRuntime) -> Result<(), Fail> {
+    let mut memory = two_pages(rt.alloc())?;
+    refuse_all(&rt, &mut memory);
     Ok(())
 }
 

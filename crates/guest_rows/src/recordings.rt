@@ -7,6 +7,7 @@ use predator_base::{Ending, NoMemory, Outcome};
 use run_recorder::{Content, RunFile, record_run};
 use shelf::{Failing, MemoryShelf, ShelfError};
 use std::alloc::Global;
+use std::process::Abort;
 use std::test::Fail;
 use trace_grammar::TraceRecord;
 use trace_passes::Observer;
@@ -37,11 +38,6 @@ impl Observer for Counter {
     }
 }
 
-// A shelf of whose calls these fail.
-fn shelf_with(alloc: Global, failing: &[Failing]) -> Result<MemoryShelf, Fail> {
-    Ok(MemoryShelf::new(alloc, Vec::new(alloc), failing.to_vec(alloc)?)?)
-}
-
 // The program, recorded in these files; it has no symbols. Whether it ended as it should, or why
 // not all was written.
 fn record(
@@ -59,72 +55,98 @@ fn record(
         accesses: 0,
     };
     match record_run(alloc, shelf, guest, counter, &[], files) {
-        Ok(ending) => Ok(Ok(ending == wanted)),
+        Ok(ending) => Ok(Ok(ending == wanted && counter.seen == 1)),
         Err(error) => Ok(Err(error)),
     }
 }
 
 // The file that a content is written to.
-fn file_for<'a>(name: &'a str, content: Content) -> [RunFile<'a>; 1]
+fn file_for(content: Content) -> [RunFile<'static>; 1]
     ensures { AreApart (names_of result) }
 {
-    [RunFile { name, content }]
+    [RunFile { name: "f", content }]
 }
 
-// Whether these bytes were written under the name.
-fn holds(shelf: &MemoryShelf, name: &str, bytes: &[u8]) -> bool {
-    match shelf.written(name) {
-        Some(file) => file == bytes,
+// What is written, and the call of the shelf that fails; how the recording ends, how long the file
+// is then, and what it begins with.
+#[derive(Clone, Copy)]
+struct Row {
+    content: Content,
+    failing: &'static [Failing],
+    answer: Result<bool, ShelfError>,
+    length: usize,
+    front: &'static [u8],
+}
+
+const ROWS: [Row; 3] = [
+    Row {
+        content: Content::Output,
+        failing: &[],
+        answer: Ok(true),
+        length: 4,
+        front: &[0x93, 0x08, 0x00, 0x04],
+    },
+    Row {
+        content: Content::Trace,
+        failing: &[],
+        answer: Ok(true),
+        length: 45,
+        front: b"PRDTRC01",
+    },
+    // the calls are the begin, and an append of what waits at the end
+    Row {
+        content: Content::Trace,
+        failing: &[Failing { call: 2, keep: 8 }],
+        answer: Err(ShelfError::Failed),
+        length: 8,
+        front: b"PRDTRC01",
+    },
+];
+
+// Whether the file is as long as a row says, and begins so.
+fn is_written(shelf: &MemoryShelf, row: &Row) -> bool {
+    match shelf.written("f") {
+        Some(file) => file.len() == row.length && file.starts_with(row.front),
         None => false,
     }
 }
 
-// Whether so many bytes were written under the name.
-fn has_length(shelf: &MemoryShelf, name: &str, count: usize) -> bool {
-    match shelf.written(name) {
-        Some(file) => file.len() == count,
-        None => false,
+// Whether a recording ends as its row says.
+fn ends_as(alloc: Global, shelf: &mut MemoryShelf, row: &Row) -> Result<bool, Fail> {
+    let files = file_for(row.content);
+    let answer = record(alloc, shelf, &mut Counter { seen: 0 }, &files)?;
+    Ok(answer == row.answer && is_written(shelf, row))
+}
+
+// A shelf of whose calls these fail.
+fn shelf_with(alloc: Global, failing: &[Failing]) -> Result<MemoryShelf, NoMemory> {
+    MemoryShelf::new(alloc, Vec::new(alloc), failing.to_vec(alloc)?)
+}
+
+// The same of a shelf that is made for it.
+fn is_recorded(alloc: Global, row: &Row) -> Result<bool, Fail> {
+    let mut shelf = shelf_with(alloc, row.failing)?;
+    ends_as(alloc, &mut shelf, row)
+}
+
+// Records the program as each row says.
+fn record_all(rt: &impl Abort, alloc: Global, rows: &[Row]) -> Result<(), Fail> {
+    for row in rows {
+        assert!(rt; is_recorded(alloc, row)?, "{} bytes", row.length);
     }
-}
-
-#[test]
-fn what_is_put_out_is_written(rt: HostRuntime) -> Result<(), Fail> {
-    let alloc = rt.alloc();
-    let mut shelf = shelf_with(alloc, &[])?;
-    let files = file_for("o", Content::Output);
-    let mut counter = Counter { seen: 0 };
-    assert!(rt; record(alloc, &mut shelf, &mut counter, &files)? == Ok(true));
-    assert!(rt; counter.seen == 1);
-    assert!(rt; holds(&shelf, "o", &[0x93, 0x08, 0x00, 0x04]));
     Ok(())
 }
 
 #[test]
-fn a_trace_has_a_beginning_and_an_end(rt: HostRuntime) -> Result<(), Fail> {
-    let alloc = rt.alloc();
-    let mut shelf = shelf_with(alloc, &[])?;
-    let files = file_for("t", Content::Trace);
-    assert!(rt; record(alloc, &mut shelf, &mut Counter { seen: 0 }, &files)? == Ok(true));
-    assert!(rt; has_length(&shelf, "t", 45));
-    Ok(())
-}
-
-// The calls are the begin, and an append of what waits at the end.
-#[test]
-fn a_failing_call_leaves_a_front(rt: HostRuntime) -> Result<(), Fail> {
-    let alloc = rt.alloc();
-    let mut shelf = shelf_with(alloc, &[Failing { call: 2, keep: 8 }])?;
-    let files = file_for("t", Content::Trace);
-    let answer = record(alloc, &mut shelf, &mut Counter { seen: 0 }, &files)?;
-    assert!(rt; answer == Err(ShelfError::Failed));
-    assert!(rt; holds(&shelf, "t", b"PRDTRC01"));
-    Ok(())
+fn recordings_end_as_their_rows_say(rt: HostRuntime) -> Result<(), Fail> {
+    record_all(&rt, rt.alloc(), &ROWS)
 }
 
 #[test]
 fn a_run_without_files_calls_no_shelf(rt: HostRuntime) -> Result<(), Fail> {
     let alloc = rt.alloc();
     let mut shelf = shelf_with(alloc, &[Failing { call: 1, keep: 0 }])?;
-    assert!(rt; record(alloc, &mut shelf, &mut Counter { seen: 0 }, &[])? == Ok(true));
+    let answer = record(alloc, &mut shelf, &mut Counter { seen: 0 }, &[])?;
+    assert!(rt; answer == Ok(true));
     Ok(())
 }

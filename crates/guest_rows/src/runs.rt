@@ -3,65 +3,40 @@
 use crate::guests::guest_of;
 use guest_run::{Event, Guest, Turn};
 use predator_base::{Cause, Ending, Hart, Outcome};
-use std::alloc::Global;
+use std::alloc::{AllocError, Global};
+use std::process::Abort;
 use std::test::Fail;
 
-// What is seen of a run: the harts of its accesses, where it made and freed blocks, and the bytes
-// that it put out.
-#[derive(Drop)]
-struct Seen {
-    harts: Vec<u16>,
-    blocks: Vec<(u32, u32)>,
-    freed: Vec<u32>,
-    output: Vec<u8>,
+// What is seen of a run: an access of a hart, a block that is made or freed, and a byte that is put
+// out.
+#[derive(Clone, Copy, PartialEq)]
+enum Seen {
+    Access(u16),
+    Made(u32, u32),
+    Freed(u32),
+    Byte(u8),
 }
 
-impl Seen {
-    fn new(alloc: Global) -> Seen {
-        Seen {
-            harts: Vec::new(alloc),
-            blocks: Vec::new(alloc),
-            freed: Vec::new(alloc),
-            output: Vec::new(alloc),
-        }
+// Sees the bytes that a guest puts out.
+fn see_bytes(seen: &mut Vec<Seen>, bytes: &[u8]) -> Result<(), AllocError> {
+    for byte in bytes {
+        seen.push(Seen::Byte(*byte))?;
     }
+    Ok(())
+}
 
-    fn see(&mut self, guest: &Guest, event: Event) -> Result<(), Fail> {
-        match event {
-            Event::Quiet => {}
-            Event::Touch(access) => {
-                let hart = access.hart();
-                self.harts.push(hart.number())?;
-            }
-            Event::Alloc { addr, size, .. } => self.blocks.push((addr, size))?,
-            Event::Free { addr } => self.freed.push(addr)?,
-            Event::Output { addr, len } => {
-                let bytes = guest.bytes(addr, len).ok_or("no bytes")?;
-                self.output.extend_from_slice(bytes)?;
-            }
-        }
-        Ok(())
+fn see(seen: &mut Vec<Seen>, guest: &Guest, event: Event) -> Result<(), AllocError> {
+    match event {
+        Event::Quiet => Ok(()),
+        Event::Touch(access) => Ok(seen.push(Seen::Access(access.hart().number()))?),
+        Event::Alloc { addr, size, .. } => Ok(seen.push(Seen::Made(addr, size))?),
+        Event::Free { addr } => Ok(seen.push(Seen::Freed(addr))?),
+        Event::Output { addr, len } => see_bytes(seen, guest.bytes(addr, len).unwrap_or(&[])),
     }
 }
-
-// What is to be seen.
-#[derive(Clone, Copy)]
-struct Wanted {
-    harts: &'static [u16],
-    blocks: &'static [(u32, u32)],
-    freed: &'static [u32],
-    output: &'static [u8],
-}
-
-const NOTHING: Wanted = Wanted {
-    harts: &[],
-    blocks: &[],
-    freed: &[],
-    output: b"",
-};
 
 // A program, its schedule, how many harts there are and how many steps they may make; how it ends,
-// after how many steps and accesses; and what is seen of it.
+// after how many steps and accesses; and what is seen of it, in order.
 #[derive(Clone, Copy)]
 struct Row {
     program: &'static [u32],
@@ -71,7 +46,7 @@ struct Row {
     outcome: Outcome,
     steps: u64,
     accesses: u64,
-    wanted: Wanted,
+    seen: &'static [Seen],
 }
 
 // The guest of a row's program.
@@ -84,39 +59,40 @@ fn guest_in(alloc: Global, row: &Row) -> Result<Guest, Fail> {
 }
 
 // A whole run of at most 100 turns: its end, and what is seen of it.
-fn run(guest: &mut Guest, seen: &mut Seen) -> Result<Option<Ending>, Fail> {
+fn run(guest: &mut Guest, seen: &mut Vec<Seen>) -> Result<Option<Ending>, Fail> {
     for _turn in 0..100u32 {
         match guest.step()? {
-            Turn::Ran(event) => seen.see(guest, event)?,
+            Turn::Ran(event) => see(seen, guest, event)?,
             Turn::Ended(_) => break,
         }
     }
     Ok(guest.ending())
 }
 
-fn is_wanted(seen: &Seen, wanted: &Wanted) -> bool {
-    seen.harts.as_slice() == wanted.harts
-        && seen.blocks.as_slice() == wanted.blocks
-        && seen.freed.as_slice() == wanted.freed
-        && seen.output.as_slice() == wanted.output
-}
-
 // Whether a guest runs as its row says.
 fn runs_as(alloc: Global, guest: &mut Guest, row: &Row) -> Result<bool, Fail> {
-    let mut seen = Seen::new(alloc);
+    let mut seen = Vec::new(alloc);
     let ending = run(guest, &mut seen)?;
     let wanted = Ending {
         outcome: row.outcome,
         steps: row.steps,
         accesses: row.accesses,
     };
-    Ok(ending == Some(wanted) && is_wanted(&seen, &row.wanted))
+    Ok(ending == Some(wanted) && seen.as_slice() == row.seen)
 }
 
 // Whether a program runs as its row says.
 fn is_run(alloc: Global, row: &Row) -> Result<bool, Fail> {
     let mut guest = guest_in(alloc, row)?;
     runs_as(alloc, &mut guest, row)
+}
+
+// Runs the programs of rows.
+fn run_all(rt: &impl Abort, alloc: Global, rows: &[Row]) -> Result<(), Fail> {
+    for row in rows {
+        assert!(rt; is_run(alloc, row)?, "{} steps", row.steps);
+    }
+    Ok(())
 }
 
 // The call that makes a hart, which begins behind it; both add to a word, and end.
@@ -164,7 +140,7 @@ const ROWS: [Row; 10] = [
         outcome: Outcome::Exit(7),
         steps: 3,
         accesses: 0,
-        wanted: NOTHING,
+        seen: &[],
     },
     // no such call
     Row {
@@ -180,7 +156,7 @@ const ROWS: [Row; 10] = [
         outcome: Outcome::Exit(4_294_967_258),
         steps: 4,
         accesses: 0,
-        wanted: NOTHING,
+        seen: &[],
     },
     Row {
         program: &[
@@ -192,7 +168,7 @@ const ROWS: [Row; 10] = [
         outcome: Outcome::Budget,
         steps: 5,
         accesses: 0,
-        wanted: NOTHING,
+        seen: &[],
     },
     // a wait for a wake that nobody gives
     Row {
@@ -208,12 +184,7 @@ const ROWS: [Row; 10] = [
         outcome: Outcome::Deadlock,
         steps: 4,
         accesses: 1,
-        wanted: Wanted {
-            harts: &[0],
-            blocks: &[],
-            freed: &[],
-            output: b"",
-        },
+        seen: &[Seen::Access(0)],
     },
     Row {
         program: &TWO_HARTS,
@@ -223,12 +194,7 @@ const ROWS: [Row; 10] = [
         outcome: Outcome::Exit(0),
         steps: 20,
         accesses: 2,
-        wanted: Wanted {
-            harts: &[0, 1],
-            blocks: &[],
-            freed: &[],
-            output: b"",
-        },
+        seen: &[Seen::Access(0), Seen::Access(1)],
     },
     Row {
         program: &TWO_HARTS,
@@ -238,12 +204,7 @@ const ROWS: [Row; 10] = [
         outcome: Outcome::Exit(0),
         steps: 20,
         accesses: 2,
-        wanted: Wanted {
-            harts: &[1, 0],
-            blocks: &[],
-            freed: &[],
-            output: b"",
-        },
+        seen: &[Seen::Access(1), Seen::Access(0)],
     },
     // no hart is free
     Row {
@@ -254,12 +215,7 @@ const ROWS: [Row; 10] = [
         outcome: Outcome::Exit(0),
         steps: 12,
         accesses: 1,
-        wanted: Wanted {
-            harts: &[0],
-            blocks: &[],
-            freed: &[],
-            output: b"",
-        },
+        seen: &[Seen::Access(0)],
     },
     Row {
         program: &[
@@ -277,12 +233,12 @@ const ROWS: [Row; 10] = [
         outcome: Outcome::Exit(4),
         steps: 7,
         accesses: 0,
-        wanted: Wanted {
-            harts: &[],
-            blocks: &[],
-            freed: &[],
-            output: &[0x93, 0x08, 0x00, 0x04],
-        },
+        seen: &[
+            Seen::Byte(0x93),
+            Seen::Byte(0x08),
+            Seen::Byte(0x00),
+            Seen::Byte(0x04),
+        ],
     },
     Row {
         program: &BLOCKS,
@@ -292,12 +248,12 @@ const ROWS: [Row; 10] = [
         outcome: Outcome::Exit(4_294_967_274),
         steps: 12,
         accesses: 1,
-        wanted: Wanted {
-            harts: &[0],
-            blocks: &[(0x11000, 24), (0x11020, 0)],
-            freed: &[0x11020],
-            output: b"",
-        },
+        seen: &[
+            Seen::Made(0x11000, 24),
+            Seen::Made(0x11020, 0),
+            Seen::Access(0),
+            Seen::Freed(0x11020),
+        ],
     },
     // more than the heap has
     Row {
@@ -314,23 +270,18 @@ const ROWS: [Row; 10] = [
         outcome: Outcome::Exit(0),
         steps: 5,
         accesses: 0,
-        wanted: NOTHING,
+        seen: &[],
     },
 ];
 
 #[test]
 fn programs_run_as_their_rows_say(rt: HostRuntime) -> Result<(), Fail> {
-    let alloc = rt.alloc();
-    for row in &ROWS {
-        assert!(rt; is_run(alloc, row)?, "{} steps", row.steps);
-    }
-    Ok(())
+    run_all(&rt, rt.alloc(), &ROWS)
 }
 
-#[test]
-fn a_misaligned_load_is_a_trap(rt: HostRuntime) -> Result<(), Fail> {
-    let hart = Hart::new(0).ok_or("no hart")?;
-    let row = Row {
+// A misaligned load of a hart, which is a trap.
+fn trap_of(hart: Hart) -> Row {
+    Row {
         program: &[
             0x0010_2283, // lw t0, 1(zero)
         ],
@@ -340,8 +291,12 @@ fn a_misaligned_load_is_a_trap(rt: HostRuntime) -> Result<(), Fail> {
         outcome: Outcome::Trap(hart, 0x10000, Cause::LoadMisaligned),
         steps: 0,
         accesses: 0,
-        wanted: NOTHING,
-    };
-    assert!(rt; is_run(rt.alloc(), &row)?);
-    Ok(())
+        seen: &[],
+    }
+}
+
+#[test]
+fn a_misaligned_load_is_a_trap(rt: HostRuntime) -> Result<(), Fail> {
+    let row = trap_of(Hart::new(0).expect(&rt, "a hart"));
+    run_all(&rt, rt.alloc(), &[row])
 }

@@ -4,6 +4,7 @@ ghost use Rattle.std.specs.Prelude.{◌≡◌, vec_len, IfOk};
 use hart_scheduler::{Schedule, ScheduleFault};
 use predator_base::Hart;
 use std::alloc::{AllocError, Global};
+use std::process::Abort;
 use std::test::Fail;
 
 // Empty lines. Only their number is said, so that nothing is proved byte by byte.
@@ -18,20 +19,20 @@ fn fault_of_empty_lines(alloc: Global, count: usize) -> Result<Option<ScheduleFa
     Ok(Schedule::read(alloc, text.as_slice(), 8, 100).err())
 }
 
+const REFUSED: [(&[u8], ScheduleFault); 6] = [
+    (b"0 5\nx", ScheduleFault::BadLine(2)),
+    (b"\n\n01 1", ScheduleFault::BadLine(3)),
+    (b"1  1\n", ScheduleFault::BadLine(1)),
+    (b"1 4294967296", ScheduleFault::BadLine(1)),
+    (b"8 1", ScheduleFault::HartOutOfRange(1)),
+    (b"0 0\n8 1\n", ScheduleFault::ZeroCount(1)),
+];
+
 #[test]
-fn a_schedule_is_refused_at_its_first_bad_line(rt: HostRuntime) -> Result<(), Fail> {
-    let refused = [
-        (b"0 5\nx".as_slice(), ScheduleFault::BadLine(2)),
-        (b"\n\n01 1".as_slice(), ScheduleFault::BadLine(3)),
-        (b"1  1\n".as_slice(), ScheduleFault::BadLine(1)),
-        (b"1 4294967296".as_slice(), ScheduleFault::BadLine(1)),
-        (b"8 1".as_slice(), ScheduleFault::HartOutOfRange(1)),
-        (b"0 0\n8 1\n".as_slice(), ScheduleFault::ZeroCount(1)),
-    ];
-    for (text, fault) in refused {
-        assert!(rt; Schedule::read(rt.alloc(), text, 8, 100).err() == Some(fault));
+fn a_schedule_is_refused_at_its_first_bad_line(rt: HostRuntime) {
+    for (text, fault) in &REFUSED {
+        assert!(rt; Schedule::read(rt.alloc(), text, 8, 100).err() == Some(*fault));
     }
-    Ok(())
 }
 
 #[test]
@@ -62,12 +63,19 @@ fn choices(schedule: &mut Schedule) -> [Option<u16>; 5]
     [none, first, second, alone, chosen(schedule, all)]
 }
 
+// Follows a schedule: first its list, then turns.
+fn follow(rt: &impl Abort, schedule: &mut Schedule)
+    requires { schedule.old.harts ≡ 3 }
+{
+    let all = [true, true, true];
+    assert!(rt; choices(schedule) == [None, Some(2), Some(1), Some(2), Some(2)]);
+    assert!(rt; schedule.peek(&all) == Hart::new(0));
+    assert!(rt; chosen(schedule, all) == Some(0));
+}
+
 #[test]
 fn the_list_comes_first_and_then_turns(rt: HostRuntime) -> Result<(), Fail> {
     let mut schedule = Schedule::read(rt.alloc(), b"2 1\n\n1 4294967295\n0 1", 3, 2)?;
-    let all = [true, true, true];
-    assert!(rt; choices(&mut schedule) == [None, Some(2), Some(1), Some(2), Some(2)]);
-    assert!(rt; schedule.peek(&all) == Hart::new(0));
-    assert!(rt; chosen(&mut schedule, all) == Some(0));
+    follow(&rt, &mut schedule);
     Ok(())
 }

@@ -3,7 +3,7 @@ ghost use Rattle.std.specs.Prelude.{◌≡◌, ◌≤◌, length};
 
 use crate::programs::PROGRAMS;
 use guest_memory::Memory;
-use predator_base::{Cause, Hart, Kind};
+use predator_base::{Cause, Hart, Kind, NoMemory};
 use rv32_decode::Reg;
 use rv32_machine::{HartState, Reservations, StepEnd, step};
 use std::alloc::Global;
@@ -23,39 +23,70 @@ fn reg(rt: &impl Abort, number: u8) -> Reg {
     Reg::new(number).expect(rt, "a register")
 }
 
+fn put(rt: &impl Abort, memory: &mut Memory, words: &[u32]) {
+    let mut addr = BASE;
+    for word in words {
+        assert!(rt; memory.store(addr, 4, *word).is_ok());
+        addr = addr.wrapping_add(4);
+    }
+}
+
 // Two pages from BASE on that hold these words: the first may be written and run, the second only
 // read.
-fn memory_of(rt: &impl Abort, alloc: Global, words: &[u32]) -> Result<Memory, Fail> {
+fn memory_of(rt: &impl Abort, alloc: Global, words: &[u32]) -> Result<Memory, NoMemory> {
     let mut memory = Memory::new(alloc, BASE, 0x3000)?;
     memory.map(BASE, 0x1000, true, true);
     memory.map(BASE + 0x1000, 0x1000, false, false);
-    let mut addr = BASE;
-    for word in words {
-        assert_eq!(rt; memory.store(addr, 4, *word), Ok(()));
-        addr = addr.wrapping_add(4);
-    }
+    put(rt, &mut memory, words);
     Ok(memory)
 }
 
-#[test]
-fn random_programs_end_as_under_qemu(rt: HostRuntime) -> Result<(), Fail> {
-    for (words, registers) in &PROGRAMS {
-        let state = after_all(&rt, rt.alloc(), words)?;
-        for (number, value) in registers.iter().enumerate() {
-            assert!(rt; state.reg(reg(&rt, number as u8)) == *value, "x{number}");
-        }
+// The registers from x0 on hold these numbers.
+fn see(rt: &impl Abort, state: &HartState, registers: &[u32; 31]) {
+    for (number, value) in registers.iter().enumerate() {
+        assert!(rt; state.reg(reg(rt, number as u8)) == *value, "x{number}");
+    }
+}
+
+// Runs programs, each of which leaves the numbers beside it.
+fn run_all(
+    rt: &impl Abort,
+    alloc: Global,
+    programs: &[([u32; 40], [u32; 31])],
+) -> Result<(), NoMemory> {
+    for (words, registers) in programs {
+        see(rt, &after_all(rt, alloc, words)?, registers);
     }
     Ok(())
 }
 
+#[test]
+fn random_programs_end_as_under_qemu(rt: HostRuntime) -> Result<(), Fail> {
+    run_all(&rt, rt.alloc(), &PROGRAMS)?;
+    Ok(())
+}
+
 // Hart 0 after all steps of a program, each of which goes on.
-fn after_all(rt: &impl Abort, alloc: Global, words: &[u32]) -> Result<HartState, Fail> {
+fn after_all(rt: &impl Abort, alloc: Global, words: &[u32]) -> Result<HartState, NoMemory> {
     let mut memory = memory_of(rt, alloc, words)?;
     let mut state = HartState::new(BASE, 0, 0, 0);
-    for _ in words {
-        assert!(rt; goes_on(rt, alloc, &mut state, &mut memory)?);
-    }
+    go_on(rt, alloc, &mut state, &mut memory, words.len())?;
     Ok(state)
+}
+
+// So many steps of hart 0, each of which goes on.
+fn go_on(
+    rt: &impl Abort,
+    alloc: Global,
+    state: &mut HartState,
+    memory: &mut Memory,
+    count: usize,
+) -> Result<(), NoMemory> {
+    for _ in 0..count {
+        let end = step_alone(rt, alloc, state, memory)?;
+        assert!(rt; matches!(end, StepEnd::Next(_, None)));
+    }
+    Ok(())
 }
 
 // One step of hart 0, where nothing is reserved.
@@ -64,7 +95,7 @@ fn step_alone(
     alloc: Global,
     state: &mut HartState,
     memory: &mut Memory,
-) -> Result<StepEnd, Fail> {
+) -> Result<StepEnd, NoMemory> {
     let mut held = Reservations::new(alloc, 1)?;
     Ok(step(hart(rt, 0), state, memory, &mut held))
 }
@@ -76,7 +107,7 @@ fn one(
     memory: &mut Memory,
     x1: u32,
     x2: u32,
-) -> Result<(StepEnd, u32), Fail> {
+) -> Result<(StepEnd, u32), NoMemory> {
     let mut state = HartState::new(BASE, 0, 77, 0);
     state.set_reg(reg(rt, 1), x1);
     state.set_reg(reg(rt, 2), x2);
@@ -84,85 +115,84 @@ fn one(
     Ok((end, state.reg(reg(rt, 3))))
 }
 
-fn x3_after(rt: &impl Abort, alloc: Global, word: u32, x1: u32, x2: u32) -> Result<u32, Fail> {
+// The same of an instruction.
+fn one_of(
+    rt: &impl Abort,
+    alloc: Global,
+    word: u32,
+    x1: u32,
+    x2: u32,
+) -> Result<(StepEnd, u32), NoMemory> {
+    let mut memory = memory_of(rt, alloc, &[word])?;
+    one(rt, alloc, &mut memory, x1, x2)
+}
+
+// What x3 is behind an instruction.
+fn x3_after(rt: &impl Abort, alloc: Global, word: u32, x1: u32, x2: u32) -> Result<u32, NoMemory> {
     let mut memory = memory_of(rt, alloc, &[word])?;
     let end = one(rt, alloc, &mut memory, x1, x2)?;
     Ok(end.1)
 }
 
-fn traps(rt: &impl Abort, alloc: Global, word: u32, x1: u32, cause: Cause) -> Result<(), Fail> {
-    let mut memory = memory_of(rt, alloc, &[word])?;
-    let end = one(rt, alloc, &mut memory, x1, 5)?;
-    assert!(rt; end == (StepEnd::Trap(cause), 77), "{word:08x}");
-    Ok(())
-}
-
-fn goes_on(
-    rt: &impl Abort,
-    alloc: Global,
-    state: &mut HartState,
-    memory: &mut Memory,
-) -> Result<bool, Fail> {
-    let end = step_alone(rt, alloc, state, memory)?;
-    Ok(matches!(end, StepEnd::Next(_, None)))
-}
+// DIV, DIVU, REM and REMU of x1 by x2 into x3.
+const DIVISIONS: [(u32, u32, u32, u32); 8] = [
+    (0x0220_c1b3, 7, 0, 0xffff_ffff),
+    (0x0220_d1b3, 7, 0, 0xffff_ffff),
+    (0x0220_e1b3, 7, 0, 7),
+    (0x0220_f1b3, 7, 0, 7),
+    (0x0220_c1b3, 0x8000_0000, 0xffff_ffff, 0x8000_0000),
+    (0x0220_e1b3, 0x8000_0000, 0xffff_ffff, 0),
+    (0x0220_c1b3, 0xffff_fff9, 2, 0xffff_fffd),
+    (0x0220_e1b3, 0xffff_fff9, 2, 0xffff_ffff),
+];
 
 #[test]
 fn division_has_its_edges(rt: HostRuntime) -> Result<(), Fail> {
-    // DIV, DIVU, REM and REMU of x1 by x2 into x3.
-    let rows = [
-        (0x0220_c1b3, 7, 0, 0xffff_ffff),
-        (0x0220_d1b3, 7, 0, 0xffff_ffff),
-        (0x0220_e1b3, 7, 0, 7),
-        (0x0220_f1b3, 7, 0, 7),
-        (0x0220_c1b3, 0x8000_0000, 0xffff_ffff, 0x8000_0000),
-        (0x0220_e1b3, 0x8000_0000, 0xffff_ffff, 0),
-        (0x0220_c1b3, 0xffff_fff9, 2, 0xffff_fffd),
-        (0x0220_e1b3, 0xffff_fff9, 2, 0xffff_ffff),
-    ];
-    for (word, x1, x2, x3) in rows {
-        assert!(rt;
-            x3_after(&rt, rt.alloc(), word, x1, x2)? == x3,
-            "{word:08x}"
-        );
+    for (word, x1, x2, x3) in &DIVISIONS {
+        let found = x3_after(&rt, rt.alloc(), *word, *x1, *x2)?;
+        assert!(rt; found == *x3, "{word:08x}");
+    }
+    Ok(())
+}
+
+const READ_ONLY: u32 = BASE + 0x1000;
+
+const TRAPS: [(u32, u32, Cause); 12] = [
+    (0x0000_0000, 0, Cause::Illegal), // no instruction
+    (0x0010_0073, 0, Cause::Breakpoint), // ebreak
+    (0x0020_81e7, BASE, Cause::FetchMisaligned), // jalr x3, 2(x1)
+    (0x0000_0363, 0, Cause::FetchMisaligned), // beq x0, x0, 6
+    (0x0000_a183, BASE + 2, Cause::LoadMisaligned), // lw x3, 0(x1)
+    (0x0000_9183, BASE + 0x2000, Cause::LoadOutside), // lh x3, 0(x1)
+    (0x1000_a1af, BASE + 2, Cause::LoadMisaligned), // lr.w x3, (x1)
+    (0x0020_a023, BASE + 1, Cause::StoreMisaligned), // sw x2, 0(x1)
+    (0x0020_8023, READ_ONLY, Cause::StoreOutside), // sb x2, 0(x1)
+    (0x1820_a1af, BASE + 2, Cause::StoreMisaligned), // sc.w x3, x2, (x1)
+    (0x1820_a1af, READ_ONLY, Cause::StoreOutside),
+    (0x0020_a1af, 0xfffc, Cause::StoreOutside), // amoadd.w x3, x2, (x1)
+];
+
+#[test]
+fn each_trap_has_its_cause(rt: HostRuntime) -> Result<(), Fail> {
+    for (word, x1, cause) in &TRAPS {
+        let end = one_of(&rt, rt.alloc(), *word, *x1, 5)?;
+        assert!(rt; end == (StepEnd::Trap(*cause), 77), "{word:08x}");
     }
     Ok(())
 }
 
 #[test]
-fn each_trap_has_its_cause(rt: HostRuntime) -> Result<(), Fail> {
-    let read_only = BASE + 0x1000;
-    let rows = [
-        (0x0000_0000, 0, Cause::Illegal), // no instruction
-        (0x0010_0073, 0, Cause::Breakpoint), // ebreak
-        (0x0020_81e7, BASE, Cause::FetchMisaligned), // jalr x3, 2(x1)
-        (0x0000_0363, 0, Cause::FetchMisaligned), // beq x0, x0, 6
-        (0x0000_a183, BASE + 2, Cause::LoadMisaligned), // lw x3, 0(x1)
-        (0x0000_9183, BASE + 0x2000, Cause::LoadOutside), // lh x3, 0(x1)
-        (0x1000_a1af, BASE + 2, Cause::LoadMisaligned), // lr.w x3, (x1)
-        (0x0020_a023, BASE + 1, Cause::StoreMisaligned), // sw x2, 0(x1)
-        (0x0020_8023, read_only, Cause::StoreOutside), // sb x2, 0(x1)
-        (0x1820_a1af, BASE + 2, Cause::StoreMisaligned), // sc.w x3, x2, (x1)
-        (0x1820_a1af, read_only, Cause::StoreOutside),
-        (0x0020_a1af, 0xfffc, Cause::StoreOutside), // amoadd.w x3, x2, (x1)
-    ];
-    for (word, x1, cause) in rows {
-        traps(&rt, rt.alloc(), word, x1, cause)?;
-    }
-    assert!(rt; end_unmapped(&rt, rt.alloc())? == (StepEnd::Trap(Cause::FetchOutside), 77));
+fn nothing_is_fetched_where_nothing_is_mapped(rt: HostRuntime) -> Result<(), Fail> {
+    let mut memory = Memory::new(rt.alloc(), BASE, 0x1000)?;
+    let end = one(&rt, rt.alloc(), &mut memory, 0, 0)?;
+    assert!(rt; end == (StepEnd::Trap(Cause::FetchOutside), 77));
     Ok(())
-}
-
-// How a step ends where nothing is mapped.
-fn end_unmapped(rt: &impl Abort, alloc: Global) -> Result<(StepEnd, u32), Fail> {
-    let mut memory = Memory::new(alloc, BASE, 0x1000)?;
-    one(rt, alloc, &mut memory, 0, 0)
 }
 
 #[test]
 fn a_call_is_no_trap(rt: HostRuntime) -> Result<(), Fail> {
-    let mut memory = memory_of(&rt, rt.alloc(), &[0x0000_0073])?;
-    assert!(rt; one(&rt, rt.alloc(), &mut memory, 0, 0)? == (StepEnd::Call, 77));
+    let end = one_of(&rt, rt.alloc(), 0x0000_0073, 0, 0)?;
+    assert!(rt; end == (StepEnd::Call, 77));
     Ok(())
 }
 
@@ -192,10 +222,16 @@ fn reserve_and_store(
     (first.reg(reg(rt, 3)), writes, is_held)
 }
 
-// The same in a memory with this store.
-fn reserved(rt: &impl Abort, alloc: Global, byte_store: u32) -> Result<(u32, bool, bool), Fail> {
+// The same in a memory with this store, where hart 1 has let go what it reserved before.
+fn reserved(
+    rt: &impl Abort,
+    alloc: Global,
+    byte_store: u32,
+) -> Result<(u32, bool, bool), NoMemory> {
     let mut memory = memory_of(rt, alloc, &[0x1000_a1af, byte_store, 0x1820_a1af])?;
     let mut held = Reservations::new(alloc, 2)?;
+    held.clear(hart(rt, 1));
+    assert!(rt; held.harts() == 2);
     Ok(reserve_and_store(rt, &mut memory, &mut held))
 }
 
@@ -204,8 +240,5 @@ fn a_byte_in_the_word_ends_its_reservation(rt: HostRuntime) -> Result<(), Fail> 
     // sb x2, 3(x1) and sb x2, 4(x1)
     assert!(rt; reserved(&rt, rt.alloc(), 0x0020_81a3)? == (1, false, false));
     assert!(rt; reserved(&rt, rt.alloc(), 0x0020_8223)? == (0, true, false));
-    let mut held = Reservations::new(rt.alloc(), 2)?;
-    held.clear(hart(&rt, 1));
-    assert!(rt; held.harts() == 2);
     Ok(())
 }

@@ -1,8 +1,8 @@
 // Copies of small traces, and calls that fail.
 use crate::held::{holds, shelf_with};
+use predator_base::NoMemory;
 use shelf::{Failing, MemoryShelf};
 use std::alloc::Global;
-use std::test::Fail;
 use trace_copies::{Converted, CopyFault, Halves, convert_trace, split_trace};
 use trace_grammar::{TraceFault, Version};
 use trace_passes::Refusal;
@@ -86,10 +86,9 @@ const FREED_FROM_1: &[u8] = b"PRDTRC01\x08\x00\x00\x00\x00\x00\x00\x00\x01\x00\x
 
 // Whether the file of a name is so many bytes of a front, or isn't there.
 fn stands(shelf: &MemoryShelf, name: &str, whole: &[u8], left: Option<usize>) -> bool {
-    match (shelf.written(name), left) {
-        (Some(file), Some(count)) => file.len() == count && whole.starts_with(file),
-        (None, None) => true,
-        _ => false,
+    match shelf.written(name) {
+        Some(file) => left == Some(file.len()) && whole.starts_with(file),
+        None => left.is_none(),
     }
 }
 
@@ -99,20 +98,19 @@ fn is_converted(
     failing: &[Failing],
     answer: Result<Converted, CopyFault>,
     left: usize,
-) -> Result<bool, Fail> {
+) -> Result<bool, NoMemory> {
     let mut shelf = shelf_with(alloc, ONE, failing)?;
     let is = convert_trace(alloc, &mut shelf, "t", "c") == answer;
     Ok(is && stands(&shelf, "c", TWO, Some(left)))
 }
 
 #[test]
-fn a_trace_gets_the_other_spelling(rt: HostRuntime) -> Result<(), Fail> {
+fn a_trace_gets_the_other_spelling(rt: HostRuntime) {
     let made = Converted {
         version: Version::Two,
         accesses: 3,
     };
-    assert!(rt; is_converted(rt.alloc(), &[], Ok(made), TWO.len())?);
-    Ok(())
+    assert!(rt; is_converted(rt.alloc(), &[], Ok(made), TWO.len()) == Ok(true));
 }
 
 // Calls 1 and 2 are the first reading, 3 begins the output, 4 and 5 are the second reading, and 6
@@ -123,11 +121,10 @@ const UNCONVERTED: [(Failing, CopyFault, usize); 2] = [
 ];
 
 #[test]
-fn a_failing_call_leaves_a_front(rt: HostRuntime) -> Result<(), Fail> {
+fn a_failing_call_leaves_a_front(rt: HostRuntime) {
     for (failing, fault, left) in &UNCONVERTED {
-        assert!(rt; is_converted(rt.alloc(), &[*failing], Err(*fault), *left)?);
+        assert!(rt; is_converted(rt.alloc(), &[*failing], Err(*fault), *left) == Ok(true));
     }
-    Ok(())
 }
 
 // Cuts the trace `t` into `a` and `b`.
@@ -145,7 +142,7 @@ struct Cut {
 }
 
 // Whether a trace is cut so.
-fn is_cut(alloc: Global, row: &Cut) -> Result<bool, Fail> {
+fn is_cut(alloc: Global, row: &Cut) -> Result<bool, NoMemory> {
     let mut shelf = shelf_with(alloc, row.trace, &[])?;
     let is = split(alloc, &mut shelf, row.at) == Ok(row.made);
     Ok(is && holds(&shelf, "a", row.first) && holds(&shelf, "b", row.second))
@@ -233,11 +230,10 @@ const CUTS: [Cut; 11] = [
 ];
 
 #[test]
-fn a_trace_is_cut_at_an_access(rt: HostRuntime) -> Result<(), Fail> {
+fn a_trace_is_cut_at_an_access(rt: HostRuntime) {
     for row in &CUTS {
-        assert!(rt; is_cut(rt.alloc(), row)?, "cut at {}", row.at);
+        assert!(rt; is_cut(rt.alloc(), row) == Ok(true), "cut at {}", row.at);
     }
-    Ok(())
 }
 
 // How much is left of a half: no file, no bytes, what the failing append is told to keep, or all.
@@ -264,7 +260,7 @@ fn is_stopped(
     failing: Failing,
     fault: CopyFault,
     left: (Left, Left),
-) -> Result<bool, Fail> {
+) -> Result<bool, NoMemory> {
     let mut shelf = shelf_with(alloc, TWO, &[failing])?;
     let is = split(alloc, &mut shelf, 1) == Err(fault);
     let first = length_of(left.0, failing.keep, TWO_TO_1);
@@ -286,21 +282,20 @@ const STOPS: [(u64, CopyFault, (Left, Left)); 8] = [
 ];
 
 #[test]
-fn each_failing_call_leaves_fronts(rt: HostRuntime) -> Result<(), Fail> {
+fn each_failing_call_leaves_fronts(rt: HostRuntime) {
     for (call, fault, left) in &STOPS {
         for keep in [0, 3] {
             let failing = Failing { call: *call, keep };
             assert!(rt;
-                is_stopped(rt.alloc(), failing, *fault, *left)?,
+                is_stopped(rt.alloc(), failing, *fault, *left) == Ok(true),
                 "call {call}"
             );
         }
     }
-    Ok(())
 }
 
 // Whether a trace is refused for this by both copies, and nothing is written.
-fn is_refused(alloc: Global, trace: &[u8], fault: TraceFault) -> Result<bool, Fail> {
+fn is_refused(alloc: Global, trace: &[u8], fault: TraceFault) -> Result<bool, NoMemory> {
     let mut shelf = shelf_with(alloc, trace, &[])?;
     let refused = CopyFault::Refused(Refusal::Trace(fault));
     let is_cut = split(alloc, &mut shelf, 1) != Err(refused);
@@ -310,10 +305,12 @@ fn is_refused(alloc: Global, trace: &[u8], fault: TraceFault) -> Result<bool, Fa
 }
 
 #[test]
-fn what_is_refused_is_not_copied(rt: HostRuntime) -> Result<(), Fail> {
-    let alloc = rt.alloc();
-    assert!(rt; is_refused(alloc, b"", TraceFault::Truncated(0))?);
-    assert!(rt; is_refused(alloc, &ONE[..68], TraceFault::Truncated(68))?);
-    assert!(rt; is_refused(alloc, &TWO[1..], TraceFault::BadMagic)?);
-    Ok(())
+fn what_is_refused_is_not_copied(rt: HostRuntime) {
+    for (trace, fault) in [
+        (b"".as_slice(), TraceFault::Truncated(0)),
+        (&ONE[..68], TraceFault::Truncated(68)),
+        (&TWO[1..], TraceFault::BadMagic),
+    ] {
+        assert!(rt; is_refused(rt.alloc(), trace, fault) == Ok(true));
+    }
 }

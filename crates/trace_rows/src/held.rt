@@ -1,7 +1,7 @@
 // Shelves that hold one file.
+use predator_base::NoMemory;
 use shelf::{Failing, HeldFile, MemoryShelf};
 use std::alloc::{AllocError, Global};
-use std::test::Fail;
 
 // One file `t` that holds these bytes.
 pub(crate) fn one_file(alloc: Global, content: &[u8]) -> Result<Vec<HeldFile>, AllocError> {
@@ -19,9 +19,9 @@ pub(crate) fn shelf_with(
     alloc: Global,
     content: &[u8],
     failing: &[Failing],
-) -> Result<MemoryShelf, Fail> {
+) -> Result<MemoryShelf, NoMemory> {
     let files = one_file(alloc, content)?;
-    Ok(MemoryShelf::new(alloc, files, failing.to_vec(alloc)?)?)
+    MemoryShelf::new(alloc, files, failing.to_vec(alloc)?)
 }
 
 // Whether these bytes were written under the name.

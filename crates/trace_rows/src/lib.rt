@@ -25,3 +25,5 @@ mod rows;
 mod shelves;
 #[cfg(test)]
 mod splits;
+#[cfg(test)]
+mod tally;

@@ -5,9 +5,9 @@ ghost use Rattle.outputs.specs.OnTheirWay.{AreBegun, names_of};
 
 use crate::held::{filler, holds, shelf_with};
 use outputs::Outputs;
+use predator_base::NoMemory;
 use shelf::{Failing, MemoryShelf, ShelfError};
 use std::alloc::Global;
-use std::test::Fail;
 
 // One file, or two, that are begun.
 fn one(alloc: Global, shelf: &mut MemoryShelf) -> Result<Outputs<'static>, ShelfError>
@@ -47,29 +47,22 @@ fn put_two(
 ) -> Result<bool, ShelfError>
     requires count { 1 ≤ length outputs.old }
     requires begun { AreBegun (names_of outputs.old) (memory_outside shelf.old) }
-    ensures begun { IfOk result (λ is. AreBegun (names_of outputs.new) (memory_outside shelf.new)) }
 {
-    match outputs.put(shelf, 0, first) {
-        Ok(()) => {}
-        Err(error) => return Err(error),
-    }
+    outputs.put(shelf, 0, first)?;
     let is = holds(shelf, "a", b"");
-    match outputs.put(shelf, 0, second) {
-        Ok(()) => Ok(is),
-        Err(error) => Err(error),
-    }
+    outputs.put(shelf, 0, second)?;
+    Ok(is)
 }
 
-#[test]
-fn pieces_come_to_the_file_in_their_order(rt: HostRuntime) -> Result<(), Fail> {
-    let alloc = rt.alloc();
-    let mut shelf = shelf_with(alloc, b"", &[])?;
-    let mut outputs = one(alloc, &mut shelf)?;
-    assert!(rt; put_two(&mut outputs, &mut shelf, b"one", b" two")?);
-    assert!(rt; holds(&shelf, "a", b""));
-    outputs.finish(&mut shelf)?;
-    assert!(rt; holds(&shelf, "a", b"one two"));
-    Ok(())
+// Puts them to one file.
+fn put_to_one(
+    alloc: Global,
+    shelf: &mut MemoryShelf,
+    first: &[u8],
+    second: &[u8],
+) -> Result<bool, ShelfError> {
+    let mut outputs = one(alloc, shelf)?;
+    put_two(&mut outputs, shelf, first, second)
 }
 
 // Whether the first file is so long.
@@ -80,59 +73,91 @@ fn is_long(shelf: &MemoryShelf, count: usize) -> bool {
     }
 }
 
-#[test]
-fn bytes_go_to_the_file_once_there_are_64_kib(rt: HostRuntime) -> Result<(), Fail> {
-    let alloc = rt.alloc();
+// Whether 64 KiB are written once the last 8 bytes of them come.
+fn are_written(alloc: Global) -> Result<bool, NoMemory> {
     let almost = filler(alloc, 65_528)?;
     let mut shelf = shelf_with(alloc, b"", &[])?;
-    let mut outputs = one(alloc, &mut shelf)?;
-    assert!(rt; put_two(&mut outputs, &mut shelf, &almost, b"8 bytes.")?);
-    assert!(rt; is_long(&shelf, 65_536));
-    Ok(())
+    let is = put_to_one(alloc, &mut shelf, &almost, b"8 bytes.") == Ok(true);
+    Ok(is && is_long(&shelf, 65_536))
 }
 
-// Puts pieces to two files in turn, and gives what came of making the files whole.
+#[test]
+fn bytes_go_to_the_file_once_there_are_64_kib(rt: HostRuntime) {
+    assert!(rt; are_written(rt.alloc()) == Ok(true));
+}
+
+// Puts pieces to two files in turn.
+fn put_three(
+    outputs: &mut Outputs<'_>,
+    shelf: &mut MemoryShelf,
+    pieces: [&[u8]; 3],
+) -> Result<(), ShelfError>
+    requires count { length outputs.old ≡ 2 }
+    requires begun { AreBegun (names_of outputs.old) (memory_outside shelf.old) }
+    ensures { AreBegun (names_of outputs.new) (memory_outside shelf.new) }
+{
+    let [first, second, third] = pieces;
+    outputs.put(shelf, 0, first)?;
+    outputs.put(shelf, 1, second)?;
+    outputs.put(shelf, 0, third)
+}
+
+// Whether nothing is written until the files are made whole, and what comes of that.
 fn put_in_turn(
     alloc: Global,
     shelf: &mut MemoryShelf,
     pieces: [&[u8]; 3],
-) -> Result<Result<(), ShelfError>, ShelfError> {
+) -> Result<(bool, Result<(), ShelfError>), ShelfError> {
     let mut outputs = two(alloc, shelf)?;
-    let [first, second, third] = pieces;
-    outputs.put(shelf, 0, first)?;
-    outputs.put(shelf, 1, second)?;
-    outputs.put(shelf, 0, third)?;
-    Ok(outputs.finish(shelf))
+    put_three(&mut outputs, shelf, pieces)?;
+    let is = holds(shelf, "a", b"") && holds(shelf, "b", b"");
+    Ok((is, outputs.finish(shelf)))
 }
 
-// Whether three pieces are put, where these calls fail, and making the files whole gets an answer
-// and leaves these files.
-fn are_put(
-    alloc: Global,
-    failing: &[Failing],
-    pieces: [&[u8]; 3],
+// Pieces that are put to two files in turn, what making the files whole answers, and the files.
+struct Put {
+    pieces: [&'static [u8]; 3],
     answer: Result<(), ShelfError>,
-    files: [&[u8]; 2],
-) -> Result<bool, Fail> {
+    files: [&'static [u8]; 2],
+}
+
+// Whether they are put so, where these calls fail.
+fn are_put(alloc: Global, failing: &[Failing], row: &Put) -> Result<bool, NoMemory> {
     let mut shelf = shelf_with(alloc, b"", failing)?;
-    let is = put_in_turn(alloc, &mut shelf, pieces)? == answer;
-    let [first, second] = files;
+    let is = put_in_turn(alloc, &mut shelf, row.pieces) == Ok((true, row.answer));
+    let [first, second] = row.files;
     Ok(is && holds(&shelf, "a", first) && holds(&shelf, "b", second))
 }
 
-// The third call is the append to the first file.
-#[test]
-fn a_failing_append_leaves_fronts(rt: HostRuntime) -> Result<(), Fail> {
-    let failing = [Failing { call: 3, keep: 5 }];
-    let answer = Err(ShelfError::Failed);
-    let pieces: [&[u8]; 3] = [b"one two", b"three", b""];
-    assert!(rt; are_put(rt.alloc(), &failing, pieces, answer, [b"one t", b""])?);
-    Ok(())
-}
+const WHOLE: [Put; 2] = [
+    Put {
+        pieces: [b"one", b"", b" two"],
+        answer: Ok(()),
+        files: [b"one two", b""],
+    },
+    Put {
+        pieces: [b"one", b"two", b"!"],
+        answer: Ok(()),
+        files: [b"one!", b"two"],
+    },
+];
 
 #[test]
-fn two_files_do_not_meet(rt: HostRuntime) -> Result<(), Fail> {
-    let pieces: [&[u8]; 3] = [b"one", b"two", b"!"];
-    assert!(rt; are_put(rt.alloc(), &[], pieces, Ok(()), [b"one!", b"two"])?);
-    Ok(())
+fn pieces_come_to_their_files_in_their_order(rt: HostRuntime) {
+    for row in &WHOLE {
+        assert!(rt; are_put(rt.alloc(), &[], row) == Ok(true));
+    }
+}
+
+const CUT: Put = Put {
+    pieces: [b"one two", b"three", b""],
+    answer: Err(ShelfError::Failed),
+    files: [b"one t", b""],
+};
+
+// The third call is the append to the first file.
+#[test]
+fn a_failing_append_leaves_fronts(rt: HostRuntime) {
+    let failing = [Failing { call: 3, keep: 5 }];
+    assert!(rt; are_put(rt.alloc(), &failing, &CUT) == Ok(true));
 }

@@ -1,57 +1,29 @@
 // A pass over small traces, over a long one, and over reads that fail.
 use crate::held::shelf_with;
+use crate::tally::{Tally, tally_from};
 use predator_base::NoMemory;
 use shelf::Failing;
 use std::alloc::Global;
-use std::test::Fail;
-use trace_grammar::{TraceFault, TraceRecord};
-use trace_passes::{Observer, PassFault, Refusal, Wanted, pass};
-
-// Counts the accesses from a first position on, and says whether the end was seen.
-#[derive(Clone, Copy, PartialEq, Eq, Debug)]
-struct Tally {
-    next: u64,
-    ended: bool,
-}
-
-impl Observer for Tally {
-    ghost use Rattle.std.specs.Prelude.{◌≡◌, ◌+◌, length};
-    ghost use Rattle.trace_grammar.specs.Rules.{touches_in};
-
-    ghost begins = { λ tally first. tally.next ≡ first };
-
-    ghost given = { λ begun now seen. now.next ≡ begun.next + length (touches_in seen) };
-
-    fn note(&mut self, item: &TraceRecord) -> Result<(), NoMemory> {
-        match item {
-            TraceRecord::Touch(_) => self.next += 1,
-            TraceRecord::End(_) => self.ended = true,
-            _ => {}
-        }
-        Ok(())
-    }
-}
+use trace_grammar::TraceFault;
+use trace_passes::{PassFault, Refusal, Wanted, pass};
 
 // A pass over the file `t` with this content that wants 8 harts and a first position: the steps
 // that the end tells, and what was counted.
-fn tallied(
+pub(crate) fn tallied(
     alloc: Global,
     content: &[u8],
     failing: &[Failing],
     first: u64,
-) -> Result<Result<(u64, Tally), PassFault>, Fail> {
+) -> Result<(u64, Tally), PassFault> {
     let mut shelf = shelf_with(alloc, content, failing)?;
     let wanted = Wanted {
         harts: Some(8),
         first: Some(first),
     };
-    let mut tally = Tally {
-        next: first,
-        ended: false,
-    };
+    let mut tally = tally_from(first);
     match pass(alloc, &mut shelf, "t", &wanted, &mut tally) {
-        Ok(passed) => Ok(Ok((passed.ending.steps, tally))),
-        Err(fault) => Ok(Err(fault)),
+        Ok(passed) => Ok((passed.ending.steps, tally)),
+        Err(fault) => Err(fault),
     }
 }
 
@@ -80,6 +52,28 @@ fn trace_of(alloc: Global, count: u64) -> Result<Vec<u8>, NoMemory> {
     Ok(bytes)
 }
 
+// A pass over such a trace.
+fn writes_tallied(
+    alloc: Global,
+    count: u64,
+    failing: &[Failing],
+) -> Result<(u64, Tally), PassFault> {
+    let content = trace_of(alloc, count)?;
+    tallied(alloc, &content, failing, 0)
+}
+
+#[test]
+fn each_record_is_seen_once(rt: HostRuntime) {
+    // The second trace has more bytes than are read at once.
+    for count in [2, 20_000] {
+        let tally = Tally {
+            next: count,
+            ended: true,
+        };
+        assert!(rt; writes_tallied(rt.alloc(), count, &[]) == Ok((count, tally)));
+    }
+}
+
 // A trace by some harts with a byte that tells no record.
 fn odd_trace_of(alloc: Global, harts: u8) -> Result<Vec<u8>, NoMemory> {
     let mut bytes = header_of(alloc, harts)?;
@@ -87,41 +81,26 @@ fn odd_trace_of(alloc: Global, harts: u8) -> Result<Vec<u8>, NoMemory> {
     Ok(bytes)
 }
 
-#[test]
-fn each_record_is_seen_once(rt: HostRuntime) -> Result<(), Fail> {
-    let alloc = rt.alloc();
-    // The second trace has more bytes than are read at once.
-    for count in [2, 20_000] {
-        let content = trace_of(alloc, count)?;
-        let tally = Tally {
-            next: count,
-            ended: true,
-        };
-        assert_eq!(rt; tallied(alloc, &content, &[], 0)?, Ok((count, tally)));
-    }
-    Ok(())
+// A pass over such a trace that wants a first position.
+fn odd_tallied(alloc: Global, harts: u8, first: u64) -> Result<(u64, Tally), PassFault> {
+    let content = odd_trace_of(alloc, harts)?;
+    tallied(alloc, &content, &[], first)
 }
 
 #[test]
-fn a_header_is_refused_before_a_fault(rt: HostRuntime) -> Result<(), Fail> {
-    let alloc = rt.alloc();
+fn a_header_is_refused_before_a_fault(rt: HostRuntime) {
     for (harts, first, refusal) in [
         (4, 5, Refusal::Harts),
         (8, 5, Refusal::Position { saved: 5, first: 0 }),
         (8, 0, Refusal::Trace(TraceFault::BadTag(20))),
     ] {
-        let content = odd_trace_of(alloc, harts)?;
-        let fault = tallied(alloc, &content, &[], first)?;
-        assert_eq!(rt; fault, Err(PassFault::Refused(refusal)));
+        let fault = PassFault::Refused(refusal);
+        assert!(rt; odd_tallied(rt.alloc(), harts, first) == Err(fault));
     }
-    Ok(())
 }
 
 #[test]
-fn a_read_that_fails_is_no_end(rt: HostRuntime) -> Result<(), Fail> {
-    let alloc = rt.alloc();
-    let content = trace_of(alloc, 2)?;
-    let fault = tallied(alloc, &content, &[Failing { call: 2, keep: 0 }], 0)?;
-    assert_eq!(rt; fault, Err(PassFault::ReadFault));
-    Ok(())
+fn a_read_that_fails_is_no_end(rt: HostRuntime) {
+    let failing = [Failing { call: 2, keep: 0 }];
+    assert!(rt; writes_tallied(rt.alloc(), 2, &failing) == Err(PassFault::ReadFault));
 }

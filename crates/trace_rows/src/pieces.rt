@@ -1,38 +1,44 @@
 // The same bytes in pieces of several sizes.
-use crate::lines::{records_of, trace_of};
-use predator_base::NoMemory;
+use crate::lines::{Line, records_of, trace_of};
+use heap_objects::SymbolKind;
+use predator_base::{Kind, NoMemory};
 use std::alloc::Global;
 use std::test::Fail;
 use trace_grammar::{Header, TraceFault, TraceRecord, Version};
 use trace_reader::TraceReader;
 
 // A short trace of each kind of record.
-const EACH_KIND: &str = "\
-W0 1000
-alloc 2000 24 10008
-symbol object 1000 32 it
-R1 fffffffe 2
-free 2000
-exit 7 9 2";
+const EACH_KIND: [Line; 6] = [
+    Line::Touch(Kind::Write, 0, 0x1000, 4),
+    Line::Alloc(0x2000, 24, 0x10008),
+    A_SYMBOL,
+    Line::Touch(Kind::Read, 1, 0xffff_fffe, 2),
+    Line::Free(0x2000),
+    Line::Exit(7, 9, 2),
+];
+
+const A_SYMBOL: Line = Line::Symbol(SymbolKind::Object, 0x1000, 32, "it");
 
 // A function, and a block that was made in it.
-const WORKER: &str = "\
-symbol function 100a0 64 worker
-alloc 2000 24 100b0
-W0 2000
-W1 2004
-free 2000
-exit 0 2 2";
+const WORKER: [Line; 6] = [
+    Line::Symbol(SymbolKind::Function, 0x100a0, 64, "worker"),
+    Line::Alloc(0x2000, 24, 0x100b0),
+    Line::Touch(Kind::Write, 0, 0x2000, 4),
+    Line::Touch(Kind::Write, 1, 0x2004, 4),
+    Line::Free(0x2000),
+    Line::Exit(0, 2, 2),
+];
 
 // Two blocks, the second of no bytes, and then an access to the first.
-const TWO_BLOCKS: &str = "\
-alloc 11000 24
-alloc 11020 0
-W0 11000
-exit 69664 9 1";
+const TWO_BLOCKS: [Line; 4] = [
+    Line::Alloc(0x11000, 24, 0),
+    Line::Alloc(0x11020, 0, 0),
+    Line::Touch(Kind::Write, 0, 0x11000, 4),
+    Line::Exit(69_664, 9, 1),
+];
 
 // The records of some bytes, and their first fault.
-#[derive(PartialEq, Eq, Drop)]
+#[derive(PartialEq, Drop)]
 struct Answer {
     records: Vec<TraceRecord>,
     fault: Option<TraceFault>,
@@ -51,12 +57,20 @@ fn answer_in(alloc: Global, bytes: &[u8], size: usize) -> Result<Answer, NoMemor
     Ok(Answer { records, fault })
 }
 
-// Whether the whole, single bytes and pieces of seven give one answer.
+// Whether the whole, single bytes and pieces of seven give this answer.
+fn all_give(alloc: Global, bytes: &[u8], answer: &Answer) -> Result<bool, NoMemory> {
+    for size in [bytes.len(), 1, 7] {
+        if answer_in(alloc, bytes, size)? != *answer {
+            return Ok(false);
+        }
+    }
+    Ok(true)
+}
+
+// Whether they give one answer.
 fn agree(alloc: Global, bytes: &[u8]) -> Result<bool, NoMemory> {
     let whole = answer_in(alloc, bytes, bytes.len())?;
-    let single = answer_in(alloc, bytes, 1)?;
-    let sevens = answer_in(alloc, bytes, 7)?;
-    Ok(whole == single && whole == sevens)
+    all_give(alloc, bytes, &whole)
 }
 
 // Whether each beginning of a trace gives one answer, whatever the pieces.
@@ -92,7 +106,7 @@ fn changes_agree(alloc: Global, bytes: &mut Vec<u8>, place: usize) -> Result<boo
 #[test]
 fn any_cut_gives_one_answer(rt: HostRuntime) -> Result<(), Fail> {
     for version in [Version::One, Version::Two] {
-        let bytes = trace_of(rt.alloc(), version, EACH_KIND)?;
+        let bytes = trace_of(rt.alloc(), version, &EACH_KIND)?;
         assert!(rt; cuts_agree(rt.alloc(), &bytes)?);
     }
     Ok(())
@@ -101,7 +115,7 @@ fn any_cut_gives_one_answer(rt: HostRuntime) -> Result<(), Fail> {
 #[test]
 fn any_changed_byte_gives_one_answer(rt: HostRuntime) -> Result<(), Fail> {
     for version in [Version::One, Version::Two] {
-        let mut bytes = trace_of(rt.alloc(), version, EACH_KIND)?;
+        let mut bytes = trace_of(rt.alloc(), version, &EACH_KIND)?;
         for place in 0..bytes.len() {
             assert!(rt; changes_agree(rt.alloc(), &mut bytes, place)?);
         }
@@ -109,38 +123,25 @@ fn any_changed_byte_gives_one_answer(rt: HostRuntime) -> Result<(), Fail> {
     Ok(())
 }
 
-// Whether some bytes in pieces of a size are read as these records.
-fn is_read_as(
-    alloc: Global,
-    bytes: &[u8],
-    size: usize,
-    records: &Vec<TraceRecord>,
-) -> Result<bool, NoMemory> {
-    let answer = answer_in(alloc, bytes, size)?;
-    Ok(answer.records == *records && answer.fault.is_none())
-}
-
-// Whether the trace of a text is read again, in pieces of several sizes.
-fn is_read_again(alloc: Global, version: Version, text: &str) -> Result<bool, Fail> {
-    let records = records_of(alloc, text)?;
-    let bytes = trace_of(alloc, version, text)?;
-    let whole = is_read_as(alloc, &bytes, bytes.len(), &records)?;
-    let single = is_read_as(alloc, &bytes, 1, &records)?;
-    let sevens = is_read_as(alloc, &bytes, 7, &records)?;
-    Ok(whole && single && sevens)
+// Whether the trace of some rows is read again, in pieces of several sizes.
+fn is_read_again(alloc: Global, version: Version, lines: &[Line]) -> Result<bool, Fail> {
+    let bytes = trace_of(alloc, version, lines)?;
+    let told = Answer {
+        records: records_of(alloc, lines)?,
+        fault: None,
+    };
+    Ok(all_give(alloc, &bytes, &told)?)
 }
 
 #[test]
 fn a_trace_is_read_again(rt: HostRuntime) -> Result<(), Fail> {
-    for text in [EACH_KIND, WORKER, TWO_BLOCKS] {
+    for lines in [EACH_KIND.as_slice(), &WORKER, &TWO_BLOCKS] {
         for version in [Version::One, Version::Two] {
-            assert!(rt; is_read_again(rt.alloc(), version, text)?);
+            assert!(rt; is_read_again(rt.alloc(), version, lines)?);
         }
     }
     Ok(())
 }
-
-const A_SYMBOL: &str = "symbol object 1000 32 it";
 
 // What a reader tells of some bytes without a fault, in pieces of three.
 fn told_of(alloc: Global, bytes: &[u8]) -> Result<(Option<Version>, Option<Header>), TraceFault> {
@@ -154,10 +155,10 @@ fn told_of(alloc: Global, bytes: &[u8]) -> Result<(Option<Version>, Option<Heade
 
 #[test]
 fn version_and_header_are_told(rt: HostRuntime) -> Result<(), Fail> {
-    let bytes = trace_of(rt.alloc(), Version::Two, A_SYMBOL)?;
+    let bytes = trace_of(rt.alloc(), Version::Two, &[A_SYMBOL])?;
     let header = Header { first: 0, harts: 8 };
     assert!(rt; told_of(rt.alloc(), &bytes) == Ok((Some(Version::Two), Some(header))));
-    let records = records_of(rt.alloc(), A_SYMBOL)?;
+    let records = records_of(rt.alloc(), &[A_SYMBOL])?;
     assert!(rt; answer_in(rt.alloc(), &bytes, 3)?.records == records);
     Ok(())
 }

@@ -1,6 +1,6 @@
 // Traces with one mistake each, and the fault that they give.
-use crate::lines::trace_of;
-use predator_base::NoMemory;
+use crate::lines::{Line, trace_of};
+use predator_base::{Kind, NoMemory};
 use std::alloc::Global;
 use std::test::Fail;
 use trace_grammar::{TraceFault, Version};
@@ -24,6 +24,21 @@ const LAST_WORD: [u8; 48] = [
     0x50, 0x52, 0x44, 0x54, 0x52, 0x43, 0x30, 0x32, 0, 0, 0, 0, 0, 0, 0, 0, 8, 0, 0, 0, // header
     0x24, 0, 7, // write
     6, 0, 0, 0, 0, 0, 0, 0, 0, 1, 0, 0, 0, 0, 0, 0, 0, 1, 0, 0, 0, 0, 0, 0, 0, // end
+];
+
+// The same traces as rows.
+const NONE: [Line; 1] = [Line::Exit(0, 0, 0)];
+
+const THREE: [Line; 4] = [
+    Line::Touch(Kind::Write, 0, 0x1000, 4),
+    Line::Touch(Kind::Write, 1, 0x1004, 4),
+    Line::Touch(Kind::Write, 0, 0x1000, 4),
+    Line::Exit(0, 3, 3),
+];
+
+const LAST: [Line; 2] = [
+    Line::Touch(Kind::Write, 0, 0xffff_fffc, 4),
+    Line::Exit(0, 1, 1),
 ];
 
 // The first fault of some bytes.
@@ -52,34 +67,25 @@ fn fault_with(
 
 #[test]
 fn the_bytes_are_those_of_their_lines(rt: HostRuntime) -> Result<(), Fail> {
-    for (version, text, bytes) in [
-        (Version::One, "exit 0 0 0", NO_ACCESSES.as_slice()),
-        (
-            Version::Two,
-            "W0 1000\nW1 1004\nW0 1000\nexit 0 3 3",
-            THREE_WRITES.as_slice(),
-        ),
-        (
-            Version::Two,
-            "W0 fffffffc\nexit 0 1 1",
-            LAST_WORD.as_slice(),
-        ),
+    for (version, lines, bytes) in [
+        (Version::One, NONE.as_slice(), NO_ACCESSES.as_slice()),
+        (Version::Two, THREE.as_slice(), THREE_WRITES.as_slice()),
+        (Version::Two, LAST.as_slice(), LAST_WORD.as_slice()),
     ] {
-        assert!(rt; trace_of(rt.alloc(), version, text)?.as_slice() == bytes);
+        assert!(rt; trace_of(rt.alloc(), version, lines)?.as_slice() == bytes);
     }
     Ok(())
 }
 
 #[test]
-fn good_traces_have_no_fault(rt: HostRuntime) -> Result<(), Fail> {
+fn good_traces_have_no_fault(rt: HostRuntime) {
     for bytes in [
         NO_ACCESSES.as_slice(),
         THREE_WRITES.as_slice(),
         LAST_WORD.as_slice(),
     ] {
-        assert!(rt; fault_of(rt.alloc(), bytes)?.is_none());
+        assert!(rt; fault_of(rt.alloc(), bytes) == Ok(None));
     }
-    Ok(())
 }
 
 const NONE_COUNTED: TraceFault = TraceFault::CountMismatch {
@@ -87,31 +93,24 @@ const NONE_COUNTED: TraceFault = TraceFault::CountMismatch {
     counted: 0,
 };
 
-// Mistakes in the first trace and in the second: a place, the byte there, and the fault.
-const IN_NO_ACCESSES: [(usize, u8, TraceFault); 6] = [
-    (0, 0x51, TraceFault::BadMagic),
-    (14, 1, TraceFault::BadField(8)),
-    (16, 0, TraceFault::BadHarts),
-    (20, 9, TraceFault::BadTag(20)),
-    (21, 5, TraceFault::BadField(21)),
-    (37, 3, NONE_COUNTED),
-];
-
-const IN_THREE_WRITES: [(usize, u8, TraceFault); 3] = [
-    (13, 1, TraceFault::TooLong),
-    (20, 1, TraceFault::BadTag(20)),
-    (23, 0, TraceFault::BadField(22)),
+// A trace, a place in it, another byte there, and the fault.
+const MISTAKES: [(&[u8], usize, u8, TraceFault); 9] = [
+    (&NO_ACCESSES, 0, 0x51, TraceFault::BadMagic),
+    (&NO_ACCESSES, 14, 1, TraceFault::BadField(8)),
+    (&NO_ACCESSES, 16, 0, TraceFault::BadHarts),
+    (&NO_ACCESSES, 20, 9, TraceFault::BadTag(20)),
+    (&NO_ACCESSES, 21, 5, TraceFault::BadField(21)),
+    (&NO_ACCESSES, 37, 3, NONE_COUNTED),
+    (&THREE_WRITES, 13, 1, TraceFault::TooLong),
+    (&THREE_WRITES, 20, 1, TraceFault::BadTag(20)),
+    (&THREE_WRITES, 23, 0, TraceFault::BadField(22)),
 ];
 
 #[test]
-fn a_mistake_is_told_by_its_place(rt: HostRuntime) -> Result<(), Fail> {
-    for (place, value, fault) in &IN_NO_ACCESSES {
-        assert!(rt; fault_with(rt.alloc(), &NO_ACCESSES, *place, *value)? == Some(*fault));
+fn a_mistake_is_told_by_its_place(rt: HostRuntime) {
+    for (trace, place, value, fault) in &MISTAKES {
+        assert!(rt; fault_with(rt.alloc(), trace, *place, *value) == Ok(Some(*fault)));
     }
-    for (place, value, fault) in &IN_THREE_WRITES {
-        assert!(rt; fault_with(rt.alloc(), &THREE_WRITES, *place, *value)? == Some(*fault));
-    }
-    Ok(())
 }
 
 // The first fault of some bytes with one more behind them.
@@ -122,10 +121,10 @@ fn fault_behind(alloc: Global, bytes: &[u8], value: u8) -> Result<Option<TraceFa
 }
 
 #[test]
-fn a_trace_ends_where_its_end_does(rt: HostRuntime) -> Result<(), Fail> {
+fn a_trace_ends_where_its_end_does(rt: HostRuntime) {
     let (short, _) = NO_ACCESSES.split_at(44);
-    assert!(rt; fault_of(rt.alloc(), short)? == Some(TraceFault::Truncated(44)));
-    assert!(rt; fault_behind(rt.alloc(), &NO_ACCESSES, 0)? == Some(TraceFault::AfterEnd(45)));
-    assert!(rt; fault_of(rt.alloc(), &[7; 10])? == Some(TraceFault::Truncated(10)));
-    Ok(())
+    let after = TraceFault::AfterEnd(45);
+    assert!(rt; fault_of(rt.alloc(), short) == Ok(Some(TraceFault::Truncated(44))));
+    assert!(rt; fault_behind(rt.alloc(), &NO_ACCESSES, 0) == Ok(Some(after)));
+    assert!(rt; fault_of(rt.alloc(), &[7; 10]) == Ok(Some(TraceFault::Truncated(10))));
 }

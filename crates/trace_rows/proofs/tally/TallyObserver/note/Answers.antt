@@ -5,7 +5,7 @@ use Rattle.trace_grammar.specs.declared.record.TraceRecord.{TraceRecord}
 use Rattle.trace_grammar.specs.declared.record.TraceRecord.TheVariants as records
 use Rattle.predator_base.specs.Touch.{Touch}
 use Rattle.trace_passes.specs.CountLaws.{touches_in-more}
-use Rattle.trace_rows.proofs.passes.TallyObserver.note.Goals as goal
+use Rattle.trace_rows.proofs.tally.TallyObserver.note.Goals as goal
 
 pub overflow_add-self : goal.overflow_add-self
 overflow_add-self c =
