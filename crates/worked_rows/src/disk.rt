@@ -3,11 +3,11 @@ use crate::runs::{NEIGHBOURS, trace, words};
 use disk_shelf::DiskShelf;
 use predator_cli::predator;
 use shelf::{FetchError, Shelf, ShelfError, fetch};
-use std::alloc::Global;
-use std::fs;
+use std::alloc::{AllocError, Global};
 use std::os::unix::fs::symlink;
 use std::rt::{Clock, Files};
 use std::test::Fail;
+use std::{fs, io};
 
 const NAME: &str = "worked_rows.tmp";
 
@@ -32,8 +32,8 @@ const BEGUN_NAME: &str = "worked_rows_begun.tmp";
 const REPLAY_IT: &str = "replay worked_rows.tmp";
 
 // Writes a file anew, in two pieces.
-fn write<R: Files + Print + Eprint + Clock + AllocGlobal>(
-    shelf: &mut DiskShelf<'_, R>,
+fn write<S: Shelf>(
+    shelf: &mut S,
     name: &str,
     first: &[u8],
     second: &[u8],
@@ -53,37 +53,60 @@ fn holds<S: Shelf>(
     Ok(fetch(alloc, shelf, name, 1 << 20)?.as_slice() == bytes)
 }
 
-// The status of a line, as a number.
-fn status_of<S: Shelf>(alloc: Global, shelf: &mut S, line: &str) -> Result<u8, Fail> {
-    let line = words(alloc, line)?;
-    Ok(predator(alloc, &line, shelf).number())
+// The status of a call with these words, as a number.
+fn number_of<S: Shelf>(alloc: Global, shelf: &mut S, words: &[String]) -> u8 {
+    predator(alloc, words, shelf).number()
+}
+
+// The same of a line of words.
+fn status_of<S: Shelf>(alloc: Global, shelf: &mut S, line: &str) -> Result<u8, AllocError> {
+    let words = words(alloc, line)?;
+    Ok(number_of(alloc, shelf, &words))
+}
+
+// Writes a trace over an older content, and answers whether it is held whole, and how its replay
+// ends.
+fn replay_written<S: Shelf>(
+    alloc: Global,
+    shelf: &mut S,
+    content: &[u8],
+) -> Result<(bool, u8), Fail> {
+    let (first, second) = content.split_at(content.len() / 2);
+    write(shelf, NAME, b"older", b"")?;
+    write(shelf, NAME, first, second)?;
+    let is_held = holds(alloc, shelf, NAME, content)?;
+    Ok((is_held, status_of(alloc, shelf, REPLAY_IT)?))
+}
+
+// Whether the file can't be read, nor replayed.
+fn is_missing<S: Shelf>(alloc: Global, shelf: &mut S) -> Result<bool, AllocError> {
+    let is_unread = holds(alloc, shelf, NAME, b"") == Err(FetchError::ReadFault);
+    Ok(is_unread && status_of(alloc, shelf, REPLAY_IT)? == 7)
 }
 
 #[test]
 fn a_real_file_is_written_read_and_replayed(rt: HostRuntime) -> Result<(), Fail> {
-    let alloc = rt.alloc();
-    let content = trace(alloc, &NEIGHBOURS)?;
-    let (first, second) = content.split_at(content.len() / 2);
+    let content = trace(rt.alloc(), &NEIGHBOURS)?;
     let mut shelf = DiskShelf::new(&rt);
-    write(&mut shelf, NAME, b"older", b"")?;
-    write(&mut shelf, NAME, first, second)?;
-    assert!(rt; holds(alloc, &mut shelf, NAME, &content)?);
-    assert_eq!(rt; status_of(alloc, &mut shelf, REPLAY_IT)?, 0);
+    let (is_held, status) = replay_written(rt.alloc(), &mut shelf, &content)?;
     fs::remove_file(&rt, NAME)?;
-    let missing = holds(alloc, &mut shelf, NAME, &content);
-    assert_eq!(rt; missing, Err(FetchError::ReadFault));
-    assert_eq!(rt; status_of(alloc, &mut shelf, REPLAY_IT)?, 7);
+    assert!(rt; is_held);
+    assert_eq!(rt; status, 0);
+    assert!(rt; is_missing(rt.alloc(), &mut shelf)?);
     Ok(())
+}
+
+// Writes a file, and reads it.
+fn fetch_written<S: Shelf>(alloc: Global, shelf: &mut S, content: &[u8]) -> Result<Vec<u8>, Fail> {
+    write(shelf, LONG_NAME, content, b"end")?;
+    Ok(fetch(alloc, shelf, LONG_NAME, 1 << 20)?)
 }
 
 // A file of more than two pieces.
 #[test]
 fn a_long_file_is_written_and_read_whole(rt: HostRuntime) -> Result<(), Fail> {
-    let alloc = rt.alloc();
-    let content = Vec::from_elem(alloc, b'x', LONG)?;
-    let mut shelf = DiskShelf::new(&rt);
-    write(&mut shelf, LONG_NAME, &content, b"end")?;
-    let fetched = fetch(alloc, &mut shelf, LONG_NAME, 1 << 20)?;
+    let content = Vec::from_elem(rt.alloc(), b'x', LONG)?;
+    let fetched = fetch_written(rt.alloc(), &mut DiskShelf::new(&rt), &content)?;
     fs::remove_file(&rt, LONG_NAME)?;
     assert_eq!(rt; fetched.len(), LONG + 3);
     assert!(rt; fetched.ends_with(b"xend"));
@@ -103,41 +126,69 @@ fn is_refused<S: Shelf>(shelf: &mut S, name: &str) -> bool {
     shelf.begin(name) == Err(ShelfError::Failed)
 }
 
-#[test]
-fn a_file_that_was_read_is_not_begun_under_another_name(rt: HostRuntime) -> Result<(), Fail> {
-    let alloc = rt.alloc();
-    fs::write(&rt, READ_NAME, "kept")?;
-    fs::hard_link(&rt, READ_NAME, "worked_rows_hard.tmp")?;
-    symlink(&rt, READ_NAME, "worked_rows_soft.tmp")?;
-    let mut shelf = DiskShelf::new(&rt);
-    assert!(rt; holds(alloc, &mut shelf, READ_NAME, b"kept")?);
+// Whether a file that was read is begun under none of its other names, and stays as it is.
+fn is_kept<S: Shelf>(alloc: Global, shelf: &mut S) -> Result<bool, FetchError> {
+    let mut is_kept = holds(alloc, shelf, READ_NAME, b"kept")?;
     for name in OTHER_NAMES {
-        assert!(rt; is_refused(&mut shelf, name), "{name}");
+        if !is_refused(shelf, name) {
+            is_kept = false;
+        }
     }
-    let is_kept = holds(alloc, &mut shelf, READ_NAME, b"kept")?;
+    Ok(is_kept && holds(alloc, shelf, READ_NAME, b"kept")?)
+}
+
+fn make_names<R: Files>(rt: &R) -> io::Result<()> {
+    fs::write(rt, READ_NAME, "kept")?;
+    fs::hard_link(rt, READ_NAME, "worked_rows_hard.tmp")?;
+    symlink(rt, READ_NAME, "worked_rows_soft.tmp")
+}
+
+fn remove_names<R: Files>(rt: &R) -> io::Result<()> {
     for name in WRITTEN_NAMES {
-        fs::remove_file(&rt, name)?;
+        fs::remove_file(rt, name)?;
     }
-    assert!(rt; is_kept);
     Ok(())
 }
 
 #[test]
-fn a_file_that_was_begun_is_not_begun_under_another_name(rt: HostRuntime) -> Result<(), Fail> {
-    let mut shelf = DiskShelf::new(&rt);
-    shelf.begin(BEGUN_NAME)?;
-    assert!(rt; is_refused(&mut shelf, "./worked_rows_begun.tmp"));
-    shelf.begin(BEGUN_NAME)?;
-    fs::remove_file(&rt, BEGUN_NAME)?;
+fn a_file_that_was_read_is_not_begun_under_another_name(rt: HostRuntime) -> Result<(), Fail> {
+    make_names(&rt)?;
+    let is_kept = is_kept(rt.alloc(), &mut DiskShelf::new(&rt))?;
+    remove_names(&rt)?;
+    assert!(rt; is_kept);
     Ok(())
+}
+
+// Whether a file that was begun is begun again under its own name alone.
+fn is_begun_by_its_name<S: Shelf>(shelf: &mut S) -> Result<bool, ShelfError> {
+    shelf.begin(BEGUN_NAME)?;
+    let is_refused = is_refused(shelf, "./worked_rows_begun.tmp");
+    shelf.begin(BEGUN_NAME)?;
+    Ok(is_refused)
+}
+
+#[test]
+fn a_file_that_was_begun_is_not_begun_under_another_name(rt: HostRuntime) -> Result<(), Fail> {
+    let is_begun = is_begun_by_its_name(&mut DiskShelf::new(&rt))?;
+    fs::remove_file(&rt, BEGUN_NAME)?;
+    assert!(rt; is_begun);
+    Ok(())
+}
+
+// Whether a device is read as empty, begun under a second name and written under a third one.
+fn is_known_by_no_name<R: Files + Print + Eprint + Clock + AllocGlobal>(
+    alloc: Global,
+    shelf: &mut DiskShelf<'_, R>,
+) -> Result<bool, Fail> {
+    let is_empty = holds(alloc, shelf, "/dev/null", b"")?;
+    shelf.begin("/dev/./null")?;
+    shelf.append("/dev/../dev/null", b"lost")?;
+    Ok(is_empty)
 }
 
 // Nothing is lost in a device.
 #[test]
 fn a_device_may_have_many_names(rt: HostRuntime) -> Result<(), Fail> {
-    let mut shelf = DiskShelf::new(&rt);
-    assert!(rt; holds(rt.alloc(), &mut shelf, "/dev/null", b"")?);
-    shelf.begin("/dev/./null")?;
-    shelf.append("/dev/../dev/null", b"lost")?;
+    assert!(rt; is_known_by_no_name(rt.alloc(), &mut DiskShelf::new(&rt))?);
     Ok(())
 }

@@ -20,11 +20,43 @@ pub(crate) struct Call {
     absent: Vec<String>,
 }
 
-// A call of the shelf that fails: its number, and how many bytes it keeps.
-fn failing_of(call: &str, keep: Option<&str>) -> Option<Failing> {
-    let call = number(call)? as u64;
-    let keep = u32::try_from(number(keep?)?).ok()?;
-    Some(Failing { call, keep })
+// What a line says beside the text that is to be printed.
+#[derive(Clone, Copy)]
+enum Wish<'a> {
+    Absent(&'a str),
+    Keeps(&'a str),
+    Front(usize),
+    Status(usize),
+    Fails(Failing),
+}
+
+// A call of the shelf that fails, by its number, and how many bytes it keeps.
+fn failing_of(call: usize, keep: &str) -> Option<Failing> {
+    let keep = keep.parse().ok()?;
+    Some(Failing {
+        call: call as u64,
+        keep,
+    })
+}
+
+// What a line says by a number.
+fn wish_by(what: &str, count: usize, next: Option<&str>) -> Option<Wish<'static>> {
+    match what {
+        "front" => Some(Wish::Front(count)),
+        "status" => Some(Wish::Status(count)),
+        _ => Some(Wish::Fails(failing_of(count, next?)?)),
+    }
+}
+
+fn wish_of(line: &str) -> Option<Wish<'_>> {
+    let mut words = line.split_whitespace();
+    let what = words.next()?;
+    let word = words.next()?;
+    match what {
+        "absent" => Some(Wish::Absent(word)),
+        "keeps" => Some(Wish::Keeps(word)),
+        _ => wish_by(what, number(word)?, words.next()),
+    }
 }
 
 fn words_of(alloc: Global, line: &str) -> Result<Vec<String>, AllocError> {
@@ -35,12 +67,17 @@ fn words_of(alloc: Global, line: &str) -> Result<Vec<String>, AllocError> {
     Ok(words)
 }
 
+// The file of this name and this content.
+fn file_of(alloc: Global, name: &str, content: &[u8]) -> Result<HeldFile, AllocError> {
+    let name = String::from_str(alloc, name)?;
+    let content = content.to_vec(alloc)?;
+    Ok(HeldFile { name, content })
+}
+
 fn copies_of(alloc: Global, files: &[HeldFile]) -> Result<Vec<HeldFile>, AllocError> {
     let mut copies = Vec::new(alloc);
     for file in files {
-        let name = String::from_str(alloc, &file.name)?;
-        let content = file.content.to_vec(alloc)?;
-        copies.push(HeldFile { name, content })?;
+        copies.push(file_of(alloc, &file.name, &file.content)?)?;
     }
     Ok(copies)
 }
@@ -82,11 +119,7 @@ fn keep(
     let mut all = true;
     for name in names {
         match shelf.written(name) {
-            Some(content) => {
-                let content = content.to_vec(alloc)?;
-                let name = String::from_str(alloc, name)?;
-                held.insert(0, HeldFile { name, content })?;
-            }
+            Some(content) => held.insert(0, file_of(alloc, name, content)?)?,
             None => all = false,
         }
     }
@@ -123,22 +156,23 @@ impl Call {
         Ok(())
     }
 
-    // Notes what a line says beside the text: the status, a name, the front or a failure.
-    pub(crate) fn want(&mut self, alloc: Global, line: &str) -> Result<(), Trouble> {
-        let mut words = line.split_whitespace();
-        let what = words.next();
-        let word = words.next().ok_or(Trouble::BadLine)?;
-        match what {
-            Some("absent") => note(alloc, &mut self.absent, word)?,
-            Some("keeps") => note(alloc, &mut self.kept, word)?,
-            Some("front") => self.front = Some(number(word).ok_or(Trouble::BadLine)?),
-            Some("status") => self.status = number(word).ok_or(Trouble::BadLine)?,
-            _ => {
-                let failing = failing_of(word, words.next()).ok_or(Trouble::BadLine)?;
-                self.failing.push(failing)?;
-            }
+    fn grant(&mut self, alloc: Global, wish: Wish<'_>) -> Result<(), AllocError> {
+        match wish {
+            Wish::Absent(name) => note(alloc, &mut self.absent, name)?,
+            Wish::Keeps(name) => note(alloc, &mut self.kept, name)?,
+            Wish::Front(count) => self.front = Some(count),
+            Wish::Status(status) => self.status = status,
+            Wish::Fails(failing) => self.failing.push(failing)?,
         }
         Ok(())
+    }
+
+    // Notes what a line says beside the text: the status, a name, the front or a failure.
+    pub(crate) fn want(&mut self, alloc: Global, line: &str) -> Result<(), Trouble> {
+        match wish_of(line) {
+            Some(wish) => Ok(self.grant(alloc, wish)?),
+            None => Err(Trouble::BadLine),
+        }
     }
 
     // The shelf of these files, whose calls fail as the call says.
@@ -162,14 +196,19 @@ impl Call {
         self.passes_over(rt, &mut shelf, held)
     }
 
+    // The status of the program, run with the call's words.
+    fn status_over(&self, alloc: Global, shelf: &mut MemoryShelf) -> Result<usize, AllocError> {
+        let words = words_of(alloc, &self.line)?;
+        Ok(usize::from(predator(alloc, &words, shelf).number()))
+    }
+
     fn passes_over<R: Print + AllocGlobal>(
         &self,
         rt: &R,
         shelf: &mut MemoryShelf,
         held: &mut Vec<HeldFile>,
     ) -> Result<bool, Trouble> {
-        let words = words_of(rt.alloc(), &self.line)?;
-        let status = usize::from(predator(rt.alloc(), &words, shelf).number());
+        let status = self.status_over(rt.alloc(), shelf)?;
         let ends = self.ends_well(rt, status)?;
         let prints = self.prints_well(rt, shelf.printed())?;
         let writes = self.writes_well(rt, shelf, held)?;

@@ -20,7 +20,7 @@ use crate::content::{Content, Form};
 use crate::trouble::Trouble;
 use crate::words::{byte_of, number};
 use shelf::HeldFile;
-use std::alloc::Global;
+use std::alloc::{AllocError, Global};
 use std::fs;
 use std::rt::Files;
 use std::str::SplitWhitespace;
@@ -44,6 +44,35 @@ pub(crate) struct Case {
     failed: u32,
 }
 
+impl Spelling {
+    // The file that no line has spelled yet.
+    fn new(
+        alloc: Global,
+        name: &str,
+        is_written: bool,
+        form: Form,
+        steps: Option<u64>,
+    ) -> Result<Self, AllocError> {
+        let name = String::from_str(alloc, name)?;
+        let content = Content::new(alloc, form)?;
+        Ok(Spelling {
+            name,
+            is_written,
+            steps,
+            content,
+        })
+    }
+
+    // The file that the lines spelled.
+    fn end(self) -> Result<HeldFile, AllocError> {
+        let content = self.content.end(self.steps)?;
+        Ok(HeldFile {
+            name: self.name,
+            content,
+        })
+    }
+}
+
 // What follows the mark of a line that spells something.
 fn spelled(line: &str) -> Option<&str> {
     if line == "|" {
@@ -59,6 +88,15 @@ fn form_of(word: &str) -> Option<Form> {
         "trace" => Some(Form::Trace),
         _ => None,
     }
+}
+
+// Puts the bytes that words spell in place of others, from a place on.
+fn overwrite(bytes: &mut [u8], mut place: usize, words: SplitWhitespace<'_>) -> Option<()> {
+    for word in words {
+        *bytes.get_mut(place)? = byte_of(word)?;
+        place = place.saturating_add(1);
+    }
+    Some(())
 }
 
 impl Case {
@@ -94,14 +132,26 @@ impl Case {
         self.end_spelling()?;
         let mut words = line.split_whitespace();
         match words.next() {
-            None => Ok(()),
-            Some(word) if word.starts_with('#') => Ok(()),
-            Some("status" | "absent" | "keeps" | "front" | "fails") => self.want(line),
-            Some("writes") => {
-                let word = words.next().ok_or(Trouble::BadLine)?;
-                self.begin_file(rt, word, words, true)
-            }
-            Some(word) => {
+            Some(word) if !word.starts_with('#') => self.follow(rt, line, word, words),
+            _ => Ok(()),
+        }
+    }
+
+    // Follows a line that begins with a word.
+    fn follow<R: Files + Print + AllocGlobal>(
+        &mut self,
+        rt: &R,
+        line: &str,
+        word: &str,
+        mut words: SplitWhitespace<'_>,
+    ) -> Result<(), Trouble> {
+        match word {
+            "status" | "absent" | "keeps" | "front" | "fails" => self.want(line),
+            "writes" => match words.next() {
+                Some(form) => self.begin_file(rt, form, words, true),
+                None => Err(Trouble::BadLine),
+            },
+            _ => {
                 self.make_call(rt)?;
                 self.change(rt, line, word, words)
             }
@@ -117,14 +167,17 @@ impl Case {
         words: SplitWhitespace<'_>,
     ) -> Result<(), Trouble> {
         match word {
-            "$" => {
-                self.call = Some(Call::new(self.alloc, line.strip_prefix("$").unwrap_or(""))?);
-                Ok(())
-            }
+            "$" => Ok(self.begin_call(line.strip_prefix("$").unwrap_or(""))?),
             "resize" => self.resize(words),
-            "patch" => self.patch(words),
+            "patch" => self.patch(words).ok_or(Trouble::BadLine),
             _ => self.begin_file(rt, word, words, false),
         }
+    }
+
+    fn begin_call(&mut self, line: &str) -> Result<(), AllocError> {
+        let call = Call::new(self.alloc, line)?;
+        self.call = Some(call);
+        Ok(())
     }
 
     // Ends the case.
@@ -160,19 +213,37 @@ impl Case {
     ) -> Result<(), Trouble> {
         let name = words.next().ok_or(Trouble::BadLine)?;
         if form == "file" {
-            let content = fs::read(rt, words.next().ok_or(Trouble::BadLine)?)?;
-            return self.put(String::from_str(self.alloc, name)?, content, is_written);
+            self.put_data(rt, name, words.next(), is_written)
+        } else {
+            self.begin_spelling(form, name, words.next(), is_written)
         }
-        let form = form_of(form).ok_or(Trouble::BadLine)?;
-        let steps = words.next().and_then(number).map(|steps| steps as u64);
-        let content = Content::new(self.alloc, form)?;
+    }
+
+    // Puts the file that has the name `data` beside the case.
+    fn put_data<R: Files + AllocGlobal>(
+        &mut self,
+        rt: &R,
+        name: &str,
+        data: Option<&str>,
+        is_written: bool,
+    ) -> Result<(), Trouble> {
+        let content = fs::read(rt, data.ok_or(Trouble::BadLine)?)?;
         let name = String::from_str(self.alloc, name)?;
-        self.spelling = Some(Spelling {
-            name,
-            is_written,
-            steps,
-            content,
-        });
+        self.put(HeldFile { name, content }, is_written)
+    }
+
+    // Begins a file whose lines follow.
+    fn begin_spelling(
+        &mut self,
+        form: &str,
+        name: &str,
+        steps: Option<&str>,
+        is_written: bool,
+    ) -> Result<(), Trouble> {
+        let form = form_of(form).ok_or(Trouble::BadLine)?;
+        let steps = steps.and_then(number).map(|steps| steps as u64);
+        let spelling = Spelling::new(self.alloc, name, is_written, form, steps)?;
+        self.spelling = Some(spelling);
         Ok(())
     }
 
@@ -180,50 +251,47 @@ impl Case {
         let Some(spelling) = self.spelling.take() else {
             return Ok(());
         };
-        let content = spelling.content.end(spelling.steps)?;
-        self.put(spelling.name, content, spelling.is_written)
+        let is_written = spelling.is_written;
+        let file = spelling.end()?;
+        self.put(file, is_written)
     }
 
     // Puts a file among those that are held, in place of an older one, or among those that the call
     // is to write.
-    fn put(&mut self, name: String, content: Vec<u8>, is_written: bool) -> Result<(), Trouble> {
-        let file = HeldFile { name, content };
+    fn put(&mut self, file: HeldFile, is_written: bool) -> Result<(), Trouble> {
         if !is_written {
             // Of two files of one name the first counts.
-            self.held.insert(0, file)?;
-            return Ok(());
+            return Ok(self.held.insert(0, file)?);
         }
-        let call = self.call.as_mut().ok_or(Trouble::BadLine)?;
-        call.writes.push(file)?;
-        Ok(())
+        match &mut self.call {
+            Some(call) => Ok(call.writes.push(file)?),
+            None => Err(Trouble::BadLine),
+        }
     }
 
     // The bytes of the held file of a name.
-    fn bytes_of(&mut self, name: Option<&str>) -> Result<&mut Vec<u8>, Trouble> {
-        let name = name.ok_or(Trouble::BadLine)?;
+    fn bytes_of(&mut self, name: &str) -> Option<&mut Vec<u8>> {
         for file in &mut self.held {
             if file.name.as_str() == name {
-                return Ok(&mut file.content);
+                return Some(&mut file.content);
             }
         }
-        Err(Trouble::BadLine)
+        None
     }
 
     fn resize(&mut self, mut words: SplitWhitespace<'_>) -> Result<(), Trouble> {
-        let bytes = self.bytes_of(words.next())?;
+        let name = words.next().ok_or(Trouble::BadLine)?;
         let length = words.next().and_then(number).ok_or(Trouble::BadLine)?;
-        bytes.resize(length, 0)?;
-        Ok(())
+        match self.bytes_of(name) {
+            Some(bytes) => Ok(bytes.resize(length, 0)?),
+            None => Err(Trouble::BadLine),
+        }
     }
 
-    fn patch(&mut self, mut words: SplitWhitespace<'_>) -> Result<(), Trouble> {
-        let bytes = self.bytes_of(words.next())?;
-        let mut place = words.next().and_then(number).ok_or(Trouble::BadLine)?;
-        for word in words {
-            *bytes.get_mut(place).ok_or(Trouble::BadLine)? = byte_of(word).ok_or(Trouble::BadLine)?;
-            place = place.saturating_add(1);
-        }
-        Ok(())
+    fn patch(&mut self, mut words: SplitWhitespace<'_>) -> Option<()> {
+        let bytes = self.bytes_of(words.next()?)?;
+        let place = number(words.next()?)?;
+        overwrite(bytes, place, words)
     }
 
     // Makes the call that the case has described, if there is one. Later calls can read what it was

@@ -1,6 +1,6 @@
 // The content of a file, as a case spells it line by line.
 use crate::trouble::Trouble;
-use crate::words::{byte_of, hexadecimal, number};
+use crate::words::{byte_of, hexadecimal, short_number};
 use std::alloc::{AllocError, Global};
 use std::str::SplitWhitespace;
 
@@ -31,13 +31,35 @@ const HEADER: [u8; 20] = [
     0x50, 0x52, 0x44, 0x54, 0x52, 0x43, 0x30, 0x31, 0, 0, 0, 0, 0, 0, 0, 0, 8, 0, 0, 0,
 ];
 
-// The tag of an access's record, and its hart: `W0` is a write by hart 0.
-fn touch(word: &str) -> Option<(u8, u16)> {
-    if let Some(hart) = word.strip_prefix('R') {
-        return Some((1, u16::try_from(number(hart)?).ok()?));
+// An access, as its record tells it.
+#[derive(Clone, Copy)]
+struct Touch {
+    tag: u8,
+    hart: u16,
+    addr: u32,
+    size: u8,
+}
+
+// The tag of an access's record, and the digits of its hart: `W0` is a write by hart 0.
+fn tag_of(word: &str) -> Option<(u8, &str)> {
+    match word.strip_prefix('R') {
+        Some(hart) => Some((1, hart)),
+        None => Some((2, word.strip_prefix('W')?)),
     }
-    let hart = word.strip_prefix('W')?;
-    Some((2, u16::try_from(number(hart)?).ok()?))
+}
+
+// The access that these words spell, the first of them apart.
+fn touch_of(word: &str, mut words: SplitWhitespace<'_>) -> Option<Touch> {
+    let (tag, hart) = tag_of(word)?;
+    let hart = hart.parse().ok()?;
+    let addr = hexadecimal(words.next()?)?;
+    let size = words.next().unwrap_or("4").parse().ok()?;
+    Some(Touch {
+        tag,
+        hart,
+        addr,
+        size,
+    })
 }
 
 // The number of a kind of symbols.
@@ -92,7 +114,10 @@ impl Content {
             Some("alloc") => self.add_alloc(words),
             Some("free") => self.add_free(words),
             Some("symbol") => self.add_symbol(words),
-            Some(word) => self.add_access(word, words),
+            Some(word) => match touch_of(word, words) {
+                Some(access) => Ok(self.add_access(access)?),
+                None => Err(Trouble::BadLine),
+            },
             None => Err(Trouble::BadLine),
         }
     }
@@ -118,7 +143,12 @@ impl Content {
         self.bytes.extend_from_slice(&[5, kind])?;
         self.add_addr(words.next())?;
         self.add_size(words.next())?;
-        let name = words.next().ok_or(Trouble::BadLine)?;
+        self.add_name(words.next())
+    }
+
+    // A name, and the number of its bytes before it.
+    fn add_name(&mut self, word: Option<&str>) -> Result<(), Trouble> {
+        let name = word.ok_or(Trouble::BadLine)?;
         let length = u16::try_from(name.len()).ok().ok_or(Trouble::BadLine)?;
         self.bytes.extend_from_slice(&length.to_le_bytes())?;
         self.bytes.extend_from_slice(name.as_bytes())?;
@@ -134,21 +164,16 @@ impl Content {
 
     // A number of bytes, in decimal digits.
     fn add_size(&mut self, word: Option<&str>) -> Result<(), Trouble> {
-        let size = word.and_then(number).ok_or(Trouble::BadLine)?;
-        let size = u32::try_from(size).ok().ok_or(Trouble::BadLine)?;
+        let size = word.and_then(short_number).ok_or(Trouble::BadLine)?;
         self.bytes.extend_from_slice(&size.to_le_bytes())?;
         Ok(())
     }
 
-    fn add_access(&mut self, word: &str, mut words: SplitWhitespace<'_>) -> Result<(), Trouble> {
-        let (tag, hart) = touch(word).ok_or(Trouble::BadLine)?;
-        let addr = words.next().and_then(hexadecimal).ok_or(Trouble::BadLine)?;
-        let size = number(words.next().unwrap_or("4")).ok_or(Trouble::BadLine)?;
-        let size = u8::try_from(size).ok().ok_or(Trouble::BadLine)?;
-        self.bytes.push(tag)?;
-        self.bytes.extend_from_slice(&hart.to_le_bytes())?;
-        self.bytes.extend_from_slice(&addr.to_le_bytes())?;
-        self.bytes.push(size)?;
+    fn add_access(&mut self, access: Touch) -> Result<(), AllocError> {
+        self.bytes.push(access.tag)?;
+        self.bytes.extend_from_slice(&access.hart.to_le_bytes())?;
+        self.bytes.extend_from_slice(&access.addr.to_le_bytes())?;
+        self.bytes.push(access.size)?;
         self.accesses = self.accesses.saturating_add(1);
         Ok(())
     }

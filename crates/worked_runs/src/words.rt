@@ -5,6 +5,11 @@ pub(crate) fn number(word: &str) -> Option<usize> {
     word.parse().ok()
 }
 
+// The same below 2^32.
+pub(crate) fn short_number(word: &str) -> Option<u32> {
+    word.parse().ok()
+}
+
 fn digit(letter: u8) -> Option<u32> {
     match letter {
         b'0'..=b'9' => Some(u32::from(letter - b'0')),
