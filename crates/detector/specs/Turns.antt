@@ -1,5 +1,5 @@
 -- A write at which a track may begin, or a predicted line may open.
-use Rattle.std.specs.Prelude.{◌≡◌, ◌≤◌, ◌^◌, IsTrue, ℕ, ◌+◌, ◌-◌, ◌%◌, Bool, false, ◌&&◌, ◌==◌}
+use Rattle.std.specs.Prelude.{◌≡◌, ◌≤◌, ◌^◌, IsTrue, ℕ, ◌+◌, ◌-◌, ◌*◌, ◌/◌, ◌%◌, Bool, false, ◌&&◌, ◌==◌}
 use Rattle.std.specs.Prelude.{if◌then◌else◌, List, [], ◌∷◌, ◌++◌, length, Option, option_map}
 use Rattle.std.specs.Option.{option_map_or, option_or}
 use Rattle.predator_base.specs.Levels.{Levels}
@@ -79,6 +79,10 @@ tracks_begun g k position a begins xs = xs ++ (if begins then begun g k position
 
 abbrev pub turn_opens : Grid → ℕ → Bool → List Kept → Openings
 turn_opens g k searches xs = if searches then openings g k xs else nothing_opens
+
+-- the most steps of a search of the pairs of a write's line, where they are searched
+abbrev pub search_steps : Grid → Bool → ℕ
+search_steps g searches = if searches then 3 * (g.size / 4 * (g.size / 4)) else 0
 
 abbrev pub tracks_turned : Grid → ℕ → ℕ → Touch → Bool → Bool → List Kept → List Kept
 tracks_turned g k position a begins searches xs =

@@ -9,7 +9,7 @@ ghost use Rattle.sharing_rules.specs.Listed.{may_predict};
 ghost use Rattle.detector.specs.Counts.{counts_of};
 ghost use Rattle.detector.specs.Index.{IsIndexed, IsReached};
 ghost use Rattle.detector.specs.Noting.{IsNotable};
-ghost use Rattle.detector.specs.Turns.{IsTurnOf};
+ghost use Rattle.detector.specs.Turns.{IsTurnOf, search_steps};
 ghost use Rattle.detector.specs.Watch.{is_search, may_take_memory, touched, tracks_after, watch_of};
 ghost use Rattle.detector.specs.Watch.{writes_after};
 
@@ -106,9 +106,8 @@ pub fn touch<I: LineIndex, L: Ledger>(
     ensures known { IsFalse
         (may_take_memory (watch_of (I.entries index.old) tracks.old layout thresholds position) line
         access) → IsOk result }
-    ensures steps { steps.new ≤ steps.old + 4
-        + (if is_search thresholds.prediction (counts_of (I.entries index.old)) line access
-        then 3 * (layout.size / 4 * (layout.size / 4)) else 0) }
+    ensures steps { steps.new ≤ steps.old + 4 + search_steps layout
+        (is_search thresholds.prediction (counts_of (I.entries index.old)) line access) }
 {
     match access.kind() {
         Kind::Read => {

@@ -16,8 +16,8 @@ ghost use Rattle.detector.specs.Openings as open_of;
 ghost use Rattle.detector.specs.Openings.{nothing_opens, opened_tracks, waiting_for};
 ghost use Rattle.detector.specs.Pairs.{AreShaped, IsNativeGrid};
 ghost use Rattle.sharing_rules.specs.Opened.{even_lower};
-ghost use Rattle.detector.specs.Turns.{IsDue, IsDueAt, IsTurn, opened_places, settled};
-ghost use Rattle.detector.specs.Turns.{tracks_begun, tracks_turned, turn_opens, with_name};
+ghost use Rattle.detector.specs.Turns.{IsDue, IsDueAt, IsTurn, opened_places, search_steps};
+ghost use Rattle.detector.specs.Turns.{settled, tracks_begun, tracks_turned, turn_opens, with_name};
 ghost use Rattle.detector.specs.Turns.{with_place};
 ghost use Rattle.detector.specs.Noting.{CanTouch};
 ghost use Rattle.detector.specs.Watch.{begun, touched};
@@ -198,8 +198,7 @@ fn openings_at<I: LineIndex, L: Ledger>(
     ensures value { result ≡ turn_opens layout line searches tracks.now }
     ensures shaped { (n : ℕ) × (k : ℕ) × (n % 4 ≡ 0) × AreShaped n k result }
     ensures shaped_here { IsTrue searches → AreShaped layout.size line result }
-    ensures cost { steps.new ≤ steps.old +
-        (if searches then 3 * (layout.size / 4 * (layout.size / 4)) else 0) }
+    ensures cost { steps.new ≤ steps.old + search_steps layout searches }
 {
     if !searches {
         return NOTHING;
@@ -337,8 +336,8 @@ fn change<I: LineIndex, L: Ledger>(
     ensures known { IsFalse turn.begins → turn_opens layout line turn.searches
         (tracks_begun layout line position access turn.begins tracks.old) ≡ nothing_opens
         → IsOk result }
-    ensures steps { steps.new ≤ steps.old + (if turn.begins then 1 else 0) +
-        (if turn.searches then 3 * (layout.size / 4 * (layout.size / 4)) else 0) }
+    ensures steps { steps.new ≤ steps.old + (if turn.begins then 1 else 0)
+        + search_steps layout turn.searches }
 {
     let named = index.peek(line).track;
     let own = match own_place(tracks, turn.begins, named, layout, position, access, steps) {
@@ -400,8 +399,7 @@ pub fn take_turn<I: LineIndex, L: Ledger>(
         → turn_opens layout line turn.searches (tracks_begun layout line position access turn.begins
         (map (touched position access) tracks.old)) ≡ nothing_opens
         → IsOk result }
-    ensures steps { steps.new ≤ steps.old + 4 +
-        (if turn.searches then 3 * (layout.size / 4 * (layout.size / 4)) else 0) }
+    ensures steps { steps.new ≤ steps.old + 4 + search_steps layout turn.searches }
 {
     match reserve(index, line) {
         Ok(()) => {}

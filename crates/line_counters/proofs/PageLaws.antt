@@ -1,8 +1,9 @@
 -- How a write to one place of a page or directory changes what is read at all places.
 use Rattle.std.proofs.Common.{◌≡◌, ℕ, zero, suc, ◌+◌, ◌*◌, ◌/◌, ◌%◌, ◌<◌, ◌≤◌, ◌==◌, if◌then◌else◌, Bool, true, false, List, [], ◌∷◌}
 use Rattle.std.proofs.Common.{length, Option, Some, slice_get, unwrap_or, refl, sym, ◌∙◌, ap, subst, arith}
-use Rattle.std.specs.Prelude.{slice_index_or, slice_set}
+use Rattle.std.specs.Prelude.{nat_lt, slice_index_or, slice_set}
 use Rattle.std.proofs.Math.Nat.{div-add-mod}
+use Rattle.std.proofs.lemmas.Bool.{ltb-true}
 use Rattle.std.proofs.lemmas.Bool.Decides.{nat_tests}
 use Rattle.std.proofs.lemmas.Option.{slice_get-get_or, slice_get_past}
 use Rattle.std.specs.declared.vec.Vec.{Vec}
@@ -62,6 +63,12 @@ items_at-set {X} {Z} all i v k h = ap (λ o. option_map_or (λ w. w.items) o [])
 pub items_at-held : {X Z : Type 0} (all : List (Vec X Z)) (i : ℕ) (v : Vec X Z) → i < length all → v ≡ slice_index_or all i v
     → items_at all i ≡ v.items
 items_at-held all i v h is = ap (λ o. option_map_or (λ w. w.items) o []) (slice_get-get_or all i v h) ∙ ap (λ w. w.items) (sym is)
+
+-- the vector that was read at a place
+pub items_at-read : {X Z : Type 0} (all xs : List (Vec X Z)) (i : ℕ) (v : Vec X Z) → xs ≡ all → true ≡ nat_lt i (length xs)
+    → v ≡ slice_index_or xs i v → items_at all i ≡ v.items
+items_at-read all xs i v same within is =
+    ap (λ ys. items_at ys i) (sym same) ∙ items_at-held xs i v (ltb-true i (length xs) (sym within)) is
 
 -- the vector that was put at a place
 pub items_at-set_same : {X Z : Type 0} (all : List (Vec X Z)) (i : ℕ) (v : Vec X Z) → i < length all

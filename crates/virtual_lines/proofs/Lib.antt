@@ -1,2 +1,3 @@
 pub mod UndoLaws
 pub mod EvenLaws
+pub mod ReadLaws

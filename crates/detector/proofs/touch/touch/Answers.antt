@@ -1,17 +1,27 @@
-use Rattle.std.proofs.Common.{◌≡◌, ◌+◌, ◌*◌, ◌/◌, ◌<◌, ◌≤◌, refl, sym, ap, ◌∙◌, subst, arith}
-use Rattle.std.proofs.lemmas.Bool.{or_parts}
+use Rattle.std.proofs.Common.{◌≡◌, ℕ, ◌+◌, ◌<◌, ◌≤◌, eqb, refl, sym, ap, ◌∙◌, subst, arith}
+use Rattle.std.proofs.lemmas.Bool.{eq-eqb, or_parts}
 use Rattle.std.proofs.lemmas.Result.{on_ok_weaker}
 use Rattle.std.specs.Prelude.{if◌then◌else◌, is_ok, OnErr}
 use Rattle.predator_base.specs.Touch.{is_write}
 use Rattle.line_counters.specs.Entries.{Entries, entry_at}
 use Rattle.line_counters.specs.declared.line_entry.LineEntry.{LineEntry}
 use Rattle.detector.specs.Counts.{counts_of, with_write}
-use Rattle.detector.specs.Turns.{counted}
+use Rattle.detector.specs.Turns.{counted, search_steps}
 use Rattle.detector.proofs.AfterLaws.{after-read, after-turn, after-write, counts-read, counts-write, due-lent, first-written, native-grid}
 use Rattle.detector.proofs.AfterLaws.{notable, one-more-fits, plain-indexed, quiet, read-indexed, searches-is, steps-within, turn-lent, writes-few}
 use Rattle.detector.proofs.CountLaws.{counts-with_entry, left-alone}
 use Rattle.detector.proofs.SettleLaws.{counted-lent, counted-names}
 use Rattle.detector.proofs.touch.touch.Goals as goal
+
+-- the entry that was put at a line
+put-there : (f h : ℕ → LineEntry) (k : ℕ) (e : LineEntry) → ((q : ℕ) → h q ≡ (if eqb q k then e else f q)) → e ≡ h k
+put-there f h k e each = sym (each k ∙ ap (λ b. if b then e else f k) (eq-eqb k k refl))
+
+never-written : (n : ℕ) → 0 < n → n ≡ 0 → ⊥
+never-written n some none = omega arith
+
+no-steps : (s room : ℕ) → s ≤ s + 4 + room
+no-steps s room = omega arith
 
 pub note-requires-clause-notable : goal.note-requires-clause-notable
 note-requires-clause-notable g c =
@@ -124,7 +134,7 @@ returns-then-is_due-clause-steps g c =
     let m = g.I.LineIndex.entries c.args.index.now in
     let turn = turn-lent (entry_at m) c.args.line c.in-Ok.entry.now c.args.thresholds c.turn_of-turn.result c.in-Ok.ensures.value
     c.turn_of-turn.ensures in
-    subst (λ b. c.take_turn.new.steps ≤ c.args.steps.now + 4 + (if b then 3 * (c.args.layout.size / 4 * (c.args.layout.size / 4)) else 0))
+    subst (λ b. c.take_turn.new.steps ≤ c.args.steps.now + 4 + search_steps c.args.layout b)
     (searches-is m c.args.line c.args.thresholds c.args.access c.turn_of-turn.result (ap is_write (sym c.kind.ensures ∙
     c.in-Write.is)) turn)
     c.take_turn.ensures.steps
@@ -134,6 +144,13 @@ overflow_add-entry g c =
     one-more-fits c.in-Ok.entry.now.writes
     (writes-few (entry_at (g.I.LineIndex.entries c.args.index.now)) c.args.layout c.args.tracks.now c.args.thresholds.tracking
     c.args.position c.args.line c.in-Ok.entry.now c.requires.indexed c.requires.early c.in-Ok.ensures.value)
+
+pub note-requires-in-Ok-clause-here : goal.note-requires-in-Ok-clause-here
+note-requires-in-Ok-clause-here g c =
+    let e = counted c.in-Ok.entry.now in
+    let change = (c.entry.follows.holds e (ap is_ok c.in-Ok.is)).0 in
+    put-there (entry_at (g.I.LineIndex.entries c.args.index.now)) (entry_at (g.I.LineIndex.entries (c.entry.follows.lender e)))
+    c.args.line e change.each
 
 pub note-requires-in-Ok-clause-notable : goal.note-requires-in-Ok-clause-notable
 note-requires-in-Ok-clause-notable g c =
@@ -189,4 +206,7 @@ returns-in-Err-clause-known g c =
     let w = first-written m c.args.tracks.now c.args.layout c.args.thresholds c.args.position c.args.line c.args.access (ap is_write
     (sym c.kind.ensures ∙ c.in-Write.is)) none in
     let zero : (entry_at m c.args.line).writes ≡ 0 = ap (λ (e : LineEntry). e.writes) c.in-Err.ensures.blank in
-    absurd (omega (arith, w, zero))
+    absurd (never-written _ w zero)
+
+pub returns-in-Err-clause-steps : goal.returns-in-Err-clause-steps
+returns-in-Err-clause-steps g c = no-steps c.args.steps.now _
