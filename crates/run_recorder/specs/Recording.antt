@@ -11,13 +11,17 @@ use Rattle.trace_grammar.specs.declared.record.Version.TheVariants.{One}
 use Rattle.trace_grammar.specs.Rules.{IsWritable, touches_in}
 use Rattle.trace_grammar.specs.Spelling.{spell_header, spell_record}
 use Rattle.guest_run.specs.Calls.{RunEvent}
-use Rattle.guest_run.specs.Runs.{Run}
+use Rattle.guest_run.specs.Configs.{Config}
+use Rattle.guest_run.specs.Facts.{IsSeen, seen}
+use Rattle.guest_run.specs.Runs.{Run, bytes_in}
+use Rattle.guest_run.specs.declared.turn.Event.{Event}
+use Rattle.guest_run.specs.declared.turn.Turn.TheVariants.{Ran}
 use Rattle.run_recorder.specs.declared.file.Content.{Content}
 use Rattle.run_recorder.specs.declared.file.Content.TheVariants as content
 use Rattle.run_recorder.specs.declared.file.RunFile.{RunFile}
 use Rattle.run_recorder.specs.declared.moment.Moment.{Moment}
 use Rattle.run_recorder.specs.declared.moment.Moment.TheVariants.{Start, Record, Output}
-use Rattle.run_recorder.specs.Recorded.{outputs_of}
+use Rattle.run_recorder.specs.Recorded.{outputs_of, record_in}
 
 -- ---- a moment
 
@@ -43,6 +47,19 @@ abbrev pub IsAllowedMoment : Moment → Type 0
 IsAllowedMoment (Start harts) = (1 ≤ harts) × (harts ≤ 256)
 IsAllowedMoment (Record item) = IsWritable item.now
 IsAllowedMoment (Output bytes) = Unit {0}
+
+-- ---- a step
+
+-- the records of a step that leaves this configuration, and the bytes that it puts out
+unfoldable pub records_told : Config → Event → List TraceRecord
+records_told config event = record_in (seen config.memory event)
+
+unfoldable pub bytes_told : Config → Event → List ℕ
+bytes_told config event = bytes_in (seen config.memory event)
+
+-- what is known of it
+unfoldable pub IsTold : ℕ → Event → Config → Type 0
+IsTold harts event config = IsSeen harts (Ran event) config
 
 -- ---- a run
 

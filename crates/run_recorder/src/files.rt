@@ -85,34 +85,6 @@ impl<'a> RunOutputs<'a> {
         begin_outputs(alloc, shelf, files, &mut self.outputs)
     }
 
-    // Puts what the trace gets of a moment into the file at a place.
-    #[inline]
-    fn put_record<S: Shelf>(
-        &mut self,
-        shelf: &mut S,
-        place: usize,
-        moment: &Moment<'_>,
-    ) -> Result<(), ShelfError>
-        requires place { place < length self.old }
-        requires begun { AreBegun (waiting_names self.old) (S.outside shelf.old) }
-        requires allowed { IsAllowedMoment moment.now }
-        ensures count { length self.new ≡ length self.old }
-        ensures begun { AreBegun (waiting_names self.new) (S.outside shelf.new) }
-        ensures outputs { OnOk result ((outputs : List Output) (before : Outside)
-            → IsOutputs self.old outputs before (S.outside shelf.old)
-            → IsOutputs self.new (outputs_with outputs place (spelled moment.now AContent.Trace))
-            before (S.outside shelf.new)) }
-        ensures cut { IfErr result (λ error. (outputs : List Output) (before : Outside)
-            → IsOutputs self.old outputs before (S.outside shelf.old)
-            → AreCut (outputs_with outputs place (spelled moment.now AContent.Trace)) before
-            (S.outside shelf.new) error) }
-    {
-        match fill_piece(&mut self.piece, moment) {
-            Ok(()) => self.outputs.put(shelf, place, &self.piece),
-            Err(_) => Err(ShelfError::NoMemory),
-        }
-    }
-
     // Puts what a file of a content gets of a moment into the file at a place.
     #[inline(never)]
     fn put_one<S: Shelf>(
@@ -137,7 +109,10 @@ impl<'a> RunOutputs<'a> {
             (S.outside shelf.new) error) }
     {
         match content {
-            Content::Trace => self.put_record(shelf, place, moment),
+            Content::Trace => match fill_piece(&mut self.piece, moment) {
+                Ok(()) => self.outputs.put(shelf, place, &self.piece),
+                Err(_) => Err(ShelfError::NoMemory),
+            },
             Content::Output => match moment {
                 Moment::Output(bytes) => self.outputs.put(shelf, place, bytes),
                 Moment::Start(_) | Moment::Record(_) => Ok(()),

@@ -102,6 +102,7 @@ fn show_steps<S: Shelf>(shelf: &mut S, guest: &Guest)
 
 // Runs the guest to its end, and notes each step after the records that were noted before, which
 // have no access.
+#[tactic(auto, unfolding(crate::specs::Recording::IsTold))]
 fn follow<S: Shelf, O: Observer>(
     shelf: &mut S,
     files: &[RunFile<'_>],
@@ -253,7 +254,7 @@ fn note_run<'a, S: Shelf, O: Observer>(
 pub fn record_run<S: Shelf, O: Observer>(
     alloc: Global,
     shelf: &mut S,
-    guest: Guest,
+    mut guest: Guest,
     observer: &mut O,
     symbols: &[TraceRecord],
     files: &[RunFile<'_>],
@@ -281,7 +282,6 @@ pub fn record_run<S: Shelf, O: Observer>(
         (λ error. AreCut (outputs_for guest.setup.harts symbols.now (rest_of guest) files.now)
         (S.outside shelf.old) (S.outside shelf.new) error) }
 {
-    let mut guest = guest;
     let mut outputs = RunOutputs::new(alloc);
     note_run(
         alloc,

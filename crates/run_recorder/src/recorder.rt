@@ -7,16 +7,14 @@ ghost use Rattle.outputs.specs.OnTheirWay.{AreBegun, names_of as waiting_names};
 ghost use Rattle.trace_grammar.specs.Rules.{IsGoodRecord, IsWritable};
 ghost use Rattle.trace_grammar.specs.declared.record.TraceRecord.{TraceRecord as ARecord};
 ghost use Rattle.trace_grammar.specs.declared.record.TraceRecord.TheVariants as records;
-ghost use Rattle.guest_run.specs.Facts.{IsSeen, seen};
-ghost use Rattle.guest_run.specs.Runs.{bytes_in};
 ghost use Rattle.trace_passes.specs.Rooms.{HasRoom};
-ghost use Rattle.run_recorder.specs.Recorded.{record_in};
-ghost use Rattle.run_recorder.specs.Recording.{AreCutAfter, AreNoted};
+ghost use Rattle.run_recorder.specs.Recording.{AreCutAfter, AreNoted, IsTold, bytes_told};
+ghost use Rattle.run_recorder.specs.Recording.{records_told};
 
 use crate::file::RunFile;
 use crate::files::RunOutputs;
 use crate::moment::Moment;
-use guest_run::{Event, Guest, Turn};
+use guest_run::{Event, Guest};
 use predator_base::Access;
 use shelf::{Shelf, ShelfError};
 use trace_grammar::TraceRecord;
@@ -106,6 +104,7 @@ fn note_output<S: Shelf>(
 }
 
 // What is seen of a step of the guest.
+#[tactic(auto, unfolding(crate::specs::Recording::IsTold, crate::specs::Recording::records_told, crate::specs::Recording::bytes_told))]
 #[inline]
 pub(crate) fn note_event<S: Shelf, O: Observer>(
     shelf: &mut S,
@@ -117,25 +116,25 @@ pub(crate) fn note_event<S: Shelf, O: Observer>(
 ) -> Result<(), ShelfError>
     requires paired { length outputs.old ≡ length files.now }
     requires begun { AreBegun (waiting_names outputs.old) (S.outside shelf.old) }
-    requires seen { IsSeen guest.now.setup.harts (Turn.Ran event) guest.now.config }
+    requires seen { IsTold guest.now.setup.harts event guest.now.config }
     requires room { HasRoom O.begins O.given observer.old
-        (record_in (seen guest.now.config.memory event)) }
+        (records_told guest.now.config event) }
     ensures given { OnOk result ((begun : O) (earlier : List ARecord)
         → O.given begun observer.old earlier
-        → O.given begun observer.new (earlier ++ record_in (seen guest.now.config.memory event))) }
+        → O.given begun observer.new (earlier ++ records_told guest.now.config event)) }
     ensures good { All (IsGoodRecord guest.now.setup.harts)
-        (record_in (seen guest.now.config.memory event)) }
+        (records_told guest.now.config event) }
     ensures noted { OnOk result
         ((harts : ℕ) (items : List ARecord) (put : List ℕ) (before : Outside)
         → AreNoted harts items put files.now outputs.old before (S.outside shelf.old)
-        → AreNoted harts (items ++ record_in (seen guest.now.config.memory event))
-        (put ++ bytes_in (seen guest.now.config.memory event)) files.now outputs.new before
+        → AreNoted harts (items ++ records_told guest.now.config event)
+        (put ++ bytes_told guest.now.config event) files.now outputs.new before
         (S.outside shelf.new)) }
     ensures cut { IfErr result (λ error. (harts : ℕ) (items : List ARecord) (put : List ℕ)
         (before : Outside)
         → AreNoted harts items put files.now outputs.old before (S.outside shelf.old)
-        → AreCutAfter harts (items ++ record_in (seen guest.now.config.memory event))
-        (put ++ bytes_in (seen guest.now.config.memory event)) files.now before
+        → AreCutAfter harts (items ++ records_told guest.now.config event)
+        (put ++ bytes_told guest.now.config event) files.now before
         (S.outside shelf.new) error) }
     ensures begun { OnOk result (AreBegun (waiting_names outputs.new) (S.outside shelf.new)) }
     ensures count { length outputs.new ≡ length outputs.old }

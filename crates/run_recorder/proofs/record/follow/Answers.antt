@@ -9,7 +9,7 @@ use Rattle.shelf.specs.declared.shelf.ShelfError.TheVariants.{NoMemory}
 use Rattle.outputs.specs.Laws.{IsOutputs-cut}
 use Rattle.trace_grammar.specs.Rules.{IsGoodRecord}
 use Rattle.run_recorder.specs.Recorded.{outputs_of, record_in, records_in}
-use Rattle.run_recorder.specs.Recording.{AreNoted, bytes_so_far}
+use Rattle.run_recorder.specs.Recording.{AreNoted, bytes_so_far, bytes_told, records_told}
 use Rattle.run_recorder.proofs.Following.{IsGivenOn, all_seen, cut_event, cut_seen, follows_start, given_more, good_more, more_early}
 use Rattle.run_recorder.proofs.Following.{noted_event, room_for_event, seen_longer, shown}
 use Rattle.run_recorder.proofs.Records.{records-more}
@@ -21,6 +21,7 @@ turns-init g c =
     (g.S.Shelf.outside c.show_steps.new.shelf) (rw c.show_steps.ensures c.requires.begun)
 
 pub note_event-requires-clause-room : goal.note_event-requires-clause-room
+unfolding records_told bytes_told
 note_event-requires-clause-room g c =
     let x = c.turns.invariant in
     let after = c.step.new.self in
@@ -34,6 +35,7 @@ note_event-requires-clause-room g c =
     room_for_event g.O.Observer.begins g.O.Observer.given c.args.observer.now c.turns.observer x.events e c.requires.started x.given_on few
 
 pub turns-preserved : goal.turns-preserved
+unfolding records_told bytes_told
 turns-preserved g c =
     let x = c.turns.invariant in
     let after = c.step.new.self in
@@ -64,6 +66,7 @@ turns-preserved g c =
     c.show_steps-in-Ok.ensures
 
 pub returns-in-Err-note_event-clause-cut : goal.returns-in-Err-note_event-clause-cut
+unfolding records_told bytes_told
 returns-in-Err-note_event-clause-cut g c = λ earlier before on.
     let x = c.turns.invariant in
     let after = c.step.new.self in

@@ -5,12 +5,13 @@ use Rattle.shelf.specs.Shelf.{Outside}
 use Rattle.trace_grammar.specs.Rules.{IsGoodRecord}
 use Rattle.trace_grammar.specs.declared.record.TraceRecord.{TraceRecord}
 use Rattle.trace_grammar.specs.declared.record.TraceRecord.TheVariants as records
-use Rattle.run_recorder.specs.Recording.{AreCutAfter, AreNoted}
+use Rattle.run_recorder.specs.Recording.{AreCutAfter, AreNoted, bytes_told, records_told}
 use Rattle.run_recorder.proofs.Events.{cut_silent, noted_silent}
 use Rattle.run_recorder.proofs.Putting.{if_err_by, on_ok_by}
 use Rattle.run_recorder.proofs.recorder.note_event.Goals as goal
 
 pub returns-in-Touch-clause-noted : goal.returns-in-Touch-clause-noted
+unfolding records_told bytes_told
 returns-in-Touch-clause-noted g c =
     let files = c.args.files.now in
     let new = g.S.Shelf.outside c.note_record.new.shelf in
@@ -20,6 +21,7 @@ returns-in-Touch-clause-noted g c =
     c.note_record.new.outputs before new c.touch_record.ensures.value (f harts items put before on)) c.note_record.ensures.noted)
 
 pub returns-in-Touch-clause-cut : goal.returns-in-Touch-clause-cut
+unfolding records_told bytes_told
 returns-in-Touch-clause-cut g c =
     let files = c.args.files.now in
     let old = g.S.Shelf.outside c.args.shelf.now in
@@ -38,6 +40,7 @@ returns-in-Touch-clause-cut g c =
     c.note_record.ensures.cut)
 
 pub returns-in-Alloc-clause-good : goal.returns-in-Alloc-clause-good
+unfolding records_told bytes_told
 returns-in-Alloc-clause-good g c =
     let P : TraceRecord → Type 0 = IsGoodRecord c.args.guest.now.setup.harts in
     let item : TraceRecord = records.Alloc c.in-Alloc.addr c.in-Alloc.size c.in-Alloc.sites in
@@ -45,6 +48,7 @@ returns-in-Alloc-clause-good g c =
     rw c.in-Alloc.is (All-cons P item [] good (All-nil P))
 
 pub returns-in-Alloc-clause-noted : goal.returns-in-Alloc-clause-noted
+unfolding records_told bytes_told
 returns-in-Alloc-clause-noted g c =
     let files = c.args.files.now in
     let new = g.S.Shelf.outside c.note_record-in-Alloc.new.shelf in
@@ -55,6 +59,7 @@ returns-in-Alloc-clause-noted g c =
     c.note_record-in-Alloc.ensures.noted)
 
 pub returns-in-Alloc-clause-cut : goal.returns-in-Alloc-clause-cut
+unfolding records_told bytes_told
 returns-in-Alloc-clause-cut g c =
     let files = c.args.files.now in
     let old = g.S.Shelf.outside c.args.shelf.now in
@@ -73,6 +78,7 @@ returns-in-Alloc-clause-cut g c =
     c.note_record-in-Alloc.ensures.cut)
 
 pub returns-in-Free-clause-noted : goal.returns-in-Free-clause-noted
+unfolding records_told bytes_told
 returns-in-Free-clause-noted g c =
     let files = c.args.files.now in
     let new = g.S.Shelf.outside c.note_record-in-Free.new.shelf in
@@ -83,6 +89,7 @@ returns-in-Free-clause-noted g c =
     c.note_record-in-Free.ensures.noted)
 
 pub returns-in-Free-clause-cut : goal.returns-in-Free-clause-cut
+unfolding records_told bytes_told
 returns-in-Free-clause-cut g c =
     let files = c.args.files.now in
     let old = g.S.Shelf.outside c.args.shelf.now in
@@ -101,6 +108,7 @@ returns-in-Free-clause-cut g c =
     c.note_record-in-Free.ensures.cut)
 
 pub returns-in-Some-clause-noted : goal.returns-in-Some-clause-noted
+unfolding records_told bytes_told
 returns-in-Some-clause-noted g c =
     let files = c.args.files.now in
     let bytes = c.in-Some.bytes.now in
@@ -112,6 +120,7 @@ returns-in-Some-clause-noted g c =
     (sym (append-nil items)) (f harts items put before on)) c.note_output.ensures.noted)
 
 pub returns-in-Some-clause-cut : goal.returns-in-Some-clause-cut
+unfolding records_told bytes_told
 returns-in-Some-clause-cut g c =
     let files = c.args.files.now in
     let bytes = c.in-Some.bytes.now in
