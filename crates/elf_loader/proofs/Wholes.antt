@@ -1,13 +1,18 @@
--- A memory that holds an image is told by its base, its size, and its byte and rights at each address.
-use Rattle.std.proofs.Common.{◌≡◌, ℕ, ◌+◌, ◌-◌, ◌*◌, ◌/◌, ◌<◌, List, false, nat_lt, length, map, get_or, refl, ap, sym, ◌∙◌, arith}
+-- A memory that holds an image is told by its base, its size, and its byte and rights at each address; so is the image.
+use Rattle.std.proofs.Common.{◌≡◌, ℕ, ◌+◌, ◌-◌, ◌*◌, ◌/◌, ◌%◌, ◌<◌, ◌≤◌, List, false, nat_lt, length, map, get_or, refl, ap, sym, ◌∙◌, arith}
 use Rattle.std.proofs.lemmas.Bool.Decides.{nat_tests}
 use Rattle.std.proofs.lemmas.List.{ext_get_or}
 use Rattle.std.proofs.lemmas.List.FromFn.{length-map-range_with_len, get_or-map-range_with_len}
 use Rattle.std.specs.List.{range_with_len}
 use Rattle.guest_memory.specs.declared.page.Page.{Page}
 use Rattle.guest_memory.specs.Space.{Space, byte_at, page_at, size_of, no_page}
-use Rattle.elf_loader.specs.Programs.{Loaded}
+use Rattle.elf_loader.specs.Fields.{entry_of}
+use Rattle.elf_loader.specs.Programs.{Loaded, segments_of}
 use Rattle.elf_loader.specs.Images.{base_of, top_of, heap_start_of, image_byte, image_page, memory_of, IsImage}
+use Rattle.elf_loader.specs.PlacedImages.{IsImageOf, image_of}
+use Rattle.elf_loader.proofs.Rooms.{whole_below}
+use Rattle.elf_loader.specs.declared.image.Image.{Image}
+use Rattle.elf_loader.specs.declared.image.Space.{Space as Allowed}
 
 -- a list that has a function's value at each place
 from_each : {X : Type 0} (f : ℕ → X) (d : X) (n : ℕ) (xs : List X) → length xs ≡ n → ((i : ℕ) → i < n → get_or xs i d ≡ f i)
@@ -55,3 +60,74 @@ whole_memory segments memory m image pages =
     (λ i _. sym (byte_from_base m i) ∙ image.bytes (m.base + i) ∙ ap (λ b. image_byte segments (b + i)) image.base))
     (from_each (λ k. rights (base + 4096 * k)) no_page (memory / 4096) m.pages count
     (λ k _. sym (page_from_base m k) ∙ image.pages (m.base + 4096 * k) ∙ ap (λ b. rights (b + 4096 * k)) image.base))
+
+-- the heap's beginning and the stacks have room in the memory that is placed
+pub room_for : (file : List ℕ) (space : Allowed) (m : Space) (first heap stacks base size : ℕ) → IsImage (segments_of file) space.memory m
+    → first ≡ base_of (segments_of file) → heap + stacks ≤ first + space.memory → base ≡ m.base → size ≡ size_of m
+    → heap + stacks ≤ base + size
+room_for file space m first heap stacks base size image f room b z =
+    let same : base ≡ first = b ∙ image.base ∙ sym f in
+    let extent : size ≡ space.memory = z ∙ image.size in
+    omega (arith, room, same, extent)
+
+pub whole_heap : (file : List ℕ) (heap : ℕ) → heap ≡ heap_start_of (segments_of file) → heap % 16 ≡ 0
+whole_heap file heap h = omega arith
+
+pub heap_ends : (space : Allowed) (base size stacks : ℕ) → base % 4096 ≡ 0 → size % 4096 ≡ 0 → space.stack % 4096 ≡ 0
+    → stacks ≡ space.harts * space.stack → (base + size - stacks) % 16 ≡ 0
+heap_ends space base size stacks b z k s =
+    ap (λ n. (base + size - n) % 16) s ∙ whole_below base size space.harts space.stack b z k
+
+pub heap_fits : (heap stacks base size : ℕ) → heap + stacks ≤ base + size → heap ≤ base + size - stacks
+heap_fits heap stacks base size room = omega arith
+
+pub stacks_fill : (space : Allowed) (heap stacks base size : ℕ) → stacks ≡ space.harts * space.stack → heap + stacks ≤ base + size
+    → base + size - stacks + space.harts * space.stack ≡ base + size
+stacks_fill space heap stacks base size s room = ap (λ n. base + size - stacks + n) (sym s) ∙ omega arith
+
+-- the image that is put together of a memory and its places
+pub placed_so : (file : List ℕ) (space : Allowed) (m : Space) (entry heap base size stacks : ℕ)
+    → IsImage (segments_of file) space.memory m → entry ≡ entry_of file → heap ≡ heap_start_of (segments_of file)
+    → base ≡ m.base → size ≡ size_of m → stacks ≡ space.harts * space.stack → heap + stacks ≤ base + size
+    → IsImageOf file space (record {
+      memory = m;
+      entry = entry;
+      heap_start = heap;
+      heap_end = base + size - stacks;
+      top = base + size;
+      stack = space.stack;
+      harts = space.harts;
+    })
+placed_so file space m entry heap base size stacks image e h b z s room =
+    let first : base ≡ base_of (segments_of file) = b ∙ image.base in
+    let extent : size ≡ space.memory = z ∙ image.size in
+    record {
+      memory = image;
+      entry = e;
+      heap_start = h;
+      top = omega (arith, first, extent);
+      heap_end = ap (λ n. base + size - n) s;
+      room = omega (arith, room);
+      stack = refl;
+      harts = refl;
+    }
+
+-- two images are the same
+abbrev same_images : Image → Image → Type 0
+same_images x y = x ≡ y
+
+-- and it is the image of the file
+pub whole_so : (file : List ℕ) (space : Allowed) (m : Space) (entry heap base size stacks : ℕ)
+    → IsImage (segments_of file) space.memory m → size_of m ≡ 4096 * length m.pages → entry ≡ entry_of file
+    → heap ≡ heap_start_of (segments_of file) → base ≡ m.base → size ≡ size_of m → stacks ≡ space.harts * space.stack
+    → same_images (record {
+      memory = m;
+      entry = entry;
+      heap_start = heap;
+      heap_end = base + size - stacks;
+      top = base + size;
+      stack = space.stack;
+      harts = space.harts;
+    }) (image_of space file)
+whole_so file space m entry heap base size stacks image pages e h b z s =
+    rw (whole_memory (segments_of file) space.memory m image pages, e, h, s, b ∙ image.base, z ∙ image.size) refl

@@ -255,7 +255,6 @@ fn places_of(view: &ElfView<'_>, memory: u32, stacks: u32) -> (u32, u32)
 ///
 /// Refused with the first fault of `SegmentOutsideMemory`, `EntryMisaligned` and
 /// `EntryNotExecutable`. A file that has one is never answered with NoMemory.
-#[tactic(auto, using(crate::proofs::Wholes::whole_memory, crate::proofs::Rooms::whole_below))]
 pub fn place(alloc: Global, view: &ElfView<'_>, space: Space) -> Result<Image, PlaceFault>
     requires { IsAllowedSpace space }
 

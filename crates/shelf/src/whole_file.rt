@@ -1,5 +1,5 @@
 // A whole file, read in pieces.
-ghost use Rattle.std.specs.Prelude.{◌≡◌, ◌<◌, ◌≤◌, ◌+◌, ◌^◌, List, ℕ, true, false, length, IfOk};
+ghost use Rattle.std.specs.Prelude.{◌≡◌, ◌<◌, ◌≤◌, ◌+◌, ◌^◌, List, ℕ, [], true, false, length, IfOk};
 ghost use Rattle.std.specs.Prelude.{OnOk, IsErrOf};
 ghost use Rattle.shelf.specs.Shelf.{content, Told, HasCauseAt, OnlyReads};
 ghost use Rattle.shelf.specs.Fetch.{HasFetchCause, IsFront};
@@ -82,6 +82,37 @@ fn read_piece<S: Shelf>(
     Ok(true)
 }
 
+// Reads the file piece by piece into bytes that are empty at first, until it ends or there are more
+// than `limit`, and answers whether it ended.
+fn read_pieces<S: Shelf>(
+    shelf: &mut S,
+    name: &str,
+    limit: u64,
+    bytes: &mut Vec<u8>,
+    piece: &mut [u8],
+) -> Result<bool, ShelfError>
+    requires limit { limit < 2 ^ 63 }
+    requires room { 0 < length piece.old }
+    requires empty { bytes.old.items ≡ [] }
+    ensures all { IfOk result (λ all. all ≡ true → Told (S.outside shelf.old).held
+        (λ files. bytes.new.items ≡ content files name.now)) }
+    ensures within { IfOk result (λ all. all ≡ true → length bytes.new.items ≤ limit) }
+    ensures too_long { IfOk result (λ all. all ≡ false → Told (S.outside shelf.old).held
+        (λ files. limit < length (content files name.now))) }
+    ensures cause { HasCauseAt name.now
+        (S.outside shelf.old).read_faults (S.outside shelf.new).read_faults result }
+    ensures only { OnlyReads (S.outside shelf.old) (S.outside shelf.new) }
+{
+    while bytes.len() as u64 <= limit {
+        let room = limit + 1 - bytes.len() as u64;
+        let most = room.min(piece.len() as u64) as usize;
+        if !read_piece(shelf, name, bytes, &mut piece[..most])? {
+            return Ok(true);
+        }
+    }
+    Ok(false)
+}
+
 /// The whole held file of a name, of at most `limit` bytes, read in pieces of at most 64 KiB. The
 /// condition is a limit below 2^63.
 ///
@@ -108,12 +139,9 @@ pub fn fetch<S: Shelf>(
 {
     let mut bytes = Vec::new(alloc);
     let mut piece = buffer_of(alloc, PIECE)?;
-    while bytes.len() as u64 <= limit {
-        let room = limit + 1 - bytes.len() as u64;
-        let most = room.min(PIECE as u64) as usize;
-        if !read_piece(shelf, name, &mut bytes, &mut piece[..most])? {
-            return Ok(bytes);
-        }
+    if read_pieces(shelf, name, limit, &mut bytes, &mut piece)? {
+        Ok(bytes)
+    } else {
+        Err(FetchError::TooLong)
     }
-    Err(FetchError::TooLong)
 }

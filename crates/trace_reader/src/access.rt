@@ -1,6 +1,6 @@
 // Accesses, in both versions.
-ghost use Rattle.std.specs.Prelude.{◌≡◌, ◌%◌, ◌^◌, ◌+◌, ◌<◌, ◌≤◌, IsTrue, drop, length, nat_lt};
-ghost use Rattle.std.specs.Prelude.{slice_index};
+ghost use Rattle.std.specs.Prelude.{◌≡◌, ◌%◌, ◌^◌, ◌+◌, ◌*◌, ◌<◌, ◌≤◌, IsTrue, drop, length};
+ghost use Rattle.std.specs.Prelude.{nat_lt, slice_index};
 ghost use Rattle.std.specs.Option.{SomeIff};
 ghost use Rattle.predator_base.specs.Touch.{is_access_size};
 ghost use Rattle.trace_grammar.specs.Numbers.{address_at, are_groups, group_count, number_in};
@@ -82,11 +82,13 @@ pub(crate) fn group_count(bytes: &[u8]) -> usize
     }
 }
 
-fn low_bits(byte: u8) -> u64
-    ensures value { result ≡ byte % 128 }
-    ensures small { result < 128 }
+// The number of a group and of those behind it.
+#[inline(always)]
+fn with_group(byte: u8, above: u64) -> u64
+    requires { above < 2 ^ 28 }
+    ensures { result ≡ byte % 128 + 128 * above }
 {
-    u64::from(byte % 128)
+    u64::from(byte % 128) + 128 * above
 }
 
 // The number that groups tell.
@@ -97,15 +99,13 @@ fn number_in(told: &[u8]) -> u64
     ensures { result ≡ number_in told.now }
 {
     match *told {
-        [a] => low_bits(a),
-        [a, b] => low_bits(a) + 128 * low_bits(b),
-        [a, b, c] => low_bits(a) + 128 * (low_bits(b) + 128 * low_bits(c)),
-        [a, b, c, d] => {
-            low_bits(a) + 128 * (low_bits(b) + 128 * (low_bits(c) + 128 * low_bits(d)))
-        }
+        [a] => with_group(a, 0),
+        [a, b] => with_group(a, with_group(b, 0)),
+        [a, b, c] => with_group(a, with_group(b, with_group(c, 0))),
+        [a, b, c, d] => with_group(a, with_group(b, with_group(c, with_group(d, 0)))),
         [a, b, c, d, e] => {
-            let high = low_bits(c) + 128 * (low_bits(d) + 128 * low_bits(e));
-            low_bits(a) + 128 * (low_bits(b) + 128 * high)
+            let high = with_group(d, with_group(e, 0));
+            with_group(a, with_group(b, with_group(c, high)))
         }
         _ => 0,
     }

@@ -1,11 +1,11 @@
-use Rattle.std.proofs.Common.{◌≡◌, ◌≤◌, length, ◌+◌, ◌-◌}
+use Rattle.std.proofs.Common.{◌≡◌, ◌<◌, ◌≤◌, length, ◌+◌, ◌-◌}
 use Rattle.shelf.specs.Shelf.{content, Told, OnlyReads}
 use Rattle.shelf.specs.Fetch.{IsFront}
-use Rattle.shelf.proofs.whole_file.fetch.Given as goal
+use Rattle.shelf.proofs.whole_file.read_pieces.Given as goal
 
 abbrev pub invariant-loop-bytes : goal.invariant-loop-bytes
 invariant-loop-bytes g l = record {
-  piece : length l.piece.items ≡ 65536;
+  room : 0 < length l.piece;
   capped : length l.bytes.items ≤ l.limit + 1;
   front : Told (g.S.Shelf.outside l.fn.shelf).held (λ files. IsFront (content files l.name) l.bytes.items);
   only : OnlyReads (g.S.Shelf.outside l.fn.shelf) (g.S.Shelf.outside l.shelf);
