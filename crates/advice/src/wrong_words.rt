@@ -34,30 +34,38 @@ pub enum WrongWord<'a> {
     Other,
 }
 
+impl<'a> WrongWord<'a> {
+    // The line that says it: what stands before the word or the name, the word, and what follows.
+    fn line(self) -> (&'static str, &'a str, &'static str) {
+        match self {
+            WrongWord::NoCommand => ("the command is missing; see predator --help", "", ""),
+            WrongWord::UnknownCommand(word) => ("'", word, "' is no command; see predator --help"),
+            WrongWord::UnknownOption(word) => ("'", word, "' is no option of this command"),
+            WrongWord::Twice(option) => ("", option, " is given twice"),
+            WrongWord::NoValue(option) => ("", option, " wants a value behind it"),
+            WrongWord::OneTooMany(word) => ("'", word, "' is one word too many"),
+            WrongWord::NoName(name) => ("", name, " is missing"),
+            WrongWord::NoLayout => (
+                "--size is a power of two from 4 to 1024, --shift a multiple of 4 below the size",
+                "",
+                "",
+            ),
+            WrongWord::NoCount => ("N is a whole number up to 1000000000", "", ""),
+            WrongWord::NoPlace => ("K is a whole number up to 18446744073709551615", "", ""),
+            WrongWord::SameName => (
+                "a file that is written has the name of another one; each wants its own",
+                "",
+                "",
+            ),
+            WrongWord::Other => ("see predator --help", "", ""),
+        }
+    }
+}
+
 impl fmt::Display for WrongWord<'_> {
     fn fmt<W: fmt::Write>(&self, f: &mut fmt::Formatter<W>) -> fmt::Result {
-        match self {
-            WrongWord::NoCommand => write!(f, "the command is missing; see predator --help"),
-            WrongWord::UnknownCommand(word) => {
-                write!(f, "'{word}' is no command; see predator --help")
-            }
-            WrongWord::UnknownOption(word) => write!(f, "'{word}' is no option of this command"),
-            WrongWord::Twice(option) => write!(f, "{option} is given twice"),
-            WrongWord::NoValue(option) => write!(f, "{option} wants a value behind it"),
-            WrongWord::OneTooMany(word) => write!(f, "'{word}' is one word too many"),
-            WrongWord::NoName(name) => write!(f, "{name} is missing"),
-            WrongWord::NoLayout => write!(
-                f,
-                "--size is a power of two from 4 to 1024, --shift a multiple of 4 below the size"
-            ),
-            WrongWord::NoCount => write!(f, "N is a whole number up to 1000000000"),
-            WrongWord::NoPlace => write!(f, "K is a whole number up to 18446744073709551615"),
-            WrongWord::SameName => write!(
-                f,
-                "a file that is written has the name of another one; each wants its own"
-            ),
-            WrongWord::Other => write!(f, "see predator --help"),
-        }
+        let (before, word, behind) = self.line();
+        write!(f, "{before}{word}{behind}")
     }
 }
 

@@ -40,8 +40,8 @@ fn options_in<'a>(matches: &ArgMatches<'a>) -> Option<ConvertOptions<'a>>
 
 // What the words of a `convert` ask for, the command's own name first.
 pub fn read_convert<'a>(alloc: Global, words: &'a [String]) -> Result<Demand<'a>, WordsFault>
-    ensures accepted { IfOk result (λ demand. option_map convert (asked_of_convert (texts words.now))
-        ≡ Some (meaning demand)) }
+    ensures accepted { IfOk result (λ demand.
+        option_map convert (asked_of_convert (texts words.now)) ≡ Some (meaning demand)) }
     ensures refused { IfErr result (λ fault. UnlessMemory fault
         (option_map convert (asked_of_convert (texts words.now)) ≡ None)) }
     ensures bounded { IfOk result IsBounded }
