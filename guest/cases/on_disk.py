@@ -16,7 +16,7 @@ DATA = os.path.join(TOP, "crates", "worked_runs", "data")
 # The texts that were renewed: what a case said, and what the program printed.
 RENEWED = {}
 WANTS = ("status", "front", "fails", "writes", "keeps", "absent")
-PROGRAM = os.path.abspath(os.path.join(TOP, "crates", "predator", "out", "predator"))
+PROGRAM = os.path.abspath(os.environ.get("PREDATOR_PROGRAM") or os.path.join(TOP, "crates", "predator", "out", "predator"))
 
 
 def content(form, lines, words):
@@ -46,6 +46,18 @@ def record(line):
     return struct.pack("<BHIB", 1 + (touch[0] == "W"), int(touch[1:]), int(addr, 16), int(size))
 
 
+def usage():
+    """The usage lines, which cases name by one word."""
+    return read(os.path.join(DATA, "usage.txt")).decode().splitlines()
+
+
+def spelled(lines):
+    """The lines of a case that spell these."""
+    if lines == usage():
+        return ["usage"]
+    return [f"| {it}" if it else "|" for it in lines]
+
+
 def parts(path):
     """The parts of a case: each a line and the spelled lines behind it."""
     found = []
@@ -53,6 +65,8 @@ def parts(path):
         for line in file.read().split("\n")[:-1]:
             if line == "|" or line.startswith("| "):
                 found[-1][1].append(line[2:])
+            elif line == "usage":
+                found[-1][1].extend(usage())
             else:
                 found.append((line, []))
     return found
@@ -155,7 +169,7 @@ def play(case, renew):
 def save(case, found):
     with open(os.path.join(DATA, case), "w") as file:
         for line, lines in found:
-            print(line, *(f"| {it}" if it else "|" for it in lines), sep="\n", file=file)
+            print(line, *spelled(lines), sep="\n", file=file)
 
 
 def renew_failing(case):

@@ -3,12 +3,11 @@
 // under a tracking and a prediction threshold, and prints how many it has seen and how many tracks
 // it has. The lines come at random, and where the last word is `sweep` one after the other. Without
 // words it goes once at random over 64 lines with 8 harts, with 16 and 64.
-ghost use Rattle.std.specs.Prelude.{◌≡◌, ◌<◌, ◌≤◌, ◌^◌, IfSome, IsTrue};
-ghost use Rattle.sharing_rules.specs.Listed.{may_predict};
+ghost use Rattle.std.specs.Prelude.{◌≤◌};
 
 use crate::{Words, number_or};
+use base::{Access, Hart, Kind, Layout, NoMemory, Thresholds};
 use detector::{Detector, PagedIndex, see};
-use predator_base::{Access, Hart, Kind, Layout, NoMemory, Thresholds};
 use std::alloc::Global;
 use std::io;
 

@@ -2,11 +2,12 @@
 // a heap that just holds them, asks for one more, and frees them in the order of making, or in the
 // reverse order where KIND is `reverse`. With `table` or `reverse-table` a table of objects notes
 // as many blocks and frees. It prints what was done. Without words there are 1,000 blocks.
-ghost use Rattle.std.specs.Prelude.{◌+◌, ◌*◌, ◌≤◌, ◌<◌, ◌^◌};
+ghost use Rattle.std.specs.Prelude.{◌≤◌, ◌<◌, ◌^◌};
 
 use crate::{Words, number_or};
-use heap_objects::{GuestHeap, ObjectTable};
-use predator_base::NoMemory;
+use base::NoMemory;
+use guest::GuestHeap;
+use objects::ObjectTable;
 use std::alloc::Global;
 use std::io;
 

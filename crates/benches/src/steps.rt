@@ -1,15 +1,13 @@
 // How many steps a second the machine makes: `benches steps STEPS HARTS` runs a loop of ten
 // arithmetic instructions, a load and a store on hart 0 for so many steps, beside reservations for
 // so many harts, and prints what it did. Without words it makes 1,000 steps with one hart.
-ghost use Rattle.std.specs.Prelude.{◌<◌, ◌≡◌, ◌%◌, IfOk, length};
-ghost use Rattle.guest_memory.specs.Space.{IsRange};
+ghost use Rattle.std.specs.Prelude.{◌<◌, length};
 
 use crate::step_program::program;
 use crate::{Words, number_or};
-use guest_memory::Memory;
-use predator_base::{Hart, NoMemory};
+use base::{Hart, NoMemory};
 use rv32_decode::encode;
-use rv32_machine::{HartState, Reservations, StepEnd, step};
+use rv32_hart::{HartState, Memory, Reservations, StepEnd, step};
 use std::alloc::Global;
 use std::io;
 

@@ -1,15 +1,13 @@
 // How fast traces are read: `benches traces VERSION PIECES` reads so many pieces of 8192 accesses
 // each, of version 1 or 2, and prints how many accesses it read. Each piece ends inside a record.
 // Without words it reads two pieces of version 1.
-ghost use Rattle.std.specs.Prelude.{◌≡◌, ◌<◌, IfOk};
+ghost use Rattle.std.specs.Prelude.{◌<◌};
 
 use crate::{Words, number_or};
-use predator_base::{Access, Hart, Kind, NoMemory};
+use base::{Access, Hart, Kind, NoMemory};
 use std::alloc::Global;
 use std::io;
-use trace_grammar::{Header, TraceFault, TraceRecord, Version};
-use trace_reader::TraceReader;
-use trace_writer::TraceWriter;
+use trace_format::{Header, TraceFault, TraceReader, TraceRecord, TraceWriter, Version};
 
 // How many accesses a piece has.
 const ACCESSES: u32 = 8192;

@@ -6,12 +6,12 @@ ghost use Rattle.std.specs.Prelude.{◌≡◌, ◌+◌, ◌*◌, ◌≤◌};
 
 use crate::turn_program::{CODE, program};
 use crate::{Words, number_or};
-use elf_loader::Image;
-use guest_memory::Memory;
-use guest_run::{Guest, RunSettings, Turn};
+use base::NoMemory;
+use guest::{Guest, RunSettings, Turn};
 use hart_scheduler::Schedule;
-use predator_base::NoMemory;
+use program_files::Image;
 use rv32_decode::encode;
+use rv32_hart::Memory;
 use std::alloc::Global;
 use std::io;
 

@@ -1,1 +1,2 @@
-mod SaveLaws
+mod FrontLaws
+pub mod SaveLaws

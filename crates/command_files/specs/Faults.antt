@@ -1,16 +1,17 @@
 -- The lines of refusals and of faults of the outside.
 use Rattle.std.specs.Prelude.{ℕ, List, [], ◌++◌, codes}
-use Rattle.elf_loader.specs.declared.fault.ElfFault.{ElfFault}
-use Rattle.elf_loader.specs.declared.fault.ElfFault.TheVariants as elf
+use Rattle.program_files.specs.declared.fault.ElfFault.{ElfFault}
+use Rattle.program_files.specs.declared.fault.ElfFault.TheVariants as elf
 use Rattle.std.specs.Fmt.{decimal}
 use Rattle.hart_scheduler.specs.declared.fault.ScheduleFault.{ScheduleFault}
 use Rattle.hart_scheduler.specs.declared.fault.ScheduleFault.TheVariants as schedule
 use Rattle.settings.specs.declared.fault.SettingsFault.{SettingsFault}
 use Rattle.settings.specs.declared.fault.SettingsFault.TheVariants as settings
 use Rattle.settings.specs.Keys.{key_name}
-use Rattle.trace_grammar.specs.declared.fault.TraceFault.{TraceFault}
-use Rattle.trace_grammar.specs.declared.fault.TraceFault.TheVariants as trace
-use Rattle.text_forms.specs.Names.{name_text}
+use Rattle.trace_format.specs.declared.fault.TraceFault.{TraceFault}
+use Rattle.trace_format.specs.declared.fault.TraceFault.TheVariants as trace
+use Rattle.base.specs.PrintedNames.{name_text}
+use Rattle.command_line.specs.Words.{usage_text}
 use Rattle.command_files.specs.Texts.{line}
 use Rattle.command_files.specs.declared.status.StateFault.{StateFault}
 use Rattle.command_files.specs.declared.status.StateFault.TheVariants as state
@@ -73,16 +74,6 @@ state_text (state.WrongSettings place) = codes "WrongSettings " ++ decimal place
 state_text (state.WrongPosition saved first) = codes "WrongPosition " ++
     (decimal saved ++ (codes " " ++ decimal first))
 state_text state.TooLong = codes "TooLong"
-
--- a line for each command
-abbrev pub usage_text : List ℕ
-usage_text =
-    line (codes "usage: predator run PROGRAM [--settings F] [--schedule F] [--trace F] [--output F]")
-    ++ line (codes "usage: predator replay TRACE [--settings F] [--size N] [--shift N] [--save F] [--resume F]")
-    ++ line (codes "usage: predator check PROGRAM [--settings F]")
-    ++ line (codes "usage: predator split TRACE K A B")
-    ++ line (codes "usage: predator gen N FILE")
-    ++ line (codes "usage: predator convert TRACE FILE")
 
 abbrev pub fault_text : Status → List ℕ
 fault_text status.Done = []

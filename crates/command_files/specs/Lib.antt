@@ -1,9 +1,9 @@
-pub mod Numbers
-pub mod Statuses
-pub mod Readings
-pub mod Works
-pub mod Texts
 pub mod Faults
-pub mod SettingsFiles
-pub mod ProgramFiles
 pub mod Laws
+pub mod Numbers
+pub mod ProgramFiles
+pub mod Readings
+pub mod SettingsFiles
+pub mod Statuses
+pub mod Texts
+pub mod Works

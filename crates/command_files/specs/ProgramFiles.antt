@@ -4,12 +4,12 @@ use Rattle.std.specs.Prelude.{if◌then◌else◌}
 use Rattle.std.specs.Option.{option_or, option_map}
 use Rattle.shelf.specs.Shelf.{content}
 use Rattle.settings.specs.declared.values.Settings.{Settings}
-use Rattle.elf_loader.specs.declared.image.Space.{Space}
-use Rattle.elf_loader.specs.declared.image.Image.{Image}
-use Rattle.elf_loader.specs.declared.fault.ElfFault.{ElfFault}
-use Rattle.elf_loader.specs.declared.fault.ElfFault.TheVariants as elf
-use Rattle.elf_loader.specs.Faults.{read_fault, symbols_fault}
-use Rattle.elf_loader.specs.PlacedImages.{place_fault}
+use Rattle.program_files.specs.declared.image.Space.{Space}
+use Rattle.program_files.specs.declared.image.Image.{Image}
+use Rattle.program_files.specs.declared.fault.ElfFault.{ElfFault}
+use Rattle.program_files.specs.declared.fault.ElfFault.TheVariants as elf
+use Rattle.program_files.specs.Faults.{read_fault, symbols_fault}
+use Rattle.program_files.specs.PlacedImages.{place_fault}
 use Rattle.command_files.specs.Readings.{Reading, reading}
 use Rattle.command_files.specs.SettingsFiles.{chosen_settings}
 use Rattle.command_files.specs.declared.status.Status.{Status}

@@ -1,20 +1,18 @@
 -- How a call ends, by the kinds of status that its clauses tell apart, and the status that each
 -- lower fault has.
 use Rattle.std.specs.Prelude.{Bool, true, false}
-use Rattle.command_line.specs.declared.demand.WordsFault.{WordsFault}
-use Rattle.command_line.specs.declared.demand.WordsFault.TheVariants as words
-use Rattle.elf_loader.specs.declared.image.PlaceFault.{PlaceFault}
-use Rattle.elf_loader.specs.declared.image.PlaceFault.TheVariants as place
+use Rattle.program_files.specs.declared.image.PlaceFault.{PlaceFault}
+use Rattle.program_files.specs.declared.image.PlaceFault.TheVariants as place
 use Rattle.hart_scheduler.specs.declared.fault.ScheduleFault.{ScheduleFault}
 use Rattle.hart_scheduler.specs.declared.fault.ScheduleFault.TheVariants as schedule
-use Rattle.predator_base.specs.declared.faults.ResumeFault.{ResumeFault}
-use Rattle.predator_base.specs.declared.faults.ResumeFault.TheVariants as resume
+use Rattle.base.specs.declared.faults.ResumeFault.{ResumeFault}
+use Rattle.base.specs.declared.faults.ResumeFault.TheVariants as resume
 use Rattle.settings.specs.declared.fault.SettingsFault.{SettingsFault}
 use Rattle.settings.specs.declared.fault.SettingsFault.TheVariants as settings
 use Rattle.shelf.specs.declared.shelf.ShelfError.{ShelfError}
 use Rattle.shelf.specs.declared.shelf.ShelfError.TheVariants as shelf
-use Rattle.trace_grammar.specs.declared.fault.TraceFault.{TraceFault}
-use Rattle.trace_grammar.specs.declared.fault.TraceFault.TheVariants as trace
+use Rattle.trace_format.specs.declared.fault.TraceFault.{TraceFault}
+use Rattle.trace_format.specs.declared.fault.TraceFault.TheVariants as trace
 use Rattle.command_files.specs.declared.status.StateFault.TheVariants as state
 use Rattle.command_files.specs.declared.status.Status.{Status}
 use Rattle.command_files.specs.declared.status.Status.TheVariants as status
@@ -45,10 +43,6 @@ kind_of status.Deadlock = done
 kind_of status.Trapped = done
 
 -- ---- lower faults: want of memory is a status of its own, whoever wanted it
-
-abbrev pub status_of_words : WordsFault → Status
-status_of_words words.Usage = status.Usage
-status_of_words words.NoMemory = status.NoMemory
 
 abbrev pub status_of_placing : PlaceFault → Status
 status_of_placing (place.Refused fault) = status.Elf fault

@@ -1,6 +1,6 @@
 -- What a command gives.
-use Rattle.std.specs.Prelude.{ℕ, List, [], ◌∷◌, Option, Some, None}
-use Rattle.outputs.specs.Files.{Output}
+use Rattle.std.specs.Prelude.{ℕ, List, [], Option, Some, None}
+use Rattle.shelf.specs.Files.{Output, one_file}
 use Rattle.command_files.specs.declared.status.Status.{Status}
 use Rattle.command_files.specs.declared.status.Status.TheVariants as status
 
@@ -13,11 +13,7 @@ pub record Work : Type 0 where
 abbrev pub done_with : List ℕ → Work
 done_with text = record { status = status.Done; text = text; outputs = [] }
 
--- the one file of a name
-abbrev pub file_of : List ℕ → List ℕ → List Output
-file_of name bytes = record { name = name; bytes = bytes } ∷ []
-
--- the same, if a name is given
+-- the one file of a name, if one is given
 abbrev pub output_for : Option (List ℕ) → List ℕ → List Output
 output_for None bytes = []
-output_for (Some name) bytes = file_of name bytes
+output_for (Some name) bytes = one_file name bytes

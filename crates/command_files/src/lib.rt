@@ -6,24 +6,29 @@
 //! is said over a list of readings, each with its name and its refusal (specs/Readings.antt). A
 //! command that reads several files puts such lists together, and ends by the first refusal in
 //! them; the laws for that are in specs/Laws. Each status has its number for the process
-//! (specs/Numbers.antt), its line where it is printed (specs/Faults.antt), and advice on what to do
-//! next.
+//! (specs/Numbers.antt) and its line where it is printed (specs/Faults.antt). What each fault is
+//! called and the advice on it stand together, in a file for each kind of fault, as
+//! `trace_faults.rt`. The advice is no format, and no promise is made of it. What is wrong with
+//! words is said by the `Reason` of `command_line`.
 //!
 //! What a command does with its files isn't known here.
 #![tactic(auto)]
 
+mod elf_faults;
 mod faults;
 mod files;
-mod messages;
 mod program_file;
 mod saving;
+mod schedule_faults;
+mod settings_faults;
 mod settings_file;
 mod start;
+mod state_faults;
 mod status;
+mod trace_faults;
 
-pub use faults::{NO_MEMORY_LINE, USAGE, fault_line};
+pub use faults::{NO_MEMORY_LINE, advice_on, advise, fault_line};
 pub use files::{Judge, read_judged};
-pub use messages::{advice_on, advise};
 pub use program_file::{PROGRAM_LIMIT, Program, judge_program};
 pub use saving::save;
 pub use settings_file::{native_layout, read_settings, thresholds_of};

@@ -1,13 +1,13 @@
 // How a program file is judged: viewed, placed, and its symbols.
 ghost use Rattle.std.specs.Prelude.{◌≡◌, ◌≤◌, ◌^◌, Err, IfErr, IfOk, None, OnOk, length};
-ghost use Rattle.elf_loader.specs.PlacedImages.{IsAllowedSpace, IsImageOf, image_of};
-ghost use Rattle.elf_loader.specs.Symbols.{symbols_of};
+ghost use Rattle.program_files.specs.PlacedImages.{IsAllowedSpace, IsImageOf, image_of};
+ghost use Rattle.program_files.specs.Symbols.{symbols_of};
 ghost use Rattle.settings.specs.Allowed.{IsAllowed};
 ghost use Rattle.command_files.specs.ProgramFiles.{IsStartable, program_refusal, space_of as space};
 ghost use Rattle.command_files.specs.Readings.{IsJudged};
 
 use crate::Status;
-use elf_loader::{ElfView, Image, Space, Symbols, place, place_fault};
+use program_files::{ElfView, Image, Space, Symbols, place, place_fault};
 use settings::Settings;
 use std::alloc::Global;
 

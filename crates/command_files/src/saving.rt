@@ -1,11 +1,10 @@
 // Bytes that are written under a name, if one is given.
 ghost use Rattle.std.specs.Prelude.{IfErr, OnOk};
 ghost use Rattle.command_line.specs.Demands.{text_of};
-ghost use Rattle.outputs.specs.Files.{AreCut, AreWritten};
-ghost use Rattle.command_files.specs.Works.{file_of, output_for};
+ghost use Rattle.shelf.specs.Files.{AreCut, AreWritten, one_file};
+ghost use Rattle.command_files.specs.Works.{output_for};
 
-use outputs::Outputs;
-use shelf::{Shelf, ShelfError};
+use shelf::{Outputs, Shelf, ShelfError};
 use std::alloc::Global;
 
 // Writes bytes under a name.
@@ -15,9 +14,9 @@ fn write_file<S: Shelf>(
     name: &str,
     bytes: &[u8],
 ) -> Result<(), ShelfError>
-    ensures written { OnOk result (AreWritten (file_of name.now bytes.now)
+    ensures written { OnOk result (AreWritten (one_file name.now bytes.now)
         (S.outside shelf.old) (S.outside shelf.new)) }
-    ensures cut { IfErr result (AreCut (file_of name.now bytes.now)
+    ensures cut { IfErr result (AreCut (one_file name.now bytes.now)
         (S.outside shelf.old) (S.outside shelf.new)) }
 {
     let mut outputs = Outputs::new(alloc);

@@ -1,5 +1,5 @@
 // The settings of a command.
-ghost use Rattle.std.specs.Prelude.{◌≡◌, Ok, None, IfOk, IfErr, IsOk, IsTrue, OnOk, length};
+ghost use Rattle.std.specs.Prelude.{◌≡◌, Ok, None, IfOk, IfErr, IsOk, IsTrue, OnOk};
 ghost use Rattle.std.specs.Option.{ForSome};
 ghost use Rattle.sharing_rules.specs.Listed.{may_predict};
 ghost use Rattle.command_line.specs.Demands.{text_of};
@@ -11,7 +11,7 @@ ghost use Rattle.command_files.specs.SettingsFiles.{settings_readings};
 
 use crate::Status;
 use crate::files::{Judge, read_judged};
-use predator_base::{Layout, Thresholds};
+use base::{Layout, Thresholds};
 use settings::{Settings, SettingsFault};
 use shelf::Shelf;
 use std::alloc::Global;
@@ -20,7 +20,6 @@ use std::alloc::Global;
 struct SettingsFile;
 
 impl Judge for SettingsFile {
-    ghost use Rattle.std.specs.Prelude.{◌<◌, ◌≤◌, ◌^◌, Some, IfErr};
     ghost use Rattle.settings.specs.Answers.{settings_of};
     ghost use Rattle.command_files.specs.SettingsFiles.{settings_refusal};
 

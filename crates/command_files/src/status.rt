@@ -2,13 +2,12 @@
 ghost use Rattle.std.specs.Prelude.{◌≡◌};
 ghost use Rattle.command_files.specs.Numbers.{number_of};
 
-use command_line::WordsFault;
-use elf_loader::{ElfFault, PlaceFault};
+use base::{NoMemory, ResumeFault};
 use hart_scheduler::ScheduleFault;
-use predator_base::{NoMemory, ResumeFault};
+use program_files::{ElfFault, PlaceFault};
 use settings::SettingsFault;
 use shelf::ShelfError;
-use trace_grammar::TraceFault;
+use trace_format::TraceFault;
 
 /// Why a saved state isn't taken up again, or a trace doesn't go on from where the count of it
 /// stands.
@@ -92,19 +91,6 @@ impl From<NoMemory> for Status {
 
     fn from(_: NoMemory) -> Self {
         Status::NoMemory
-    }
-}
-
-impl From<WordsFault> for Status {
-    ghost use Rattle.command_files.specs.Statuses.{status_of_words};
-
-    ghost from_gives = { λ fault s. s ≡ status_of_words fault };
-
-    fn from(fault: WordsFault) -> Self {
-        match fault {
-            WordsFault::Usage => Status::Usage,
-            WordsFault::NoMemory => Status::NoMemory,
-        }
     }
 }
 

@@ -1,3 +1,3 @@
-mod AppLemmas
-mod AskedLemmas
-mod NumberLemmas
+pub mod AppLemmas
+pub mod AskedLemmas
+pub mod NumberLemmas

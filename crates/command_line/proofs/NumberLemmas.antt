@@ -17,11 +17,14 @@ some_digits : (text : List ℕ) → is_plain text ≡ true → 0 < length text
 some_digits text plain = search rules
 
 of_answer : {E : Type 0} (text : List ℕ) (r : Result ℕ E) → is_plain text ≡ true
-    → OkIff r ((0 < length text) × (digits_value 10 text < 2 ^ 64)) (digits_value 10 text) → result_ok r ≡ number_of text
+    → OkIff r ((0 < length text) × (digits_value 10 text < 2 ^ 64)) (digits_value 10 text)
+    → result_ok r ≡ number_of text
 of_answer text (Ok x) plain h = search rules
 of_answer text (Err e) plain h = search (rules, some_digits text plain)
 
 -- what `parse` makes of such a text is its number
-pub result_ok-number_of : {E : Type 0} (text : List ℕ) (r : Result ℕ E) → is_plain text ≡ true → ParsesUnsigned 64 10 text r
+pub result_ok-number_of : {E : Type 0} (text : List ℕ) (r : Result ℕ E) → is_plain text ≡ true
+    → ParsesUnsigned 64 10 text r
     → result_ok r ≡ number_of text
-result_ok-number_of text r plain parses = of_answer text r plain (parse_digits digits 64 text r parses (all_digits text plain))
+result_ok-number_of text r plain parses = of_answer text r plain
+    (parse_digits digits 64 text r parses (all_digits text plain))

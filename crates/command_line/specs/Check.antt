@@ -1,4 +1,4 @@
--- The command `check PROGRAM [--settings F]`.
+-- The command `check`: what its words ask for.
 use Rattle.std.specs.Prelude.{List, [], ◌∷◌, Option, option_map, codes}
 use Rattle.clap.specs.Words.{App, Row, Text, first_of}
 use Rattle.command_line.specs.Apps.{plain_app, with_option, with_word}
@@ -6,6 +6,10 @@ use Rattle.command_line.specs.Asked.{asked}
 use Rattle.command_line.specs.Demands.{text_of}
 use Rattle.command_line.specs.Names.{given}
 use Rattle.command_line.specs.declared.check.CheckOptions.{CheckOptions}
+
+abbrev pub check_usage : Text
+check_usage =
+    codes "usage: predator check PROGRAM [--settings F]\n"
 
 -- load and place a program, with the settings of a file, if one is named
 pub record CheckDemand : Type 0 where

@@ -1,9 +1,13 @@
--- The command `convert TRACE FILE`.
+-- The command `convert`: what its words ask for.
 use Rattle.std.specs.Prelude.{List, [], ◌∷◌, Option, option_and_then, option_map, codes}
 use Rattle.clap.specs.Words.{App, Row, Text, first_of}
 use Rattle.command_line.specs.Apps.{plain_app, with_word}
 use Rattle.command_line.specs.Asked.{asked}
 use Rattle.command_line.specs.declared.convert.ConvertOptions.{ConvertOptions}
+
+abbrev pub convert_usage : Text
+convert_usage =
+    codes "usage: predator convert TRACE FILE\n"
 
 -- write a trace in the other version
 pub record ConvertDemand : Type 0 where

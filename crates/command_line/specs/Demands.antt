@@ -21,4 +21,9 @@ text_of word = option_map (λ w. w.now) word
 -- the fact holds unless the fault is want of memory
 abbrev pub UnlessMemory : WordsFault → Type 0 → Type 0
 UnlessMemory NoMemory P = Unit {0}
-UnlessMemory Usage P = P
+UnlessMemory (Usage reason) P = P
+
+-- the words are refused, for whatever reason
+abbrev pub IsUsage : WordsFault → Type 0
+IsUsage NoMemory = ⊥
+IsUsage (Usage reason) = Unit {0}

@@ -1,4 +1,4 @@
--- The command `gen N FILE`.
+-- The command `gen`: what its words ask for.
 use Rattle.std.specs.Prelude.{ℕ, ◌^◌, nat_le, if◌then◌else◌, List, [], ◌∷◌, Option, Some, None}
 use Rattle.std.specs.Prelude.{codes, option_map, option_and_then}
 use Rattle.clap.specs.Words.{App, Row, Text, first_of}
@@ -6,6 +6,10 @@ use Rattle.command_line.specs.Apps.{plain_app, with_word}
 use Rattle.command_line.specs.Asked.{asked}
 use Rattle.command_line.specs.Numbers.{number_of}
 use Rattle.command_line.specs.declared.generate.GenOptions.{GenOptions}
+
+abbrev pub gen_usage : Text
+gen_usage =
+    codes "usage: predator gen N FILE\n"
 
 -- write a trace of so many accesses under a name
 pub record GenDemand : Type 0 where

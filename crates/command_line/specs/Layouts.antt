@@ -1,7 +1,7 @@
 -- The layout that the options `--size` and `--shift` name.
 use Rattle.std.specs.Prelude.{ℕ, if◌then◌else◌, List, Option, Some, None, option_map}
 use Rattle.std.specs.Prelude.{option_and_then}
-use Rattle.predator_base.specs.Lines.{Grid, is_layout}
+use Rattle.base.specs.Lines.{Grid, is_layout}
 use Rattle.command_line.specs.Numbers.{number_or}
 
 -- the layout of a size and a shift, where it is allowed

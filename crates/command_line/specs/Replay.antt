@@ -1,13 +1,18 @@
--- The command `replay TRACE [--settings F] [--size N] [--shift N] [--save F] [--resume F]`.
-use Rattle.std.specs.Prelude.{List, [], ◌∷◌, Option, option_map, option_and_then, codes}
+-- The command `replay`: what its words ask for.
+use Rattle.std.specs.Prelude.{List, [], ◌∷◌, ◌++◌, Option, option_map, option_and_then, codes}
 use Rattle.clap.specs.Words.{App, Row, Text, first_of}
-use Rattle.predator_base.specs.Lines.{Grid}
+use Rattle.base.specs.Lines.{Grid}
 use Rattle.command_line.specs.Apps.{plain_app, with_option, with_word}
 use Rattle.command_line.specs.Asked.{asked}
 use Rattle.command_line.specs.Demands.{text_of}
 use Rattle.command_line.specs.Layouts.{named_layout}
 use Rattle.command_line.specs.Names.{given}
 use Rattle.command_line.specs.declared.replay.ReplayOptions.{ReplayOptions}
+
+abbrev pub replay_usage : Text
+replay_usage =
+    codes "usage: predator replay TRACE [--settings F] [--size N] [--shift N]" ++
+    codes " [--save F] [--resume F]\n"
 
 -- count the accesses of a trace, with the settings of a file, if one is named, and under a layout,
 -- if one is named; go on from a saved state, and save the state at the end, each if it is named

@@ -1,4 +1,4 @@
--- The command `run PROGRAM [--settings F] [--schedule F] [--trace F] [--output F]`.
+-- The command `run`: what its words ask for.
 use Rattle.std.specs.Prelude.{List, [], ◌∷◌, Option, option_map, codes}
 use Rattle.clap.specs.Words.{App, Row, Text, first_of}
 use Rattle.command_line.specs.Apps.{plain_app, with_option, with_word}
@@ -6,6 +6,10 @@ use Rattle.command_line.specs.Asked.{asked}
 use Rattle.command_line.specs.Demands.{text_of}
 use Rattle.command_line.specs.Names.{given}
 use Rattle.command_line.specs.declared.run.RunOptions.{RunOptions}
+
+abbrev pub run_usage : Text
+run_usage =
+    codes "usage: predator run PROGRAM [--settings F] [--schedule F] [--trace F] [--output F]\n"
 
 -- run a program: its settings, its schedule, and where its trace and its output are written, each
 -- if it is named

@@ -1,10 +1,14 @@
--- The command `split TRACE K A B`.
+-- The command `split`: what its words ask for.
 use Rattle.std.specs.Prelude.{ℕ, List, [], ◌∷◌, Option, option_and_then, option_map, codes}
 use Rattle.clap.specs.Words.{App, Row, Text, first_of}
 use Rattle.command_line.specs.Apps.{plain_app, with_word}
 use Rattle.command_line.specs.Asked.{asked}
 use Rattle.command_line.specs.Numbers.{number_of}
 use Rattle.command_line.specs.declared.split.SplitOptions.{SplitOptions}
+
+abbrev pub split_usage : Text
+split_usage =
+    codes "usage: predator split TRACE K A B\n"
 
 -- cut a trace before so many accesses, and write its halves
 pub record SplitDemand : Type 0 where

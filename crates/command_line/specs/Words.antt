@@ -1,22 +1,26 @@
 -- What the words of the command line ask for. What a command refuses, and what each of its
 -- arguments gets, is what `clap` says.
-use Rattle.std.specs.Prelude.{Bool, false, if◌then◌else◌, List, [], ◌∷◌, Option, Some, None}
-use Rattle.std.specs.Prelude.{◌≤◌, ◌^◌, option_map, option_and_then, codes}
+use Rattle.std.specs.Prelude.{Bool, false, if◌then◌else◌, List, [], ◌∷◌, map, flat_map, Option}
+use Rattle.std.specs.Prelude.{Some, None, ◌≤◌, ◌^◌, option_map, option_and_then, codes}
 use Rattle.std.specs.Str.{bytes_eq}
 use Rattle.clap.specs.Words.{Text}
 use Rattle.command_line.specs.Names.{are_apart, is_named}
-use Rattle.command_line.specs.Replay.{ReplayDemand, asked_of_replay, replay_inputs, replay_meaning}
-use Rattle.command_line.specs.Replay.{replay_outputs}
-use Rattle.command_line.specs.Check.{CheckDemand, asked_of_check, check_inputs, check_meaning}
-use Rattle.command_line.specs.Check.{check_outputs}
-use Rattle.command_line.specs.Run.{RunDemand, asked_of_run, run_inputs, run_meaning, run_outputs}
-use Rattle.command_line.specs.Split.{SplitDemand, asked_of_split, split_inputs, split_meaning}
-use Rattle.command_line.specs.Split.{split_outputs}
-use Rattle.command_line.specs.Gen.{GenDemand, asked_of_gen, gen_inputs, gen_meaning, gen_outputs}
-use Rattle.command_line.specs.Convert.{ConvertDemand, asked_of_convert, convert_inputs}
-use Rattle.command_line.specs.Convert.{convert_meaning, convert_outputs}
+use Rattle.command_line.specs.Replay.{replay_usage, ReplayDemand, asked_of_replay, replay_inputs}
+use Rattle.command_line.specs.Replay.{replay_meaning, replay_outputs}
+use Rattle.command_line.specs.Check.{check_usage, CheckDemand, asked_of_check, check_inputs}
+use Rattle.command_line.specs.Check.{check_meaning, check_outputs}
+use Rattle.command_line.specs.Run.{run_usage, RunDemand, asked_of_run, run_inputs, run_meaning}
+use Rattle.command_line.specs.Run.{run_outputs}
+use Rattle.command_line.specs.Split.{split_usage, SplitDemand, asked_of_split, split_inputs}
+use Rattle.command_line.specs.Split.{split_meaning, split_outputs}
+use Rattle.command_line.specs.Gen.{gen_usage, GenDemand, asked_of_gen, gen_inputs, gen_meaning}
+use Rattle.command_line.specs.Gen.{gen_outputs}
+use Rattle.command_line.specs.Convert.{convert_usage, ConvertDemand, asked_of_convert}
+use Rattle.command_line.specs.Convert.{convert_inputs, convert_meaning, convert_outputs}
 use Rattle.command_line.specs.declared.demand.Demand as code
 use Rattle.command_line.specs.declared.demand.Demand.TheVariants as code_demand
+
+-- ---- the commands, a row each
 
 -- a command with what is asked of it
 pub data Demand : Type 0 where
@@ -35,55 +39,82 @@ meaning (code_demand.Split options) = split (split_meaning options)
 meaning (code_demand.Gen options) = gen (gen_meaning options)
 meaning (code_demand.Convert options) = convert (convert_meaning options)
 
--- a trace is asked to have at most 10^9 accesses
-abbrev pub IsBounded : code.Demand → Type 0
-IsBounded (code_demand.Replay options) = Unit {0}
-IsBounded (code_demand.Check options) = Unit {0}
-IsBounded (code_demand.Run options) = Unit {0}
-IsBounded (code_demand.Split options) = Unit {0}
-IsBounded (code_demand.Gen options) = options.count ≤ 10 ^ 9
-IsBounded (code_demand.Convert options) = Unit {0}
+-- a command as words name it: its name, its usage line, and what words ask of it
+pub record Named : Type 0 where
+  pub name : Text
+  pub usage : Text
+  pub asked : List Text → Option Demand
 
--- the files that are read, in the order in which they are
+abbrev pub named : {D : Type 0} → Text → Text → (List Text → Option D) → (D → Demand) → Named
+named name usage asked say =
+    record { name = name; usage = usage; asked = λ words. option_map say (asked words) }
+
+abbrev pub commands : List Named
+commands =
+    named (codes "run") run_usage asked_of_run run
+    ∷ named (codes "replay") replay_usage asked_of_replay replay
+    ∷ named (codes "check") check_usage asked_of_check check
+    ∷ named (codes "split") split_usage asked_of_split split
+    ∷ named (codes "gen") gen_usage asked_of_gen gen
+    ∷ named (codes "convert") convert_usage asked_of_convert convert
+    ∷ []
+
+-- the files that a demand has read, in the order in which they are, those that it has written, in
+-- the order in which they are begun, and the bounds that it is within
+pub record Terms : Type 1 where
+  pub inputs : List Text
+  pub outputs : List Text
+  pub IsWithin : Type 0
+
+-- any demand is allowed
+abbrev pub terms : List Text → List Text → Terms
+terms inputs outputs = record { inputs = inputs; outputs = outputs; IsWithin = Unit {0} }
+
+abbrev pub terms_of : Demand → Terms
+terms_of (run demand) = terms (run_inputs demand) (run_outputs demand)
+terms_of (replay demand) = terms (replay_inputs demand) (replay_outputs demand)
+terms_of (check demand) = terms (check_inputs demand) (check_outputs demand)
+terms_of (split demand) = terms (split_inputs demand) (split_outputs demand)
+terms_of (gen demand) =
+    record (terms (gen_inputs demand) (gen_outputs demand)) { IsWithin = demand.count ≤ 10 ^ 9 }
+terms_of (convert demand) = terms (convert_inputs demand) (convert_outputs demand)
+
+-- ---- what follows from the rows
+
 abbrev pub inputs : Demand → List Text
-inputs (replay demand) = replay_inputs demand
-inputs (check demand) = check_inputs demand
-inputs (run demand) = run_inputs demand
-inputs (split demand) = split_inputs demand
-inputs (gen demand) = gen_inputs demand
-inputs (convert demand) = convert_inputs demand
+inputs demand = (terms_of demand).inputs
 
--- the files that are written, in the order in which they are begun
 abbrev pub outputs : Demand → List Text
-outputs (replay demand) = replay_outputs demand
-outputs (check demand) = check_outputs demand
-outputs (run demand) = run_outputs demand
-outputs (split demand) = split_outputs demand
-outputs (gen demand) = gen_outputs demand
-outputs (convert demand) = convert_outputs demand
+outputs demand = (terms_of demand).outputs
+
+abbrev pub IsBounded : code.Demand → Type 0
+IsBounded demand = (terms_of (meaning demand)).IsWithin
 
 -- what words ask of the command that the first of them names
+abbrev pub asked_among : List Named → Text → List Text → Option Demand
+asked_among [] command words = None
+asked_among (c ∷ more) command words = if bytes_eq command c.name then c.asked words
+    else asked_among more command words
+
 abbrev pub asked_of : Text → List Text → Option Demand
-asked_of command words =
-    if bytes_eq command (codes "replay") then option_map replay (asked_of_replay words)
-    else (if bytes_eq command (codes "check") then option_map check (asked_of_check words)
-    else (if bytes_eq command (codes "run") then option_map run (asked_of_run words)
-    else (if bytes_eq command (codes "split") then option_map split (asked_of_split words)
-    else (if bytes_eq command (codes "gen") then option_map gen (asked_of_gen words)
-    else (if bytes_eq command (codes "convert") then option_map convert (asked_of_convert words)
-    else None)))))
+asked_of command words = asked_among commands command words
 
 -- the first word is the name of a command
 abbrev pub is_command : List Text → Bool
 is_command [] = false
-is_command (command ∷ rest) =
-    is_named command
-    (codes "replay" ∷ codes "check" ∷ codes "run" ∷ codes "split" ∷ codes "gen" ∷ codes "convert"
-    ∷ [])
+is_command (command ∷ rest) = is_named command (map (λ (c : Named). c.name) commands)
+
+-- a line for each command
+abbrev pub usage_text : Text
+usage_text = flat_map (λ (c : Named). c.usage) commands
 
 -- the demand, unless it has one name for an output and for another output or an input
 abbrev pub with_names_apart : Demand → Option Demand
 with_names_apart demand = if are_apart (outputs demand) (inputs demand) then Some demand else None
+
+-- the same of what one command is asked for
+abbrev pub given_apart : {D : Type 0} → (D → Demand) → Option D → Option Demand
+given_apart say asked = option_and_then with_names_apart (option_map say asked)
 
 -- what the words ask for, unless they are refused
 abbrev pub demand_of : List Text → Option Demand

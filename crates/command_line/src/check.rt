@@ -3,14 +3,15 @@ ghost use Rattle.std.specs.Prelude.{◌≡◌, IfOk, IfErr, Some, None, option_m
 ghost use Rattle.clap.specs.Words.{found_of, rows_of};
 ghost use Rattle.command_line.specs.Check.{asked_of_check, check_meaning, check_of};
 ghost use Rattle.command_line.specs.Demands.{texts, UnlessMemory};
-ghost use Rattle.command_line.specs.Words.{IsBounded, meaning, check};
+ghost use Rattle.command_line.specs.Words.{IsBounded, given_apart, meaning, check};
 
 use crate::demand::{Demand, WordsFault};
 use crate::forms::{matches_of, value_of};
+use crate::reason::Reason;
 use clap::ArgMatches;
 use std::alloc::Global;
 
-/// `check PROGRAM [--settings F]`. A name is a text as it stands in the words.
+/// What a `check` is asked for. A name is a text as it stands in the words.
 #[derive(Clone, Copy, PartialEq, Eq, Debug)]
 pub struct CheckOptions<'a> {
     /// The name of the program file.
@@ -30,19 +31,30 @@ fn options_in<'a>(matches: &ArgMatches<'a>) -> Option<CheckOptions<'a>>
     })
 }
 
-// What the words of a `check` ask for, the command's own name first.
-pub fn read_check<'a>(alloc: Global, words: &'a [String]) -> Result<Demand<'a>, WordsFault>
-    ensures accepted { IfOk result (λ demand. option_map check (asked_of_check (texts words.now))
-        ≡ Some (meaning demand)) }
+// The same, with names apart.
+fn demand_in<'a>(matches: &ArgMatches<'a>) -> Result<Demand<'a>, WordsFault<'a>>
+    ensures accepted { IfOk result (λ demand.
+        given_apart check (check_of (rows_of (found_of matches.now))) ≡ Some (meaning demand)) }
     ensures refused { IfErr result (λ fault. UnlessMemory fault
-        (option_map check (asked_of_check (texts words.now)) ≡ None)) }
+        (given_apart check (check_of (rows_of (found_of matches.now))) ≡ None)) }
+    ensures bounded { IfOk result IsBounded }
+{
+    match options_in(matches) {
+        Some(options) => Ok(Demand::Check(options)),
+        None => Err(WordsFault::Usage(Reason::Missing("PROGRAM"))),
+    }
+}
+
+// What the words of a `check` ask for, the command's own name first.
+pub fn read_check<'a>(alloc: Global, words: &'a [String]) -> Result<Demand<'a>, WordsFault<'a>>
+    ensures accepted { IfOk result (λ demand.
+        given_apart check (asked_of_check (texts words.now)) ≡ Some (meaning demand)) }
+    ensures refused { IfErr result (λ fault. UnlessMemory fault
+        (given_apart check (asked_of_check (texts words.now)) ≡ None)) }
     ensures bounded { IfOk result IsBounded }
 {
     match matches_of(alloc, "check", &["program"], &["settings"], words) {
-        Ok(matches) => match options_in(&matches) {
-            Some(options) => Ok(Demand::Check(options)),
-            None => Err(WordsFault::Usage),
-        },
+        Ok(matches) => demand_in(&matches),
         Err(fault) => Err(fault),
     }
 }

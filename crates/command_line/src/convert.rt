@@ -5,14 +5,15 @@ ghost use Rattle.command_line.specs.Convert.{asked_of_convert, convert_inputs};
 ghost use Rattle.command_line.specs.Convert.{convert_meaning, convert_of, convert_outputs};
 ghost use Rattle.command_line.specs.Demands.{texts, UnlessMemory};
 ghost use Rattle.command_line.specs.Names.{are_apart};
-ghost use Rattle.command_line.specs.Words.{IsBounded, meaning, convert};
+ghost use Rattle.command_line.specs.Words.{IsBounded, given_apart, meaning, convert};
 
 use crate::demand::{Demand, WordsFault};
 use crate::forms::{matches_of, value_of};
+use crate::reason::Reason;
 use clap::ArgMatches;
 use std::alloc::Global;
 
-/// `convert TRACE FILE`. A name is a text as it stands in the words.
+/// What a `convert` is asked for. A name is a text as it stands in the words.
 #[derive(Clone, Copy, PartialEq, Eq, Debug)]
 pub struct ConvertOptions<'a> {
     /// The name of the trace.
@@ -22,7 +23,7 @@ pub struct ConvertOptions<'a> {
 }
 
 // Whether the file has another name than the trace.
-pub fn has_names_apart(options: &ConvertOptions<'_>) -> bool
+fn has_names_apart(options: &ConvertOptions<'_>) -> bool
     ensures { result ≡ are_apart (convert_outputs (convert_meaning options.now))
         (convert_inputs (convert_meaning options.now)) }
 {
@@ -38,19 +39,36 @@ fn options_in<'a>(matches: &ArgMatches<'a>) -> Option<ConvertOptions<'a>>
     Some(ConvertOptions { trace, file })
 }
 
-// What the words of a `convert` ask for, the command's own name first.
-pub fn read_convert<'a>(alloc: Global, words: &'a [String]) -> Result<Demand<'a>, WordsFault>
+// The same, with names apart.
+fn demand_in<'a>(matches: &ArgMatches<'a>) -> Result<Demand<'a>, WordsFault<'a>>
     ensures accepted { IfOk result (λ demand.
-        option_map convert (asked_of_convert (texts words.now)) ≡ Some (meaning demand)) }
+        given_apart convert (convert_of (rows_of (found_of matches.now))) ≡ Some (meaning demand)) }
     ensures refused { IfErr result (λ fault. UnlessMemory fault
-        (option_map convert (asked_of_convert (texts words.now)) ≡ None)) }
+        (given_apart convert (convert_of (rows_of (found_of matches.now))) ≡ None)) }
+    ensures bounded { IfOk result IsBounded }
+{
+    match options_in(matches) {
+        Some(options) => {
+            if has_names_apart(&options) {
+                Ok(Demand::Convert(options))
+            } else {
+                Err(WordsFault::Usage(Reason::SameName(options.file)))
+            }
+        }
+        None => Err(WordsFault::Usage(Reason::Missing("FILE"))),
+    }
+}
+
+// What the words of a `convert` ask for, the command's own name first.
+pub fn read_convert<'a>(alloc: Global, words: &'a [String]) -> Result<Demand<'a>, WordsFault<'a>>
+    ensures accepted { IfOk result (λ demand.
+        given_apart convert (asked_of_convert (texts words.now)) ≡ Some (meaning demand)) }
+    ensures refused { IfErr result (λ fault. UnlessMemory fault
+        (given_apart convert (asked_of_convert (texts words.now)) ≡ None)) }
     ensures bounded { IfOk result IsBounded }
 {
     match matches_of(alloc, "convert", &["trace", "file"], &[], words) {
-        Ok(matches) => match options_in(&matches) {
-            Some(options) => Ok(Demand::Convert(options)),
-            None => Err(WordsFault::Usage),
-        },
+        Ok(matches) => demand_in(&matches),
         Err(fault) => Err(fault),
     }
 }

@@ -4,6 +4,7 @@ ghost use Rattle.std.specs.Prelude.{◌≡◌};
 use crate::check::CheckOptions;
 use crate::convert::ConvertOptions;
 use crate::generate::GenOptions;
+use crate::reason::Reason;
 use crate::replay::ReplayOptions;
 use crate::run::RunOptions;
 use crate::split::SplitOptions;
@@ -30,16 +31,16 @@ pub enum Demand<'a> {
 }
 
 /// Why words give no demand.
-#[derive(Clone, Copy, PartialEq, Eq, Debug)]
-pub enum WordsFault {
+#[derive(Debug, Drop)]
+pub enum WordsFault<'a> {
     /// They name no command, the command refuses the words after it, or an output has the name of
     /// another output or of an input.
-    Usage,
+    Usage(Reason<'a>),
     /// Memory ran out.
     NoMemory,
 }
 
-impl From<AllocError> for WordsFault {
+impl From<AllocError> for WordsFault<'_> {
     ghost use Rattle.command_line.specs.declared.demand.WordsFault.TheVariants.{NoMemory};
 
     ghost from_gives = { λ _ e. e ≡ NoMemory };

@@ -7,6 +7,7 @@ ghost use Rattle.command_line.specs.Apps.{with_word, with_words};
 ghost use Rattle.command_line.specs.Demands.{names_of, text_of, texts, UnlessMemory};
 
 use crate::demand::WordsFault;
+use crate::reason::Reason;
 use clap::error::ErrorKind;
 use clap::{Arg, ArgMatches, Command};
 use std::alloc::{AllocError, Global};
@@ -90,7 +91,10 @@ fn form_command<'a>(
 }
 
 // What `clap` makes of the words for a command.
-fn matches_by<'a>(command: Command<'a>, words: &'a [String]) -> Result<ArgMatches<'a>, WordsFault>
+fn matches_by<'a>(
+    command: Command<'a>,
+    words: &'a [String],
+) -> Result<ArgMatches<'a>, WordsFault<'a>>
     requires { is_simple_and_free (app_of command) ≡ true }
     ensures taken { IfOk result (λ matches. fault_of (app_of command.entry) (texts words.now)
         ≡ []) }
@@ -105,7 +109,7 @@ fn matches_by<'a>(command: Command<'a>, words: &'a [String]) -> Result<ArgMatche
             if error.kind() == ErrorKind::OutOfMemory {
                 Err(WordsFault::NoMemory)
             } else {
-                Err(WordsFault::Usage)
+                Err(WordsFault::Usage(Reason::Words(error)))
             }
         }
     }
@@ -119,7 +123,7 @@ pub fn matches_of<'a>(
     positional: &[&'a str],
     options: &[&'a str],
     words: &'a [String],
-) -> Result<ArgMatches<'a>, WordsFault>
+) -> Result<ArgMatches<'a>, WordsFault<'a>>
     requires { is_simple_and_free (form_app name.now (names_of positional.now)
         (names_of options.now)) ≡ true }
     ensures taken { IfOk result (λ matches. fault_of (form_app name.entry.now

@@ -4,18 +4,19 @@ ghost use Rattle.std.specs.Option.{IfSome};
 ghost use Rattle.clap.specs.Words.{found_of, rows_of};
 ghost use Rattle.command_line.specs.Gen.{asked_of_gen, count_in, gen_meaning, gen_of};
 ghost use Rattle.command_line.specs.Demands.{text_of, texts, UnlessMemory};
-ghost use Rattle.command_line.specs.Words.{IsBounded, meaning, gen};
+ghost use Rattle.command_line.specs.Words.{IsBounded, given_apart, meaning, gen};
 
 use crate::demand::{Demand, WordsFault};
 use crate::forms::{matches_of, value_of};
 use crate::layout::number;
+use crate::reason::Reason;
 use clap::ArgMatches;
 use std::alloc::Global;
 
 // The most accesses that a trace may be asked to have.
 const MOST: u64 = 1_000_000_000;
 
-/// `gen N FILE`. The name is a text as it stands in the words.
+/// What a `gen` is asked for. The name is a text as it stands in the words.
 #[derive(Clone, Copy, PartialEq, Eq, Debug)]
 pub struct GenOptions<'a> {
     /// How many accesses the trace has, at most 10^9.
@@ -43,19 +44,30 @@ fn options_in<'a>(matches: &ArgMatches<'a>) -> Option<GenOptions<'a>>
     Some(GenOptions { count, file })
 }
 
-// What the words of a `gen` ask for, the command's own name first.
-pub fn read_gen<'a>(alloc: Global, words: &'a [String]) -> Result<Demand<'a>, WordsFault>
-    ensures accepted { IfOk result (λ demand. option_map gen (asked_of_gen (texts words.now))
-        ≡ Some (meaning demand)) }
+// The same, with names apart.
+fn demand_in<'a>(matches: &ArgMatches<'a>) -> Result<Demand<'a>, WordsFault<'a>>
+    ensures accepted { IfOk result (λ demand.
+        given_apart gen (gen_of (rows_of (found_of matches.now))) ≡ Some (meaning demand)) }
     ensures refused { IfErr result (λ fault. UnlessMemory fault
-        (option_map gen (asked_of_gen (texts words.now)) ≡ None)) }
+        (given_apart gen (gen_of (rows_of (found_of matches.now))) ≡ None)) }
+    ensures bounded { IfOk result IsBounded }
+{
+    match options_in(matches) {
+        Some(options) => Ok(Demand::Gen(options)),
+        None => Err(WordsFault::Usage(Reason::Count(value_of(matches, "count")))),
+    }
+}
+
+// What the words of a `gen` ask for, the command's own name first.
+pub fn read_gen<'a>(alloc: Global, words: &'a [String]) -> Result<Demand<'a>, WordsFault<'a>>
+    ensures accepted { IfOk result (λ demand.
+        given_apart gen (asked_of_gen (texts words.now)) ≡ Some (meaning demand)) }
+    ensures refused { IfErr result (λ fault. UnlessMemory fault
+        (given_apart gen (asked_of_gen (texts words.now)) ≡ None)) }
     ensures bounded { IfOk result IsBounded }
 {
     match matches_of(alloc, "gen", &["count", "file"], &[], words) {
-        Ok(matches) => match options_in(&matches) {
-            Some(options) => Ok(Demand::Gen(options)),
-            None => Err(WordsFault::Usage),
-        },
+        Ok(matches) => demand_in(&matches),
         Err(fault) => Err(fault),
     }
 }

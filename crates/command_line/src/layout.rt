@@ -6,7 +6,7 @@ ghost use Rattle.command_line.specs.Numbers.{is_plain, number_of, number_or};
 ghost use Rattle.command_line.specs.Demands.{text_of};
 ghost use Rattle.command_line.specs.Layouts.{layout_at, named_layout};
 
-use predator_base::Layout;
+use base::Layout;
 
 // The size of a line in bytes, and where lines begin, where one of them alone is given.
 const USUAL_SIZE: u64 = 64;

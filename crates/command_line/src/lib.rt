@@ -4,6 +4,9 @@
 //! those: which words such a command refuses, and which value each of its arguments gets. An option
 //! is `--name value` or `--name=value`, at most once, in any order; after `--` every word is
 //! positional.
+//!
+//! A command is a file here and one in specs/, with its options and what they ask for, and a row in
+//! each table: `read_command`, [`USAGE`], [`Demand`], and those of specs/Words.antt.
 #![tactic(auto)]
 
 mod check;
@@ -13,6 +16,7 @@ mod forms;
 mod generate;
 mod layout;
 mod names;
+mod reason;
 mod replay;
 mod run;
 mod split;
@@ -22,7 +26,8 @@ pub use check::CheckOptions;
 pub use convert::ConvertOptions;
 pub use demand::{Demand, WordsFault};
 pub use generate::GenOptions;
+pub use reason::Reason;
 pub use replay::ReplayOptions;
 pub use run::RunOptions;
 pub use split::SplitOptions;
-pub use words::read_words;
+pub use words::{USAGE, read_words};

@@ -5,18 +5,18 @@ ghost use Rattle.command_line.specs.Replay.{asked_of_replay, replay_inputs};
 ghost use Rattle.command_line.specs.Replay.{replay_meaning, replay_of, replay_outputs};
 ghost use Rattle.command_line.specs.Demands.{texts, UnlessMemory};
 ghost use Rattle.command_line.specs.Names.{are_apart, is_named};
-ghost use Rattle.command_line.specs.Words.{IsBounded, meaning, replay};
+ghost use Rattle.command_line.specs.Words.{IsBounded, given_apart, meaning, replay};
 
 use crate::demand::{Demand, WordsFault};
 use crate::forms::{matches_of, value_of};
 use crate::layout::read_layout;
 use crate::names::is_given;
+use crate::reason::Reason;
+use base::Layout;
 use clap::ArgMatches;
-use predator_base::Layout;
 use std::alloc::Global;
 
-/// `replay TRACE [--settings F] [--size N] [--shift N] [--save F] [--resume F]`. A name is a text
-/// as it stands in the words.
+/// What a `replay` is asked for. A name is a text as it stands in the words.
 #[derive(Clone, Copy, PartialEq, Eq, Debug)]
 pub struct ReplayOptions<'a> {
     /// The name of the trace.
@@ -39,7 +39,7 @@ fn is_input(options: &ReplayOptions<'_>, name: &str) -> bool
 }
 
 // Whether the file that is written has the name of none that is read.
-pub fn has_names_apart(options: &ReplayOptions<'_>) -> bool
+fn has_names_apart(options: &ReplayOptions<'_>) -> bool
     ensures { result ≡ are_apart (replay_outputs (replay_meaning options.now))
         (replay_inputs (replay_meaning options.now)) }
 {
@@ -64,12 +64,35 @@ fn options_in<'a>(matches: &ArgMatches<'a>) -> Option<ReplayOptions<'a>>
     })
 }
 
-// What the words of a `replay` ask for, the command's own name first.
-pub fn read_replay<'a>(alloc: Global, words: &'a [String]) -> Result<Demand<'a>, WordsFault>
-    ensures accepted { IfOk result (λ demand. option_map replay (asked_of_replay (texts words.now))
-        ≡ Some (meaning demand)) }
+// The same, with names apart.
+fn demand_in<'a>(matches: &ArgMatches<'a>) -> Result<Demand<'a>, WordsFault<'a>>
+    ensures accepted { IfOk result (λ demand.
+        given_apart replay (replay_of (rows_of (found_of matches.now))) ≡ Some (meaning demand)) }
     ensures refused { IfErr result (λ fault. UnlessMemory fault
-        (option_map replay (asked_of_replay (texts words.now)) ≡ None)) }
+        (given_apart replay (replay_of (rows_of (found_of matches.now))) ≡ None)) }
+    ensures bounded { IfOk result IsBounded }
+{
+    match options_in(matches) {
+        Some(options) => {
+            if has_names_apart(&options) {
+                Ok(Demand::Replay(options))
+            } else {
+                Err(WordsFault::Usage(Reason::SameName(options.save.unwrap_or(options.trace))))
+            }
+        }
+        None => Err(WordsFault::Usage(Reason::Layout {
+            size: value_of(matches, "size"),
+            shift: value_of(matches, "shift"),
+        })),
+    }
+}
+
+// What the words of a `replay` ask for, the command's own name first.
+pub fn read_replay<'a>(alloc: Global, words: &'a [String]) -> Result<Demand<'a>, WordsFault<'a>>
+    ensures accepted { IfOk result (λ demand.
+        given_apart replay (asked_of_replay (texts words.now)) ≡ Some (meaning demand)) }
+    ensures refused { IfErr result (λ fault. UnlessMemory fault
+        (given_apart replay (asked_of_replay (texts words.now)) ≡ None)) }
     ensures bounded { IfOk result IsBounded }
 {
     match matches_of(
@@ -79,10 +102,7 @@ pub fn read_replay<'a>(alloc: Global, words: &'a [String]) -> Result<Demand<'a>,
         &["settings", "size", "shift", "save", "resume"],
         words,
     ) {
-        Ok(matches) => match options_in(&matches) {
-            Some(options) => Ok(Demand::Replay(options)),
-            None => Err(WordsFault::Usage),
-        },
+        Ok(matches) => demand_in(&matches),
         Err(fault) => Err(fault),
     }
 }

@@ -1,20 +1,20 @@
 // The command `run`.
-ghost use Rattle.std.specs.Prelude.{◌≡◌, [], ◌∷◌, IfOk, IfErr, Some, None, option_map};
+ghost use Rattle.std.specs.Prelude.{◌≡◌, IfOk, IfErr, Some, None, option_map};
 ghost use Rattle.clap.specs.Words.{found_of, rows_of};
 ghost use Rattle.command_line.specs.Run.{asked_of_run, run_inputs, run_meaning, run_of};
 ghost use Rattle.command_line.specs.Run.{run_outputs};
-ghost use Rattle.command_line.specs.Demands.{texts, text_of, UnlessMemory};
+ghost use Rattle.command_line.specs.Demands.{texts, UnlessMemory};
 ghost use Rattle.command_line.specs.Names.{are_apart, is_named};
-ghost use Rattle.command_line.specs.Words.{IsBounded, meaning, run};
+ghost use Rattle.command_line.specs.Words.{IsBounded, given_apart, meaning, run};
 
 use crate::demand::{Demand, WordsFault};
 use crate::forms::{matches_of, value_of};
 use crate::names::is_given;
+use crate::reason::Reason;
 use clap::ArgMatches;
 use std::alloc::Global;
 
-/// `run PROGRAM [--settings F] [--schedule F] [--trace F] [--output F]`. A name is a text as it
-/// stands in the words.
+/// What a `run` is asked for. A name is a text as it stands in the words.
 #[derive(Clone, Copy, PartialEq, Eq, Debug)]
 pub struct RunOptions<'a> {
     /// The name of the program file.
@@ -37,7 +37,7 @@ fn is_input(options: &RunOptions<'_>, name: &str) -> bool
 }
 
 // Whether no output has the name of another output or of an input.
-pub fn has_names_apart(options: &RunOptions<'_>) -> bool
+fn has_names_apart(options: &RunOptions<'_>) -> bool
     ensures { result ≡ are_apart (run_outputs (run_meaning options.now))
         (run_inputs (run_meaning options.now)) }
 {
@@ -47,6 +47,21 @@ pub fn has_names_apart(options: &RunOptions<'_>) -> bool
         (Some(trace), Some(output)) => {
             trace != output && !is_input(options, trace) && !is_input(options, output)
         }
+    }
+}
+
+// The output's name that another output or an input has.
+fn repeated<'a>(options: &RunOptions<'a>) -> &'a str {
+    match (options.trace, options.output) {
+        (Some(trace), Some(output)) => {
+            if trace == output || is_input(options, trace) {
+                trace
+            } else {
+                output
+            }
+        }
+        (Some(name), None) | (None, Some(name)) => name,
+        (None, None) => options.program,
     }
 }
 
@@ -64,12 +79,32 @@ fn options_in<'a>(matches: &ArgMatches<'a>) -> Option<RunOptions<'a>>
     })
 }
 
-// What the words of a `run` ask for, the command's own name first.
-pub fn read_run<'a>(alloc: Global, words: &'a [String]) -> Result<Demand<'a>, WordsFault>
-    ensures accepted { IfOk result (λ demand. option_map run (asked_of_run (texts words.now))
-        ≡ Some (meaning demand)) }
+// The same, with names apart.
+fn demand_in<'a>(matches: &ArgMatches<'a>) -> Result<Demand<'a>, WordsFault<'a>>
+    ensures accepted { IfOk result (λ demand.
+        given_apart run (run_of (rows_of (found_of matches.now))) ≡ Some (meaning demand)) }
     ensures refused { IfErr result (λ fault. UnlessMemory fault
-        (option_map run (asked_of_run (texts words.now)) ≡ None)) }
+        (given_apart run (run_of (rows_of (found_of matches.now))) ≡ None)) }
+    ensures bounded { IfOk result IsBounded }
+{
+    match options_in(matches) {
+        Some(options) => {
+            if has_names_apart(&options) {
+                Ok(Demand::Run(options))
+            } else {
+                Err(WordsFault::Usage(Reason::SameName(repeated(&options))))
+            }
+        }
+        None => Err(WordsFault::Usage(Reason::Missing("PROGRAM"))),
+    }
+}
+
+// What the words of a `run` ask for, the command's own name first.
+pub fn read_run<'a>(alloc: Global, words: &'a [String]) -> Result<Demand<'a>, WordsFault<'a>>
+    ensures accepted { IfOk result (λ demand.
+        given_apart run (asked_of_run (texts words.now)) ≡ Some (meaning demand)) }
+    ensures refused { IfErr result (λ fault. UnlessMemory fault
+        (given_apart run (asked_of_run (texts words.now)) ≡ None)) }
     ensures bounded { IfOk result IsBounded }
 {
     match matches_of(
@@ -79,10 +114,7 @@ pub fn read_run<'a>(alloc: Global, words: &'a [String]) -> Result<Demand<'a>, Wo
         &["settings", "schedule", "trace", "output"],
         words,
     ) {
-        Ok(matches) => match options_in(&matches) {
-            Some(options) => Ok(Demand::Run(options)),
-            None => Err(WordsFault::Usage),
-        },
+        Ok(matches) => demand_in(&matches),
         Err(fault) => Err(fault),
     }
 }

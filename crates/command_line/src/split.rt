@@ -5,15 +5,16 @@ ghost use Rattle.command_line.specs.Demands.{texts, UnlessMemory};
 ghost use Rattle.command_line.specs.Names.{are_apart};
 ghost use Rattle.command_line.specs.Split.{asked_of_split, split_inputs, split_meaning};
 ghost use Rattle.command_line.specs.Split.{split_of, split_outputs};
-ghost use Rattle.command_line.specs.Words.{IsBounded, meaning, split};
+ghost use Rattle.command_line.specs.Words.{IsBounded, given_apart, meaning, split};
 
 use crate::demand::{Demand, WordsFault};
 use crate::forms::{matches_of, value_of};
 use crate::layout::number;
+use crate::reason::Reason;
 use clap::ArgMatches;
 use std::alloc::Global;
 
-/// `split TRACE K A B`. A name is a text as it stands in the words.
+/// What a `split` is asked for. A name is a text as it stands in the words.
 #[derive(Clone, Copy, PartialEq, Eq, Debug)]
 pub struct SplitOptions<'a> {
     /// The name of the trace.
@@ -27,13 +28,22 @@ pub struct SplitOptions<'a> {
 }
 
 // Whether the trace and its halves have three names.
-pub fn has_names_apart(options: &SplitOptions<'_>) -> bool
+fn has_names_apart(options: &SplitOptions<'_>) -> bool
     ensures { result ≡ are_apart (split_outputs (split_meaning options.now))
         (split_inputs (split_meaning options.now)) }
 {
     options.first != options.second
         && options.first != options.trace
         && options.second != options.trace
+}
+
+// The half's name that the other half or the trace has.
+fn repeated<'a>(options: &SplitOptions<'a>) -> &'a str {
+    if options.first == options.second || options.first == options.trace {
+        options.first
+    } else {
+        options.second
+    }
 }
 
 // What the values of a `split` ask for.
@@ -52,12 +62,32 @@ fn options_in<'a>(matches: &ArgMatches<'a>) -> Option<SplitOptions<'a>>
     })
 }
 
-// What the words of a `split` ask for, the command's own name first.
-pub fn read_split<'a>(alloc: Global, words: &'a [String]) -> Result<Demand<'a>, WordsFault>
-    ensures accepted { IfOk result (λ demand. option_map split (asked_of_split (texts words.now))
-        ≡ Some (meaning demand)) }
+// The same, with names apart.
+fn demand_in<'a>(matches: &ArgMatches<'a>) -> Result<Demand<'a>, WordsFault<'a>>
+    ensures accepted { IfOk result (λ demand.
+        given_apart split (split_of (rows_of (found_of matches.now))) ≡ Some (meaning demand)) }
     ensures refused { IfErr result (λ fault. UnlessMemory fault
-        (option_map split (asked_of_split (texts words.now)) ≡ None)) }
+        (given_apart split (split_of (rows_of (found_of matches.now))) ≡ None)) }
+    ensures bounded { IfOk result IsBounded }
+{
+    match options_in(matches) {
+        Some(options) => {
+            if has_names_apart(&options) {
+                Ok(Demand::Split(options))
+            } else {
+                Err(WordsFault::Usage(Reason::SameName(repeated(&options))))
+            }
+        }
+        None => Err(WordsFault::Usage(Reason::Place(value_of(matches, "at")))),
+    }
+}
+
+// What the words of a `split` ask for, the command's own name first.
+pub fn read_split<'a>(alloc: Global, words: &'a [String]) -> Result<Demand<'a>, WordsFault<'a>>
+    ensures accepted { IfOk result (λ demand.
+        given_apart split (asked_of_split (texts words.now)) ≡ Some (meaning demand)) }
+    ensures refused { IfErr result (λ fault. UnlessMemory fault
+        (given_apart split (asked_of_split (texts words.now)) ≡ None)) }
     ensures bounded { IfOk result IsBounded }
 {
     match matches_of(
@@ -67,10 +97,7 @@ pub fn read_split<'a>(alloc: Global, words: &'a [String]) -> Result<Demand<'a>, 
         &[],
         words,
     ) {
-        Ok(matches) => match options_in(&matches) {
-            Some(options) => Ok(Demand::Split(options)),
-            None => Err(WordsFault::Usage),
-        },
+        Ok(matches) => demand_in(&matches),
         Err(fault) => Err(fault),
     }
 }

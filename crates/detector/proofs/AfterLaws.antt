@@ -1,103 +1,129 @@
 -- What the code does at an access is what the exact step says.
-use Rattle.std.proofs.Common.{◌≡◌, ℕ, ◌+◌, ◌%◌, ◌<◌, ◌≤◌, ◌^◌, Bool, true, false, eqb, leb, ltb, ◌&&◌, ◌||◌, List, [], ◌++◌, Option, Some}
-use Rattle.std.proofs.Common.{Fits, w64}
-use Rattle.std.proofs.Common.{None, map, length, refl, sym, ap, ◌∙◌, subst, arith, inl, inr}
-use Rattle.std.proofs.lemmas.Bool.{cases_Bool, false≢true, and_parts, and_left, or_parts, eqb-true, leb-true}
+use Rattle.std.proofs.Common.{◌≡◌, ℕ, ◌+◌, ◌%◌, ◌<◌, ◌≤◌, ◌^◌, Bool, true, false, eqb, leb, ltb}
+use Rattle.std.proofs.Common.{◌&&◌, ◌||◌, List, [], ◌++◌, Option, Some, Fits, w64, None, map}
+use Rattle.std.proofs.Common.{length, refl, sym, ap, ◌∙◌, subst, arith, inl, inr}
+use Rattle.std.proofs.lemmas.Bool.{cases_Bool, false≢true, and_parts, and_left, or_parts, eqb-true}
+use Rattle.std.proofs.lemmas.Bool.{leb-true}
 use Rattle.std.proofs.lemmas.Bool.Decides.{nat_tests}
 use Rattle.std.proofs.lemmas.Option.{none-some}
 use Rattle.std.proofs.lemmas.List.{append-nil, length-append}
 use Rattle.std.specs.Prelude.{if◌then◌else◌}
 use Rattle.std.specs.Option.{option_map_or}
-use Rattle.predator_base.specs.Lines.{Grid, is_layout, line_number}
-use Rattle.predator_base.specs.Levels.{Levels, are_levels, is_from_to}
-use Rattle.predator_base.specs.Touch.{Touch, is_write}
-use Rattle.predator_base.specs.declared.layout.Range.{Range}
-use Rattle.line_counters.specs.Entries.{Entries, blank_entry, entry_at, no_entries}
-use Rattle.line_counters.specs.declared.line_entry.LineEntry.{LineEntry}
+use Rattle.base.specs.Lines.{Grid, is_layout, line_number}
+use Rattle.base.specs.Levels.{Levels, are_levels, is_from_to}
+use Rattle.base.specs.Touch.{Touch, is_write}
+use Rattle.base.specs.declared.layout.Range.{Range}
+use Rattle.detector.specs.Entries.{Entries, blank_entry, entry_at, no_entries}
+use Rattle.detector.specs.declared.line_entry.LineEntry.{LineEntry}
 use Rattle.sharing_rules.specs.Listed.{may_predict}
 use Rattle.sharing_rules.specs.Predicted.{is_native_size}
 use Rattle.sharing_rules.specs.declared.line_kind.LineKind.{LineKind}
 use Rattle.sharing_rules.specs.declared.line_kind.LineKind.TheVariants.{Observed, Shifted, Doubled}
-use Rattle.virtual_lines.specs.Kept.{Kept}
+use Rattle.line_tracks.specs.Kept.{Kept}
 use Rattle.detector.specs.declared.openings.Openings.{Openings}
-use Rattle.detector.specs.declared.turn.Turn.{Turn}
+use Rattle.detector.specs.declared.task.Task.{Task}
 use Rattle.detector.specs.Counts.{count_at, counts_of, with_write}
 use Rattle.detector.specs.Index.{IsIndexed, IsNamed, Names, names_in}
 use Rattle.detector.specs.Noting.{IsNotable}
 use Rattle.detector.specs.Openings.{nothing_opens, opened_tracks, waiting_for}
 use Rattle.detector.specs.Pairs.{IsNativeGrid}
-use Rattle.detector.specs.Turns.{IsDueAt, IsTurnOf, counted, tracks_begun, tracks_turned, turn_opens}
-use Rattle.detector.specs.Watch.{Watch, begins_track, is_first_write, is_search, may_take_memory, opens_at, touched, tracks_after}
-use Rattle.detector.specs.Watch.{tracks_noted, watch_of, watched, writes_after}
+use Rattle.detector.specs.Tasks.{IsDueAt, IsTaskOf, counted, tracks_begun, tracks_changed}
+use Rattle.detector.specs.Tasks.{task_opens}
+use Rattle.detector.specs.Watch.{Watch, begins_track, is_first_write, is_search, may_take_memory}
+use Rattle.detector.specs.Watch.{opens_at, touched, tracks_after, tracks_noted, watch_of, watched}
+use Rattle.detector.specs.Watch.{writes_after}
 use Rattle.detector.specs.Named.{number_of}
 use Rattle.detector.proofs.CountLaws.{count_at-counts_of, entry_at-empty}
 use Rattle.detector.proofs.SettleLaws.{counted-names, counted-writes}
 use Rattle.detector.proofs.TouchLaws.{indexed-touched}
 use Rattle.detector.proofs.ChangeLaws.{layout-small}
 
--- the turn by an entry that was lent
-pub turn-lent : (f : ℕ → LineEntry) (k : ℕ) (e : LineEntry) (v : Levels) (turn : Turn) → e ≡ f k → IsTurnOf e v turn → IsTurnOf (f k) v turn
-turn-lent f k e v turn same t = subst (λ (x : LineEntry). IsTurnOf x v turn) same t
+-- the task by an entry that was lent
+pub task-lent : (f : ℕ → LineEntry) (k : ℕ) (e : LineEntry) (v : Levels) (task : Task) → e ≡ f k
+    → IsTaskOf e v task → IsTaskOf (f k) v task
+task-lent f k e v task same t = subst (λ (x : LineEntry). IsTaskOf x v task) same t
 
-begins-is : (m : Entries) (k : ℕ) (v : Levels) (a : Touch) (turn : Turn) → is_write a.kind ≡ true → IsTurnOf (entry_at m k) v turn
-    → turn.begins ≡ begins_track v.tracking (counts_of m) k a
-begins-is m k v a turn writes t =
+begins-is : (m : Entries) (k : ℕ) (v : Levels) (a : Touch) (task : Task) → is_write a.kind ≡ true
+    → IsTaskOf (entry_at m k) v task
+    → task.begins ≡ begins_track v.tracking (counts_of m) k a
+begins-is m k v a task writes t =
     t.begins ∙ ap (λ n. eqb (n + 1) v.tracking) (sym (count_at-counts_of m k))
     ∙ sym (ap (λ b. b && eqb (count_at (counts_of m) k + 1) v.tracking) writes)
 
-searched : (o : Option ℕ) (n c : ℕ) (w : Bool) → n ≡ c → w ≡ true → option_map_or (λ P. eqb ((n + 1) % P) 0) o false ≡ option_map_or
+searched : (o : Option ℕ) (n c : ℕ) (w : Bool) → n ≡ c → w ≡ true
+    → option_map_or (λ P. eqb ((n + 1) % P) 0) o false ≡ option_map_or
     (λ P. w && eqb ((c + 1) % P) 0) o false
 searched None n c w e h = refl
-searched (Some P) n c w e h = ap (λ z. eqb ((z + 1) % P) 0) e ∙ sym (ap (λ b. b && eqb ((c + 1) % P) 0) h)
+searched (Some P) n c w e h = ap (λ z. eqb ((z + 1) % P) 0) e
+    ∙ sym (ap (λ b. b && eqb ((c + 1) % P) 0) h)
 
-pub searches-is : (m : Entries) (k : ℕ) (v : Levels) (a : Touch) (turn : Turn) → is_write a.kind ≡ true → IsTurnOf (entry_at m k) v turn
-    → turn.searches ≡ is_search v.prediction (counts_of m) k a
-searches-is m k v a turn writes t = t.searches ∙ searched v.prediction (entry_at m k).writes (count_at (counts_of m) k) (is_write a.kind)
+pub searches-is : (m : Entries) (k : ℕ) (v : Levels) (a : Touch) (task : Task) → is_write a.kind
+    ≡ true → IsTaskOf (entry_at m k) v task
+    → task.searches ≡ is_search v.prediction (counts_of m) k a
+searches-is m k v a task writes t = t.searches
+    ∙ searched v.prediction (entry_at m k).writes (count_at (counts_of m) k) (is_write a.kind)
     (sym (count_at-counts_of m k)) writes
 
 -- the tracks after a write
-pub after-turn : (m : Entries) (xs : List Kept) (g : Grid) (v : Levels) (p k : ℕ) (a : Touch) (turn : Turn) → is_write a.kind ≡ true
-    → IsTurnOf (entry_at m k) v turn
-    → tracks_turned g k p a turn.begins turn.searches (map (touched p a) xs) ≡ tracks_after (watch_of m xs g v p) k a
-after-turn m xs g v p k a turn writes t =
-    ap (λ b. tracks_turned g k p a b turn.searches (map (touched p a) xs)) (begins-is m k v a turn writes t)
-    ∙ ap (λ s. tracks_turned g k p a (begins_track v.tracking (counts_of m) k a) s (map (touched p a) xs))
-    (searches-is m k v a turn writes t)
+pub after-task : (m : Entries) (xs : List Kept) (g : Grid) (v : Levels) (p k : ℕ) (a : Touch)
+    (task : Task) → is_write a.kind ≡ true
+    → IsTaskOf (entry_at m k) v task
+    → tracks_changed g k p a task.begins task.searches (map (touched p a) xs)
+    ≡ tracks_after (watch_of m xs g v p) k a
+after-task m xs g v p k a task writes t =
+    ap (λ b. tracks_changed g k p a b task.searches (map (touched p a) xs))
+    (begins-is m k v a task writes t)
+    ∙ ap (λ s. tracks_changed g k p a (begins_track v.tracking (counts_of m) k a) s
+    (map (touched p a) xs))
+    (searches-is m k v a task writes t)
 
-pub after-plain : (m : Entries) (xs : List Kept) (g : Grid) (v : Levels) (p k : ℕ) (a : Touch) → begins_track v.tracking (counts_of m) k a
+pub after-plain : (m : Entries) (xs : List Kept) (g : Grid) (v : Levels) (p k : ℕ) (a : Touch)
+    → begins_track v.tracking (counts_of m) k a
     ≡ false → is_search v.prediction (counts_of m) k a ≡ false
     → map (touched p a) xs ≡ tracks_after (watch_of m xs g v p) k a
 after-plain m xs g v p k a quiet unsearched =
     sym (append-nil (map (touched p a) xs)) ∙ sym (append-nil (map (touched p a) xs ++ []))
-    ∙ sym (ap (λ b. tracks_turned g k p a b (is_search v.prediction (counts_of m) k a) (map (touched p a) xs)) quiet
-    ∙ ap (λ s. tracks_turned g k p a false s (map (touched p a) xs)) unsearched)
+    ∙ sym (ap (λ b. tracks_changed g k p a b (is_search v.prediction (counts_of m) k a)
+    (map (touched p a) xs)) quiet
+    ∙ ap (λ s. tracks_changed g k p a false s (map (touched p a) xs)) unsearched)
 
-pub after-write : (m : Entries) (xs : List Kept) (g : Grid) (v : Levels) (p k : ℕ) (a : Touch) (turn : Turn) → is_write a.kind ≡ true
-    → IsTurnOf (entry_at m k) v turn → turn.begins ≡ false → turn.searches ≡ false
+pub after-write : (m : Entries) (xs : List Kept) (g : Grid) (v : Levels) (p k : ℕ) (a : Touch)
+    (task : Task) → is_write a.kind ≡ true
+    → IsTaskOf (entry_at m k) v task → task.begins ≡ false → task.searches ≡ false
     → map (touched p a) xs ≡ tracks_after (watch_of m xs g v p) k a
-after-write m xs g v p k a turn writes t quiet unsearched =
-    after-plain m xs g v p k a (sym (begins-is m k v a turn writes t) ∙ quiet) (sym (searches-is m k v a turn writes t) ∙ unsearched)
+after-write m xs g v p k a task writes t quiet unsearched =
+    after-plain m xs g v p k a (sym (begins-is m k v a task writes t) ∙ quiet)
+    (sym (searches-is m k v a task writes t) ∙ unsearched)
 
-none_searched : (o : Option ℕ) (c : ℕ) (w : Bool) → w ≡ false → option_map_or (λ P. w && eqb ((c + 1) % P) 0) o false ≡ false
+none_searched : (o : Option ℕ) (c : ℕ) (w : Bool) → w ≡ false
+    → option_map_or (λ P. w && eqb ((c + 1) % P) 0) o false ≡ false
 none_searched None c w h = refl
 none_searched (Some P) c w h = ap (λ b. b && eqb ((c + 1) % P) 0) h
 
-pub read-searches : (m : Entries) (k : ℕ) (v : Levels) (a : Touch) → is_write a.kind ≡ false → is_search v.prediction (counts_of m) k a
+pub read-searches : (m : Entries) (k : ℕ) (v : Levels) (a : Touch) → is_write a.kind ≡ false
+    → is_search v.prediction (counts_of m) k a
     ≡ false
-read-searches m k v a reads = none_searched v.prediction (count_at (counts_of m) k) (is_write a.kind) reads
+read-searches m k v a reads = none_searched v.prediction (count_at (counts_of m) k)
+    (is_write a.kind) reads
 
-pub after-read : (m : Entries) (xs : List Kept) (g : Grid) (v : Levels) (p k : ℕ) (a : Touch) → is_write a.kind ≡ false
+pub after-read : (m : Entries) (xs : List Kept) (g : Grid) (v : Levels) (p k : ℕ) (a : Touch)
+    → is_write a.kind ≡ false
     → map (touched p a) xs ≡ tracks_after (watch_of m xs g v p) k a
 after-read m xs g v p k a reads =
-    after-plain m xs g v p k a (and_left (is_write a.kind) (eqb (count_at (counts_of m) k + 1) v.tracking) reads)
+    after-plain m xs g v p k a (and_left (is_write a.kind)
+    (eqb (count_at (counts_of m) k + 1) v.tracking) reads)
     (read-searches m k v a reads)
 
-pub counts-write : (m n : Entries) (k : ℕ) (a : Touch) → is_write a.kind ≡ true → counts_of n ≡ with_write (counts_of m) k
+pub counts-write : (m n : Entries) (k : ℕ) (a : Touch) → is_write a.kind ≡ true → counts_of n
+    ≡ with_write (counts_of m) k
     → counts_of n ≡ writes_after k a (counts_of m)
-counts-write m n k a writes e = e ∙ sym (ap (λ b. if b then with_write (counts_of m) k else counts_of m) writes)
+counts-write m n k a writes e = e ∙ sym (ap (λ b. if b then with_write (counts_of m) k
+    else counts_of m) writes)
 
-pub counts-read : (m : Entries) (k : ℕ) (a : Touch) → is_write a.kind ≡ false → counts_of m ≡ writes_after k a (counts_of m)
-counts-read m k a reads = sym (ap (λ b. if b then with_write (counts_of m) k else counts_of m) reads)
+pub counts-read : (m : Entries) (k : ℕ) (a : Touch) → is_write a.kind ≡ false → counts_of m
+    ≡ writes_after k a (counts_of m)
+counts-read m k a reads = sym (ap (λ b. if b then with_write (counts_of m) k else counts_of m)
+    reads)
 
 -- thresholds
 from_one : (low high n : ℕ) → is_from_to low high n ≡ true → low ≤ n
@@ -105,55 +131,70 @@ from_one low high n h = let parts = and_parts (leb low n) (leb n high) h in leb-
 
 pub levels-some : (v : Levels) → are_levels v.tracking v.prediction v.report ≡ true → 1 ≤ v.tracking
 levels-some v h =
-    let outer = and_parts (is_from_to 1 (2 ^ 32) v.tracking && option_map_or (is_from_to v.tracking (2 ^ 32)) v.prediction true)
+    let outer = and_parts (is_from_to 1 (2 ^ 32) v.tracking && option_map_or
+    (is_from_to v.tracking (2 ^ 32)) v.prediction true)
     (is_from_to 1 (2 ^ 40) v.report) h in
-    let inner = and_parts (is_from_to 1 (2 ^ 32) v.tracking) (option_map_or (is_from_to v.tracking (2 ^ 32)) v.prediction true) outer.0 in
+    let inner = and_parts (is_from_to 1 (2 ^ 32) v.tracking)
+    (option_map_or (is_from_to v.tracking (2 ^ 32)) v.prediction true) outer.0 in
     from_one 1 (2 ^ 32) v.tracking inner.0
 
-pub levels-positive : (v : Levels) (P : ℕ) → are_levels v.tracking v.prediction v.report ≡ true → v.prediction ≡ Some P → 0 < P
+pub levels-positive : (v : Levels) (P : ℕ) → are_levels v.tracking v.prediction v.report ≡ true
+    → v.prediction ≡ Some P → 0 < P
 levels-positive v P h is =
-    let outer = and_parts (is_from_to 1 (2 ^ 32) v.tracking && option_map_or (is_from_to v.tracking (2 ^ 32)) v.prediction true)
+    let outer = and_parts (is_from_to 1 (2 ^ 32) v.tracking && option_map_or
+    (is_from_to v.tracking (2 ^ 32)) v.prediction true)
     (is_from_to 1 (2 ^ 40) v.report) h in
-    let inner = and_parts (is_from_to 1 (2 ^ 32) v.tracking) (option_map_or (is_from_to v.tracking (2 ^ 32)) v.prediction true) outer.0 in
-    let at : is_from_to v.tracking (2 ^ 32) P ≡ true = sym (ap (λ o. option_map_or (is_from_to v.tracking (2 ^ 32)) o true) is) ∙ inner.1 in
+    let inner = and_parts (is_from_to 1 (2 ^ 32) v.tracking)
+    (option_map_or (is_from_to v.tracking (2 ^ 32)) v.prediction true) outer.0 in
+    let at : is_from_to v.tracking (2 ^ 32) P ≡ true =
+    sym (ap (λ o. option_map_or (is_from_to v.tracking (2 ^ 32)) o true) is) ∙ inner.1 in
     let low = from_one v.tracking (2 ^ 32) P at in
     let some = levels-some v h in
     omega arith
 
-pub native-grid : (f : ℕ → LineEntry) (k : ℕ) (g : Grid) (v : Levels) (turn : Turn) → may_predict g v ≡ true → IsTurnOf (f k) v turn
-    → turn.searches ≡ true → IsNativeGrid g
-native-grid f k g v turn may t searches = by_prediction v.prediction refl
+pub native-grid : (f : ℕ → LineEntry) (k : ℕ) (g : Grid) (v : Levels) (task : Task)
+    → may_predict g v ≡ true → IsTaskOf (f k) v task
+    → task.searches ≡ true → IsNativeGrid g
+native-grid f k g v task may t searches = by_prediction v.prediction refl
   where
     by_prediction : (o : Option ℕ) → v.prediction ≡ o → IsNativeGrid g
-    by_prediction None is = absurd (false≢true (sym (t.searches ∙ ap (λ z. option_map_or (λ P. eqb (((f k).writes + 1) % P) 0) z false) is)
+    by_prediction None is = absurd (false≢true (sym
+        (t.searches ∙ ap (λ z. option_map_or (λ P. eqb (((f k).writes + 1) % P) 0) z false) is)
         ∙ searches))
     by_prediction (Some P) is =
         let parts = and_parts (is_native_size g.size) (eqb g.offset 0)
-        (sym (ap (λ z. option_map_or (λ P. is_native_size g.size && eqb g.offset 0) z true) is) ∙ may) in
+        (sym (ap (λ z. option_map_or (λ P. is_native_size g.size && eqb g.offset 0) z true) is)
+        ∙ may) in
         record { size = parts.0; offset = eqb-true g.offset 0 parts.1 }
 
-pub due-at : (f : ℕ → LineEntry) (g : Grid) (xs : List Kept) (k : ℕ) (v : Levels) (turn : Turn) (p : ℕ) → IsIndexed f g xs v.tracking p
-    → 1 ≤ v.tracking → IsTurnOf (f k) v turn → IsDueAt f g xs k turn p v.tracking
-due-at f g xs k v turn p indexed some t = record {
+pub due-at : (f : ℕ → LineEntry) (g : Grid) (xs : List Kept) (k : ℕ) (v : Levels) (task : Task)
+    (p : ℕ) → IsIndexed f g xs v.tracking p
+    → 1 ≤ v.tracking → IsTaskOf (f k) v task → IsDueAt f g xs k task p v.tracking
+due-at f g xs k v task p indexed some t = record {
   indexed = indexed;
   positive = some;
   due = λ b. eqb-true ((f k).writes + 1) v.tracking (sym t.begins ∙ b);
 }
 
 -- the same, where an entry was lent and left as it was
-pub due-lent : (m n : Entries) (g : Grid) (xs : List Kept) (k : ℕ) (v : Levels) (turn : Turn) (p : ℕ) → n ≡ m
-    → IsIndexed (entry_at m) g xs v.tracking p → 1 ≤ v.tracking → IsTurnOf (entry_at m k) v turn
-    → IsDueAt (entry_at n) g xs k turn p v.tracking
-due-lent m n g xs k v turn p same indexed some t =
-    subst (λ (z : Entries). IsDueAt (entry_at z) g xs k turn p v.tracking) (sym same) (due-at (entry_at m) g xs k v turn p indexed some t)
+pub due-lent : (m n : Entries) (g : Grid) (xs : List Kept) (k : ℕ) (v : Levels) (task : Task)
+    (p : ℕ) → n ≡ m
+    → IsIndexed (entry_at m) g xs v.tracking p → 1 ≤ v.tracking → IsTaskOf (entry_at m k) v task
+    → IsDueAt (entry_at n) g xs k task p v.tracking
+due-lent m n g xs k v task p same indexed some t =
+    subst (λ (z : Entries). IsDueAt (entry_at z) g xs k task p v.tracking) (sym same)
+    (due-at (entry_at m) g xs k v task p indexed some t)
 
 -- a plain write
-pub plain-indexed : (f h : ℕ → LineEntry) (g : Grid) (xs ys : List Kept) (T p k : ℕ) (a : Touch) → IsIndexed f g xs T p
-    → ((q : ℕ) → h q ≡ (if eqb q k then counted (f k) else f q)) → ys ≡ map (touched p a) xs → IsIndexed h g ys T (p + 1)
+pub plain-indexed : (f h : ℕ → LineEntry) (g : Grid) (xs ys : List Kept) (T p k : ℕ) (a : Touch)
+    → IsIndexed f g xs T p
+    → ((q : ℕ) → h q ≡ (if eqb q k then counted (f k) else f q)) → ys ≡ map (touched p a) xs
+    → IsIndexed h g ys T (p + 1)
 plain-indexed f h g xs ys T p k a indexed each is =
     let writes = counted-writes f h k each in
     subst (λ zs. IsIndexed h g zs T (p + 1)) (sym is)
-    (indexed-touched f h g xs T p a indexed (λ q. named Observed q) (λ q. named Shifted q) (λ q. named Doubled q) (λ q. more q)
+    (indexed-touched f h g xs T p a indexed (λ q. named Observed q) (λ q. named Shifted q)
+    (λ q. named Doubled q) (λ q. more q)
     (λ q. few q))
   where
     named : (kind : LineKind) (q : ℕ) → names_in h kind q ≡ names_in f kind q
@@ -161,7 +202,8 @@ plain-indexed f h g xs ys T p k a indexed each is =
 
     more : (q : ℕ) → (f q).writes ≤ (h q).writes
     more q = elim (cases_Bool (eqb q k)) [
-      | inl here ↦ let same = eqb-true q k here in let is_k : (f q).writes ≡ (f k).writes = ap (λ z. (f z).writes) same
+      | inl here ↦ let same = eqb-true q k here in let is_k : (f q).writes ≡ (f k).writes =
+          ap (λ z. (f z).writes) same
           in rw (counted-writes f h k each q, here) (omega arith)
       | inr other ↦ rw (counted-writes f h k each q, other) (omega arith)
     ]
@@ -169,17 +211,22 @@ plain-indexed f h g xs ys T p k a indexed each is =
     few : (q : ℕ) → (h q).writes ≤ p + 1
     few q = elim (cases_Bool (eqb q k)) [
       | inl here ↦ let d = indexed.written k in rw (counted-writes f h k each q, here) (omega arith)
-      | inr other ↦ let d = indexed.written q in rw (counted-writes f h k each q, other) (omega arith)
+      | inr other ↦ let d = indexed.written q in rw (counted-writes f h k each q, other)
+          (omega arith)
     ]
 
-pub read-indexed : (f : ℕ → LineEntry) (g : Grid) (xs ys : List Kept) (T p : ℕ) (a : Touch) → IsIndexed f g xs T p
+pub read-indexed : (f : ℕ → LineEntry) (g : Grid) (xs ys : List Kept) (T p : ℕ) (a : Touch)
+    → IsIndexed f g xs T p
     → ys ≡ map (touched p a) xs → IsIndexed f g ys T (p + 1)
 read-indexed f g xs ys T p a indexed is =
-    subst (λ zs. IsIndexed f g zs T (p + 1)) (sym is) (indexed-touched f f g xs T p a indexed (λ q. refl) (λ q. refl) (λ q. refl)
+    subst (λ zs. IsIndexed f g zs T (p + 1)) (sym is)
+    (indexed-touched f f g xs T p a indexed (λ q. refl) (λ q. refl) (λ q. refl)
     (λ q. omega arith) (λ q. let d = indexed.written q in omega arith))
 
-pub notable : (f h : ℕ → LineEntry) (g : Grid) (xs : List Kept) (T p k : ℕ) (a : Touch) → IsIndexed f g xs T p → names_in h ≡ names_in f
-    → is_layout g.size g.offset ≡ true → k ≡ line_number g.size g.offset a.addr → IsNotable h g xs k p a
+pub notable : (f h : ℕ → LineEntry) (g : Grid) (xs : List Kept) (T p k : ℕ) (a : Touch)
+    → IsIndexed f g xs T p → names_in h ≡ names_in f
+    → is_layout g.size g.offset ≡ true → k ≡ line_number g.size g.offset a.addr
+    → IsNotable h g xs k p a
 notable f h g xs T p k a indexed same layout line = record {
   names = subst (λ (N : Names). IsNamed N g xs) (sym same) indexed.names;
   in_time = indexed.in_time;
@@ -194,7 +241,8 @@ short kind (Some r) e = absurd (omega arith)
 
 pub nothing_added : (o : Openings) → length (opened_tracks o) ≡ 0 → o ≡ nothing_opens
 nothing_added o e =
-    let l₁ = length-append (waiting_for Shifted o.below ++ waiting_for Shifted o.here) (waiting_for Doubled o.doubled) in
+    let l₁ = length-append (waiting_for Shifted o.below ++ waiting_for Shifted o.here)
+    (waiting_for Doubled o.doubled) in
     let l₂ = length-append (waiting_for Shifted o.below) (waiting_for Shifted o.here) in
     let b : o.below ≡ None = short Shifted o.below (omega arith) in
     let h : o.here ≡ None = short Shifted o.here (omega arith) in
@@ -207,51 +255,70 @@ no_length n e = grind (arith, nat_tests)
 some_writes : (n : ℕ) → eqb n 0 ≡ false → 0 < n
 some_writes n e = grind (arith, nat_tests)
 
--- a write that takes no memory: its line was written, its own track doesn't begin, and nothing opens
-pub record IsQuiet (m : Entries) (xs : List Kept) (g : Grid) (p k : ℕ) (a : Touch) (turn : Turn) : Type 0 where
+-- a write that takes no memory: its line was written, its own track doesn't begin, and nothing
+-- opens
+pub record IsQuiet (m : Entries) (xs : List Kept) (g : Grid) (p k : ℕ) (a : Touch)
+    (task : Task) : Type 0 where
   pub written : 0 < (entry_at m k).writes
-  pub begins : turn.begins ≡ false
-  pub opens : turn_opens g k turn.searches (tracks_begun g k p a turn.begins (map (touched p a) xs)) ≡ nothing_opens
+  pub begins : task.begins ≡ false
+  pub opens : task_opens g k task.searches (tracks_begun g k p a task.begins (map (touched p a) xs))
+      ≡ nothing_opens
 
 -- the line of a write that takes no memory was written
-pub first-written : (m : Entries) (xs : List Kept) (g : Grid) (v : Levels) (p k : ℕ) (a : Touch) → is_write a.kind ≡ true
+pub first-written : (m : Entries) (xs : List Kept) (g : Grid) (v : Levels) (p k : ℕ) (a : Touch)
+    → is_write a.kind ≡ true
     → may_take_memory (watch_of m xs g v p) k a ≡ false → 0 < (entry_at m k).writes
 first-written m xs g v p k a writes none =
-    let outer = or_parts (is_first_write (counts_of m) k a || begins_track v.tracking (counts_of m) k a)
-    (ltb 0 (length (opened_tracks (opens_at (watch_of m xs g v p) k a (tracks_noted (watch_of m xs g v p) k a))))) none in
-    let inner = or_parts (is_first_write (counts_of m) k a) (begins_track v.tracking (counts_of m) k a) outer.0 in
-    let counted_none : eqb (count_at (counts_of m) k) 0 ≡ false = sym (ap (λ z. z && eqb (count_at (counts_of m) k) 0) writes) ∙ inner.0 in
-    some_writes (entry_at m k).writes (ap (λ n. eqb n 0) (sym (count_at-counts_of m k)) ∙ counted_none)
+    let outer = or_parts (is_first_write (counts_of m) k a || begins_track v.tracking
+    (counts_of m) k a)
+    (ltb 0 (length (opened_tracks (opens_at (watch_of m xs g v p) k a
+    (tracks_noted (watch_of m xs g v p) k a))))) none in
+    let inner = or_parts (is_first_write (counts_of m) k a)
+    (begins_track v.tracking (counts_of m) k a) outer.0 in
+    let counted_none : eqb (count_at (counts_of m) k) 0 ≡ false =
+    sym (ap (λ z. z && eqb (count_at (counts_of m) k) 0) writes) ∙ inner.0 in
+    some_writes (entry_at m k).writes (ap (λ n. eqb n 0) (sym (count_at-counts_of m k))
+    ∙ counted_none)
 
-pub quiet : (m : Entries) (xs : List Kept) (g : Grid) (v : Levels) (p k : ℕ) (a : Touch) (turn : Turn) → is_write a.kind ≡ true
-    → IsTurnOf (entry_at m k) v turn → may_take_memory (watch_of m xs g v p) k a ≡ false → IsQuiet m xs g p k a turn
-quiet m xs g v p k a turn writes t none =
+pub quiet : (m : Entries) (xs : List Kept) (g : Grid) (v : Levels) (p k : ℕ) (a : Touch)
+    (task : Task) → is_write a.kind ≡ true
+    → IsTaskOf (entry_at m k) v task → may_take_memory (watch_of m xs g v p) k a ≡ false
+    → IsQuiet m xs g p k a task
+quiet m xs g v p k a task writes t none =
     let w : Watch = watch_of m xs g v p in
-    let outer = or_parts (is_first_write (counts_of m) k a || begins_track v.tracking (counts_of m) k a)
-    (ltb 0 (length (opened_tracks (opens_at (watch_of m xs g v p) k a (tracks_noted (watch_of m xs g v p) k a))))) none in
-    let inner = or_parts (is_first_write (counts_of m) k a) (begins_track v.tracking (counts_of m) k a) outer.0 in
-    let b = begins-is m k v a turn writes t in
-    let s = searches-is m k v a turn writes t in
+    let outer = or_parts (is_first_write (counts_of m) k a || begins_track v.tracking
+    (counts_of m) k a)
+    (ltb 0 (length (opened_tracks (opens_at (watch_of m xs g v p) k a
+    (tracks_noted (watch_of m xs g v p) k a))))) none in
+    let inner = or_parts (is_first_write (counts_of m) k a)
+    (begins_track v.tracking (counts_of m) k a) outer.0 in
+    let b = begins-is m k v a task writes t in
+    let s = searches-is m k v a task writes t in
     record {
       written = first-written m xs g v p k a writes none;
       begins = b ∙ inner.1;
       opens =
-          ap (λ z. turn_opens g k turn.searches (tracks_begun g k p a z (map (touched p a) xs))) b
-          ∙ ap (λ z. turn_opens g k z (tracks_noted (watch_of m xs g v p) k a)) s
-          ∙ nothing_added (opens_at (watch_of m xs g v p) k a (tracks_noted (watch_of m xs g v p) k a)) (no_length _ outer.1);
+          ap (λ z. task_opens g k task.searches (tracks_begun g k p a z (map (touched p a) xs))) b
+          ∙ ap (λ z. task_opens g k z (tracks_noted (watch_of m xs g v p) k a)) s
+          ∙ nothing_added (opens_at (watch_of m xs g v p) k a
+          (tracks_noted (watch_of m xs g v p) k a)) (no_length _ outer.1);
     }
 
 -- the value after an access
-pub watched-is : (m n : Entries) (xs ys : List Kept) (g : Grid) (v : Levels) (p k : ℕ) (a : Touch) → k ≡ number_of g a
+pub watched-is : (m n : Entries) (xs ys : List Kept) (g : Grid) (v : Levels) (p k : ℕ) (a : Touch)
+    → k ≡ number_of g a
     → ys ≡ tracks_after (watch_of m xs g v p) k a → counts_of n ≡ writes_after k a (counts_of m)
     → watch_of n ys g v (p + 1) ≡ watched (watch_of m xs g v p) a
 watched-is m n xs ys g v p k a line tracks counts =
-    let ks : ys ≡ tracks_after (watch_of m xs g v p) (number_of g a) a = tracks ∙ ap (λ q. tracks_after (watch_of m xs g v p) q a) line in
-    let cs : counts_of n ≡ writes_after (number_of g a) a (counts_of m) = counts ∙ ap (λ q. writes_after q a (counts_of m)) line in
+    let ks : ys ≡ tracks_after (watch_of m xs g v p) (number_of g a) a = tracks
+    ∙ ap (λ q. tracks_after (watch_of m xs g v p) q a) line in
+    let cs : counts_of n ≡ writes_after (number_of g a) a (counts_of m) = counts
+    ∙ ap (λ q. writes_after q a (counts_of m)) line in
     λ i. record { position = p + 1; grid = g; levels = v; writes = cs i; tracks = ks i }
 
 -- where nothing is kept yet
-pub indexed-empty : (m : Entries) (g : Grid) (T p : ℕ) → m ≡ no_entries → IsIndexed (entry_at m) g [] T p
+pub indexed-empty : (m : Entries) (g : Grid) (T p : ℕ) → m ≡ no_entries
+    → IsIndexed (entry_at m) g [] T p
 indexed-empty m g T p is = record {
   names = record {
     placed = λ i x e. absurd (none-some x e);
@@ -259,7 +326,8 @@ indexed-empty m g T p is = record {
     shaped = λ i x e. absurd (none-some x e);
   };
   late = λ k i e. absurd (none-some i (sym (ap (λ (x : LineEntry). x.track) (blank k)) ∙ e));
-  written = λ k. let w : (entry_at m k).writes ≡ 0 = ap (λ (x : LineEntry). x.writes) (blank k) in omega arith;
+  written = λ k. let w : (entry_at m k).writes ≡ 0 = ap (λ (x : LineEntry). x.writes) (blank k) in
+      omega arith;
   in_time = λ i x e. absurd (none-some x e);
   blank = λ i x e. absurd (none-some x e);
   few = omega arith;
@@ -278,7 +346,8 @@ pub steps-within : (s most room : ℕ) → s ≤ most → s ≤ most + room
 steps-within s most room few = omega arith
 
 -- an entry that was lent counts few writes, and can count one more
-pub writes-few : (f : ℕ → LineEntry) (g : Grid) (xs : List Kept) (T p k : ℕ) (e : LineEntry) → IsIndexed f g xs T p → p < 2 ^ 40
+pub writes-few : (f : ℕ → LineEntry) (g : Grid) (xs : List Kept) (T p k : ℕ) (e : LineEntry)
+    → IsIndexed f g xs T p → p < 2 ^ 40
     → e ≡ f k → e.writes < 2 ^ 40
 writes-few f g xs T p k e indexed early is =
     let written = indexed.written k in

@@ -1,37 +1,47 @@
 -- A noted track is in time, of the same kind and range, and blank where it has no start.
-use Rattle.std.proofs.Common.{◌≡◌, ℕ, zero, suc, ◌+◌, ◌/◌, [], ◌∷◌, map, ◌≤◌, ◌&&◌, Option, Some, None, get_or, refl, sym, ap, ◌∙◌, subst}
-use Rattle.std.proofs.Common.{arith, inl, inr}
+use Rattle.std.proofs.Common.{◌≡◌, ℕ, zero, suc, ◌+◌, ◌/◌, [], ◌∷◌, map, ◌≤◌, ◌&&◌, Option, Some}
+use Rattle.std.proofs.Common.{None, get_or, refl, sym, ap, ◌∙◌, subst, arith, inl, inr}
 use Rattle.std.proofs.lemmas.Bool.{cases_Bool}
 use Rattle.std.proofs.lemmas.Option.{none-some, slice_get_within, get_or_from_slice_get}
 use Rattle.std.proofs.lemmas.List.{map-append}
 use Rattle.std.proofs.lemmas.List.Sums.{sum_by-set, sum_by-append}
 use Rattle.std.specs.Prelude.{if◌then◌else◌, sum_by, slice_get, slice_set, IfSome}
-use Rattle.predator_base.specs.Ranges.{holds_address}
-use Rattle.predator_base.specs.Touch.{Touch, is_write}
+use Rattle.base.specs.Ranges.{holds_address}
+use Rattle.base.specs.Touch.{Touch, is_write}
 use Rattle.sharing_rules.specs.Places.{below}
 use Rattle.sharing_rules.specs.Words.{accesses, note_word, tally}
 use Rattle.sharing_rules.specs.declared.word.Word.{Word}
-use Rattle.history_table.specs.Entries.{has_another}
-use Rattle.word_shadow.specs.RangeWords.{RangeWords, blank, note_words, place_of}
-use Rattle.virtual_lines.specs.Kept.{IsBlank, IsInTime, IsSince, Kept, note_from, note_kept, started, words_of}
+use Rattle.line_tracks.specs.Entries.{has_another}
+use Rattle.line_tracks.specs.RangeWords.{RangeWords, blank, note_words, place_of}
+use Rattle.line_tracks.specs.Kept.{IsBlank, IsInTime, IsSince, Kept, note_from, note_kept, started}
+use Rattle.line_tracks.specs.Kept.{words_of}
 use Rattle.detector.specs.Watch.{touched}
-use Rattle.detector.proofs.Gets.{slice_cases}
+use Rattle.sharing_rules.specs.Laws.Lists.{slice_cases}
+use Rattle.line_tracks.specs.Laws.Kept.{note-kind, note-range}
 
 word_more : (w : Word) (a : Touch) → accesses (note_word w a) ≡ accesses w + 1
-word_more w a = elim (cases_Bool (is_write a.kind)) [ inl e ↦ rw e (omega arith) | inr e ↦ rw e (omega arith) ]
+word_more w a = elim (cases_Bool (is_write a.kind)) [
+  | inl e ↦ rw e (omega arith)
+  | inr e ↦
+      rw e (omega arith)
+]
 
-words_more : (v : RangeWords) (a : Touch) → sum_by accesses (note_words v a).words ≤ sum_by accesses v.words + 1
+words_more : (v : RangeWords) (a : Touch) → sum_by accesses (note_words v a).words
+    ≤ sum_by accesses v.words + 1
 words_more v a =
     elim (slice_cases (slice_get v.words (place_of v.range a.addr))) [
       | inl none ↦ rw none (omega arith)
       | inr some ↦
           let i : ℕ = place_of v.range a.addr in
-          let set : sum_by accesses (slice_set v.words (place_of v.range a.addr) (note_word some.0 a)) + accesses
-          (get_or v.words (place_of v.range a.addr) some.0) ≡ sum_by accesses v.words + accesses (note_word some.0 a) =
+          let set : sum_by accesses (slice_set v.words (place_of v.range a.addr)
+          (note_word some.0 a)) + accesses
+          (get_or v.words (place_of v.range a.addr) some.0)
+          ≡ sum_by accesses v.words + accesses (note_word some.0 a) =
           sum_by-set accesses v.words (place_of v.range a.addr) (note_word some.0 a) some.0
           (slice_get_within v.words (place_of v.range a.addr) some.0 some.1) in
           let was : accesses (get_or v.words (place_of v.range a.addr) some.0) ≡ accesses some.0 =
-          ap accesses (get_or_from_slice_get v.words (place_of v.range a.addr) some.0 some.0 some.1) in
+          ap accesses (get_or_from_slice_get v.words (place_of v.range a.addr) some.0 some.0 some.1)
+          in
           let more : accesses (note_word some.0 a) ≡ accesses some.0 + 1 = word_more some.0 a in
           rw some.1 (omega (arith, set, was, more))
     ]
@@ -40,38 +50,50 @@ none_below : (n : ℕ) → sum_by accesses (map (λ i. tally []) (below n)) ≡ 
 none_below zero = refl
 none_below (suc n) =
     let ih = none_below n in
-    ap (sum_by accesses) (map-append (λ i. tally []) (below n) (n ∷ [])) ∙ sum_by-append accesses (map (λ i. tally []) (below n))
+    ap (sum_by accesses) (map-append (λ i. tally []) (below n) (n ∷ []))
+    ∙ sum_by-append accesses (map (λ i. tally []) (below n))
     (tally [] ∷ []) ∙ ap (λ m. m + 0) ih
 
 blank-none : (x : Kept) → sum_by accesses (blank x.range).words ≡ 0
 blank-none x = none_below (x.range.size / 4)
 
-in_time_from : (o : Option ℕ) (x : Kept) (p : ℕ) (a : Touch) → x.start ≡ o → IfSome o (IsSince x p) → (x.start ≡ None → IsBlank x)
+in_time_from : (o : Option ℕ) (x : Kept) (p : ℕ) (a : Touch) → x.start ≡ o → IfSome o (IsSince x p)
+    → (x.start ≡ None → IsBlank x)
     → IsInTime (note_from o x p a) (p + 1)
 in_time_from None x p a is h quiet =
     elim (cases_Bool (is_write a.kind)) [
       | inl w ↦
-          let none : sum_by accesses x.words ≡ 0 = ap (sum_by accesses) (quiet is).words ∙ blank-none x in
+          let none : sum_by accesses x.words ≡ 0 = ap (sum_by accesses) (quiet is).words
+          ∙ blank-none x in
           let more = words_more (words_of x) a in
-          let since : IsSince (started x p a) (p + 1) p = record { later = omega arith; accessed = omega arith; counted = omega arith } in
+          let since : IsSince (started x p a) (p + 1) p =
+          record { later = omega arith; accessed = omega arith; counted = omega arith } in
           subst (λ b. IsInTime (if b then started x p a else x) (p + 1)) (sym w) since
       | inr w ↦ subst (λ b. IsInTime (if b then started x p a else x) (p + 1)) (sym w) (rw is tt)
     ]
 in_time_from (Some s) x p a is h quiet =
     let more = words_more (words_of x) a in
-    let count : (if is_write a.kind && has_another x.entries a.hart then x.count + 1 else x.count) ≤ x.count + 1 =
-    elim (cases_Bool (is_write a.kind && has_another x.entries a.hart)) [ inl e ↦ rw e (omega arith) | inr e ↦ rw e (omega arith) ] in
+    let count : (if is_write a.kind && has_another x.entries a.hart then x.count + 1 else x.count)
+    ≤ x.count + 1 =
+    elim (cases_Bool (is_write a.kind && has_another x.entries a.hart)) [
+      | inl e ↦
+          rw e (omega arith)
+      | inr e ↦ rw e (omega arith)
+    ] in
     let later = h.later in
     let accessed = h.accessed in
     let counted = h.counted in
-    let since : IsSince (note_from (Some s) x p a) (p + 1) s = record { later = omega arith; accessed = omega arith; counted = omega arith }
+    let since : IsSince (note_from (Some s) x p a) (p + 1) s =
+    record { later = omega arith; accessed = omega arith; counted = omega arith }
     in
     subst (λ o. IfSome o (IsSince (note_from (Some s) x p a) (p + 1))) (sym is) since
 
-pub noted-in_time : (x : Kept) (p : ℕ) (a : Touch) → IsInTime x p → (x.start ≡ None → IsBlank x) → IsInTime (note_kept x p a) (p + 1)
+pub noted-in_time : (x : Kept) (p : ℕ) (a : Touch) → IsInTime x p → (x.start ≡ None → IsBlank x)
+    → IsInTime (note_kept x p a) (p + 1)
 noted-in_time x p a h quiet = in_time_from x.start x p a refl h quiet
 
-later_from : (o : Option ℕ) (x : Kept) (p : ℕ) → IfSome o (IsSince x p) → IfSome o (IsSince x (p + 1))
+later_from : (o : Option ℕ) (x : Kept) (p : ℕ) → IfSome o (IsSince x p)
+    → IfSome o (IsSince x (p + 1))
 later_from None x p h = tt
 later_from (Some s) x p h =
     let later = h.later in
@@ -82,11 +104,17 @@ later_from (Some s) x p h =
 pub later-in_time : (x : Kept) (p : ℕ) → IsInTime x p → IsInTime x (p + 1)
 later-in_time x p h = later_from x.start x p h
 
-pub touched-in_time : (x : Kept) (p : ℕ) (a : Touch) → IsInTime x p → (x.start ≡ None → IsBlank x) → IsInTime (touched p a x) (p + 1)
+pub touched-in_time : (x : Kept) (p : ℕ) (a : Touch) → IsInTime x p → (x.start ≡ None → IsBlank x)
+    → IsInTime (touched p a x) (p + 1)
 touched-in_time x p a h quiet =
-    elim (cases_Bool (holds_address x.range a.addr)) [ inl e ↦ rw e (noted-in_time x p a h quiet) | inr e ↦ rw e (later-in_time x p h) ]
+    elim (cases_Bool (holds_address x.range a.addr)) [
+      | inl e ↦
+          rw e (noted-in_time x p a h quiet)
+      | inr e ↦ rw e (later-in_time x p h)
+    ]
 
-blank_from : (o : Option ℕ) (x : Kept) (p : ℕ) (a : Touch) → x.start ≡ o → (x.start ≡ None → IsBlank x) → (note_from o x p a).start ≡ None
+blank_from : (o : Option ℕ) (x : Kept) (p : ℕ) (a : Touch) → x.start ≡ o
+    → (x.start ≡ None → IsBlank x) → (note_from o x p a).start ≡ None
     → IsBlank (note_from o x p a)
 blank_from None x p a is quiet none =
     elim (cases_Bool (is_write a.kind)) [
@@ -95,29 +123,35 @@ blank_from None x p a is quiet none =
     ]
 blank_from (Some s) x p a is quiet none = absurd (none-some s (sym none ∙ is))
 
-pub noted-blank : (x : Kept) (p : ℕ) (a : Touch) → (x.start ≡ None → IsBlank x) → (note_kept x p a).start ≡ None → IsBlank (note_kept x p a)
+pub noted-blank : (x : Kept) (p : ℕ) (a : Touch) → (x.start ≡ None → IsBlank x)
+    → (note_kept x p a).start ≡ None → IsBlank (note_kept x p a)
 noted-blank x p a quiet none = blank_from x.start x p a refl quiet none
 
-pub touched-blank : (x : Kept) (p : ℕ) (a : Touch) → (x.start ≡ None → IsBlank x) → (touched p a x).start ≡ None → IsBlank (touched p a x)
+pub touched-blank : (x : Kept) (p : ℕ) (a : Touch) → (x.start ≡ None → IsBlank x)
+    → (touched p a x).start ≡ None → IsBlank (touched p a x)
 touched-blank x p a quiet =
-    elim (cases_Bool (holds_address x.range a.addr)) [ inl e ↦ rw e (noted-blank x p a quiet) | inr e ↦ rw e quiet ]
-
-note_from-kind : (o : Option ℕ) (x : Kept) (p : ℕ) (a : Touch) → (note_from o x p a).kind ≡ x.kind
-note_from-kind None x p a = elim (cases_Bool (is_write a.kind)) [ inl w ↦ rw w | inr w ↦ rw w ]
-note_from-kind (Some s) x p a = refl
-
-note_from-range : (o : Option ℕ) (x : Kept) (p : ℕ) (a : Touch) → (note_from o x p a).range ≡ x.range
-note_from-range None x p a = elim (cases_Bool (is_write a.kind)) [ inl w ↦ rw w | inr w ↦ rw w ]
-note_from-range (Some s) x p a = refl
+    elim (cases_Bool (holds_address x.range a.addr)) [
+      | inl e ↦
+          rw e (noted-blank x p a quiet)
+      | inr e ↦ rw e quiet
+    ]
 
 pub noted-kind : (x : Kept) (p : ℕ) (a : Touch) → (note_kept x p a).kind ≡ x.kind
-noted-kind x p a = note_from-kind x.start x p a
+noted-kind x p a = note-kind x.start x p a
 
 pub noted-range : (x : Kept) (p : ℕ) (a : Touch) → (note_kept x p a).range ≡ x.range
-noted-range x p a = note_from-range x.start x p a
+noted-range x p a = note-range x.start x p a
 
 pub touched-kind : (p : ℕ) (a : Touch) (x : Kept) → (touched p a x).kind ≡ x.kind
-touched-kind p a x = elim (cases_Bool (holds_address x.range a.addr)) [ inl e ↦ rw e (noted-kind x p a) | inr e ↦ rw e ]
+touched-kind p a x = elim (cases_Bool (holds_address x.range a.addr)) [
+  | inl e ↦
+      rw e (noted-kind x p a)
+  | inr e ↦ rw e
+]
 
 pub touched-range : (p : ℕ) (a : Touch) (x : Kept) → (touched p a x).range ≡ x.range
-touched-range p a x = elim (cases_Bool (holds_address x.range a.addr)) [ inl e ↦ rw e (noted-range x p a) | inr e ↦ rw e ]
+touched-range p a x = elim (cases_Bool (holds_address x.range a.addr)) [
+  | inl e ↦
+      rw e (noted-range x p a)
+  | inr e ↦ rw e
+]

@@ -1,70 +1,72 @@
 -- What the names of tracks say.
-use Rattle.std.proofs.Common.{◌≡◌, ℕ, true, eqb, ◌&&◌, List, [], ◌∷◌, ◌++◌, Option, Some, None, map, length, refl, sym, ap, ◌∙◌, ◌⊎◌, subst}
-use Rattle.std.proofs.Common.{arith, inl, inr}
+use Rattle.std.proofs.Common.{◌≡◌, ℕ, true, eqb, ◌&&◌, List, [], ◌∷◌, ◌++◌, Option, Some, None, map}
+use Rattle.std.proofs.Common.{length, refl, sym, ap, ◌∙◌, ◌⊎◌, subst, inl, inr}
 use Rattle.std.proofs.lemmas.Bool.{cases_Bool, false≢true, eq-eqb, and_parts, and_from, eqb-true}
 use Rattle.std.proofs.lemmas.Option.{same_Some, none-some, slice_get_within, slice_get-map}
 use Rattle.std.specs.Prelude.{slice_get, option_and_then, option_map}
 use Rattle.std.specs.Option.{option_or}
-use Rattle.predator_base.specs.Lines.{Grid}
-use Rattle.predator_base.specs.declared.layout.Range.{Range}
+use Rattle.base.specs.Lines.{Grid}
+use Rattle.base.specs.declared.layout.Range.{Range}
 use Rattle.sharing_rules.specs.Listed.{rank}
 use Rattle.sharing_rules.specs.declared.line_kind.LineKind.{LineKind}
-use Rattle.sharing_rules.specs.declared.line_kind.LineKind.TheVariants.{Observed, Shifted, Doubled}
-use Rattle.virtual_lines.specs.Kept.{Kept}
+use Rattle.line_tracks.specs.Kept.{Kept}
 use Rattle.detector.specs.Named.{is_named, line_of_base, track_named}
 use Rattle.detector.specs.Index.{IsNamed, IsShaped, Names}
-use Rattle.detector.specs.Turns.{with_name}
-use Rattle.detector.proofs.Gets.{find-none, find-only, slice_cases, slice_get-end, slice_get-left, slice_get-more}
+use Rattle.detector.specs.Tasks.{with_name}
+use Rattle.detector.proofs.FourPlaces.{find-none, find-only, slice_get-more}
+use Rattle.sharing_rules.specs.Laws.Lists.{slice_cases, slice_get-append_left, slice_get-push}
+use Rattle.sharing_rules.specs.Laws.Listed.{same_rank}
 
--- kinds by their ranks
-pub same_rank : (j k : LineKind) → rank j ≡ rank k → j ≡ k
-same_rank Observed Observed e = refl
-same_rank Observed Shifted e = absurd (omega arith)
-same_rank Observed Doubled e = absurd (omega arith)
-same_rank Shifted Observed e = absurd (omega arith)
-same_rank Shifted Shifted e = refl
-same_rank Shifted Doubled e = absurd (omega arith)
-same_rank Doubled Observed e = absurd (omega arith)
-same_rank Doubled Shifted e = absurd (omega arith)
-same_rank Doubled Doubled e = refl
-
-pub is_named-true : (g : Grid) (kind : LineKind) (k : ℕ) (x : Kept) → is_named g kind k x ≡ true → (x.kind ≡ kind)
+pub is_named-true : (g : Grid) (kind : LineKind) (k : ℕ) (x : Kept) → is_named g kind k x ≡ true
+    → (x.kind ≡ kind)
     × (line_of_base g x.range ≡ k)
 is_named-true g kind k x h =
-    let parts = and_parts (eqb (rank x.kind) (rank kind)) (eqb (line_of_base g x.range) k) h in
-    (same_rank x.kind kind (eqb-true (rank x.kind) (rank kind) parts.0), eqb-true (line_of_base g x.range) k parts.1)
+    let parts = and_parts (eqb (rank x.kind) (rank kind)) (eqb (line_of_base g x.range) k) h in (
+      same_rank x.kind kind (eqb-true (rank x.kind) (rank kind) parts.0),
+      eqb-true
+          (line_of_base g x.range) k parts.1,
+    )
 
-pub is_named-from : (g : Grid) (kind : LineKind) (k : ℕ) (x : Kept) → x.kind ≡ kind → line_of_base g x.range ≡ k
+pub is_named-from : (g : Grid) (kind : LineKind) (k : ℕ) (x : Kept) → x.kind ≡ kind
+    → line_of_base g x.range ≡ k
     → is_named g kind k x ≡ true
 is_named-from g kind k x same at =
-    and_from (eqb (rank x.kind) (rank kind)) (eqb (line_of_base g x.range) k) (eq-eqb (rank x.kind) (rank kind) (ap rank same))
+    and_from (eqb (rank x.kind) (rank kind)) (eqb (line_of_base g x.range) k)
+    (eq-eqb (rank x.kind) (rank kind) (ap rank same))
     (eq-eqb (line_of_base g x.range) k at)
 
 -- a track is looked up at the place that is named
-pub look_up : (N : Names) (g : Grid) (xs : List Kept) (kind : LineKind) (k : ℕ) → IsNamed N g xs → track_named g kind k xs ≡ option_and_then
+pub look_up : (N : Names) (g : Grid) (xs : List Kept) (kind : LineKind) (k : ℕ) → IsNamed N g xs
+    → track_named g kind k xs ≡ option_and_then
     (slice_get xs) (N kind k)
 look_up N g xs kind k named =
     elim (slice_cases (N kind k)) [
-      | inl none ↦ rw none (find-none (is_named g kind k) xs (λ j y at. elim (cases_Bool (is_named g kind k y)) [
-        | inl t ↦
-            let is = is_named-true g kind k y t in
-            absurd (none-some j (sym none ∙ ap (λ q. N kind q) (sym is.1) ∙ ap (λ q. N q (line_of_base g y.range)) (sym is.0)
-            ∙ named.placed j y at))
-        | inr f ↦ f
-      ]))
+      | inl none ↦ rw none (find-none (is_named g kind k) xs
+          (λ j y at. elim (cases_Bool (is_named g kind k y)) [
+            | inl t ↦
+                let is = is_named-true g kind k y t in
+                absurd (none-some j (sym none ∙ ap (λ q. N kind q) (sym is.1)
+                ∙ ap (λ q. N q (line_of_base g y.range)) (sym is.0)
+                ∙ named.placed j y at))
+            | inr f ↦ f
+          ]))
       | inr some ↦
           let w = named.named kind k some.0 some.1 in
-          ap (λ o. o) (find-only (is_named g kind k) xs some.0 w.0 w.1 (is_named-from g kind k w.0 w.2 w.3)
+          ap (λ o. o) (find-only (is_named g kind k) xs some.0 w.0 w.1
+          (is_named-from g kind k w.0 w.2 w.3)
           (λ j y at t.
           let is = is_named-true g kind k y t in
-          same_Some j some.0 (sym (named.placed j y at) ∙ ap (λ q. N q (line_of_base g y.range)) is.0 ∙ ap (N kind) is.1 ∙ some.1)))
+          same_Some j some.0 (sym (named.placed j y at)
+          ∙ ap (λ q. N q (line_of_base g y.range)) is.0 ∙ ap (N kind) is.1 ∙ some.1)))
           ∙ sym w.1 ∙ ap (option_and_then (slice_get xs)) (sym some.1)
     ]
 
-pub with_name-here : (N : Names) (kind : LineKind) (k : ℕ) (o : Option ℕ) → with_name N kind k o kind k ≡ option_or o (N kind k)
+pub with_name-here : (N : Names) (kind : LineKind) (k : ℕ) (o : Option ℕ)
+    → with_name N kind k o kind k ≡ option_or o (N kind k)
 with_name-here N kind k o = rw (eq-eqb (rank kind) (rank kind) refl, eq-eqb k k refl)
 
-pub with_name-other : (N : Names) (kind j : LineKind) (k q : ℕ) (o : Option ℕ) → ((j ≡ kind) × (q ≡ k) → ⊥)
+pub with_name-other : (N : Names) (kind j : LineKind) (k q : ℕ) (o : Option ℕ)
+    → ((j ≡ kind) × (q ≡ k) → ⊥)
     → with_name N kind k o j q ≡ N j q
 with_name-other N kind j k q o other =
     elim (cases_Bool (eqb (rank j) (rank kind) && eqb q k)) [
@@ -79,12 +81,15 @@ same_name kind j k q =
     elim (cases_Bool (eqb (rank j) (rank kind) && eqb q k)) [
       | inl t ↦ let parts = and_parts (eqb (rank j) (rank kind)) (eqb q k) t
           in inl (same_rank j kind (eqb-true _ _ parts.0), eqb-true q k parts.1)
-      | inr f ↦ inr (λ h. false≢true (sym f ∙ and_from (eqb (rank j) (rank kind)) (eqb q k) (eq-eqb _ _ (ap rank h.0)) (eq-eqb q k h.1)))
+      | inr f ↦ inr (λ h. false≢true (sym f ∙ and_from (eqb (rank j) (rank kind)) (eqb q k)
+          (eq-eqb _ _ (ap rank h.0)) (eq-eqb q k h.1)))
     ]
 
 -- one track more, which a new name names
-pub named-more : (N : Names) (g : Grid) (xs : List Kept) (x : Kept) → IsNamed N g xs → N x.kind (line_of_base g x.range) ≡ None
-    → IsShaped g (line_of_base g x.range) x.kind x.range → IsNamed (with_name N x.kind (line_of_base g x.range) (Some (length xs))) g
+pub named-more : (N : Names) (g : Grid) (xs : List Kept) (x : Kept) → IsNamed N g xs
+    → N x.kind (line_of_base g x.range) ≡ None
+    → IsShaped g (line_of_base g x.range) x.kind x.range
+    → IsNamed (with_name N x.kind (line_of_base g x.range) (Some (length xs))) g
     (xs ++ x ∷ [])
 named-more N g xs x named none shaped =
     let k : ℕ = line_of_base g x.range in
@@ -92,59 +97,87 @@ named-more N g xs x named none shaped =
       placed = λ i y at.
           elim (slice_get-more xs x y i at) [
             | inl before ↦
-                with_name-other N x.kind y.kind (line_of_base g x.range) (line_of_base g y.range) (Some (length xs))
-                (λ h. none-some i (sym none ∙ ap (λ q. N x.kind q) (sym h.1) ∙ ap (λ q. N q (line_of_base g y.range)) (sym h.0)
+                with_name-other N x.kind y.kind (line_of_base g x.range) (line_of_base g y.range)
+                (Some (length xs))
+                (λ h. none-some i (sym none ∙ ap (λ q. N x.kind q) (sym h.1)
+                ∙ ap (λ q. N q (line_of_base g y.range)) (sym h.0)
                 ∙ named.placed i y before))
                 ∙ named.placed i y before
             | inr last ↦
-                ap (λ (z : Kept). with_name N x.kind (line_of_base g x.range) (Some (length xs)) z.kind (line_of_base g z.range)) last.1
-                ∙ with_name-here N x.kind (line_of_base g x.range) (Some (length xs)) ∙ ap Some (sym last.0)
+                ap (λ (z : Kept). with_name N x.kind (line_of_base g x.range)
+                (Some (length xs)) z.kind (line_of_base g z.range)) last.1
+                ∙ with_name-here N x.kind (line_of_base g x.range) (Some (length xs))
+                ∙ ap Some (sym last.0)
           ];
       named = λ j q i at.
           elim (same_name x.kind j (line_of_base g x.range) q) [
             | inl is ↦
                 let got : Some (length xs) ≡ Some i =
                 sym (with_name-here N x.kind (line_of_base g x.range) (Some (length xs)))
-                ∙ ap (with_name N x.kind (line_of_base g x.range) (Some (length xs)) x.kind) (sym is.1)
-                ∙ ap (λ z. with_name N x.kind (line_of_base g x.range) (Some (length xs)) z q) (sym is.0) ∙ at in
-                (x, ap (slice_get (xs ++ x ∷ [])) (sym (same_Some (length xs) i got)) ∙ slice_get-end xs x, sym is.0, sym is.1)
+                ∙ ap (with_name N x.kind (line_of_base g x.range) (Some (length xs)) x.kind)
+                (sym is.1)
+                ∙ ap (λ z. with_name N x.kind (line_of_base g x.range) (Some (length xs)) z q)
+                (sym is.0) ∙ at in (
+                  x,
+                  ap (slice_get (xs ++ x ∷ [])) (sym (same_Some (length xs) i got))
+                      ∙ slice_get-push xs x,
+                  sym is.0,
+                  sym is.1,
+                )
             | inr other ↦
-                let w = named.named j q i (sym (with_name-other N x.kind j (line_of_base g x.range) q (Some (length xs)) other) ∙ at) in
-                (w.0, slice_get-left xs (x ∷ []) i (slice_get_within xs i w.0 w.1) ∙ w.1, w.2, w.3)
+                let w = named.named j q i (sym (with_name-other N x.kind j
+                (line_of_base g x.range) q (Some (length xs)) other) ∙ at) in (
+                  w.0,
+                  slice_get-append_left xs (x ∷ []) i (slice_get_within xs i w.0 w.1)
+                      ∙ w.1,
+                  w.2,
+                  w.3,
+                )
           ];
       shaped = λ i y at.
           elim (slice_get-more xs x y i at) [
             | inl before ↦ named.shaped i y before
-            | inr last ↦ subst (λ (z : Kept). IsShaped g (line_of_base g z.range) z.kind z.range) (sym last.1) shaped
+            | inr last ↦ subst (λ (z : Kept). IsShaped g (line_of_base g z.range) z.kind z.range)
+                (sym last.1) shaped
           ];
     }
 
 -- the same with the kind and the line said first
-pub named-more-as : (N : Names) (g : Grid) (xs : List Kept) (x : Kept) (kind : LineKind) (k : ℕ) → IsNamed N g xs → x.kind ≡ kind
+pub named-more-as : (N : Names) (g : Grid) (xs : List Kept) (x : Kept) (kind : LineKind) (k : ℕ)
+    → IsNamed N g xs → x.kind ≡ kind
     → line_of_base g x.range ≡ k → N kind k ≡ None
     → IsShaped g k kind x.range → IsNamed (with_name N kind k (Some (length xs))) g (xs ++ x ∷ [])
 named-more-as N g xs x kind k named same at none shaped =
     subst (λ j. IsNamed (with_name N j k (Some (length xs))) g (xs ++ x ∷ [])) same
     (subst (λ q. IsNamed (with_name N x.kind q (Some (length xs))) g (xs ++ x ∷ [])) at
     (named-more N g xs x named (ap (λ q. N x.kind q) at ∙ ap (λ j. N j k) same ∙ none)
-    (subst (λ q. IsShaped g q x.kind x.range) (sym at) (subst (λ j. IsShaped g k j x.range) (sym same) shaped))))
+    (subst (λ q. IsShaped g q x.kind x.range) (sym at)
+    (subst (λ j. IsShaped g k j x.range) (sym same) shaped))))
 
 -- an element of a map is that of one of the list
-pub mapped-came : {X Y : Type 0} (f : X → Y) (xs : List X) (i : ℕ) (y : Y) → slice_get (map f xs) i ≡ Some y → (x : X)
+pub mapped-came : {X Y : Type 0} (f : X → Y) (xs : List X) (i : ℕ) (y : Y) → slice_get (map f xs) i
+    ≡ Some y → (x : X)
     × (slice_get xs i ≡ Some x) × (y ≡ f x)
 mapped-came f xs i y at =
     elim (slice_cases (slice_get xs i)) [
       | inl none ↦ absurd (none-some y (sym (slice_get-map f xs i ∙ ap (option_map f) none) ∙ at))
-      | inr some ↦ (some.0, some.1, same_Some y (f some.0) (sym at ∙ slice_get-map f xs i ∙ ap (option_map f) some.1))
+      | inr some ↦ (
+        some.0,
+        some.1,
+        same_Some y (f some.0)
+            (sym at ∙ slice_get-map f xs i ∙ ap (option_map f) some.1),
+      )
     ]
 
 -- tracks that changed, but for their kinds and their ranges
-pub named-map : (N : Names) (g : Grid) (f : Kept → Kept) (xs : List Kept) → ((x : Kept) → (f x).kind ≡ x.kind)
+pub named-map : (N : Names) (g : Grid) (f : Kept → Kept) (xs : List Kept)
+    → ((x : Kept) → (f x).kind ≡ x.kind)
     → ((x : Kept) → (f x).range ≡ x.range) → IsNamed N g xs → IsNamed N g (map f xs)
 named-map N g f xs kinds ranges named = record {
   placed = λ i y at.
       let w = came i y at in
-      ap (λ (z : Kept). N z.kind (line_of_base g z.range)) w.2 ∙ ap (λ j. N j (line_of_base g (f w.0).range)) (kinds w.0)
+      ap (λ (z : Kept). N z.kind (line_of_base g z.range)) w.2
+      ∙ ap (λ j. N j (line_of_base g (f w.0).range)) (kinds w.0)
       ∙ ap (λ (r : Range). N w.0.kind (line_of_base g r)) (ranges w.0) ∙ named.placed i w.0 w.1;
   named = λ j q i at.
       let v = named.named j q i at in
@@ -153,11 +186,14 @@ named-map N g f xs kinds ranges named = record {
       let w = came i y at in
       subst (λ (z : Kept). IsShaped g (line_of_base g z.range) z.kind z.range) (sym w.2)
       (subst (λ j. IsShaped g (line_of_base g (f w.0).range) j (f w.0).range) (sym (kinds w.0))
-      (subst (λ (r : Range). IsShaped g (line_of_base g r) w.0.kind r) (sym (ranges w.0)) (named.shaped i w.0 w.1)));
+      (subst (λ (r : Range). IsShaped g (line_of_base g r) w.0.kind r) (sym (ranges w.0))
+      (named.shaped i w.0 w.1)));
 }
   where
-    slice_get-mapped : (i : ℕ) (x : Kept) → slice_get xs i ≡ Some x → slice_get (map f xs) i ≡ Some (f x)
+    slice_get-mapped : (i : ℕ) (x : Kept) → slice_get xs i ≡ Some x → slice_get (map f xs) i
+        ≡ Some (f x)
     slice_get-mapped i x at = slice_get-map f xs i ∙ ap (option_map f) at
 
-    came : (i : ℕ) (y : Kept) → slice_get (map f xs) i ≡ Some y → (x : Kept) × (slice_get xs i ≡ Some x) × (y ≡ f x)
+    came : (i : ℕ) (y : Kept) → slice_get (map f xs) i ≡ Some y → (x : Kept)
+        × (slice_get xs i ≡ Some x) × (y ≡ f x)
     came i y at = mapped-came f xs i y at

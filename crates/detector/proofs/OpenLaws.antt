@@ -1,36 +1,43 @@
 -- What opens for two lines, by their best pair.
-use Rattle.std.proofs.Common.{◌≡◌, ℕ, ◌+◌, ◌-◌, ◌*◌, ◌/◌, ◌%◌, ◌<◌, ◌≤◌, true, false, eqb, ◌||◌, List, Option, Some, None, length, get_or}
-use Rattle.std.proofs.Common.{refl, sym, ap, ◌∙◌, subst, arith, inl, inr}
+use Rattle.std.proofs.Common.{◌≡◌, ℕ, ◌+◌, ◌-◌, ◌*◌, ◌/◌, ◌%◌, ◌<◌, ◌≤◌, true, false, eqb, ◌||◌}
+use Rattle.std.proofs.Common.{List, Option, Some, None, length, get_or, refl, sym, ap, ◌∙◌, subst}
+use Rattle.std.proofs.Common.{arith, inl, inr}
 use Rattle.std.proofs.lemmas.Bool.{or_left, eq-eqb, eqb-false}
 use Rattle.std.proofs.lemmas.Nat.{div-mul-add}
 use Rattle.std.proofs.lemmas.Option.{same_Some, none-some, slice_get-get_or}
 use Rattle.std.specs.Prelude.{if◌then◌else◌, nat_abs, is_some, option_map, MatchOption}
 use Rattle.std.specs.Option.{SomeIff}
-use Rattle.predator_base.specs.declared.layout.Range.{Range}
-use Rattle.line_counters.specs.declared.line_entry.LineEntry.{LineEntry}
-use Rattle.sharing_rules.specs.Lines.{is_inside, line_from, native_line, range_of}
+use Rattle.base.specs.declared.layout.Range.{Range}
+use Rattle.detector.specs.declared.line_entry.LineEntry.{LineEntry}
+use Rattle.sharing_rules.specs.Lines.{is_inside, line_from, native_line, range_of, native_grid}
 use Rattle.sharing_rules.specs.Opened.{even_lower}
 use Rattle.sharing_rules.specs.Pairs.{best_pair_of}
-use Rattle.sharing_rules.specs.Predicted.{doubled_line, is_native_size, shifted_around, shifted_base, word_address}
+use Rattle.sharing_rules.specs.Predicted.{doubled_line, is_native_size, shifted_around}
+use Rattle.sharing_rules.specs.Predicted.{shifted_base, word_address}
 use Rattle.sharing_rules.specs.declared.line_kind.LineKind.TheVariants.{Observed, Shifted, Doubled}
-use Rattle.hot_pairs.specs.Neighbours.{AreNeighbours, pair_at, reach}
-use Rattle.hot_pairs.specs.declared.pair.Pair.{Pair}
-use Rattle.virtual_lines.specs.Kept.{Kept}
+use Rattle.line_tracks.specs.Neighbours.{AreNeighbours, pair_at, reach}
+use Rattle.line_tracks.specs.declared.pair.Pair.{Pair}
+use Rattle.line_tracks.specs.Kept.{Kept}
 use Rattle.detector.specs.declared.openings.Around.{Around}
 use Rattle.detector.specs.Index.{IsShaped}
 use Rattle.detector.specs.Named.{track_named}
 use Rattle.detector.specs.Openings.{best_of_two, doubled_opens, shifted_opens}
-use Rattle.detector.specs.Pairs.{AreAround, ArePair, IsPairOf, doubled_between, kept_at, native_grid, shifted_between}
-use Rattle.detector.proofs.Gets.{slice_cases}
-use Rattle.detector.proofs.PairLaws.{best-is_pair, doubled-begins, native-abs, native-begins, native-is, native-neighbours, pair-words, shifted-begins}
+use Rattle.detector.specs.Pairs.{AreAround, ArePair, IsPairOf, doubled_between, kept_at}
+use Rattle.detector.specs.Pairs.{shifted_between}
+use Rattle.detector.proofs.PairLaws.{best-is_pair, doubled-begins, native-abs, native-begins}
+use Rattle.detector.proofs.PairLaws.{native-is, native-neighbours, pair-words, shifted-begins}
+use Rattle.sharing_rules.specs.Laws.Lists.{slice_cases}
 
 -- what is read at a place that is named
-pub read_at : (xs ys : List Kept) (o : Option ℕ) (i : ℕ) (x : Kept) → o ≡ Some i → ys ≡ xs → i < length xs → x ≡ get_or ys i x
+pub read_at : (xs ys : List Kept) (o : Option ℕ) (i : ℕ) (x : Kept) → o ≡ Some i → ys ≡ xs
+    → i < length xs → x ≡ get_or ys i x
     → kept_at xs o ≡ Some x
 read_at xs ys o i x is same within read =
-    ap (kept_at xs) is ∙ slice_get-get_or xs i x within ∙ ap (λ zs. Some (get_or zs i x)) (sym same) ∙ ap Some (sym read)
+    ap (kept_at xs) is ∙ slice_get-get_or xs i x within ∙ ap (λ zs. Some (get_or zs i x)) (sym same)
+    ∙ ap Some (sym read)
 
-pub pair-neighbours : (n k : ℕ) (xs : List Kept) (lower upper : Option ℕ) (x y : Kept) → ArePair n k xs lower upper
+pub pair-neighbours : (n k : ℕ) (xs : List Kept) (lower upper : Option ℕ) (x y : Kept)
+    → ArePair n k xs lower upper
     → kept_at xs lower ≡ Some x → kept_at xs upper ≡ Some y → AreNeighbours x.range y.range
 pair-neighbours n k xs lower upper x y pair at up =
     subst (λ r. AreNeighbours r y.range) (sym (pair.below.range x at))
@@ -38,22 +45,29 @@ pair-neighbours n k xs lower upper x y pair at up =
     (native-neighbours n k pair.native (pair.below.reached x at) (pair.above.reached y up)))
 
 -- the search of two tracks gives their best pair
-pub pair-found : (n k : ℕ) (xs : List Kept) (lower upper within : Option ℕ) (x y : Kept) (r : Option Pair) → ArePair n k xs lower upper
+pub pair-found : (n k : ℕ) (xs : List Kept) (lower upper within : Option ℕ) (x y : Kept)
+    (r : Option Pair) → ArePair n k xs lower upper
     → kept_at xs lower ≡ Some x → kept_at xs upper ≡ Some y
-    → 4 * length x.words ≡ x.range.size → 4 * length y.words ≡ y.range.size → r ≡ option_map (pair_at x.range y.range)
+    → 4 * length x.words ≡ x.range.size → 4 * length y.words ≡ y.range.size → r
+    ≡ option_map (pair_at x.range y.range)
     (best_pair_of x.words y.words (reach x.range.size within))
     → MatchOption r (best_of_two (kept_at xs lower) (kept_at xs upper) (reach n within) ≡ None)
     (IsPairOf n k xs lower upper (reach n within))
 pair-found n k xs lower upper within x y r pair at up sized sized_up is =
     let size : x.range.size ≡ n = ap (λ (q : Range). q.size) (pair.below.range x at) in
     let size_up : y.range.size ≡ n = ap (λ (q : Range). q.size) (pair.above.range y up) in
-    let best : best_of_two (kept_at xs lower) (kept_at xs upper) (reach n within) ≡ best_pair_of x.words y.words (reach n within) =
-    ap (λ o. best_of_two o (kept_at xs upper) (reach n within)) at ∙ ap (λ o. best_of_two (Some x) o (reach n within)) up in
-    let now : r ≡ option_map (pair_at x.range y.range) (best_pair_of x.words y.words (reach n within)) = is
-    ∙ ap (λ z. option_map (pair_at x.range y.range) (best_pair_of x.words y.words (reach z within))) size in
+    let best : best_of_two (kept_at xs lower) (kept_at xs upper) (reach n within)
+    ≡ best_pair_of x.words y.words (reach n within) =
+    ap (λ o. best_of_two o (kept_at xs upper) (reach n within)) at
+    ∙ ap (λ o. best_of_two (Some x) o (reach n within)) up in
+    let now : r ≡ option_map (pair_at x.range y.range)
+    (best_pair_of x.words y.words (reach n within)) = is
+    ∙ ap (λ z. option_map (pair_at x.range y.range) (best_pair_of x.words y.words (reach z within)))
+    size in
     elim (slice_cases (best_pair_of x.words y.words (reach n within))) [
       | inl none ↦
-          subst (λ o. MatchOption o (best_of_two (kept_at xs lower) (kept_at xs upper) (reach n within) ≡ None)
+          subst (λ o. MatchOption o (best_of_two (kept_at xs lower) (kept_at xs upper)
+          (reach n within) ≡ None)
           (IsPairOf n k xs lower upper (reach n within)))
           (sym (now ∙ ap (option_map (pair_at x.range y.range)) none)) (best ∙ none)
       | inr some ↦
@@ -65,10 +79,13 @@ pair-found n k xs lower upper within x y r pair at up sized sized_up is =
           let low : 1 ≤ k = (pair.below.reached x at).some in
           let next : k + 1 - 1 ≡ k = omega arith in
           let quarter : length x.words ≡ n / 4 = omega arith in
-          let base : nat_abs x.range.base ≡ n * (k - 1) = ap (λ (q : Range). nat_abs q.base) (pair.below.range x at) ∙ native-abs n k low in
-          let base_up : nat_abs y.range.base ≡ n * (k + 1 - 1) = ap (λ (q : Range). nat_abs q.base) (pair.above.range y up)
+          let base : nat_abs x.range.base ≡ n * (k - 1) =
+          ap (λ (q : Range). nat_abs q.base) (pair.below.range x at) ∙ native-abs n k low in
+          let base_up : nat_abs y.range.base ≡ n * (k + 1 - 1) =
+          ap (λ (q : Range). nat_abs q.base) (pair.above.range y up)
           ∙ native-abs n (k + 1) (omega arith) in
-          let found : IsPairOf n k xs lower upper (reach n within) (pair_at x.range y.range some.0) = record {
+          let found : IsPairOf n k xs lower upper (reach n within)
+          (pair_at x.range y.range some.0) = record {
             places = some.0;
             best = best ∙ some.1;
             lower_at = ap (λ z. z + 4 * some.0.0) base;
@@ -78,7 +95,8 @@ pair-found n k xs lower upper within x y r pair at up sized sized_up is =
             near = subst (λ z. 4 * (z + some.0.1) + 4 ≤ reach n within + 4 * some.0.0) quarter near;
             some = low;
           } in
-          subst (λ o. MatchOption o (best_of_two (kept_at xs lower) (kept_at xs upper) (reach n within) ≡ None)
+          subst (λ o. MatchOption o (best_of_two (kept_at xs lower) (kept_at xs upper)
+          (reach n within) ≡ None)
           (IsPairOf n k xs lower upper (reach n within)))
           (sym (now ∙ ap (option_map (pair_at x.range y.range)) some.1)) found
     ]
@@ -88,17 +106,24 @@ some_value None P v r h e = absurd (none-some r e)
 some_value (Some x) P v r h e = sym (same_Some x r e) ∙ h.1
 
 -- a shifted line that opens begins in the lower line of its pair
-pub shifted-shaped : (n k : ℕ) (xs : List Kept) (lower upper : Option ℕ) (pair : Pair) (o : Option Range) (r : Range) (P : Type 0)
+pub shifted-shaped : (n k : ℕ) (xs : List Kept) (lower upper : Option ℕ) (pair : Pair)
+    (o : Option Range) (r : Range) (P : Type 0)
     → is_native_size n ≡ true → IsPairOf n k xs lower upper n pair
-    → SomeIff o P (range_of (line_from n (shifted_base n pair.x pair.y))) → o ≡ Some r → IsShaped (native_grid n) k Shifted r
+    → SomeIff o P (range_of (line_from n (shifted_base n pair.x pair.y))) → o ≡ Some r
+    → IsShaped (native_grid n) k Shifted r
 shifted-shaped n k xs lower upper pair o r P native found value e =
     let p = found.places in
     let is : r ≡ range_of (shifted_around n k found.places) =
     some_value o P (range_of (line_from n (shifted_base n pair.x pair.y))) r value e
     ∙ ap (λ z. range_of (line_from n (shifted_base n z pair.y))) found.lower_at
-    ∙ ap (λ z. range_of (line_from n (shifted_base n (word_address n k found.places.0) z))) found.upper_at in
-    subst (IsShaped (native_grid n) k Shifted) (sym is)
-    (found.some, refl, shifted-begins n k found.places (native-is n native) found.some found.lower_in found.upper_in found.near)
+    ∙ ap (λ z. range_of (line_from n (shifted_base n (word_address n k found.places.0) z)))
+    found.upper_at in
+    subst (IsShaped (native_grid n) k Shifted) (sym is) (
+      found.some,
+      refl,
+      shifted-begins n k found.places
+          (native-is n native) found.some found.lower_in found.upper_in found.near,
+    )
 
 some_where : {X : Type 0} (o : Option X) (P : Type 0) (v : X) → SomeIff o P v → P → o ≡ Some v
 some_where None P v h p = absurd (h p)
@@ -109,41 +134,60 @@ pub record AreBeside (n x y : ℕ) : Type 0 where
   pub words : (x % 4 ≡ 0) × (y % 4 ≡ 0)
   pub neighbours : x / n + 1 ≡ y / n
 
-pub pair-beside : (n k : ℕ) (xs : List Kept) (lower upper : Option ℕ) (within : ℕ) (pair : Pair) → is_native_size n ≡ true
+pub pair-beside : (n k : ℕ) (xs : List Kept) (lower upper : Option ℕ) (within : ℕ) (pair : Pair)
+    → is_native_size n ≡ true
     → IsPairOf n k xs lower upper within pair → AreBeside n pair.x pair.y
 pair-beside n k xs lower upper within pair native found =
-    let words = pair-words n k found.places (native-is n native) found.some found.lower_in found.upper_in in
+    let words = pair-words n k found.places (native-is n native) found.some found.lower_in
+    found.upper_in in
     let low : pair.x / n + 1 ≡ k = ap (λ z. z / n + 1) found.lower_at ∙ words.lower_in in
     let high : pair.y / n + 1 ≡ k + 1 = ap (λ z. z / n + 1) found.upper_at ∙ words.upper_in in
     record {
-      words = (ap (λ z. z % 4) found.lower_at ∙ words.lower_words, ap (λ z. z % 4) found.upper_at ∙ words.upper_words);
+      words = (
+        ap (λ z. z % 4) found.lower_at ∙ words.lower_words,
+        ap (λ z. z % 4) found.upper_at
+            ∙ words.upper_words,
+      );
       neighbours = omega (arith, low, high);
     }
 
 -- one line can hold the words of such a pair
-pair-near : (n k : ℕ) (xs : List Kept) (lower upper : Option ℕ) (pair : Pair) → is_native_size n ≡ true
+pair-near : (n k : ℕ) (xs : List Kept) (lower upper : Option ℕ) (pair : Pair) → is_native_size n
+    ≡ true
     → IsPairOf n k xs lower upper n pair → pair.y + 4 ≤ pair.x + n
 pair-near n k xs lower upper pair native found =
     let size = native-is n native in
     let words = pair-words n k found.places size found.some found.lower_in found.upper_in in
-    omega (arith, size.words, found.near, found.lower_at, found.upper_at, words.begins, words.upper_is)
+    omega (
+      arith,
+      size.words,
+      found.near,
+      found.lower_at,
+      found.upper_at,
+      words.begins,
+      words.upper_is,
+    )
 
 -- the shifted line that opens for two lines with a pair
-pub shifted-value : (n k : ℕ) (xs : List Kept) (lower upper : LineEntry) (pair : Pair) (o : Option Range) → is_native_size n ≡ true
+pub shifted-value : (n k : ℕ) (xs : List Kept) (lower upper : LineEntry) (pair : Pair)
+    (o : Option Range) → is_native_size n ≡ true
     → is_some lower.shifted ≡ false → IsPairOf n k xs lower.track upper.track n pair
     → SomeIff o (pair.y + 4 ≤ pair.x + n) (range_of (line_from n (shifted_base n pair.x pair.y)))
     → o ≡ shifted_between n k xs lower upper
 shifted-value n k xs lower upper pair o native none found value =
-    some_where o (pair.y + 4 ≤ pair.x + n) (range_of (line_from n (shifted_base n pair.x pair.y))) value
+    some_where o (pair.y + 4 ≤ pair.x + n) (range_of (line_from n (shifted_base n pair.x pair.y)))
+    value
     (pair-near n k xs lower.track upper.track pair native found)
     ∙ ap (λ z. Some (range_of (line_from n (shifted_base n z pair.y)))) found.lower_at
-    ∙ ap (λ z. Some (range_of (line_from n (shifted_base n (word_address n k found.places.0) z)))) found.upper_at
+    ∙ ap (λ z. Some (range_of (line_from n (shifted_base n (word_address n k found.places.0) z))))
+    found.upper_at
     ∙ sym (ap (option_map (λ p. range_of (shifted_around n k p))) found.best)
     ∙ sym (ap (λ b. if b then None else option_map (λ p. range_of (shifted_around n k p))
     (best_of_two (kept_at xs lower.track) (kept_at xs upper.track) n)) none)
 
 -- the lower word of a pair is in the lower line
-pub pair-inside : (n k : ℕ) (xs : List Kept) (lower upper : Option ℕ) (within : ℕ) (pair : Pair) → IsPairOf n k xs lower upper within pair
+pub pair-inside : (n k : ℕ) (xs : List Kept) (lower upper : Option ℕ) (within : ℕ) (pair : Pair)
+    → IsPairOf n k xs lower upper within pair
     → (is_inside (native_line n k) pair.x || is_inside (native_line n (k + 1)) pair.x) ≡ true
 pair-inside n k xs lower upper within pair found =
     let begins = native-begins n k found.some in
@@ -151,10 +195,12 @@ pair-inside n k xs lower upper within pair found =
     let less = found.lower_in in
     let is : pair.x + n - 0 ≡ k * n + 4 * found.places.0 = omega arith in
     or_left (is_inside (native_line n k) pair.x) (is_inside (native_line n (k + 1)) pair.x)
-    (eq-eqb ((pair.x + n - 0) / n) k (ap (λ z. z / n) is ∙ div-mul-add k n (4 * found.places.0) less))
+    (eq-eqb ((pair.x + n - 0) / n) k (ap (λ z. z / n) is
+    ∙ div-mul-add k n (4 * found.places.0) less))
 
 -- the doubled line that opens for two lines with a pair
-pub doubled-value : (n k : ℕ) (xs : List Kept) (lower upper : LineEntry) (pair : Pair) (r : Range) → is_some lower.doubled ≡ false
+pub doubled-value : (n k : ℕ) (xs : List Kept) (lower upper : LineEntry) (pair : Pair) (r : Range)
+    → is_some lower.doubled ≡ false
     → IsPairOf n k xs lower.track upper.track (2 * n) pair → r ≡ range_of (doubled_line n k)
     → Some r ≡ doubled_between n k xs lower upper
 doubled-value n k xs lower upper pair r none found is =
@@ -163,21 +209,26 @@ doubled-value n k xs lower upper pair r none found is =
     ∙ sym (ap (λ b. if b then None else option_map (λ p. range_of (doubled_line n k))
     (best_of_two (kept_at xs lower.track) (kept_at xs upper.track) (2 * n))) none)
 
-pub doubled-shaped : (n k : ℕ) (r : Range) → is_native_size n ≡ true → 1 ≤ k → k % 2 ≡ 1 → r ≡ range_of (doubled_line n k)
+pub doubled-shaped : (n k : ℕ) (r : Range) → is_native_size n ≡ true → 1 ≤ k → k % 2 ≡ 1 → r
+    ≡ range_of (doubled_line n k)
     → IsShaped (native_grid n) k Doubled r
 doubled-shaped n k r native low odd is =
     let some = (native-is n native).some in
-    subst (IsShaped (native_grid n) k Doubled) (sym is) (odd, refl, doubled-begins n k (omega arith) low)
+    subst (IsShaped (native_grid n) k Doubled) (sym is)
+    (odd, refl, doubled-begins n k (omega arith) low)
 
 -- what opens around a line, by the entries
-pub shifted-is : (n k : ℕ) (xs : List Kept) (e : Around) → AreAround (native_grid n) k xs e → shifted_between n k xs e.here e.above
+pub shifted-is : (n k : ℕ) (xs : List Kept) (e : Around) → AreAround (native_grid n) k xs e
+    → shifted_between n k xs e.here e.above
     ≡ shifted_opens (native_grid n) k xs
 shifted-is n k xs e h =
     ap (λ b. if b then None else option_map (λ p. range_of (shifted_around n k p))
     (best_of_two (kept_at xs e.here.track) (kept_at xs e.above.track) n)) (sym h.shifted_here)
-    ∙ ap (λ o. if is_some (track_named (native_grid n) Shifted k xs) then None else option_map (λ p. range_of (shifted_around n k p))
+    ∙ ap (λ o. if is_some (track_named (native_grid n) Shifted k xs) then None else option_map
+    (λ p. range_of (shifted_around n k p))
     (best_of_two o (kept_at xs e.above.track) n)) (sym h.own_here)
-    ∙ ap (λ o. if is_some (track_named (native_grid n) Shifted k xs) then None else option_map (λ p. range_of (shifted_around n k p))
+    ∙ ap (λ o. if is_some (track_named (native_grid n) Shifted k xs) then None else option_map
+    (λ p. range_of (shifted_around n k p))
     (best_of_two (track_named (native_grid n) Observed k xs) o n)) (sym h.own_above)
 
 pub shifted-is-below : (n k : ℕ) (xs : List Kept) (e : Around) → AreAround (native_grid n) k xs e
@@ -188,19 +239,24 @@ shifted-is-below n k xs e h =
     ap (λ b. if b then None else option_map (λ p. range_of (shifted_around n (k - 1) p))
     (best_of_two (kept_at xs e.below.track) (kept_at xs e.here.track) n)) (sym h.shifted_below)
     ∙ ap (λ o. if is_some (track_named (native_grid n) Shifted (k - 1) xs) then None
-    else option_map (λ p. range_of (shifted_around n (k - 1) p)) (best_of_two o (kept_at xs e.here.track) n)) (sym h.own_below)
+    else option_map (λ p. range_of (shifted_around n (k - 1) p))
+    (best_of_two o (kept_at xs e.here.track) n)) (sym h.own_below)
     ∙ ap (λ o. if is_some (track_named (native_grid n) Shifted (k - 1) xs) then None
-    else option_map (λ p. range_of (shifted_around n (k - 1) p)) (best_of_two (track_named (native_grid n) Observed (k - 1) xs) o n))
+    else option_map (λ p. range_of (shifted_around n (k - 1) p))
+    (best_of_two (track_named (native_grid n) Observed (k - 1) xs) o n))
     (sym h.own_here ∙ ap (λ q. track_named (native_grid n) Observed q xs) (sym back))
 
-pub doubled-is : (n k : ℕ) (xs : List Kept) (e : Around) → AreAround (native_grid n) k xs e → doubled_between n k xs e.here e.above
+pub doubled-is : (n k : ℕ) (xs : List Kept) (e : Around) → AreAround (native_grid n) k xs e
+    → doubled_between n k xs e.here e.above
     ≡ doubled_opens (native_grid n) k xs
 doubled-is n k xs e h =
     ap (λ b. if b then None else option_map (λ p. range_of (doubled_line n k))
     (best_of_two (kept_at xs e.here.track) (kept_at xs e.above.track) (2 * n))) (sym h.doubled_here)
-    ∙ ap (λ o. if is_some (track_named (native_grid n) Doubled k xs) then None else option_map (λ p. range_of (doubled_line n k))
+    ∙ ap (λ o. if is_some (track_named (native_grid n) Doubled k xs) then None else option_map
+    (λ p. range_of (doubled_line n k))
     (best_of_two o (kept_at xs e.above.track) (2 * n))) (sym h.own_here)
-    ∙ ap (λ o. if is_some (track_named (native_grid n) Doubled k xs) then None else option_map (λ p. range_of (doubled_line n k))
+    ∙ ap (λ o. if is_some (track_named (native_grid n) Doubled k xs) then None else option_map
+    (λ p. range_of (doubled_line n k))
     (best_of_two (track_named (native_grid n) Observed k xs) o (2 * n))) (sym h.own_above)
 
 pub doubled-is-below : (n k : ℕ) (xs : List Kept) (e : Around) → AreAround (native_grid n) k xs e
@@ -209,11 +265,14 @@ doubled-is-below n k xs e h =
     let some = h.some in
     let back : k - 1 + 1 ≡ k = omega arith in
     ap (λ b. if b then None else option_map (λ p. range_of (doubled_line n (k - 1)))
-    (best_of_two (kept_at xs e.below.track) (kept_at xs e.here.track) (2 * n))) (sym h.doubled_below)
+    (best_of_two (kept_at xs e.below.track) (kept_at xs e.here.track) (2 * n)))
+    (sym h.doubled_below)
     ∙ ap (λ o. if is_some (track_named (native_grid n) Doubled (k - 1) xs) then None
-    else option_map (λ p. range_of (doubled_line n (k - 1))) (best_of_two o (kept_at xs e.here.track) (2 * n))) (sym h.own_below)
+    else option_map (λ p. range_of (doubled_line n (k - 1)))
+    (best_of_two o (kept_at xs e.here.track) (2 * n))) (sym h.own_below)
     ∙ ap (λ o. if is_some (track_named (native_grid n) Doubled (k - 1) xs) then None
-    else option_map (λ p. range_of (doubled_line n (k - 1))) (best_of_two (track_named (native_grid n) Observed (k - 1) xs) o (2 * n)))
+    else option_map (λ p. range_of (doubled_line n (k - 1)))
+    (best_of_two (track_named (native_grid n) Observed (k - 1) xs) o (2 * n)))
     (sym h.own_here ∙ ap (λ q. track_named (native_grid n) Observed q xs) (sym back))
 
 pub even-odd : (k : ℕ) → k % 2 ≡ 1 → even_lower k ≡ k

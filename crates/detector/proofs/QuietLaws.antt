@@ -5,8 +5,8 @@ use Rattle.std.proofs.lemmas.List.Elements.{All-cons, All-map, All-nil}
 use Rattle.std.proofs.lemmas.List.Sorted.{All-permutation, IsPermutation-sym}
 use Rattle.std.specs.Prelude.{IsTrue, ◌||◌, ◌==◌}
 use Rattle.std.specs.List.{All, list_all, list_any}
-use Rattle.predator_base.specs.Lines.{is_layout}
-use Rattle.sharing_classifier.specs.QuietLaws.{track-words, unshared-quiet}
+use Rattle.base.specs.Lines.{is_layout}
+use Rattle.line_tracks.specs.Laws.Quiet.{track-words, unshared-quiet}
 use Rattle.sharing_rules.specs.AccessLists.{AccessList}
 use Rattle.sharing_rules.specs.Lines.{is_inside}
 use Rattle.sharing_rules.specs.Listed.{may_predict}
@@ -15,10 +15,11 @@ use Rattle.sharing_rules.specs.Observed.{first_write_from}
 use Rattle.sharing_rules.specs.Opened.{Opened, opened}
 use Rattle.sharing_rules.specs.Verdicts.{is_truly_shared, verdict_of}
 use Rattle.sharing_rules.specs.declared.line_kind.Verdict.{Verdict}
-use Rattle.sharing_rules.specs.declared.line_kind.Verdict.TheVariants.{FalseSharing, TrueSharing, Mixed}
+use Rattle.sharing_rules.specs.declared.line_kind.Verdict.TheVariants.{FalseSharing, TrueSharing}
+use Rattle.sharing_rules.specs.declared.line_kind.Verdict.TheVariants.{Mixed}
 use Rattle.sharing_rules.specs.declared.word.Word.{Word}
-use Rattle.virtual_lines.specs.KeptIn.{kept_in}
-use Rattle.word_shadow.specs.LineLaws.{held-inside, layout-sized}
+use Rattle.line_tracks.specs.KeptIn.{kept_in}
+use Rattle.line_tracks.specs.Laws.WordLines.{held-inside, layout-sized}
 use Rattle.detector.specs.Quiet.{AreQuietWhereFalse, IsQuietWhereFalse}
 use Rattle.detector.specs.Standing.{StandsFor}
 use Rattle.detector.specs.Watch.{Watch}
@@ -41,17 +42,23 @@ unshared ws e =
       | inr none ↦ none
     ]
 
-quiet_kept : (t : AccessList) (o : Opened) → is_layout o.line.size o.line.offset ≡ true → IsQuietWhereFalse t (kept_in t o)
+quiet_kept : (t : AccessList) (o : Opened) → is_layout o.line.size o.line.offset ≡ true
+    → IsQuietWhereFalse t (kept_in t o)
 quiet_kept t o allowed = λ s start verdict addr holds.
     let words = track-words o.line t (first_write_from o.from (is_inside o.line) t) s start in
-    let none = subst (λ (ws : List Word). list_any is_truly_shared ws ≡ false) words (unshared (kept_in t o).words verdict) in
-    unshared-quiet o.line s t allowed none addr (held-inside o.line addr (layout-sized o.line.size o.line.offset allowed).0 holds)
+    let none = subst (λ (ws : List Word). list_any is_truly_shared ws ≡ false) words
+    (unshared (kept_in t o).words verdict) in
+    unshared-quiet o.line s t allowed none addr (held-inside o.line addr
+    (layout-sized o.line.size o.line.offset allowed).0 holds)
 
-all_of_members : (P : Opened → Type 0) (os : List Opened) → ((o : Opened) → Member o os → P o) → All P os
+all_of_members : (P : Opened → Type 0) (os : List Opened) → ((o : Opened) → Member o os → P o)
+    → All P os
 all_of_members P [] each = All-nil P
-all_of_members P (o ∷ os) each = All-cons P o os (each o (inl refl)) (all_of_members P os (λ z m. each z (inr m)))
+all_of_members P (o ∷ os) each = All-cons P o os (each o (inl refl))
+    (all_of_members P os (λ z m. each z (inr m)))
 
-pub quiet_tracks : (t : AccessList) (w : Watch) → is_layout w.grid.size w.grid.offset ≡ true → IsTrue (may_predict w.grid w.levels)
+pub quiet_tracks : (t : AccessList) (w : Watch) → is_layout w.grid.size w.grid.offset ≡ true
+    → IsTrue (may_predict w.grid w.levels)
     → StandsFor t w
     → AreQuietWhereFalse t w
 quiet_tracks t w allowed may stands =

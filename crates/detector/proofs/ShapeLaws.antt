@@ -1,38 +1,42 @@
 -- Where tracks of each kind lie.
-use Rattle.std.proofs.Common.{◌≡◌, ℕ, ◌+◌, ◌-◌, ◌*◌, ◌/◌, ◌<◌, ◌≤◌, true, pos, ◌+ℤ◌, ◌-ℤ◌, sym, ap, ◌∙◌, ◌⊎◌, arith, inl, inr}
+use Rattle.std.proofs.Common.{◌≡◌, ℕ, ◌+◌, ◌-◌, ◌*◌, ◌/◌, ◌<◌, ◌≤◌, true, pos, ◌+ℤ◌, ◌-ℤ◌, sym, ap}
+use Rattle.std.proofs.Common.{◌∙◌, ◌⊎◌, arith, inl, inr}
 use Rattle.std.proofs.lemmas.Bool.{cases_lt, and_parts, eqb-true}
 use Rattle.std.proofs.lemmas.Int.{ints}
 use Rattle.std.proofs.lemmas.Nat.{div-mul-add}
 use Rattle.std.specs.Prelude.{nat_abs, int_le, int_lt}
-use Rattle.predator_base.specs.Lines.{Grid, line_number}
-use Rattle.predator_base.specs.Ranges.{holds_address}
-use Rattle.predator_base.specs.declared.layout.Range.{Range}
+use Rattle.base.specs.Lines.{Grid, line_number}
+use Rattle.base.specs.Ranges.{holds_address}
+use Rattle.base.specs.declared.layout.Range.{Range}
 use Rattle.sharing_rules.specs.Lines.{grid_line}
 use Rattle.sharing_rules.specs.declared.line_kind.LineKind.{LineKind}
 use Rattle.sharing_rules.specs.declared.line_kind.LineKind.TheVariants.{Observed, Shifted, Doubled}
-use Rattle.word_shadow.specs.LineLaws.{held-inside}
+use Rattle.line_tracks.specs.Laws.WordLines.{held-inside}
 use Rattle.detector.specs.Named.{line_of_base}
 use Rattle.detector.specs.Index.{IsShaped}
-
-base_is : (m n o d : ℕ) → nat_abs (pos (m + o + d) -ℤ pos n +ℤ pos n -ℤ pos o) ≡ m + d
-base_is m n o d = omega (arith, ints)
+use Rattle.sharing_rules.specs.Laws.Bases.{base_is}
 
 base_is_0 : (m n o : ℕ) → nat_abs (pos (m + o) -ℤ pos n +ℤ pos n -ℤ pos o) ≡ m + 0
 base_is_0 m n o = omega (arith, ints)
 
-line_from_base : (g : Grid) (k d : ℕ) (r : Range) → d < g.size → r.base ≡ (pos (k * g.size + g.offset + d) -ℤ pos g.size)
+line_from_base : (g : Grid) (k d : ℕ) (r : Range) → d < g.size → r.base
+    ≡ (pos (k * g.size + g.offset + d) -ℤ pos g.size)
     → line_of_base g r ≡ k
 line_from_base g k d r less e =
-    ap (λ b. nat_abs (b +ℤ pos g.size -ℤ pos g.offset) / g.size) e ∙ ap (λ m. m / g.size) (base_is (k * g.size) g.size g.offset d)
+    ap (λ b. nat_abs (b +ℤ pos g.size -ℤ pos g.offset) / g.size) e
+    ∙ ap (λ m. m / g.size) (base_is (k * g.size) g.size g.offset d)
     ∙ div-mul-add k g.size d less
 
-line_from_base_0 : (g : Grid) (k : ℕ) (r : Range) → 0 < g.size → r.base ≡ (pos (k * g.size + g.offset) -ℤ pos g.size) → line_of_base g r ≡ k
+line_from_base_0 : (g : Grid) (k : ℕ) (r : Range) → 0 < g.size → r.base
+    ≡ (pos (k * g.size + g.offset) -ℤ pos g.size) → line_of_base g r ≡ k
 line_from_base_0 g k r some e =
-    ap (λ b. nat_abs (b +ℤ pos g.size -ℤ pos g.offset) / g.size) e ∙ ap (λ m. m / g.size) (base_is_0 (k * g.size) g.size g.offset)
+    ap (λ b. nat_abs (b +ℤ pos g.size -ℤ pos g.offset) / g.size) e
+    ∙ ap (λ m. m / g.size) (base_is_0 (k * g.size) g.size g.offset)
     ∙ div-mul-add k g.size 0 some
 
 -- it begins in its line
-pub shaped-line : (g : Grid) (k : ℕ) (kind : LineKind) (r : Range) → 0 < g.size → IsShaped g k kind r → line_of_base g r ≡ k
+pub shaped-line : (g : Grid) (k : ℕ) (kind : LineKind) (r : Range) → 0 < g.size
+    → IsShaped g k kind r → line_of_base g r ≡ k
 shaped-line g k Observed r some h = line_from_base_0 g k r some (ap (λ (q : Range). q.base) h.0)
 shaped-line g k Shifted r some h = let w = h.2 in line_from_base g k w.0 r w.1 w.2
 shaped-line g k Doubled r some h = line_from_base_0 g k r some h.2
@@ -40,7 +44,8 @@ shaped-line g k Doubled r some h = line_from_base_0 g k r some h.2
 two_lines : (n j q : ℕ) → 0 < n → j * n ≤ q → q < j * n + n + n → (q / n ≡ j) ⊎ (q / n ≡ j + 1)
 two_lines n j q some low high =
     elim (cases_lt q (j * n + n)) [
-      | inl near ↦ inl (let is : q ≡ j * n + (q - j * n) = omega arith in let less : q - j * n < n = omega arith in ap (λ z. z / n) is
+      | inl near ↦ inl (let is : q ≡ j * n + (q - j * n) = omega arith in let less : q - j * n < n =
+          omega arith in ap (λ z. z / n) is
           ∙ div-mul-add j n (q - j * n) less)
       | inr far ↦
           let next : (j + 1) * n ≡ j * n + n = omega arith in
@@ -49,20 +54,29 @@ two_lines n j q some low high =
           inr (ap (λ z. z / n) is ∙ div-mul-add (j + 1) n (q - (j * n + n)) less)
     ]
 
-held_from : (b : ℕ) (n size a : ℕ) → holds_address (record { base = pos b -ℤ pos n; size = size }) a ≡ true → (b ≤ a + n)
+held_from : (b : ℕ) (n size a : ℕ) → holds_address (record { base = pos b -ℤ pos n; size = size }) a
+    ≡ true → (b ≤ a + n)
     × (a + n < b + size)
 held_from b n size a h =
-    let k = and_parts (int_le (pos b -ℤ pos n) (pos a)) (int_lt (pos a) (pos b -ℤ pos n +ℤ pos size)) h in
+    let k = and_parts (int_le (pos b -ℤ pos n) (pos a))
+    (int_lt (pos a) (pos b -ℤ pos n +ℤ pos size)) h in
     let low = k.0 in
     let high = k.1 in
     (grind (arith, ints), grind (arith, ints))
 
-held_between : (g : Grid) (j d size a : ℕ) (r : Range) → 0 < g.size → r.base ≡ (pos (j * g.size + g.offset + d) -ℤ pos g.size)
+held_between : (g : Grid) (j d size a : ℕ) (r : Range) → 0 < g.size → r.base
+    ≡ (pos (j * g.size + g.offset + d) -ℤ pos g.size)
     → r.size ≡ size → d + size ≤ g.size + g.size
-    → holds_address r a ≡ true → (line_number g.size g.offset a ≡ j) ⊎ (line_number g.size g.offset a ≡ j + 1)
+    → holds_address r a ≡ true → (line_number g.size g.offset a ≡ j)
+    ⊎ (line_number g.size g.offset a ≡ j + 1)
 held_between g j d size a r some base sized within h =
-    let h' : holds_address (record { base = pos (j * g.size + g.offset + d) -ℤ pos g.size; size = size }) a ≡ true =
-    ap (λ b. holds_address (record { base = b; size = size }) a) (sym base) ∙ ap (λ z. holds_address (record { base = r.base; size = z }) a)
+    let h' : holds_address (record {
+      base = pos (j * g.size + g.offset + d) -ℤ pos g.size;
+      size =
+          size;
+    }) a ≡ true =
+    ap (λ b. holds_address (record { base = b; size = size }) a) (sym base)
+    ∙ ap (λ z. holds_address (record { base = r.base; size = z }) a)
     (sym sized) ∙ h in
     let k = held_from (j * g.size + g.offset + d) g.size size a h' in
     let low = k.0 in
@@ -75,16 +89,19 @@ Reaches Observed j k = k ≡ j
 Reaches Shifted j k = (k ≡ j) ⊎ (k ≡ j + 1)
 Reaches Doubled j k = (k ≡ j) ⊎ (k ≡ j + 1)
 
-pub shaped-reaches : (g : Grid) (j : ℕ) (kind : LineKind) (r : Range) (a : ℕ) → g.offset < g.size → IsShaped g j kind r
+pub shaped-reaches : (g : Grid) (j : ℕ) (kind : LineKind) (r : Range) (a : ℕ) → g.offset < g.size
+    → IsShaped g j kind r
     → holds_address r a ≡ true → Reaches kind j (line_number g.size g.offset a)
 shaped-reaches g j Observed r a small h held =
-    eqb-true (line_number g.size g.offset a) j (held-inside (grid_line g j) a small (ap (λ q. holds_address q a) (sym h.0) ∙ held))
+    eqb-true (line_number g.size g.offset a) j (held-inside (grid_line g j) a small
+    (ap (λ q. holds_address q a) (sym h.0) ∙ held))
 shaped-reaches g j Shifted r a small h held =
     let w = h.2 in
     let less : w.0 < g.size = w.1 in
     held_between g j w.0 g.size a r (omega arith) w.2 h.1 (omega arith) held
 shaped-reaches g j Doubled r a small h held =
-    held_between g j 0 (2 * g.size) a r (omega arith) (h.2 ∙ ap (λ z. pos z -ℤ pos g.size) (plus_zero (j * g.size + g.offset))) h.1
+    held_between g j 0 (2 * g.size) a r (omega arith)
+    (h.2 ∙ ap (λ z. pos z -ℤ pos g.size) (plus_zero (j * g.size + g.offset))) h.1
     (omega arith) held
   where
     plus_zero : (n : ℕ) → n ≡ n + 0

@@ -1,41 +1,49 @@
 -- What one access makes of the tracks, by the places that the entries name.
-use Rattle.std.proofs.Common.{◌≡◌, ◌≢◌, ℕ, zero, suc, ◌+◌, ◌-◌, ◌%◌, ◌<◌, ◌≤◌, ◌^◌, true, false, eqb, List, [], ◌∷◌, Option, Some, None}
-use Rattle.std.proofs.Common.{map, length, refl, sym, ap, ◌∙◌, subst, arith, inl, inr}
+use Rattle.std.proofs.Common.{◌≡◌, ◌≢◌, ℕ, zero, suc, ◌+◌, ◌-◌, ◌%◌, ◌<◌, ◌≤◌, ◌^◌, true, false}
+use Rattle.std.proofs.Common.{eqb, List, [], ◌∷◌, Option, Some, None, map, length, refl, sym, ap}
+use Rattle.std.proofs.Common.{◌∙◌, subst, arith, inl, inr}
 use Rattle.std.proofs.lemmas.Bool.{cases_Bool, ne_eqb, eq-eqb}
 use Rattle.std.proofs.lemmas.Option.{same_Some, none-some, slice_get_within}
 use Rattle.std.proofs.lemmas.List.{length-map}
 use Rattle.std.specs.Prelude.{if◌then◌else◌, slice_get}
-use Rattle.predator_base.specs.Lines.{Grid}
-use Rattle.predator_base.specs.Ranges.{holds_address}
-use Rattle.predator_base.specs.Touch.{Touch}
-use Rattle.line_counters.specs.declared.line_entry.LineEntry.{LineEntry}
+use Rattle.base.specs.Lines.{Grid}
+use Rattle.base.specs.Ranges.{holds_address}
+use Rattle.base.specs.Touch.{Touch}
+use Rattle.detector.specs.declared.line_entry.LineEntry.{LineEntry}
 use Rattle.sharing_rules.specs.Listed.{rank}
 use Rattle.sharing_rules.specs.declared.line_kind.LineKind.{LineKind}
 use Rattle.sharing_rules.specs.declared.line_kind.LineKind.TheVariants.{Observed, Shifted, Doubled}
-use Rattle.virtual_lines.specs.Kept.{IsBlank, IsInTime, Kept}
+use Rattle.line_tracks.specs.Kept.{IsBlank, IsInTime, Kept}
 use Rattle.detector.specs.Named.{line_of_base, number_of}
 use Rattle.detector.specs.Index.{IsIndexed, IsNamed, IsShaped, Names, names_in}
-use Rattle.detector.specs.Noting.{AreInTime, CanTouch, CanTouchAll, places, touched_at, touched_places}
+use Rattle.detector.specs.Noting.{AreInTime, CanTouch, CanTouchAll, places, touched_at}
+use Rattle.detector.specs.Noting.{touched_places}
 use Rattle.detector.specs.Watch.{touched}
-use Rattle.detector.proofs.Gets.{AreApart, change_at-other, change_four, slice_cases}
+use Rattle.detector.proofs.FourPlaces.{AreApart, change_at-other, change_four}
 use Rattle.detector.proofs.NamedLaws.{mapped-came, named-map}
 use Rattle.detector.proofs.ShapeLaws.{Reaches, shaped-reaches}
 use Rattle.detector.proofs.InTimeLaws.{touched-blank, touched-in_time, touched-kind, touched-range}
+use Rattle.sharing_rules.specs.Laws.Lists.{slice_cases}
 
 -- one place has one name
-same_names : (N : Names) (g : Grid) (xs : List Kept) (j q : LineKind) (k l i : ℕ) → IsNamed N g xs → N j k ≡ Some i → N q l ≡ Some i
+same_names : (N : Names) (g : Grid) (xs : List Kept) (j q : LineKind) (k l i : ℕ) → IsNamed N g xs
+    → N j k ≡ Some i → N q l ≡ Some i
     → (j ≡ q) × (k ≡ l)
 same_names N g xs j q k l i named one other =
     let v = named.named j k i one in
     let w = named.named q l i other in
-    let same : v.0 ≡ w.0 = same_Some v.0 w.0 (sym v.1 ∙ w.1) in
-    (sym v.2 ∙ ap (λ (x : Kept). x.kind) same ∙ w.2, sym v.3 ∙ ap (λ (x : Kept). line_of_base g x.range) same ∙ w.3)
+    let same : v.0 ≡ w.0 = same_Some v.0 w.0 (sym v.1 ∙ w.1) in (
+      sym v.2 ∙ ap (λ (x : Kept). x.kind) same ∙ w.2,
+      sym v.3
+          ∙ ap (λ (x : Kept). line_of_base g x.range) same ∙ w.3,
+    )
 
 unlike : (j q : LineKind) → rank j ≢ rank q → j ≡ q → ⊥
 unlike j q other e = other (ap rank e)
 
 -- a shifted track is of no line 0
-low : (N : Names) (g : Grid) (xs : List Kept) (k i : ℕ) → IsNamed N g xs → N Shifted k ≡ Some i → 1 ≤ k
+low : (N : Names) (g : Grid) (xs : List Kept) (k i : ℕ) → IsNamed N g xs → N Shifted k ≡ Some i
+    → 1 ≤ k
 low N g xs k i named e =
     let w = named.named Shifted k i e in
     let shaped : IsShaped g k Shifted w.0.range = subst (λ q. IsShaped g q Shifted w.0.range) w.3
@@ -43,63 +51,81 @@ low N g xs k i named e =
     shaped.0
 
 -- the doubled place is that of one of the two entries
-doubled_place : (f : ℕ → LineEntry) (k i : ℕ) → (places f k).doubled ≡ Some i → (q : ℕ) × ((f q).doubled ≡ Some i)
+doubled_place : (f : ℕ → LineEntry) (k i : ℕ) → (places f k).doubled ≡ Some i → (q : ℕ)
+    × ((f q).doubled ≡ Some i)
 doubled_place f k i e =
     elim (cases_Bool (eqb (k % 2) 1)) [
       | inl odd ↦ (k, sym (ap (λ b. if b then (f k).doubled else (f (k - 1)).doubled) odd) ∙ e)
-      | inr even ↦ (k - 1, sym (ap (λ b. if b then (f k).doubled else (f (k - 1)).doubled) even) ∙ e)
+      | inr even ↦ (
+        k - 1,
+        sym (ap (λ b. if b then (f k).doubled else (f (k - 1)).doubled) even)
+            ∙ e,
+      )
     ]
 
 -- no two of the four places are the same
-pub places-apart : (f : ℕ → LineEntry) (g : Grid) (xs : List Kept) (k : ℕ) → IsNamed (names_in f) g xs
+pub places-apart : (f : ℕ → LineEntry) (g : Grid) (xs : List Kept) (k : ℕ)
+    → IsNamed (names_in f) g xs
     → AreApart (places f k).own (places f k).shifted (places f k).below (places f k).doubled
 places-apart f g xs k named = record {
-  one_two = λ j e h. unlike Observed Shifted (λ z. absurd (omega arith)) (same_names (names_in f) g xs Observed Shifted k k j named e h).0;
+  one_two = λ j e h. unlike Observed Shifted (λ z. absurd (omega arith))
+      (same_names (names_in f) g xs Observed Shifted k k j named e h).0;
   one_three = λ j e h. unlike Observed Shifted (λ z. absurd (omega arith))
       (same_names (names_in f) g xs Observed Shifted k (k - 1) j named e h).0;
-  one_four = λ j e h. let w = doubled_place f k j h in unlike Observed Doubled (λ z. absurd (omega arith))
+  one_four = λ j e h. let w = doubled_place f k j h in
+      unlike Observed Doubled (λ z. absurd (omega arith))
       (same_names (names_in f) g xs Observed Doubled k w.0 j named e w.1).0;
   two_three = λ j e h.
-      let same : k ≡ k - 1 = (same_names (names_in f) g xs Shifted Shifted k (k - 1) j named e h).1 in
+      let same : k ≡ k - 1 = (same_names (names_in f) g xs Shifted Shifted k (k - 1) j named e h).1
+      in
       let some : 1 ≤ k = low (names_in f) g xs k j named e in
       absurd (omega arith);
-  two_four = λ j e h. let w = doubled_place f k j h in unlike Shifted Doubled (λ z. absurd (omega arith))
+  two_four = λ j e h. let w = doubled_place f k j h in
+      unlike Shifted Doubled (λ z. absurd (omega arith))
       (same_names (names_in f) g xs Shifted Doubled k w.0 j named e w.1).0;
-  three_four = λ j e h. let w = doubled_place f k j h in unlike Shifted Doubled (λ z. absurd (omega arith))
+  three_four = λ j e h. let w = doubled_place f k j h in
+      unlike Shifted Doubled (λ z. absurd (omega arith))
       (same_names (names_in f) g xs Shifted Doubled (k - 1) w.0 j named e w.1).0;
 }
 
 -- a place that is named is that of a track in time
-named-can : (f : ℕ → LineEntry) (g : Grid) (xs : List Kept) (p : ℕ) (j : LineKind) (q : ℕ) → IsNamed (names_in f) g xs → AreInTime xs p
+named-can : (f : ℕ → LineEntry) (g : Grid) (xs : List Kept) (p : ℕ) (j : LineKind) (q : ℕ)
+    → IsNamed (names_in f) g xs → AreInTime xs p
     → CanTouch xs p (names_in f j q)
 named-can f g xs p j q named times = record {
   within = λ i e. let w = named.named j q i e in slice_get_within xs i w.0 w.1;
   in_time = λ i x e at. times i x at;
 }
 
-doubled-can : (f : ℕ → LineEntry) (g : Grid) (xs : List Kept) (p k : ℕ) → IsNamed (names_in f) g xs → AreInTime xs p
+doubled-can : (f : ℕ → LineEntry) (g : Grid) (xs : List Kept) (p k : ℕ) → IsNamed (names_in f) g xs
+    → AreInTime xs p
     → CanTouch xs p (places f k).doubled
 doubled-can f g xs p k named times = record {
-  within = λ i e. let v = doubled_place f k i e in let w = named.named Doubled v.0 i v.1 in slice_get_within xs i w.0 w.1;
+  within = λ i e. let v = doubled_place f k i e in let w = named.named Doubled v.0 i v.1 in
+      slice_get_within xs i w.0 w.1;
   in_time = λ i x e at. times i x at;
 }
 
-slice_get-get_or_at : (xs : List Kept) (i : ℕ) → i < length xs → (x : Kept) × (slice_get xs i ≡ Some x)
+slice_get-get_or_at : (xs : List Kept) (i : ℕ) → i < length xs → (x : Kept)
+    × (slice_get xs i ≡ Some x)
 slice_get-get_or_at [] i h = absurd (omega (arith, h))
 slice_get-get_or_at (x ∷ xs) zero h = (x, refl)
 slice_get-get_or_at (x ∷ xs) (suc i) h = slice_get-get_or_at xs i (omega arith)
 
 -- it stays so after another place was touched
-can-after : (p : ℕ) (a : Touch) (o q : Option ℕ) (xs : List Kept) → ((i : ℕ) → o ≡ Some i → q ≢ Some i) → CanTouch xs p q
+can-after : (p : ℕ) (a : Touch) (o q : Option ℕ) (xs : List Kept)
+    → ((i : ℕ) → o ≡ Some i → q ≢ Some i) → CanTouch xs p q
     → CanTouch (touched_at p a o xs) p q
 can-after p a o q xs apart can = record {
   within = λ i e.
-      let same : slice_get (touched_at p a o xs) i ≡ slice_get xs i = change_at-other (touched p a) o xs i (λ h. apart i h e) in
+      let same : slice_get (touched_at p a o xs) i ≡ slice_get xs i =
+      change_at-other (touched p a) o xs i (λ h. apart i h e) in
       elim (slice_cases (slice_get xs i)) [
         | inl none ↦ absurd (beyond i e none)
         | inr some ↦ slice_get_within (touched_at p a o xs) i some.0 (same ∙ some.1)
       ];
-  in_time = λ i x e at. can.in_time i x e (sym (change_at-other (touched p a) o xs i (λ h. apart i h e)) ∙ at);
+  in_time = λ i x e at. can.in_time i x e (sym (change_at-other (touched p a) o xs i
+      (λ h. apart i h e)) ∙ at);
 }
   where
     beyond : (i : ℕ) → q ≡ Some i → slice_get xs i ≡ None → ⊥
@@ -108,7 +134,8 @@ can-after p a o q xs apart can = record {
         let some = slice_get-get_or_at xs i within in
         none-some some.0 (sym none ∙ some.1)
 
-pub places-can : (f : ℕ → LineEntry) (g : Grid) (xs : List Kept) (p : ℕ) (a : Touch) (k : ℕ) → IsNamed (names_in f) g xs → AreInTime xs p
+pub places-can : (f : ℕ → LineEntry) (g : Grid) (xs : List Kept) (p : ℕ) (a : Touch) (k : ℕ)
+    → IsNamed (names_in f) g xs → AreInTime xs p
     → CanTouchAll xs p a (places f k)
 places-can f g xs p a k named times =
     let apart = places-apart f g xs k named in
@@ -122,9 +149,11 @@ places-can f g xs p a k named times =
     record {
       own = named-can f g xs p Observed k named times;
       shifted = can-after p a o₁ o₂ xs apart.one_two c₂;
-      below = can-after p a o₂ o₃ (touched_at p a o₁ xs) apart.two_three (can-after p a o₁ o₃ xs apart.one_three c₃);
+      below = can-after p a o₂ o₃ (touched_at p a o₁ xs) apart.two_three
+          (can-after p a o₁ o₃ xs apart.one_three c₃);
       doubled = can-after p a o₃ o₄ (touched_at p a o₂ (touched_at p a o₁ xs)) apart.three_four
-          (can-after p a o₂ o₄ (touched_at p a o₁ xs) apart.two_four (can-after p a o₁ o₄ xs apart.one_four c₄));
+          (can-after p a o₂ o₄ (touched_at p a o₁ xs) apart.two_four
+          (can-after p a o₁ o₄ xs apart.one_four c₄));
     }
 
 below_of : (k j : ℕ) → k ≡ j + 1 → k - 1 ≡ j
@@ -137,27 +166,35 @@ odd_of : (k j : ℕ) → k ≡ j → j % 2 ≡ 1 → eqb (k % 2) 1 ≡ true
 odd_of k j e odd = eq-eqb (k % 2) 1 (ap (λ z. z % 2) e ∙ odd)
 
 -- a track that holds the address stands at one of the places
-holds-placed : (f : ℕ → LineEntry) (k j i : ℕ) (kind : LineKind) (o : Option ℕ) → (kind ≡ Doubled → j % 2 ≡ 1) → Reaches kind j k
+holds-placed : (f : ℕ → LineEntry) (k j i : ℕ) (kind : LineKind) (o : Option ℕ)
+    → (kind ≡ Doubled → j % 2 ≡ 1) → Reaches kind j k
     → names_in f kind j ≡ Some i
-    → (places f k).own ≢ Some i → (places f k).shifted ≢ Some i → (places f k).below ≢ Some i → (places f k).doubled ≢ Some i → ⊥
+    → (places f k).own ≢ Some i → (places f k).shifted ≢ Some i → (places f k).below ≢ Some i
+    → (places f k).doubled ≢ Some i → ⊥
 holds-placed f k j i Observed o odd reach e n₁ n₂ n₃ n₄ = n₁ (ap (λ q. (f q).track) reach ∙ e)
 holds-placed f k j i Shifted o odd (inl same) e n₁ n₂ n₃ n₄ = n₂ (ap (λ q. (f q).shifted) same ∙ e)
-holds-placed f k j i Shifted o odd (inr next) e n₁ n₂ n₃ n₄ = n₃ (ap (λ q. (f q).shifted) (below_of k j next) ∙ e)
+holds-placed f k j i Shifted o odd (inr next) e n₁ n₂ n₃ n₄ =
+    n₃ (ap (λ q. (f q).shifted) (below_of k j next) ∙ e)
 holds-placed f k j i Doubled o odd (inl same) e n₁ n₂ n₃ n₄ =
-    n₄ (ap (λ b. if b then (f k).doubled else (f (k - 1)).doubled) (odd_of k j same (odd refl)) ∙ ap (λ q. (f q).doubled) same ∙ e)
+    n₄ (ap (λ b. if b then (f k).doubled else (f (k - 1)).doubled) (odd_of k j same (odd refl))
+    ∙ ap (λ q. (f q).doubled) same ∙ e)
 holds-placed f k j i Doubled o odd (inr next) e n₁ n₂ n₃ n₄ =
     n₄ (ap (λ b. if b then (f k).doubled else (f (k - 1)).doubled) (even_of k j next (odd refl))
     ∙ ap (λ q. (f q).doubled) (below_of k j next) ∙ e)
 
-odd_line : (g : Grid) (j : ℕ) (kind : LineKind) (x : Kept) → x.kind ≡ kind → IsShaped g j x.kind x.range → kind ≡ Doubled → j % 2 ≡ 1
-odd_line g j kind x same shaped is = let s : IsShaped g j Doubled x.range = subst (λ z. IsShaped g j z x.range) (same ∙ is) shaped in s.0
+odd_line : (g : Grid) (j : ℕ) (kind : LineKind) (x : Kept) → x.kind ≡ kind
+    → IsShaped g j x.kind x.range → kind ≡ Doubled → j % 2 ≡ 1
+odd_line g j kind x same shaped is = let s : IsShaped g j Doubled x.range =
+    subst (λ z. IsShaped g j z x.range) (same ∙ is) shaped in s.0
 
 -- the tracks at the places noted one after the other are all tracks that hold the address noted
-pub places-touched : (f : ℕ → LineEntry) (g : Grid) (xs : List Kept) (p : ℕ) (a : Touch) → g.offset < g.size → IsNamed (names_in f) g xs
+pub places-touched : (f : ℕ → LineEntry) (g : Grid) (xs : List Kept) (p : ℕ) (a : Touch)
+    → g.offset < g.size → IsNamed (names_in f) g xs
     → touched_places p a (places f (number_of g a)) xs ≡ map (touched p a) xs
 places-touched f g xs p a small named =
     let k = number_of g a in
-    change_four (touched p a) (places f (number_of g a)).own (places f (number_of g a)).shifted (places f (number_of g a)).below
+    change_four (touched p a) (places f (number_of g a)).own (places f (number_of g a)).shifted
+    (places f (number_of g a)).below
     (places f (number_of g a)).doubled xs
     (places-apart f g xs (number_of g a) named)
     (λ i x at n₁ n₂ n₃ n₄.
@@ -166,25 +203,33 @@ places-touched f g xs p a small named =
           let shaped = named.shaped i x at in
           absurd (holds-placed f (number_of g a) (line_of_base g x.range) i x.kind None
           (odd_line g (line_of_base g x.range) x.kind x refl shaped)
-          (shaped-reaches g (line_of_base g x.range) x.kind x.range a.addr small shaped held) (named.placed i x at) n₁ n₂ n₃ n₄)
+          (shaped-reaches g (line_of_base g x.range) x.kind x.range a.addr small shaped held)
+          (named.placed i x at) n₁ n₂ n₃ n₄)
       | inr misses ↦ rw misses
     ])
 
 -- the entries name the tracks that were noted, after more writes
-pub indexed-touched : (f h : ℕ → LineEntry) (g : Grid) (xs : List Kept) (T p : ℕ) (a : Touch) → IsIndexed f g xs T p
-    → ((q : ℕ) → (h q).track ≡ (f q).track) → ((q : ℕ) → (h q).shifted ≡ (f q).shifted) → ((q : ℕ) → (h q).doubled ≡ (f q).doubled)
-    → ((q : ℕ) → (f q).writes ≤ (h q).writes) → ((q : ℕ) → (h q).writes ≤ p + 1) → IsIndexed h g (map (touched p a) xs) T (p + 1)
+pub indexed-touched : (f h : ℕ → LineEntry) (g : Grid) (xs : List Kept) (T p : ℕ) (a : Touch)
+    → IsIndexed f g xs T p
+    → ((q : ℕ) → (h q).track ≡ (f q).track) → ((q : ℕ) → (h q).shifted ≡ (f q).shifted)
+    → ((q : ℕ) → (h q).doubled ≡ (f q).doubled)
+    → ((q : ℕ) → (f q).writes ≤ (h q).writes) → ((q : ℕ) → (h q).writes ≤ p + 1)
+    → IsIndexed h g (map (touched p a) xs) T (p + 1)
 indexed-touched f h g xs T p a indexed tracks shifted doubled more few = record {
-  names = subst (λ N. IsNamed N g (map (touched p a) xs)) same (named-map (names_in f) g (touched p a) xs (touched-kind p a)
+  names = subst (λ N. IsNamed N g (map (touched p a) xs)) same
+      (named-map (names_in f) g (touched p a) xs (touched-kind p a)
       (touched-range p a) indexed.names);
-  late = λ k i e. let before = indexed.late k i (sym (tracks k) ∙ e) in let up = more k in omega arith;
+  late = λ k i e. let before = indexed.late k i (sym (tracks k) ∙ e) in let up = more k in
+      omega arith;
   written = few;
   in_time = λ i y at.
       let w = mapped-came (touched p a) xs i y at in
-      subst (λ (x : Kept). IsInTime x (p + 1)) (sym w.2) (touched-in_time w.0 p a (indexed.in_time i w.0 w.1) (indexed.blank i w.0 w.1));
+      subst (λ (x : Kept). IsInTime x (p + 1)) (sym w.2)
+      (touched-in_time w.0 p a (indexed.in_time i w.0 w.1) (indexed.blank i w.0 w.1));
   blank = λ i y at.
       let w = mapped-came (touched p a) xs i y at in
-      subst (λ (x : Kept). x.start ≡ None → IsBlank x) (sym w.2) (touched-blank w.0 p a (indexed.blank i w.0 w.1));
+      subst (λ (x : Kept). x.start ≡ None → IsBlank x) (sym w.2)
+      (touched-blank w.0 p a (indexed.blank i w.0 w.1));
   few = let up = indexed.few in subst (λ n. n ≤ 2 ^ 31) (sym (length-map xs (touched p a))) up;
 }
   where

@@ -1,28 +1,33 @@
 -- What accesses change of any value of a detector.
-use Rattle.std.proofs.Common.{◌≡◌, ℕ, ◌+◌, ◌<◌, Bool, true, false, eqb, List, [], ◌∷◌, ◌++◌, length, map, Some, refl, sym, ap, ◌∙◌}
-use Rattle.std.proofs.Common.{append-nil, append_assoc, arith, inl, inr, ◌&&◌}
-use Rattle.std.proofs.lemmas.Bool.{and_parts, cases_Bool, eqb-true, false≢true}
+use Rattle.std.proofs.Common.{◌≡◌, ℕ, ◌+◌, ◌<◌, Bool, true, eqb, List, [], ◌∷◌, ◌++◌, length, map}
+use Rattle.std.proofs.Common.{Some, refl, sym, ap, ◌∙◌, append-nil, append_assoc, arith, inl, inr}
+use Rattle.std.proofs.Common.{◌&&◌}
+use Rattle.std.proofs.lemmas.Bool.{and_parts, cases_Bool, eqb-true, not-true}
 use Rattle.std.proofs.lemmas.List.{length-map}
 use Rattle.std.proofs.lemmas.Option.{slice_get-map, slice_get_cases, none-some}
 use Rattle.std.specs.Prelude.{if◌then◌else◌, not, option_map, slice_get}
-use Rattle.predator_base.specs.Touch.{Touch, is_write}
+use Rattle.base.specs.Touch.{Touch, is_write}
 use Rattle.sharing_rules.specs.Laws.Lists.{slice_get-append_left}
-use Rattle.virtual_lines.specs.Kept.{Kept}
+use Rattle.line_tracks.specs.Kept.{Kept}
 use Rattle.detector.specs.Changes.{AddNoTracks, adds_no_track, touched_all, watched_all}
 use Rattle.detector.specs.Counts.{count_at}
 use Rattle.detector.specs.Named.{number_of}
 use Rattle.detector.specs.Openings.{opened_tracks, openings, nothing_opens}
-use Rattle.detector.specs.Watch.{Watch, begins_track, begun, opens_at, searches_at, touched, tracks_noted, watched}
+use Rattle.detector.specs.Watch.{Watch, begins_track, begun, opens_at, searches_at, touched}
+use Rattle.detector.specs.Watch.{tracks_noted, watched}
 use Rattle.detector.proofs.CountLaws.{count_at-with_write}
 
 pub writes_counted : (w : Watch) (a : Touch) (k : ℕ) → count_at (watched w a).writes k
-    ≡ (if is_write a.kind && eqb k (number_of w.grid a) then count_at w.writes k + 1 else count_at w.writes k)
+    ≡ (if is_write a.kind && eqb k (number_of w.grid a) then count_at w.writes k + 1
+    else count_at w.writes k)
 writes_counted w a k = elim (cases_Bool (is_write a.kind)) [
   | inr reads ↦ rw reads refl
-  | inl writes ↦ rw writes (count_at-with_write w.writes (number_of w.grid a) k ∙ elim (cases_Bool (eqb k (number_of w.grid a))) [
-    | inl here ↦ rw here (ap (λ j. count_at w.writes j + 1) (sym (eqb-true k (number_of w.grid a) here)))
-    | inr other ↦ rw other refl
-  ])
+  | inl writes ↦ rw writes (count_at-with_write w.writes (number_of w.grid a) k
+      ∙ elim (cases_Bool (eqb k (number_of w.grid a))) [
+        | inl here ↦ rw here (ap (λ j. count_at w.writes j + 1)
+            (sym (eqb-true k (number_of w.grid a) here)))
+        | inr other ↦ rw other refl
+      ])
 ]
 
 -- the tracks that were there stand before those that are added
@@ -31,32 +36,34 @@ pub tracks_touched : (w : Watch) (a : Touch) (i : ℕ) (x : Kept) → slice_get 
 tracks_touched w a i x at =
     let k = number_of w.grid a in
     let old = map (touched w.position a) w.tracks in
-    let own : List Kept = if begins_track w.levels.tracking w.writes k a then begun w.grid k w.position a ∷ [] else [] in
+    let own : List Kept = if begins_track w.levels.tracking w.writes k a
+    then begun w.grid k w.position a ∷ [] else [] in
     let more = opened_tracks (opens_at w k a (tracks_noted w k a)) in
     let within : i < length w.tracks = elim (slice_get_cases w.tracks i).1 [
       | inl (y, less, got, read) ↦ less
       | inr (past, got) ↦ absurd (none-some x (sym got ∙ at))
     ] in
-    let there : i < length old = omega (arith, within, length-map w.tracks (touched w.position a)) in
+    let there : i < length old = omega (arith, within, length-map w.tracks (touched w.position a))
+    in
     ap (λ ts. slice_get ts i) (append_assoc old own more)
     ∙ slice_get-append_left old (own ++ more) i there
     ∙ slice_get-map (touched w.position a) w.tracks i ∙ ap (option_map (touched w.position a)) at
 
-is_false : (b : Bool) → not b ≡ true → b ≡ false
-is_false true e = absurd (false≢true e)
-is_false false e = refl
-
 -- an access at which nothing begins and nothing is searched
-kept_alone : (w : Watch) (a : Touch) → adds_no_track w a ≡ true → (watched w a).tracks ≡ map (touched w.position a) w.tracks
+kept_alone : (w : Watch) (a : Touch) → adds_no_track w a ≡ true → (watched w a).tracks
+    ≡ map (touched w.position a) w.tracks
 kept_alone w a none =
     let k = number_of w.grid a in
     let old = map (touched w.position a) w.tracks in
-    let parts = and_parts (not (begins_track w.levels.tracking w.writes k a)) (not (searches_at w a)) none in
-    let begins = is_false (begins_track w.levels.tracking w.writes k a) parts.0 in
-    let searches = is_false (searches_at w a) parts.1 in
-    ap (λ (b : Bool). tracks_noted w k a ++ opened_tracks (if b then openings w.grid k (tracks_noted w k a) else nothing_opens)) searches
+    let parts = and_parts (not (begins_track w.levels.tracking w.writes k a))
+    (not (searches_at w a)) none in
+    let begins = not-true (begins_track w.levels.tracking w.writes k a) parts.0 in
+    let searches = not-true (searches_at w a) parts.1 in
+    ap (λ (b : Bool). tracks_noted w k a ++ opened_tracks
+    (if b then openings w.grid k (tracks_noted w k a) else nothing_opens)) searches
     ∙ append-nil (tracks_noted w k a)
-    ∙ ap (λ (b : Bool). old ++ (if b then begun w.grid k w.position a ∷ [] else [])) begins ∙ append-nil old
+    ∙ ap (λ (b : Bool). old ++ (if b then begun w.grid k w.position a ∷ [] else [])) begins
+    ∙ append-nil old
 
 map-twice : (f g : Kept → Kept) (xs : List Kept) → map g (map f xs) ≡ map (λ x. g (f x)) xs
 map-twice f g [] = refl
@@ -66,7 +73,8 @@ map-itself : (xs : List Kept) → xs ≡ map (λ x. x) xs
 map-itself [] = refl
 map-itself (x ∷ xs) = ap (λ ys. x ∷ ys) (map-itself xs)
 
-pub none_added : (w : Watch) (t : List Touch) → AddNoTracks w t → (watched_all w t).tracks ≡ map (touched_all w.position t) w.tracks
+pub none_added : (w : Watch) (t : List Touch) → AddNoTracks w t → (watched_all w t).tracks
+    ≡ map (touched_all w.position t) w.tracks
 none_added w [] none = map-itself w.tracks
 none_added w (a ∷ t) none =
     none_added (watched w a) t none.1

@@ -1,9 +1,9 @@
 -- What adding a saved track needs of the entries that name the tracks.
 use Rattle.std.specs.Prelude.{ℕ, List}
-use Rattle.predator_base.specs.Levels.{Levels}
-use Rattle.predator_base.specs.Lines.{Grid}
-use Rattle.line_counters.specs.Entries.{Entries, entry_at}
-use Rattle.virtual_lines.specs.Kept.{Kept}
+use Rattle.base.specs.Levels.{Levels}
+use Rattle.base.specs.Lines.{Grid}
+use Rattle.detector.specs.Entries.{Entries, entry_at}
+use Rattle.line_tracks.specs.Kept.{Kept}
 use Rattle.detector.specs.Adding.{CanAddTrack}
 use Rattle.detector.specs.Index.{IsIndexed}
 use Rattle.detector.specs.Watch.{watch_of}

@@ -2,10 +2,10 @@
 -- added to it.
 use Rattle.std.specs.Prelude.{◌≡◌, ℕ, ◌<◌, ◌≤◌, ◌^◌, [], ◌∷◌, ◌++◌, None}
 use Rattle.std.specs.FinMap as finite
-use Rattle.predator_base.specs.Levels.{Levels}
-use Rattle.predator_base.specs.Lines.{Grid}
+use Rattle.base.specs.Levels.{Levels}
+use Rattle.base.specs.Lines.{Grid}
 use Rattle.sharing_rules.specs.declared.line_kind.LineKind.TheVariants.{Observed}
-use Rattle.virtual_lines.specs.Kept.{IsBlank, IsInTime, Kept}
+use Rattle.line_tracks.specs.Kept.{IsBlank, IsInTime, Kept}
 use Rattle.detector.specs.Counts.{count_at, no_writes}
 use Rattle.detector.specs.Index.{IsShaped}
 use Rattle.detector.specs.Named.{line_of_base, track_named}

@@ -1,11 +1,11 @@
 -- How many tracks a detector has of each kind, and how much they keep together.
 use Rattle.std.specs.Prelude.{◌≡◌, ℕ, ◌*◌, ◌/◌, ◌<◌, ◌≤◌, Bool, ◌==◌, List, length, None}
 use Rattle.std.specs.List.{count_by, sum_by}
-use Rattle.predator_base.specs.Ranges.{holds_address}
+use Rattle.base.specs.Ranges.{holds_address}
 use Rattle.sharing_rules.specs.Listed.{rank}
 use Rattle.sharing_rules.specs.declared.line_kind.LineKind.{LineKind}
 use Rattle.sharing_rules.specs.declared.line_kind.LineKind.TheVariants as kind
-use Rattle.virtual_lines.specs.Kept.{Kept}
+use Rattle.line_tracks.specs.Kept.{Kept}
 use Rattle.detector.specs.Watch.{Watch}
 
 abbrev pub is_of : LineKind → Kept → Bool

@@ -1,7 +1,7 @@
 -- What accesses change of a detector's value, also of one that no list has.
 use Rattle.std.specs.Prelude.{ℕ, ◌+◌, Bool, not, ◌&&◌, List, [], ◌∷◌, IsTrue}
-use Rattle.predator_base.specs.Touch.{Touch}
-use Rattle.virtual_lines.specs.Kept.{Kept}
+use Rattle.base.specs.Touch.{Touch}
+use Rattle.line_tracks.specs.Kept.{Kept}
 use Rattle.detector.specs.Named.{number_of}
 use Rattle.detector.specs.Watch.{Watch, begins_track, searches_at, touched, watched}
 

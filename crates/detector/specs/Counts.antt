@@ -2,7 +2,7 @@
 use Rattle.std.specs.Prelude.{ℕ, ◌+◌, map, unwrap_or}
 use Rattle.std.specs.Ordering.{nat_cmp}
 use Rattle.std.specs.FinMap as finite
-use Rattle.line_counters.specs.Entries.{Entries}
+use Rattle.detector.specs.Entries.{Entries}
 
 abbrev pub Counts : Type 0
 Counts = finite.FinMap nat_cmp ℕ

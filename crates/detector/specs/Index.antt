@@ -1,13 +1,13 @@
 -- What ties the tracks to the entries of the index.
 use Rattle.std.specs.Prelude.{◌≡◌, ℕ, ◌+◌, ◌*◌, ◌%◌, ◌<◌, ◌≤◌, ◌^◌, pos, ◌-ℤ◌, List, length, Option}
 use Rattle.std.specs.Prelude.{Some, None, slice_get}
-use Rattle.predator_base.specs.Lines.{Grid, line_number}
-use Rattle.predator_base.specs.declared.layout.Range.{Range}
-use Rattle.line_counters.specs.declared.line_entry.LineEntry.{LineEntry}
+use Rattle.base.specs.Lines.{Grid, line_number}
+use Rattle.base.specs.declared.layout.Range.{Range}
+use Rattle.detector.specs.declared.line_entry.LineEntry.{LineEntry}
 use Rattle.sharing_rules.specs.Lines.{grid_line, range_of}
 use Rattle.sharing_rules.specs.declared.line_kind.LineKind.{LineKind}
 use Rattle.sharing_rules.specs.declared.line_kind.LineKind.TheVariants.{Observed, Shifted, Doubled}
-use Rattle.virtual_lines.specs.Kept.{IsBlank, IsInTime, Kept}
+use Rattle.line_tracks.specs.Kept.{IsBlank, IsInTime, Kept}
 use Rattle.detector.specs.Named.{line_of_base}
 
 -- the place that an entry names for a kind of track

@@ -1,12 +1,13 @@
 -- Lines of a layout, and the tracks that stand for them.
-use Rattle.std.specs.Prelude.{ℕ, ◌/◌, Bool, ◌&&◌, ◌==◌, pos, ◌+ℤ◌, ◌-ℤ◌, nat_abs, List, Option}
+use Rattle.std.specs.Prelude.{ℕ, Bool, ◌&&◌, ◌==◌, List, Option}
 use Rattle.std.specs.List.{find}
-use Rattle.predator_base.specs.Lines.{Grid, line_number}
-use Rattle.predator_base.specs.Touch.{Touch}
-use Rattle.predator_base.specs.declared.layout.Range.{Range}
+use Rattle.base.specs.Lines.{Grid, line_number}
+use Rattle.base.specs.Touch.{Touch}
+use Rattle.base.specs.declared.layout.Range.{Range}
 use Rattle.sharing_rules.specs.Listed.{rank}
 use Rattle.sharing_rules.specs.declared.line_kind.LineKind.{LineKind}
-use Rattle.virtual_lines.specs.Kept.{Kept}
+use Rattle.line_tracks.specs.Kept.{Kept}
+use Rattle.sharing_rules.specs.Lines.{number_of_base}
 
 -- the number of the line of an access
 abbrev pub number_of : Grid → Touch → ℕ
@@ -14,7 +15,7 @@ number_of g a = line_number g.size g.offset a.addr
 
 -- the number of the line in which a range begins
 abbrev pub line_of_base : Grid → Range → ℕ
-line_of_base g r = nat_abs (r.base +ℤ pos g.size -ℤ pos g.offset) / g.size
+line_of_base g r = number_of_base g r.base
 
 -- Whether a track is the one of a kind and a line: an observed one has the line's range, a shifted
 -- one begins in the lower line of its pair, and a doubled one where the lower line of its pair

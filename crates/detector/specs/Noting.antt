@@ -3,14 +3,14 @@
 use Rattle.std.specs.Prelude.{◌≡◌, ℕ, ◌-◌, ◌%◌, ◌<◌, ◌==◌, if◌then◌else◌, List, length, Option}
 use Rattle.std.specs.Prelude.{Some, None, option_and_then, slice_get, slice_set}
 use Rattle.std.specs.Option.{option_map_or}
-use Rattle.predator_base.specs.Ranges.{holds_address}
-use Rattle.predator_base.specs.Touch.{Touch}
-use Rattle.line_counters.specs.declared.line_entry.LineEntry.{LineEntry}
-use Rattle.virtual_lines.specs.Kept.{CanRestore, IsInTime, Kept, mark_of}
-use Rattle.detector.specs.declared.places.Places.{Places}
+use Rattle.base.specs.Ranges.{holds_address}
+use Rattle.base.specs.Touch.{Touch}
+use Rattle.detector.specs.declared.line_entry.LineEntry.{LineEntry}
+use Rattle.line_tracks.specs.Kept.{CanRestore, IsInTime, Kept, mark_of}
+use Rattle.detector.specs.declared.track_places.Places.{Places}
 use Rattle.detector.specs.declared.undo.Undo.{Undo}
 use Rattle.detector.specs.declared.undo.Undos.{Undos}
-use Rattle.predator_base.specs.Lines.{Grid, line_number}
+use Rattle.base.specs.Lines.{Grid, line_number}
 use Rattle.detector.specs.Index.{IsNamed, names_in}
 use Rattle.detector.specs.Watch.{touched}
 

@@ -2,15 +2,15 @@
 use Rattle.std.specs.Prelude.{ℕ, ◌+◌, ◌-◌, ◌*◌, if◌then◌else◌, List, ◌++◌, Option, None, is_some}
 use Rattle.std.specs.Prelude.{option_map, option_and_then}
 use Rattle.std.specs.Option.{option_to_list}
-use Rattle.predator_base.specs.Lines.{Grid}
-use Rattle.predator_base.specs.declared.layout.Range.{Range}
+use Rattle.base.specs.Lines.{Grid}
+use Rattle.base.specs.declared.layout.Range.{Range}
 use Rattle.sharing_rules.specs.Lines.{range_of}
 use Rattle.sharing_rules.specs.Opened.{even_lower}
 use Rattle.sharing_rules.specs.Pairs.{best_pair_of}
 use Rattle.sharing_rules.specs.Predicted.{doubled_line, shifted_around}
 use Rattle.sharing_rules.specs.declared.line_kind.LineKind.{LineKind}
 use Rattle.sharing_rules.specs.declared.line_kind.LineKind.TheVariants.{Observed, Shifted, Doubled}
-use Rattle.virtual_lines.specs.Kept.{Kept, waiting}
+use Rattle.line_tracks.specs.Kept.{Kept, waiting}
 use Rattle.detector.specs.declared.openings.Openings.{Openings}
 use Rattle.detector.specs.Named.{track_named}
 

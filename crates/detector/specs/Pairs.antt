@@ -2,16 +2,16 @@
 use Rattle.std.specs.Prelude.{◌≡◌, ℕ, ◌+◌, ◌-◌, ◌*◌, ◌/◌, ◌<◌, ◌≤◌, ◌^◌, if◌then◌else◌, IsTrue}
 use Rattle.std.specs.Prelude.{List, length, Option, None, Some, is_some, option_map}
 use Rattle.std.specs.Prelude.{option_and_then, slice_get}
-use Rattle.predator_base.specs.Lines.{Grid}
-use Rattle.predator_base.specs.declared.layout.Range.{Range}
-use Rattle.line_counters.specs.declared.line_entry.LineEntry.{LineEntry}
-use Rattle.sharing_rules.specs.Lines.{native_line, range_of}
+use Rattle.base.specs.Lines.{Grid}
+use Rattle.base.specs.declared.layout.Range.{Range}
+use Rattle.detector.specs.declared.line_entry.LineEntry.{LineEntry}
+use Rattle.sharing_rules.specs.Lines.{native_line, range_of, native_grid}
 use Rattle.sharing_rules.specs.Opened.{even_lower}
 use Rattle.sharing_rules.specs.Predicted.{doubled_line, is_native_size, shifted_around}
 use Rattle.sharing_rules.specs.Predicted.{word_address}
 use Rattle.sharing_rules.specs.declared.line_kind.LineKind.TheVariants.{Observed, Shifted, Doubled}
-use Rattle.virtual_lines.specs.Kept.{Kept}
-use Rattle.hot_pairs.specs.declared.pair.Pair.{Pair}
+use Rattle.line_tracks.specs.Kept.{Kept}
+use Rattle.line_tracks.specs.declared.pair.Pair.{Pair}
 use Rattle.detector.specs.declared.openings.Around.{Around}
 use Rattle.detector.specs.declared.openings.Openings.{Openings}
 use Rattle.detector.specs.Index.{IsShaped}
@@ -77,10 +77,6 @@ pub record IsPairOf (n k : ℕ) (tracks : List Kept) (lower upper : Option ℕ) 
   pub upper_in : 4 * places.1 < n
   pub near : 4 * (n / 4 + places.1) + 4 ≤ within + 4 * places.0
   pub some : 1 ≤ k
-
--- the layout of the native lines of n bytes
-abbrev pub native_grid : ℕ → Grid
-native_grid n = record { size = n; offset = 0 }
 
 -- where each of the ranges lies that open for line k
 pub record AreShaped (n k : ℕ) (o : Openings) : Type 0 where

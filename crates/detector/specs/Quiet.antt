@@ -1,14 +1,14 @@
 -- What false sharing says of a track.
 use Rattle.std.specs.Prelude.{◌≡◌, ℕ, drop, IsTrue, IsFalse, Some}
 use Rattle.std.specs.List.{All}
-use Rattle.predator_base.specs.Ranges.{holds_address}
-use Rattle.sharing_classifier.specs.Quiet.{word_line}
+use Rattle.base.specs.Ranges.{holds_address}
+use Rattle.line_tracks.specs.Quiet.{word_line}
 use Rattle.sharing_rules.specs.AccessLists.{AccessList}
 use Rattle.sharing_rules.specs.Holders.{is_invalidation}
 use Rattle.sharing_rules.specs.Places.{passes_at}
 use Rattle.sharing_rules.specs.Verdicts.{verdict_of}
 use Rattle.sharing_rules.specs.declared.line_kind.Verdict.TheVariants.{FalseSharing}
-use Rattle.virtual_lines.specs.Kept.{Kept}
+use Rattle.line_tracks.specs.Kept.{Kept}
 use Rattle.detector.specs.Watch.{Watch}
 
 -- From empty caches under lines of 4 bytes, no access of the list takes a word of a track's range

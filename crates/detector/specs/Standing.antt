@@ -5,7 +5,7 @@ use Rattle.sharing_rules.specs.AccessLists.{AccessList}
 use Rattle.sharing_rules.specs.Lines.{grid_line, is_inside}
 use Rattle.sharing_rules.specs.Observed.{write_count}
 use Rattle.sharing_rules.specs.Opened.{opened}
-use Rattle.virtual_lines.specs.KeptIn.{kept_in}
+use Rattle.line_tracks.specs.KeptIn.{kept_in}
 use Rattle.detector.specs.Counts.{count_at}
 use Rattle.detector.specs.Watch.{Watch}
 

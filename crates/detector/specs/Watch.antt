@@ -4,14 +4,14 @@
 use Rattle.std.specs.Prelude.{ℕ, ◌+◌, ◌%◌, Bool, false, ◌&&◌, ◌||◌, ◌==◌, nat_lt, if◌then◌else◌}
 use Rattle.std.specs.Prelude.{List, [], ◌∷◌, ◌++◌, length, map, Option}
 use Rattle.std.specs.Option.{option_map_or}
-use Rattle.predator_base.specs.Touch.{Touch, is_write}
-use Rattle.predator_base.specs.Lines.{Grid}
-use Rattle.predator_base.specs.Levels.{Levels}
-use Rattle.predator_base.specs.Ranges.{holds_address}
+use Rattle.base.specs.Touch.{Touch, is_write}
+use Rattle.base.specs.Lines.{Grid}
+use Rattle.base.specs.Levels.{Levels}
+use Rattle.base.specs.Ranges.{holds_address}
 use Rattle.sharing_rules.specs.Lines.{grid_line, range_of}
 use Rattle.sharing_rules.specs.declared.line_kind.LineKind.TheVariants.{Observed}
-use Rattle.line_counters.specs.Entries.{Entries}
-use Rattle.virtual_lines.specs.Kept.{Kept, note_kept, waiting}
+use Rattle.detector.specs.Entries.{Entries}
+use Rattle.line_tracks.specs.Kept.{Kept, note_kept, waiting}
 use Rattle.detector.specs.declared.openings.Openings.{Openings}
 use Rattle.detector.specs.Counts.{Counts, count_at, counts_of, no_writes, with_write}
 use Rattle.detector.specs.Named.{number_of}

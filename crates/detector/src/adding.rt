@@ -1,21 +1,20 @@
 // A detector that is made of what was saved of one: a written line, and a track.
-ghost use Rattle.std.specs.Prelude.{◌≡◌, ℕ, ◌+◌, ◌-◌, ◌<◌, ◌≤◌, ◌^◌, ◌==◌, ◌∷◌, [], ◌++◌, length};
-ghost use Rattle.std.specs.Prelude.{if◌then◌else◌, List, None, OnOk, OnErr, pos, ◌-ℤ◌};
+ghost use Rattle.std.specs.Prelude.{◌≡◌, ℕ, ◌<◌, ◌≤◌, ◌^◌, ◌∷◌, [], ◌++◌};
+ghost use Rattle.std.specs.Prelude.{List, OnOk, OnErr};
 ghost use Rattle.std.specs.FinMap as finite;
-ghost use Rattle.line_counters.specs.Entries.{entry_at};
-ghost use Rattle.predator_base.specs.Lines.{Grid};
-ghost use Rattle.virtual_lines.specs.Kept.{Kept, saved};
+ghost use Rattle.detector.specs.Entries.{entry_at};
+ghost use Rattle.base.specs.Lines.{Grid};
+ghost use Rattle.line_tracks.specs.Kept.{Kept, saved};
 ghost use Rattle.detector.specs.Added.{IsAddable};
 ghost use Rattle.detector.specs.Counts.{counts_of};
-ghost use Rattle.detector.specs.Index.{IsIndexed, IsShaped, place_in};
+ghost use Rattle.detector.specs.Index.{IsIndexed, place_in};
 ghost use Rattle.detector.specs.Named.{line_of_base};
 
-use crate::turn::name;
-use history_table::History;
-use line_counters::{LineEntry, LineIndex};
-use predator_base::{Layout, NoMemory, Range, Thresholds};
-use virtual_lines::{LineKind, Tracks};
-use word_shadow::Shadow;
+use crate::task::name;
+use crate::{LineEntry, LineIndex};
+use base::{Layout, NoMemory, Range, Thresholds};
+use line_tracks::{History, LineKind, Shadow, Tracks};
+use sharing_rules::number_of_base;
 
 /// The place that an entry names for a kind of track.
 pub fn place_of(entry: &LineEntry, kind: LineKind) -> Option<u32>
@@ -49,15 +48,11 @@ pub fn set_writes<I: LineIndex>(index: &mut I, line: u64, writes: u64) -> Result
     }
 }
 
-// The number of the line in which a range begins that has the shape of a track.
-fn line_of(layout: Layout, kind: LineKind, range: Range) -> u64
-    requires shaped { IsShaped layout (line_of_base layout range) kind range }
-    requires small { line_of_base layout range ≤ 2 ^ 30 }
+// The number of the line in which a range begins.
+fn line_of(layout: Layout, range: Range) -> u64
     ensures { result ≡ line_of_base layout range }
 {
-    let size = i64::from(layout.size());
-    let place = range.base + size - i64::from(layout.offset());
-    place.cast_unsigned() / u64::from(layout.size())
+    number_of_base(layout, range.base)
 }
 
 /// Adds a track as it was saved, and names it. There are places for 2^31 of them, and NoMemory
@@ -85,7 +80,7 @@ pub fn add_saved<I: LineIndex>(
     if tracks.all().len() >= 1 << 31 {
         return Err(NoMemory);
     }
-    let line = line_of(layout, kind, shadow.range());
+    let line = line_of(layout, shadow.range());
     match tracks.add_saved(kind, shadow, start, count) {
         Ok(place) => {
             name(index, line, kind, Some(place));

@@ -1,12 +1,12 @@
 // The tracks, and the index of all lines.
 ghost use Rattle.std.specs.Prelude.{◌≡◌, ◌+◌, ◌*◌, ◌/◌, ◌<◌, ◌≤◌, ◌^◌, [], ◌∷◌, ◌++◌};
-ghost use Rattle.std.specs.Prelude.{if◌then◌else◌, length, IfOk, IsOk, IsTrue, IsFalse, OnOk};
+ghost use Rattle.std.specs.Prelude.{if◌then◌else◌, IsOk, IsTrue, IsFalse, OnOk};
 ghost use Rattle.std.specs.Prelude.{OnErr, ℕ, IfSome, IfNone, Some, is_some, slice_get};
 ghost use Rattle.sharing_rules.specs.AccessLists.{AccessList};
-ghost use Rattle.line_counters.specs.Entries.{no_entries};
+ghost use Rattle.detector.specs.Entries.{no_entries};
 ghost use Rattle.sharing_rules.specs.Listed.{may_predict};
-ghost use Rattle.virtual_lines.specs.Kept.{Kept, saved};
-ghost use Rattle.virtual_lines.specs.Placed.{AreApart};
+ghost use Rattle.line_tracks.specs.Kept.{Kept, saved};
+ghost use Rattle.line_tracks.specs.Placed.{AreApart};
 ghost use Rattle.detector.specs.Adding.{CanAddLine, CanAddTrack, nothing_kept, with_track};
 ghost use Rattle.detector.specs.Adding.{with_written};
 ghost use Rattle.detector.specs.Amounts.{HasFewAtEach, HasFewEntries, HasFewWords, HasFewerShifted};
@@ -18,16 +18,14 @@ ghost use Rattle.detector.specs.Quiet.{AreQuietWhereFalse};
 ghost use Rattle.detector.specs.Standing.{StandsFor};
 ghost use Rattle.detector.specs.Watch.{nothing_seen, searches_at, takes_memory, watched};
 
+use crate::LineIndex;
 use crate::adding::{add_saved, place_of, set_writes};
 use crate::touch::touch;
-use history_table::History;
-use line_counters::LineIndex;
-use predator_base::{Access, Layout, NoMemory, Steps, Thresholds};
+use base::{Access, Layout, NoMemory, Steps, Thresholds};
+use line_tracks::{History, LineKind, Shadow, Track, Tracks};
 use std::alloc::Global;
 use std::marker::Model;
 use std::sync::ledger::Ledger;
-use virtual_lines::{LineKind, Track, Tracks};
-use word_shadow::Shadow;
 
 // The greatest line number.
 const LAST_LINE: u64 = 1 << 30;
@@ -49,9 +47,9 @@ impl<I: LineIndex> Model for Detector<I> {
     ghost use Rattle.std.specs.Prelude.{IsTrue};
     ghost use Rattle.detector.specs.Watch.{Watch};
     ghost use Rattle.detector.specs.WatchCode.{watch_code};
-    ghost use Rattle.predator_base.specs.Lines.{is_layout};
+    ghost use Rattle.base.specs.Lines.{is_layout};
     ghost use Rattle.sharing_rules.specs.Listed.{may_predict};
-    ghost use Rattle.line_counters.specs.Entries.{entry_at};
+    ghost use Rattle.detector.specs.Entries.{entry_at};
     ghost use Rattle.detector.specs.Counts.{counts_of};
     ghost use Rattle.detector.specs.Index.{IsIndexed};
 

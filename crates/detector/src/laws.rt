@@ -1,11 +1,11 @@
 // A law of the exact step, for whoever reads contracts alone. The call does nothing.
 ghost use Rattle.std.specs.Prelude.{◌≡◌, ◌+◌, ◌==◌, ◌<◌, ◌&&◌, ◌++◌, ◌∷◌, [], ℕ, List, Some};
 ghost use Rattle.std.specs.Prelude.{if◌then◌else◌, map, slice_get, IsTrue};
-ghost use Rattle.predator_base.specs.Lines.{is_layout};
-ghost use Rattle.predator_base.specs.Touch.{Touch, is_write};
+ghost use Rattle.base.specs.Lines.{is_layout};
+ghost use Rattle.base.specs.Touch.{Touch, is_write};
 ghost use Rattle.sharing_rules.specs.AccessLists.{AccessList};
 ghost use Rattle.sharing_rules.specs.Listed.{may_predict};
-ghost use Rattle.virtual_lines.specs.Kept.{Kept};
+ghost use Rattle.line_tracks.specs.Kept.{Kept};
 ghost use Rattle.detector.specs.Changes.{AddNoTracks, touched_all, watched_all};
 ghost use Rattle.detector.specs.Counts.{count_at};
 ghost use Rattle.detector.specs.Named.{number_of};

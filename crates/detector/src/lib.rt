@@ -5,21 +5,35 @@
 //! where its tracks stand. A line has a track of its own from the write on that brings its writes
 //! to the tracking threshold. At each write that brings a line to a multiple of the prediction
 //! threshold, the pairs of the line are searched, and what opens has a track from then on.
+//!
+//! An index is a map from line numbers to entries, in which every line that was never touched has
+//! the entry with no write and no track. [`MapIndex`] is an ordered map, and [`PagedIndex`] a
+//! directory of pages. [`Totals`] says what the tracks of a detector come to.
 #![tactic(auto)]
 
 mod adding;
-mod count;
 mod detector;
 mod laws;
+mod line_entry;
+mod line_index;
+mod map_index;
 mod one_access;
 mod openings;
-mod places;
+mod paged_index;
+mod pages;
+mod task;
+mod totals;
 mod touch;
-mod turn;
+mod track_places;
 mod undo;
+mod write_count;
 
 pub use detector::Detector;
 pub use laws::an_access_changes_what_it_meets;
-pub use line_counters::{LineIndex, MapIndex, PagedIndex};
+pub use line_entry::LineEntry;
+pub use line_index::LineIndex;
+pub use line_tracks::Track;
+pub use map_index::MapIndex;
 pub use one_access::see;
-pub use virtual_lines::{LineKind, Track};
+pub use paged_index::PagedIndex;
+pub use totals::{Totals, count_tracks};

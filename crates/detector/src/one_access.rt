@@ -4,9 +4,9 @@ ghost use Rattle.sharing_rules.specs.AccessLists.{AccessList};
 ghost use Rattle.detector.specs.Standing.{StandsFor};
 ghost use Rattle.detector.specs.Watch.{takes_memory, watched};
 
+use crate::LineIndex;
 use crate::detector::Detector;
-use line_counters::LineIndex;
-use predator_base::{Access, NoMemory, Steps};
+use base::{Access, NoMemory, Steps};
 use std::marker::Brand;
 use std::sync::ledger::{Blank, Ledger};
 

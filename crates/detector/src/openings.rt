@@ -1,20 +1,20 @@
 // The predicted lines that open at a write.
 ghost use Rattle.std.specs.Prelude.{◌≡◌, ℕ, ◌+◌, ◌*◌, ◌/◌, ◌%◌, ◌≤◌, None, Some, MatchOption};
-ghost use Rattle.predator_base.specs.declared.layout.Range.{Range as Span};
+ghost use Rattle.base.specs.declared.layout.Range.{Range as Span};
 ghost use Rattle.sharing_rules.specs.Opened.{even_lower};
 ghost use Rattle.sharing_rules.specs.declared.line_kind.LineKind.TheVariants.{Shifted, Doubled};
-ghost use Rattle.hot_pairs.specs.Neighbours.{reach};
+ghost use Rattle.line_tracks.specs.Neighbours.{reach};
 ghost use Rattle.detector.specs.Index.{IsShaped};
 ghost use Rattle.detector.specs.Openings.{best_of_two, doubled_opens};
 ghost use Rattle.detector.specs.Openings as open_of;
 ghost use Rattle.detector.specs.Pairs.{AreAround, ArePair, AreShaped, IsPairOf, doubled_between};
-ghost use Rattle.detector.specs.Pairs.{kept_at, native_grid, shifted_between};
+ghost use Rattle.detector.specs.Pairs.{kept_at, shifted_between};
+ghost use Rattle.sharing_rules.specs.Lines.{native_grid};
 
-use hot_pairs::{Pair, best_pair};
-use line_counters::LineEntry;
-use predator_base::{Range, Steps};
+use crate::LineEntry;
+use base::{Range, Steps};
+use line_tracks::{Pair, Tracks, best_pair, doubled_range, shifted_range};
 use std::sync::ledger::Ledger;
-use virtual_lines::{Tracks, doubled_range, shifted_range};
 
 /// The ranges of the predicted lines that open for a line: the shifted ones of its pairs with the
 /// line below and with the line above, and the doubled one of its even pair.

@@ -1,24 +1,23 @@
 // One access: of the tracks that hold its address, and of its line's entry in the index.
-ghost use Rattle.std.specs.Prelude.{◌≡◌, ◌≢◌, ℕ, ◌+◌, ◌*◌, ◌/◌, ◌%◌, ◌==◌, ◌<◌, ◌≤◌, ◌^◌, false};
-ghost use Rattle.std.specs.Prelude.{if◌then◌else◌, map, IsOk, IsTrue, IsFalse, OnOk, OnErr, Some};
+ghost use Rattle.std.specs.Prelude.{◌≡◌, ℕ, ◌+◌, ◌%◌, ◌==◌, ◌<◌, ◌≤◌, ◌^◌, false};
+ghost use Rattle.std.specs.Prelude.{map, IsOk, IsTrue, IsFalse, OnOk, OnErr, Some};
 ghost use Rattle.std.specs.Option.{option_map_or};
-ghost use Rattle.predator_base.specs.Lines.{Grid, is_layout, line_number};
-ghost use Rattle.predator_base.specs.Touch.{is_write};
-ghost use Rattle.line_counters.specs.Entries.{entry_at};
+ghost use Rattle.base.specs.Lines.{Grid, is_layout, line_number};
+ghost use Rattle.detector.specs.Entries.{entry_at};
 ghost use Rattle.sharing_rules.specs.Listed.{may_predict};
 ghost use Rattle.detector.specs.Counts.{counts_of};
 ghost use Rattle.detector.specs.Index.{IsIndexed, IsReached};
 ghost use Rattle.detector.specs.Noting.{IsNotable};
-ghost use Rattle.detector.specs.Turns.{IsTurnOf, search_steps};
+ghost use Rattle.detector.specs.Tasks.{IsTaskOf, search_steps};
 ghost use Rattle.detector.specs.Watch.{is_search, may_take_memory, touched, tracks_after, watch_of};
 ghost use Rattle.detector.specs.Watch.{writes_after};
 
-use crate::places::{note_places, places_beside};
-use crate::turn::{Turn, take_turn};
-use line_counters::{LineEntry, LineIndex};
-use predator_base::{Access, Kind, Layout, NoMemory, Steps, Thresholds};
+use crate::task::{Task, do_task};
+use crate::track_places::{note_places, places_beside};
+use crate::{LineEntry, LineIndex};
+use base::{Access, Kind, Layout, NoMemory, Steps, Thresholds};
+use line_tracks::Tracks;
 use std::sync::ledger::Ledger;
-use virtual_lines::Tracks;
 
 // Whether a number is a multiple of another one that isn't 0, if one is given.
 fn is_multiple(n: u64, of: Option<u64>) -> bool
@@ -58,14 +57,14 @@ fn note<I: LineIndex, L: Ledger>(
 
 // What a write of a line with this entry may do beside being noted.
 #[inline(always)]
-fn turn_of(entry: &LineEntry, thresholds: Thresholds) -> Turn
+fn task_of(entry: &LineEntry, thresholds: Thresholds) -> Task
     requires few { entry.now.writes < 2 ^ 40 }
-    ensures { IsTurnOf entry.now thresholds result }
+    ensures { IsTaskOf entry.now thresholds result }
 {
     let writes = entry.writes + 1;
     let begins = writes == thresholds.tracking();
     let searches = is_multiple(writes, thresholds.prediction());
-    Turn { begins, searches }
+    Task { begins, searches }
 }
 
 /// An access: the tracks that hold its address are noted, a write is counted, and what is due
@@ -118,9 +117,9 @@ pub fn touch<I: LineIndex, L: Ledger>(
         // The line is looked up once: the entry says what is due, and counts the write.
         Kind::Write => match index.entry(line) {
             Ok(entry) => {
-                let turn = turn_of(entry, thresholds);
-                if turn.is_due() {
-                    return take_turn(index, tracks, layout, line, turn, position, access, steps);
+                let task = task_of(entry, thresholds);
+                if task.is_due() {
+                    return do_task(index, tracks, layout, line, task, position, access, steps);
                 }
                 entry.writes += 1;
                 let here = *entry;

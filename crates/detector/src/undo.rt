@@ -1,16 +1,16 @@
 // Notes that can be undone.
 ghost use Rattle.std.specs.Prelude.{◌≡◌, ℕ, ◌+◌, ◌≤◌, ◌<◌, ◌^◌, List, Option, is_some};
 ghost use Rattle.std.specs.Prelude.{if◌then◌else◌};
-ghost use Rattle.predator_base.specs.Touch.{Touch};
-ghost use Rattle.virtual_lines.specs.Kept.{Kept};
+ghost use Rattle.base.specs.Touch.{Touch};
+ghost use Rattle.line_tracks.specs.Kept.{Kept};
 ghost use Rattle.detector.specs.Noting.{AreUndos, CanTakeBack, CanTouch, CanTouchAll, touched_at};
 ghost use Rattle.detector.specs.Noting.{touched_places, undo_at};
-ghost use Rattle.detector.specs.declared.places.Places.{Places as Spots};
+ghost use Rattle.detector.specs.declared.track_places.Places.{Places as Spots};
 
-use crate::places::Places;
-use predator_base::{Access, Steps};
+use crate::track_places::Places;
+use base::{Access, Steps};
+use line_tracks::{Mark, Tracks};
 use std::sync::ledger::Ledger;
-use virtual_lines::{Mark, Tracks};
 
 /// What undoes the note of the track at a place.
 #[derive(Drop)]

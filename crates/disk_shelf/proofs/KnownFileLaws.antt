@@ -15,9 +15,15 @@ is_itself id =
     let number : (id.number == id.number) ≡ true = (Decides-eqb id.number id.number).1 refl in
     rw ((Decides-eqb id.device id.device).1 refl) number
 
-pub noted : (file : KnownFile) (files : List KnownFile) → IsTrue (has_name file.id (string_bytes file.name) (files ++ file ∷ []))
-noted file [] = rw (is_itself file.id, (bytes_eq-Decides (string_bytes file.name) (string_bytes file.name)).1 refl) refl
+pub noted : (file : KnownFile) (files : List KnownFile)
+    → IsTrue (has_name file.id (string_bytes file.name) (files ++ file ∷ []))
+noted file [] = rw (
+  is_itself file.id,
+  (bytes_eq-Decides (string_bytes file.name)
+      (string_bytes file.name)).1 refl,
+) refl
 noted file (first ∷ rest) =
-    let later : list_any (λ known. is_file known.id file.id && bytes_eq (string_bytes known.name) (string_bytes file.name))
+    let later : list_any (λ known. is_file known.id file.id && bytes_eq (string_bytes known.name)
+    (string_bytes file.name))
     (rest ++ file ∷ []) ≡ true = noted file rest in
     rw (later) (or-true _)

@@ -1,2 +1,2 @@
-mod DiskLaws
-mod KnownFileLaws
+pub mod DiskLaws
+pub mod KnownFileLaws

@@ -6,7 +6,7 @@ ghost use Rattle.std.specs.IoError.{error_kind};
 ghost use Rattle.disk_shelf.specs.Disk.{after_fault, has_other_name};
 
 use crate::known_files::{FileId, KnownFiles};
-use crate::progress::Progress;
+use crate::meter::Meter;
 use crate::reasons::tell_fault;
 use shelf::{Shelf, ShelfError};
 use std::alloc::Global;
@@ -31,7 +31,7 @@ const IN_USE: &str = "the same file is in use under another name, and stays as i
 pub struct DiskShelf<'a, R: Files + Print + Eprint + Clock + AllocGlobal> {
     runtime: &'a R,
     known: KnownFiles,
-    progress: Progress,
+    meter: Meter,
     reads: u64,
     writes: u64,
     prints: u64,
@@ -63,7 +63,7 @@ fn fault_of(count: &mut u64, error: &io::Error) -> ShelfError
 // Says why a call of the system failed, and counts it. A line of long work is taken away before.
 fn tell_and_count<R: Eprint + AllocGlobal>(
     runtime: &R,
-    progress: &mut Progress,
+    meter: &mut Meter,
     count: &mut u64,
     name: &str,
     error: io::Error,
@@ -71,7 +71,7 @@ fn tell_and_count<R: Eprint + AllocGlobal>(
     ensures counted { count.new ≡ after_fault count.old result }
     ensures later { count.old ≤ count.new }
 {
-    progress.clear(runtime);
+    meter.clear(runtime);
     tell_fault(runtime, name, &error);
     fault_of(count, &error)
 }
@@ -146,13 +146,13 @@ fn append_to<R: Files>(runtime: &R, name: &str, piece: &[u8]) -> io::Result<u64>
 }
 
 impl<'a, R: Files + Print + Eprint + Clock + AllocGlobal> DiskShelf<'a, R> {
-    fn with_progress(runtime: &'a R, progress: Progress) -> Self
+    fn with_meter(runtime: &'a R, meter: Meter) -> Self
         ensures { result ≡ record { reads = 0; writes = 0; prints = 0 } }
     {
         DiskShelf {
             runtime,
             known: KnownFiles::new(runtime.alloc()),
-            progress,
+            meter,
             reads: 0,
             writes: 0,
             prints: 0,
@@ -163,7 +163,7 @@ impl<'a, R: Files + Print + Eprint + Clock + AllocGlobal> DiskShelf<'a, R> {
     pub fn new(runtime: &'a R) -> Self
         ensures { result ≡ record { reads = 0; writes = 0; prints = 0 } }
     {
-        DiskShelf::with_progress(runtime, Progress::hidden())
+        DiskShelf::with_meter(runtime, Meter::hidden())
     }
 
     /// The same, for a standard error that is a terminal: once a second it shows there how far it
@@ -171,7 +171,7 @@ impl<'a, R: Files + Print + Eprint + Clock + AllocGlobal> DiskShelf<'a, R> {
     pub fn on_terminal(runtime: &'a R) -> Self
         ensures { result ≡ record { reads = 0; writes = 0; prints = 0 } }
     {
-        DiskShelf::with_progress(runtime, Progress::shown(runtime))
+        DiskShelf::with_meter(runtime, Meter::shown(runtime))
     }
 }
 
@@ -183,12 +183,12 @@ impl<R: Files + Print + Eprint + Clock + AllocGlobal> Shelf for DiskShelf<'_, R>
     fn read_at(&mut self, name: &str, at: u64, into: &mut [u8]) -> Result<usize, ShelfError> {
         match read_from(self.runtime, &mut self.known, name, at, into) {
             Ok(read) => {
-                self.progress.show_read(self.runtime, at, read.length);
+                self.meter.show_read(self.runtime, at, read.length);
                 Ok(read.count)
             }
             Err(error) => Err(tell_and_count(
                 self.runtime,
-                &mut self.progress,
+                &mut self.meter,
                 &mut self.reads,
                 name,
                 error,
@@ -201,7 +201,7 @@ impl<R: Files + Print + Eprint + Clock + AllocGlobal> Shelf for DiskShelf<'_, R>
             Ok(()) => Ok(()),
             Err(error) => Err(tell_and_count(
                 self.runtime,
-                &mut self.progress,
+                &mut self.meter,
                 &mut self.writes,
                 name,
                 error,
@@ -212,12 +212,12 @@ impl<R: Files + Print + Eprint + Clock + AllocGlobal> Shelf for DiskShelf<'_, R>
     fn append(&mut self, name: &str, piece: &[u8]) -> Result<(), ShelfError> {
         match append_to(self.runtime, name, piece) {
             Ok(length) => {
-                self.progress.show_written(self.runtime, length);
+                self.meter.show_written(self.runtime, length);
                 Ok(())
             }
             Err(error) => Err(tell_and_count(
                 self.runtime,
-                &mut self.progress,
+                &mut self.meter,
                 &mut self.writes,
                 name,
                 error,
@@ -226,7 +226,7 @@ impl<R: Files + Print + Eprint + Clock + AllocGlobal> Shelf for DiskShelf<'_, R>
     }
 
     fn print(&mut self, piece: &[u8]) -> Result<(), ShelfError> {
-        self.progress.clear(self.runtime);
+        self.meter.clear(self.runtime);
         match self.runtime.write_all(piece) {
             Ok(()) => Ok(()),
             Err(error) => {
@@ -237,6 +237,6 @@ impl<R: Files + Print + Eprint + Clock + AllocGlobal> Shelf for DiskShelf<'_, R>
     }
 
     fn show_steps(&mut self, made: u64, most: u64) {
-        self.progress.show_steps(self.runtime, made, most);
+        self.meter.show_steps(self.runtime, made, most);
     }
 }

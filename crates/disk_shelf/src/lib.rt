@@ -8,7 +8,7 @@
 
 mod disk;
 mod known_files;
-mod progress;
+mod meter;
 mod reasons;
 
 pub use disk::DiskShelf;

@@ -1,5 +1,6 @@
 -- What `parse` reads of a numeral.
-use Rattle.std.proofs.Common.{◌≡◌, ℕ, ◌<◌, ◌≤◌, ◌^◌, Bool, true, false, List, length, get_or, Some, None, Result, Ok, Err, sym, ◌∙◌, ap}
+use Rattle.std.proofs.Common.{◌≡◌, ℕ, ◌<◌, ◌≤◌, ◌^◌, Bool, true, false, List, length, get_or, Some}
+use Rattle.std.proofs.Common.{None, Result, Ok, Err, sym, ◌∙◌, ap}
 use Rattle.std.proofs.Common.{inl, inr, arith}
 use Rattle.std.proofs.lemmas.Bool.{cases_lt, and_parts, and_from, and_right, and_left}
 use Rattle.std.proofs.lemmas.Bool.Decides.{nat_tests}
@@ -20,9 +21,11 @@ digits = numerals_by_value _ (search rules)
 
 pub no_number : (text : List ℕ) → is_numeral text ≡ false → number_of text ≡ None
 unfolding number_of
-no_number text no_numeral = ap (λ (b : Bool). if b then Some (digits_value 10 text) else None) (and_left _ _ no_numeral)
+no_number text no_numeral = ap (λ (b : Bool). if b then Some (digits_value 10 text) else None)
+    (and_left _ _ no_numeral)
 
-pub fitting : (text : List ℕ) → is_numeral text ≡ true → digits_value 10 text < 2 ^ 32 → number_of text ≡ Some (digits_value 10 text)
+pub fitting : (text : List ℕ) → is_numeral text ≡ true → digits_value 10 text < 2 ^ 32
+    → number_of text ≡ Some (digits_value 10 text)
 unfolding number_of
 fitting text numeral fits =
     let small : nat_lt (digits_value 10 text) (2 ^ 32) ≡ true = grind (arith, nat_tests) in
@@ -35,7 +38,8 @@ too_large text large =
     ap (λ (b : Bool). if b then Some (digits_value 10 text) else None) (and_right _ _ small)
 
 read : {E : Type 0} (text : List ℕ) (r : Result ℕ E) → is_numeral text ≡ true → 0 < length text
-    → OkIff r ((0 < length text) × (digits_value 10 text < 2 ^ 32)) (digits_value 10 text) → result_ok r ≡ number_of text
+    → OkIff r ((0 < length text) × (digits_value 10 text < 2 ^ 32)) (digits_value 10 text)
+    → result_ok r ≡ number_of text
 read text (Ok x) numeral some h = ap (λ n. Some n) h.1 ∙ sym (fitting text numeral h.0.1)
 read text (Err e) numeral some h =
     elim (cases_lt (digits_value 10 text) (2 ^ 32)) [
@@ -43,11 +47,13 @@ read text (Err e) numeral some h =
       | inr large ↦ sym (too_large text large)
     ]
 
-pub parsed : {E : Type 0} (text : List ℕ) (r : Result ℕ E) → ParsesUnsigned 32 10 text r → is_numeral text ≡ true
+pub parsed : {E : Type 0} (text : List ℕ) (r : Result ℕ E) → ParsesUnsigned 32 10 text r
+    → is_numeral text ≡ true
     → result_ok r ≡ number_of text
 parsed text r h numeral =
     let parts = and_parts (list_all is_ascii_digit text)
-    (nat_eq (length text) 1 || (nat_lt 1 (length text) && not (nat_eq (slice_index text 0) 48))) numeral in
+    (nat_eq (length text) 1 || (nat_lt 1 (length text) && not (nat_eq (slice_index text 0) 48)))
+    numeral in
     let some : 0 < length text = grind (arith, nat_tests) in
     read text r numeral some (parse_digits digits 32 text r h parts.0)
 

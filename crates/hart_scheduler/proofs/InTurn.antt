@@ -1,5 +1,6 @@
 -- Choices in turn: where there is none, no hart is runnable, and the one that is made is runnable.
-use Rattle.std.proofs.Common.{◌≡◌, ℕ, zero, suc, ◌+◌, ◌-◌, ◌<◌, ◌≤◌, Bool, true, false, List, [], ◌∷◌, length, Option, Some, None, refl}
+use Rattle.std.proofs.Common.{◌≡◌, ℕ, zero, suc, ◌+◌, ◌-◌, ◌<◌, ◌≤◌, Bool, true, false, List, []}
+use Rattle.std.proofs.Common.{◌∷◌, length, Option, Some, None, refl}
 use Rattle.std.proofs.Common.{sym, ap, subst, ◌∙◌, inl, inr, arith}
 use Rattle.std.proofs.lemmas.Bool.{both_ways, cases_Bool, cases_eq, cases_lt, and_left, and_parts}
 use Rattle.std.proofs.lemmas.List.{get_or_past}
@@ -8,11 +9,13 @@ use Rattle.std.proofs.lemmas.Option.{none-some}
 use Rattle.std.specs.Prelude.{◌↔◌, IsTrue}
 use Rattle.std.specs.List.{find, range_with_len}
 use Rattle.std.specs.Option.{option_or, IfSome}
-use Rattle.hart_scheduler.specs.Values.{Turn}
-use Rattle.hart_scheduler.specs.Choices.{Plan, is_runnable, IsLone, NoneRunnable, harts_after, goes_on, choice_after, choice_in_turn}
+use Rattle.hart_scheduler.specs.ScheduleParts.{AStreak}
+use Rattle.hart_scheduler.specs.Choices.{Plan, is_runnable, IsLone, NoneRunnable, harts_after}
+use Rattle.hart_scheduler.specs.Choices.{goes_on, choice_after, choice_in_turn}
 use Rattle.hart_scheduler.specs.Choices.{choice}
 
-option_or-none : (first second : Option ℕ) → option_or first second ≡ None → (first ≡ None) × (second ≡ None)
+option_or-none : (first second : Option ℕ) → option_or first second ≡ None → (first ≡ None)
+    × (second ≡ None)
 option_or-none None second none = (refl, none)
 option_or-none (Some x) second none = absurd (none-some x (sym none))
 
@@ -40,49 +43,61 @@ module _ (p : ℕ → Bool) where
         | inr miss ↦ rw miss (found-passes xs)
       ]
 
-  range-past : (a end : ℕ) → a < end → p a ≡ false → find p (range_with_len a (end - a)) ≡ find p (range_with_len (a + 1) (end - (a + 1)))
-  range-past a end below miss = let e : end - a ≡ suc (end - (a + 1)) = omega arith in rw e (rw miss refl)
+  range-past : (a end : ℕ) → a < end → p a ≡ false → find p (range_with_len a (end - a))
+      ≡ find p (range_with_len (a + 1) (end - (a + 1)))
+  range-past a end below miss = let e : end - a ≡ suc (end - (a + 1)) = omega arith in
+      rw e (rw miss refl)
 
 pub range_past : (runnable : List Bool) (a end : ℕ) → a < end → is_runnable runnable a ≡ false
-    → find (is_runnable runnable) (range_with_len a (end - a)) ≡ find (is_runnable runnable) (range_with_len (a + 1) (end - (a + 1)))
+    → find (is_runnable runnable) (range_with_len a (end - a)) ≡ find (is_runnable runnable)
+    (range_with_len (a + 1) (end - (a + 1)))
 range_past runnable a end below miss = range-past (is_runnable runnable) a end below miss
 
-pub successor_is : (runnable : List Bool) (harts : ℕ) (streak : Turn) (first second : Option ℕ) (n : ℕ) → n ≡ streak.hart
+pub successor_is : (runnable : List Bool) (harts : ℕ) (streak : AStreak) (first second : Option ℕ)
+    (n : ℕ) → n ≡ streak.hart
     → goes_on runnable streak ≡ false
-    → first ≡ find (is_runnable runnable) (range_with_len (n + 1) (harts - (n + 1))) → second ≡ find (is_runnable runnable)
+    → first ≡ find (is_runnable runnable) (range_with_len (n + 1) (harts - (n + 1))) → second
+    ≡ find (is_runnable runnable)
     (range_with_len 0 (n + 1 - 0))
     → option_or first second ≡ choice_after runnable harts streak
 successor_is runnable harts streak first second n same off is_first is_second =
     let z : n + 1 - 0 ≡ n + 1 = omega arith in
     rw (is_first, is_second, z, same, off)
-    (sym (find-append (is_runnable runnable) (range_with_len (streak.hart + 1) (harts - (streak.hart + 1)))
+    (sym (find-append (is_runnable runnable)
+    (range_with_len (streak.hart + 1) (harts - (streak.hart + 1)))
     (range_with_len 0 (streak.hart + 1))))
 
 -- no hart is runnable where there is no choice in turn
-none-in-order : (runnable : List Bool) (harts : ℕ) → length runnable ≡ harts → find (is_runnable runnable) (range_with_len 0 harts) ≡ None
+none-in-order : (runnable : List Bool) (harts : ℕ) → length runnable ≡ harts
+    → find (is_runnable runnable) (range_with_len 0 harts) ≡ None
     → NoneRunnable runnable
 none-in-order runnable harts all none = λ hart.
     elim (cases_lt hart harts) [
-      | inl below ↦ none-in-range (is_runnable runnable) harts 0 hart none (omega arith) (omega arith)
+      | inl below ↦ none-in-range (is_runnable runnable) harts 0 hart none (omega arith)
+          (omega arith)
       | inr past ↦ get_or_past runnable hart false (omega arith)
     ]
 
-none-after : (runnable : List Bool) (harts n : ℕ) → length runnable ≡ harts → find (is_runnable runnable) (harts_after harts n) ≡ None
+none-after : (runnable : List Bool) (harts n : ℕ) → length runnable ≡ harts
+    → find (is_runnable runnable) (harts_after harts n) ≡ None
     → NoneRunnable runnable
 none-after runnable harts n all none = λ hart.
     let above = find (is_runnable runnable) (range_with_len (n + 1) (harts - (n + 1))) in
     let rest = find (is_runnable runnable) (range_with_len 0 (n + 1)) in
     let parts : (above ≡ None) × (rest ≡ None) = option_or-none above rest
-    (sym (find-append (is_runnable runnable) (range_with_len (n + 1) (harts - (n + 1))) (range_with_len 0 (n + 1))) ∙ none) in
+    (sym (find-append (is_runnable runnable) (range_with_len (n + 1) (harts - (n + 1)))
+    (range_with_len 0 (n + 1))) ∙ none) in
     elim (cases_lt hart (n + 1)) [
-      | inl below ↦ none-in-range (is_runnable runnable) (n + 1) 0 hart parts.1 (omega arith) (omega arith)
+      | inl below ↦ none-in-range (is_runnable runnable) (n + 1) 0 hart parts.1 (omega arith)
+          (omega arith)
       | inr past ↦ elim (cases_lt hart harts) [
-        | inl inside ↦ none-in-range (is_runnable runnable) (harts - (n + 1)) (n + 1) hart parts.0 past (omega arith)
+        | inl inside ↦ none-in-range (is_runnable runnable) (harts - (n + 1)) (n + 1) hart parts.0
+            past (omega arith)
         | inr outside ↦ get_or_past runnable hart false (omega arith)
       ]
     ]
 
-none-after-streak : (runnable : List Bool) (harts : ℕ) (streak : Turn) → length runnable ≡ harts
+none-after-streak : (runnable : List Bool) (harts : ℕ) (streak : AStreak) → length runnable ≡ harts
     → choice_after runnable harts streak ≡ None → NoneRunnable runnable
 none-after-streak runnable harts streak all none =
     elim (cases_Bool (goes_on runnable streak)) [
@@ -90,32 +105,44 @@ none-after-streak runnable harts streak all none =
       | inr off ↦ none-after runnable harts streak.hart all (rw off at none)
     ]
 
-none-in-turn : (runnable : List Bool) (harts quantum : ℕ) (listed : List ℕ) (streak : Option Turn) → length runnable ≡ harts
-    → choice_in_turn runnable (record { listed = listed; streak = streak; harts = harts; quantum = quantum }) ≡ None → NoneRunnable runnable
+none-in-turn : (runnable : List Bool) (harts quantum : ℕ) (listed : List ℕ)
+    (streak : Option AStreak) → length runnable ≡ harts
+    → choice_in_turn runnable
+    (record { listed = listed; streak = streak; harts = harts; quantum = quantum }) ≡ None
+    → NoneRunnable runnable
 none-in-turn runnable harts quantum listed None all none = none-in-order runnable harts all none
-none-in-turn runnable harts quantum listed (Some streak) all none = none-after-streak runnable harts streak all none
+none-in-turn runnable harts quantum listed (Some streak) all none = none-after-streak runnable harts
+    streak all none
 
 -- and there is none where no hart is runnable
-off-where-none : (runnable : List Bool) (streak : Turn) → NoneRunnable runnable → goes_on runnable streak ≡ false
+off-where-none : (runnable : List Bool) (streak : AStreak) → NoneRunnable runnable
+    → goes_on runnable streak ≡ false
 off-where-none runnable streak none = and_left _ _ (none streak.hart)
 
-in-turn-none : (runnable : List Bool) (harts quantum : ℕ) (listed : List ℕ) (streak : Option Turn) → NoneRunnable runnable
-    → choice_in_turn runnable (record { listed = listed; streak = streak; harts = harts; quantum = quantum }) ≡ None
-in-turn-none runnable harts quantum listed None none = find-none (is_runnable runnable) (range_with_len 0 harts) none
+in-turn-none : (runnable : List Bool) (harts quantum : ℕ) (listed : List ℕ)
+    (streak : Option AStreak) → NoneRunnable runnable
+    → choice_in_turn runnable
+    (record { listed = listed; streak = streak; harts = harts; quantum = quantum }) ≡ None
+in-turn-none runnable harts quantum listed None none = find-none (is_runnable runnable)
+    (range_with_len 0 harts) none
 in-turn-none runnable harts quantum listed (Some streak) none =
     let off : goes_on runnable streak ≡ false = off-where-none runnable streak none in
     rw off (find-none (is_runnable runnable) (harts_after harts streak.hart) none)
 
-pub choice_none : (runnable : List Bool) (plan : Plan) → length runnable ≡ plan.harts → (choice runnable plan ≡ None)
+pub choice_none : (runnable : List Bool) (plan : Plan) → length runnable ≡ plan.harts
+    → (choice runnable plan ≡ None)
     ↔ NoneRunnable runnable
 choice_none runnable plan all = (
-  (λ none. none-in-turn runnable plan.harts plan.quantum plan.listed plan.streak all (option_or-none _ _ none).1),
-  (λ none. let listed : find (is_runnable runnable) plan.listed ≡ None = find-none (is_runnable runnable) plan.listed none in
+  (λ none. none-in-turn runnable plan.harts plan.quantum plan.listed plan.streak all
+      (option_or-none _ _ none).1),
+  (λ none. let listed : find (is_runnable runnable) plan.listed
+      ≡ None = find-none (is_runnable runnable) plan.listed none in
       rw listed (in-turn-none runnable plan.harts plan.quantum plan.listed plan.streak none)),
 )
 
 -- what is chosen is runnable
-able-after : (runnable : List Bool) (harts : ℕ) (streak : Turn) → IfSome (choice_after runnable harts streak)
+able-after : (runnable : List Bool) (harts : ℕ) (streak : AStreak)
+    → IfSome (choice_after runnable harts streak)
     (λ hart. IsTrue (is_runnable runnable hart))
 able-after runnable harts streak =
     elim (cases_Bool (goes_on runnable streak)) [
@@ -123,22 +150,29 @@ able-after runnable harts streak =
       | inr off ↦ rw off (found-passes (is_runnable runnable) (harts_after harts streak.hart))
     ]
 
-able-in-turn : (runnable : List Bool) (harts quantum : ℕ) (listed : List ℕ) (streak : Option Turn)
-    → IfSome (choice_in_turn runnable (record { listed = listed; streak = streak; harts = harts; quantum = quantum }))
+able-in-turn : (runnable : List Bool) (harts quantum : ℕ) (listed : List ℕ)
+    (streak : Option AStreak)
+    → IfSome (choice_in_turn runnable
+    (record { listed = listed; streak = streak; harts = harts; quantum = quantum }))
     (λ hart. IsTrue (is_runnable runnable hart))
-able-in-turn runnable harts quantum listed None = found-passes (is_runnable runnable) (range_with_len 0 harts)
+able-in-turn runnable harts quantum listed None = found-passes (is_runnable runnable)
+    (range_with_len 0 harts)
 able-in-turn runnable harts quantum listed (Some streak) = able-after runnable harts streak
 
-either : (first second : Option ℕ) (P : ℕ → Type 0) → IfSome first P → IfSome second P → IfSome (option_or first second) P
+either : (first second : Option ℕ) (P : ℕ → Type 0) → IfSome first P → IfSome second P
+    → IfSome (option_or first second) P
 either None second P a b = b
 either (Some x) second P a b = a
 
-pub choice_able : (runnable : List Bool) (plan : Plan) → IfSome (choice runnable plan) (λ hart. IsTrue (is_runnable runnable hart))
+pub choice_able : (runnable : List Bool) (plan : Plan) → IfSome (choice runnable plan)
+    (λ hart. IsTrue (is_runnable runnable hart))
 choice_able runnable plan =
-    either _ _ (λ hart. IsTrue (is_runnable runnable hart)) (found-passes (is_runnable runnable) plan.listed)
+    either _ _ (λ hart. IsTrue (is_runnable runnable hart))
+    (found-passes (is_runnable runnable) plan.listed)
     (able-in-turn runnable plan.harts plan.quantum plan.listed plan.streak)
 
-pub chosen_inside : (runnable : List Bool) (plan : Plan) (hart : ℕ) → length runnable ≡ plan.harts → choice runnable plan ≡ Some hart
+pub chosen_inside : (runnable : List Bool) (plan : Plan) (hart : ℕ) → length runnable ≡ plan.harts
+    → choice runnable plan ≡ Some hart
     → hart < plan.harts
 chosen_inside runnable plan hart all chosen =
     let P : Option ℕ → Type 0 = λ o. IfSome o (λ h. IsTrue (is_runnable runnable h)) in
@@ -149,7 +183,8 @@ chosen_inside runnable plan hart all chosen =
     ]
 
 -- the only runnable hart is the one that is chosen
-only-able : (runnable : List Bool) (hart : ℕ) (o : Option ℕ) → IsLone runnable hart → (o ≡ None → NoneRunnable runnable)
+only-able : (runnable : List Bool) (hart : ℕ) (o : Option ℕ) → IsLone runnable hart
+    → (o ≡ None → NoneRunnable runnable)
     → IfSome o (λ h. IsTrue (is_runnable runnable h)) → o ≡ Some hart
 only-able runnable hart None lone none able = absurd (both_ways _ (none refl hart) lone.runs)
 only-able runnable hart (Some h) lone none able =
@@ -158,7 +193,9 @@ only-able runnable hart (Some h) lone none able =
       | inr other ↦ absurd (both_ways _ (lone.others h other) able)
     ]
 
-pub lone_chosen : (runnable : List Bool) (plan : Plan) (hart : ℕ) → length runnable ≡ plan.harts → IsLone runnable hart
+pub lone_chosen : (runnable : List Bool) (plan : Plan) (hart : ℕ) → length runnable ≡ plan.harts
+    → IsLone runnable hart
     → choice runnable plan ≡ Some hart
 lone_chosen runnable plan hart all lone =
-    only-able runnable hart (choice runnable plan) lone (choice_none runnable plan all).0 (choice_able runnable plan)
+    only-able runnable hart (choice runnable plan) lone (choice_none runnable plan all).0
+    (choice_able runnable plan)

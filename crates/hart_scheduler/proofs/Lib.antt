@@ -1,6 +1,6 @@
-pub mod ListedLaws
-pub mod InTurn
-pub mod Reading
 pub mod Digits
+pub mod InTurn
+pub mod ListedLaws
+pub mod Reading
 pub mod WorkedTexts
 pub mod Written

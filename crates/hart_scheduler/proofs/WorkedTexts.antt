@@ -1,6 +1,7 @@
 -- Worked schedules and choices: what the definitions give for them.
 use Rattle.std.proofs.Common.{◌≡◌, ℕ, true, false, List, [], ◌∷◌, Some, None, Ok, Err, refl}
-use Rattle.hart_scheduler.specs.declared.fault.ScheduleFault.TheVariants.{BadLine, HartOutOfRange, ZeroCount}
+use Rattle.hart_scheduler.specs.declared.fault.ScheduleFault.TheVariants.{BadLine, HartOutOfRange}
+use Rattle.hart_scheduler.specs.declared.fault.ScheduleFault.TheVariants.{ZeroCount}
 use Rattle.hart_scheduler.specs.Choices.{Plan, choice, plan_after}
 use Rattle.hart_scheduler.specs.Numbers.{number_of}
 use Rattle.hart_scheduler.specs.Texts.{entry_of, schedule_of}
@@ -28,7 +29,8 @@ unfolding entry_of number_of listing
 empty = refl
 
 -- `1 2`, an empty line and `0 1`
-accepted : schedule_of 8 3 (49 ∷ 32 ∷ 50 ∷ 10 ∷ 10 ∷ 48 ∷ 32 ∷ 49 ∷ []) ≡ Ok (listing (1 ∷ 1 ∷ 0 ∷ []))
+accepted : schedule_of 8 3 (49 ∷ 32 ∷ 50 ∷ 10 ∷ 10 ∷ 48 ∷ 32 ∷ 49 ∷ [])
+    ≡ Ok (listing (1 ∷ 1 ∷ 0 ∷ []))
 unfolding entry_of number_of listing
 accepted = refl
 
@@ -63,16 +65,26 @@ before : Plan
 before = record { listed = 1 ∷ 0 ∷ 2 ∷ []; streak = None; harts = 3; quantum = 2 }
 
 in_turn : List ℕ → ℕ → ℕ → Plan
-in_turn listed hart left = record { listed = listed; streak = Some (record { hart = hart; left = left }); harts = 3; quantum = 2 }
+in_turn listed hart left =
+    record {
+      listed = listed;
+      streak = Some (record { hart = hart; left = left });
+      harts =
+          3;
+      quantum = 2;
+    }
 
-passes_over : plan_after (true ∷ false ∷ true ∷ []) before ≡ record { listed = 2 ∷ []; streak = None; harts = 3; quantum = 2 }
+passes_over : plan_after (true ∷ false ∷ true ∷ []) before
+    ≡ record { listed = 2 ∷ []; streak = None; harts = 3; quantum = 2 }
 unfolding before
 passes_over = refl
 
-drops_all : choice (false ∷ false ∷ true ∷ []) (record { listed = 1 ∷ 0 ∷ []; streak = None; harts = 3; quantum = 2 }) ≡ Some 2
+drops_all : choice (false ∷ false ∷ true ∷ [])
+    (record { listed = 1 ∷ 0 ∷ []; streak = None; harts = 3; quantum = 2 }) ≡ Some 2
 drops_all = refl
 
-starts_lowest : plan_after (false ∷ true ∷ true ∷ []) (record { listed = 0 ∷ []; streak = None; harts = 3; quantum = 2 }) ≡ in_turn [] 1 1
+starts_lowest : plan_after (false ∷ true ∷ true ∷ [])
+    (record { listed = 0 ∷ []; streak = None; harts = 3; quantum = 2 }) ≡ in_turn [] 1 1
 unfolding in_turn
 starts_lowest = refl
 
@@ -93,6 +105,7 @@ alone : plan_after (false ∷ true ∷ false ∷ []) (in_turn [] 1 0) ≡ in_tur
 unfolding in_turn
 alone = refl
 
-none_runnable : plan_after (false ∷ false ∷ false ∷ []) (in_turn (0 ∷ []) 1 1) ≡ in_turn (0 ∷ []) 1 1
+none_runnable : plan_after (false ∷ false ∷ false ∷ []) (in_turn (0 ∷ []) 1 1)
+    ≡ in_turn (0 ∷ []) 1 1
 unfolding in_turn
 none_runnable = refl

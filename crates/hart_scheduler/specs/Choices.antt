@@ -3,13 +3,13 @@ use Rattle.std.specs.Prelude.{◌≢◌, ℕ, ◌+◌, ◌-◌, Bool, false, ◌
 use Rattle.std.specs.Prelude.{List, ◌++◌, Option, Some, is_some, slice_index_or, IsFalse, IsTrue}
 use Rattle.std.specs.List.{find, after_first, range_with_len}
 use Rattle.std.specs.Option.{option_or, option_map_or}
-use Rattle.hart_scheduler.specs.Values.{Turn}
+use Rattle.hart_scheduler.specs.ScheduleParts.{AStreak}
 
 -- What a schedule has still to say: the harts that its list still names, in their order, and who is
 -- in turn after them, from the first such choice on.
 pub record Plan : Type 0 where
   pub listed : List ℕ
-  pub streak : Option Turn
+  pub streak : Option AStreak
   pub harts : ℕ
   pub quantum : ℕ
 
@@ -35,11 +35,11 @@ harts_after harts hart = range_with_len (hart + 1) (harts - (hart + 1)) ++ range
 
 -- the hart of a streak goes on: it is runnable, and has turns left of its quantum, so never where
 -- that is 0 or 1
-abbrev pub goes_on : List Bool → Turn → Bool
+abbrev pub goes_on : List Bool → AStreak → Bool
 goes_on runnable streak = is_runnable runnable streak.hart && nat_lt 0 streak.left
 
 -- the choice in turn after a streak
-abbrev pub choice_after : List Bool → ℕ → Turn → Option ℕ
+abbrev pub choice_after : List Bool → ℕ → AStreak → Option ℕ
 choice_after runnable harts streak =
     if goes_on runnable streak then Some streak.hart
     else find (is_runnable runnable) (harts_after harts streak.hart)
@@ -60,11 +60,11 @@ choice runnable plan = option_or (choice_listed runnable plan) (choice_in_turn r
 
 -- How many turns in a row a hart has left once it was chosen: of a hart that follows itself one
 -- less, and of another one less than the quantum. Where none is left, none is.
-abbrev pub left_with : ℕ → ℕ → Turn → ℕ
+abbrev pub left_with : ℕ → ℕ → AStreak → ℕ
 left_with quantum hart streak = if nat_eq streak.hart hart then streak.left - 1 else quantum - 1
 
 -- the streak once a hart was chosen in turn
-abbrev pub streak_with : ℕ → Plan → Turn
+abbrev pub streak_with : ℕ → Plan → AStreak
 streak_with hart plan =
     record {
       hart = hart;

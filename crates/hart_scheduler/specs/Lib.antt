@@ -1,8 +1,8 @@
-pub mod Values
 pub mod Choices
-pub mod Numbers
-pub mod Texts
-pub mod Spelling
-pub mod Listed
-pub mod Inside
 pub mod Laws
+pub mod Listed
+pub mod Numbers
+pub mod ScheduleInside
+pub mod ScheduleParts
+pub mod Spelling
+pub mod Texts

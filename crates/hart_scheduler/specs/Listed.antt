@@ -1,6 +1,6 @@
 -- The list of harts that the entries of a schedule stand for.
 use Rattle.std.specs.Prelude.{ℕ, Bool, ◌&&◌, nat_lt, List, drop}
-use Rattle.hart_scheduler.specs.Values.{ListEntry}
+use Rattle.hart_scheduler.specs.ScheduleParts.{ListEntry}
 use Rattle.hart_scheduler.specs.declared.listed.Listed.TheInside.{Inside}
 use Rattle.hart_scheduler.specs.Choices.{is_runnable}
 use Rattle.hart_scheduler.specs.Texts.{harts_of}

@@ -5,7 +5,7 @@ use Rattle.std.specs.Prelude.{Err}
 use Rattle.std.specs.Option.{option_map, option_map_or}
 use Rattle.std.specs.List.{filter_map, flat_map, before_first, after_first, slice_split}
 use Rattle.std.specs.List.{enumerate_from}
-use Rattle.hart_scheduler.specs.Values.{ListEntry}
+use Rattle.hart_scheduler.specs.ScheduleParts.{ListEntry}
 use Rattle.hart_scheduler.specs.declared.fault.ScheduleFault.{ScheduleFault}
 use Rattle.hart_scheduler.specs.declared.fault.ScheduleFault.TheVariants.{BadLine, HartOutOfRange}
 use Rattle.hart_scheduler.specs.declared.fault.ScheduleFault.TheVariants.{ZeroCount, TooLong}
@@ -58,7 +58,6 @@ abbrev pub faults_from : ℕ → ℕ → List ℕ → List ScheduleFault
 faults_from harts number content = filter_map (line_fault harts)
     (enumerate_from number (lines_of content))
 
--- the entries of a text
 abbrev pub entries_of : List ℕ → List ListEntry
 entries_of content = filter_map entry_of (lines_of content)
 

@@ -7,7 +7,7 @@ ghost use Rattle.hart_scheduler.specs.Numbers.{is_numeral, number_of};
 ghost use Rattle.hart_scheduler.specs.Texts.{is_byte, entry_with, entry_of, line_fault};
 
 use crate::fault::ScheduleFault;
-use predator_base::Hart;
+use base::Hart;
 use std::marker::Model;
 
 /// A hart that runs so many times.
@@ -18,7 +18,7 @@ pub struct Entry {
 }
 
 impl Model for Entry {
-    ghost use Rattle.hart_scheduler.specs.Values.{ListEntry};
+    ghost use Rattle.hart_scheduler.specs.ScheduleParts.{ListEntry};
 
     ghost Value = { ListEntry };
 

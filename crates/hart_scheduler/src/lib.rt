@@ -6,13 +6,13 @@
 
 mod entry;
 mod fault;
-mod laws;
 mod listed;
+mod lone_choice;
 mod read;
 mod runnable;
 mod schedule;
 mod streak;
 
 pub use fault::ScheduleFault;
-pub use laws::lone_is_chosen;
+pub use lone_choice::lone_is_chosen;
 pub use schedule::Schedule;

@@ -1,14 +1,14 @@
 // The list of a schedule, and what is left of it.
-ghost use Rattle.std.specs.Prelude.{◌≡◌, ◌≤◌, ◌<◌, Bool, length, true, is_some, slice_index_or};
+ghost use Rattle.std.specs.Prelude.{◌≡◌, ◌≤◌, ◌<◌, length, true, is_some, slice_index_or};
 ghost use Rattle.std.specs.List.{find, after_first};
-ghost use Rattle.hart_scheduler.specs.Values.{ListEntry};
+ghost use Rattle.hart_scheduler.specs.ScheduleParts.{ListEntry};
 ghost use Rattle.hart_scheduler.specs.Choices.{is_runnable};
 ghost use Rattle.hart_scheduler.specs.Listed.{is_able, harts_from};
 ghost use Rattle.hart_scheduler.specs.Texts.{harts_of};
 
 use crate::entry::Entry;
 use crate::runnable::is_runnable;
-use predator_base::Hart;
+use base::Hart;
 use std::marker::Model;
 
 /// The harts that a list still names, in their order. Contracts see them each as often as it is to
@@ -60,7 +60,6 @@ fn first_able(entries: &[Entry], place: usize, runnable: &[bool]) -> usize
 }
 
 impl Listed {
-    // The harts of these entries.
     pub(crate) fn of_entries(entries: Vec<Entry>) -> Listed
         ensures { result ≡ harts_of entries.items }
     {

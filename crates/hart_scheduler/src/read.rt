@@ -1,5 +1,5 @@
 // How the text of a schedule is read.
-ghost use Rattle.std.specs.Prelude.{◌≡◌, ◌≢◌, ◌≤◌, ◌<◌, ◌^◌, ◌↔◌, ◌++◌, length, [], None, Some};
+ghost use Rattle.std.specs.Prelude.{◌≡◌, ◌≢◌, ◌≤◌, ◌<◌, ◌↔◌, ◌++◌, length, [], None, Some};
 ghost use Rattle.std.specs.Prelude.{Err, Ok, IfOk, IfErr, OnOk, slice_get};
 ghost use Rattle.std.specs.Option.{option_to_list};
 ghost use Rattle.hart_scheduler.specs.Texts.{longest_content, line_fault, entry_of, faults_from};

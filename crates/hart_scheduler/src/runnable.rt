@@ -3,9 +3,8 @@ ghost use Rattle.std.specs.Prelude.{◌≡◌, ◌≤◌, ◌<◌, ◌-◌, leng
 ghost use Rattle.std.specs.List.{find, range_with_len};
 ghost use Rattle.hart_scheduler.specs.Choices.{is_runnable};
 
-use predator_base::Hart;
+use base::Hart;
 
-// Whether a hart is runnable.
 pub(crate) fn is_runnable(runnable: &[bool], hart: Hart) -> bool
     ensures { result ≡ is_runnable runnable.now hart }
 {
@@ -17,7 +16,6 @@ pub(crate) fn is_runnable(runnable: &[bool], hart: Hart) -> bool
     }
 }
 
-// The hart of a number.
 fn hart_at(number: u16) -> Hart
     requires { number < 256 }
     ensures { result ≡ number }

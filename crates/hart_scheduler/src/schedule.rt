@@ -1,5 +1,5 @@
 // A schedule, and the choices that it makes.
-ghost use Rattle.std.specs.Prelude.{◌≡◌, ◌≤◌, ◌<◌, ◌^◌, ◌↔◌, length, None, Some, IfSome, IsTrue};
+ghost use Rattle.std.specs.Prelude.{◌≡◌, ◌≤◌, ◌<◌, ◌↔◌, length, None, Some, IfSome, IsTrue};
 ghost use Rattle.hart_scheduler.specs.Choices.{is_runnable, NoneRunnable, choice, choice_in_turn};
 ghost use Rattle.hart_scheduler.specs.Choices.{plan_after, streak_with};
 ghost use Rattle.hart_scheduler.specs.Texts.{plan_of};
@@ -8,7 +8,7 @@ use crate::entry::Entry;
 use crate::listed::Listed;
 use crate::runnable::lowest_runnable;
 use crate::streak::Streak;
-use predator_base::Hart;
+use base::Hart;
 use std::marker::Model;
 
 /// Which hart runs next. Contracts see the harts that its list still names, in their order, and the
@@ -26,7 +26,7 @@ impl Model for Schedule {
 
     ghost Value = { Plan };
 
-    ghost use Rattle.hart_scheduler.specs.Inside.{plan_in, IsGood};
+    ghost use Rattle.hart_scheduler.specs.ScheduleInside.{plan_in, IsGood};
 
     ghost view = { plan_in };
 
@@ -34,7 +34,6 @@ impl Model for Schedule {
 }
 
 impl Schedule {
-    // The schedule of these entries.
     pub(crate) fn of_entries(entries: Vec<Entry>, harts: u16, quantum: u32) -> Schedule
         requires { harts ≤ 256 }
         ensures { result ≡ plan_of harts quantum entries.items }

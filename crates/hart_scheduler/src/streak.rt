@@ -1,9 +1,9 @@
 // Whose turn it is after the list.
-ghost use Rattle.std.specs.Prelude.{◌≡◌, ◌≤◌, ◌<◌, ◌-◌, ◌^◌, length};
+ghost use Rattle.std.specs.Prelude.{◌≡◌, ◌≤◌, ◌<◌, length};
 ghost use Rattle.hart_scheduler.specs.Choices.{goes_on, choice_after, left_with};
 
 use crate::runnable::{is_runnable, lowest_runnable};
-use predator_base::Hart;
+use base::Hart;
 use std::marker::Model;
 
 /// The hart that was last chosen in turn, and how many turns in a row it has left of its quantum.
@@ -14,9 +14,9 @@ pub struct Streak {
 }
 
 impl Model for Streak {
-    ghost use Rattle.hart_scheduler.specs.Values.{Turn};
+    ghost use Rattle.hart_scheduler.specs.ScheduleParts.{AStreak};
 
-    ghost Value = { Turn };
+    ghost Value = { AStreak };
 
     ghost view = { λ s. record { hart = s.hart; left = s.left } };
 
@@ -31,7 +31,6 @@ impl Streak {
         Streak { hart, left }
     }
 
-    // Whether its hart goes on.
     fn goes_on(self, runnable: &[bool]) -> bool
         ensures { result ≡ goes_on runnable.now self }
     {

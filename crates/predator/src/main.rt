@@ -1,8 +1,8 @@
 //! The program: the top call of `predator_cli` over the system's files and standard output.
 #![tactic(auto)]
 
+use base::NoMemory;
 use disk_shelf::DiskShelf;
-use predator_base::NoMemory;
 use predator_cli::{advise, exit_code, give_up, predator, words_of};
 use std::env;
 use std::io::IsTerminal;

@@ -1,5 +1,6 @@
 -- How a command ends that copies a trace, whatever its outputs are.
-use Rattle.std.proofs.Common.{◌≡◌, ◌≢◌, ℕ, List, [], ◌∷◌, Option, Some, None, true, false, refl, sym, ap, subst, ◌∙◌, inl, inr}
+use Rattle.std.proofs.Common.{◌≡◌, ◌≢◌, ℕ, List, [], ◌∷◌, Option, Some, None, true, false, refl}
+use Rattle.std.proofs.Common.{sym, ap, subst, ◌∙◌, inl, inr}
 use Rattle.std.proofs.lemmas.Slice.Eq.{bytes_eq-Decides}
 use Rattle.std.specs.List.{list_any}
 use Rattle.std.specs.Option.{option_map, option_map_or}
@@ -7,31 +8,34 @@ use Rattle.std.specs.Str.{bytes_eq}
 use Rattle.command_line.specs.Convert.{ConvertDemand}
 use Rattle.command_line.specs.Split.{SplitDemand}
 use Rattle.command_line.specs.Words.{Demand, convert, split, outputs as outputs_of}
-use Rattle.outputs.specs.Files.{AllMayStand, Output}
-use Rattle.outputs.specs.OnTheirWay.{IsNew}
+use Rattle.shelf.specs.Files.{AllMayStand, Output}
+use Rattle.shelf.specs.OnTheirWay.{IsNew}
 use Rattle.shelf.specs.Shelf.{Files, Goes, Outside, Told, content}
-use Rattle.trace_copies.specs.CopyLaws.{trace_found, trace_unrefused}
-use Rattle.trace_copies.specs.Copies.{HasCopied, HasStopped, RoseAt as RoseAtCopy, StaysWhereRefused, any, conversion, halves}
-use Rattle.trace_copies.specs.declared.fault.CopyFault.{CopyFault}
-use Rattle.trace_copies.specs.declared.fault.CopyFault.TheVariants.{Refused, Changed, ReadFault, WriteFault, NoMemory}
-use Rattle.trace_grammar.specs.declared.fault.TraceFault.TheVariants as trace
+use Rattle.trace_files.specs.Laws.Copies.{trace_found, trace_unrefused}
+use Rattle.trace_files.specs.Copies.{HasCopied, HasStopped, RoseAt as RoseAtCopy, StaysWhereRefused}
+use Rattle.trace_files.specs.Copies.{any, conversion, halves}
+use Rattle.trace_files.specs.declared.copy_fault.CopyFault.{CopyFault}
+use Rattle.trace_files.specs.declared.copy_fault.CopyFault.TheVariants.{Refused, Changed, ReadFault}
+use Rattle.trace_files.specs.declared.copy_fault.CopyFault.TheVariants.{WriteFault, NoMemory}
+use Rattle.trace_format.specs.declared.fault.TraceFault.TheVariants as trace
 use Rattle.trace_passes.specs.Passes.{Trace, refusal_of, trace_of}
 use Rattle.trace_passes.specs.declared.wanted.Refusal.{Refusal}
 use Rattle.trace_passes.specs.declared.wanted.Refusal.TheVariants as refusals
 use Rattle.command_files.specs.Faults.{fault_text}
-use Rattle.command_files.specs.Readings.{FailsInOrder, IsRefusal, IsStopped, Reading, RoseAt, first_refusal, names_of}
+use Rattle.command_files.specs.Readings.{FailsInOrder, IsRefusal, IsStopped, Reading, RoseAt}
+use Rattle.command_files.specs.Readings.{first_refusal, names_of}
 use Rattle.command_files.specs.Statuses.{done, kind_of, refusal}
 use Rattle.command_files.specs.Works.{Work, done_with}
 use Rattle.command_files.specs.declared.status.Status.{Status}
 use Rattle.command_files.specs.declared.status.Status.TheVariants as status
 use Rattle.command_files.specs.Laws.Readings.{none_alone, only_same, refused_stopped}
-use Rattle.command_files.specs.Laws.Told.{goes_map, told, told_both, told_map}
-use Rattle.predator_cli.specs.Again.{RepeatsReport}
+use Rattle.shelf.specs.Laws.Told.{goes_map, told, told_both, told_map}
 use Rattle.predator_cli.specs.Answer.{answer_of}
-use Rattle.predator_cli.specs.Commands.{is_copy, readings_of, work_of}
+use Rattle.predator_cli.specs.Commands.{RepeatsReport, is_copy, readings_of, work_of}
 use Rattle.predator_cli.specs.Convert.{convert_text}
 use Rattle.predator_cli.specs.Copies.{copied_reading, copy_of, copy_with}
-use Rattle.predator_cli.specs.Meets.{EndsAs, IsCaused, IsFaulty, IsPrintable, IsWorked, ReadsInPeace}
+use Rattle.predator_cli.specs.Meets.{EndsAs, IsCaused, IsFaulty, IsPrintable, IsWorked}
+use Rattle.predator_cli.specs.Meets.{ReadsInPeace}
 use Rattle.predator_cli.specs.Replay.{refuses_trace}
 use Rattle.predator_cli.specs.Split.{split_text}
 use Rattle.predator_cli.specs.TraceFaults.{status_of_copy, status_of_refusal}
@@ -43,19 +47,24 @@ use Rattle.predator_cli.proofs.WriteEnds.{IsToWrite, names_in, or_false, written
 
 -- ---- names
 
-new_name : (name : List ℕ) (names : List (List ℕ)) → list_any (λ n. bytes_eq n name) names ≡ false → IsNew name names
+new_name : (name : List ℕ) (names : List (List ℕ)) → list_any (λ n. bytes_eq n name) names ≡ false
+    → IsNew name names
 new_name name [] not_so = tt
 new_name name (n ∷ names) not_so =
     let both = or_false (bytes_eq n name) (list_any (λ x. bytes_eq x name) names) not_so in (
-      λ same. let so : bytes_eq n name ≡ true = (bytes_eq-Decides n name).1 same in let no : true ≡ false = sym so ∙ both.0 in cc,
+      λ same. let so : bytes_eq n name ≡ true = (bytes_eq-Decides n name).1 same in let no : true
+          ≡ false = sym so ∙ both.0 in cc,
       new_name name names both.1,
     )
 
-others_only : (names : List (List ℕ)) (a b : Outside) → Goes a.written b.written (λ old new. (n : List ℕ) → IsNew n names → new n ≡ old n)
+others_only : (names : List (List ℕ)) (a b : Outside)
+    → Goes a.written b.written (λ old new. (n : List ℕ) → IsNew n names → new n ≡ old n)
     → OnlyAt names a b
-others_only names a b others = goes_map a.written b.written (λ old new stay name not_so. stay name (new_name name names not_so)) others
+others_only names a b others = goes_map a.written b.written
+    (λ old new stay name not_so. stay name (new_name name names not_so)) others
 
-rose_at : (names : List (List ℕ)) (before now : List ℕ → ℕ) → RoseAtCopy names before now → RoseAt names before now
+rose_at : (names : List (List ℕ)) (before now : List ℕ → ℕ) → RoseAtCopy names before now
+    → RoseAt names before now
 rose_at [] before now rose = rose
 rose_at (n ∷ names) before now (inl rose) = inl rose
 rose_at (n ∷ names) before now (inr rose) = inr (rose_at names before now rose)
@@ -67,71 +76,105 @@ untold {A = A} P o none = subst (λ (x : Option A). Told x P) (sym none) tt
 -- ---- the two commands
 
 -- a demand for copies of the trace of a name
-pub record IsCopying (d : Demand) (name : List ℕ) (text : Trace → List ℕ) (outputs : Trace → List Output) : Type 0 where
+pub record IsCopying (d : Demand) (name : List ℕ) (text : Trace → List ℕ)
+    (outputs : Trace → List Output) : Type 0 where
   pub reads : readings_of d ≡ copied_reading name ∷ []
   pub works : (files : Files) → work_of d files ≡ copy_of text outputs name files
   pub named : (t : Trace) → names_in (outputs t) ≡ outputs_of d
   pub copies : is_copy d ≡ true
   pub again : (files : Files) → RepeatsReport d files
 
-pub is_convert : (d : ConvertDemand) → IsCopying (convert d) d.trace convert_text (conversion d.file)
-is_convert d = record { reads = refl; works = λ files. refl; named = λ t. refl; copies = refl; again = λ files. tt }
+pub is_convert : (d : ConvertDemand) → IsCopying (convert d) d.trace convert_text
+    (conversion d.file)
+is_convert d = record {
+  reads = refl;
+  works = λ files. refl;
+  named = λ t. refl;
+  copies =
+      refl;
+  again = λ files. tt;
+}
 
-pub is_split : (d : SplitDemand) → IsCopying (split d) d.trace (split_text d.at) (halves d.at d.first d.second)
-is_split d = record { reads = refl; works = λ files. refl; named = λ t. refl; copies = refl; again = λ files. tt }
+pub is_split : (d : SplitDemand) → IsCopying (split d) d.trace (split_text d.at)
+    (halves d.at d.first d.second)
+is_split d = record {
+  reads = refl;
+  works = λ files. refl;
+  named = λ t. refl;
+  copies = refl;
+  again =
+      λ files. tt;
+}
 
 -- what is known of a call that gave up
-pub record HasFailed (name : List ℕ) (names : List (List ℕ)) (outputs : Trace → List Output) (a b : Outside) (fault : CopyFault) : Type 0
+pub record HasFailed (name : List ℕ) (names : List (List ℕ)) (outputs : Trace → List Output)
+    (a b : Outside) (fault : CopyFault) : Type 0
   where
-    pub refused : (r : Refusal) → fault ≡ Refused r → Told a.held (λ files. refusal_of any (content files name) ≡ Some r)
+    pub refused : (r : Refusal) → fault ≡ Refused r
+        → Told a.held (λ files. refusal_of any (content files name) ≡ Some r)
     pub stays : (r : Refusal) → fault ≡ Refused r → b ≡ a
     pub memory : fault ≢ Refused (refusals.Trace trace.NoMemory)
     pub changed : (r : Refusal) → fault ≡ Changed r → a.held ≡ None
-    pub accepted : fault ≡ WriteFault → Told a.held (λ files. refusal_of any (content files name) ≡ None)
+    pub accepted : fault ≡ WriteFault → Told a.held (λ files. refusal_of any (content files name)
+        ≡ None)
     pub begun : StaysWhereRefused a.held name a b
     pub stopped : HasStopped a.held name names outputs a b fault
 
-module _ (d : Demand) (name : List ℕ) (text : Trace → List ℕ) (outputs : Trace → List Output) (copying : IsCopying d name text outputs)
+module _ (d : Demand) (name : List ℕ) (text : Trace → List ℕ) (outputs : Trace → List Output)
+    (copying : IsCopying d name text outputs)
     (a b : Outside)
   where
-    accepts : (files : Files) → refusal_of any (content files name) ≡ None → first_refusal (readings_of d) files ≡ None
+    accepts : (files : Files) → refusal_of any (content files name) ≡ None
+        → first_refusal (readings_of d) files ≡ None
     accepts files none = ap (λ readings. first_refusal readings files) copying.reads
         ∙ none_alone (refuses_trace any name files) (ap (option_map status_of_refusal) none)
 
-    work_is : (files : Files) (t : Trace) → trace_of (content files name) ≡ Some t → work_of d files ≡ copy_with text outputs t
-    work_is files t is = copying.works files ∙ ap (λ o. option_map_or (copy_with text outputs) o (done_with [])) is
+    work_is : (files : Files) (t : Trace) → trace_of (content files name) ≡ Some t → work_of d files
+        ≡ copy_with text outputs t
+    work_is files t is = copying.works files
+        ∙ ap (λ o. option_map_or (copy_with text outputs) o (done_with [])) is
 
     -- ---- the copies are made
 
-    to_write : (bytes : List ℕ) (t : Trace) → Told a.held (λ files. bytes ≡ content files name) → trace_of bytes ≡ Some t
+    to_write : (bytes : List ℕ) (t : Trace) → Told a.held (λ files. bytes ≡ content files name)
+        → trace_of bytes ≡ Some t
         → IsToWrite d (copy_with text outputs t) a
     to_write bytes t whole is = record {
-      accepts = told_map a.held (λ files same. accepts files (ap (refusal_of any) (sym same) ∙ trace_unrefused bytes t is)) whole;
+      accepts = told_map a.held (λ files same. accepts files
+          (ap (refusal_of any) (sym same) ∙ trace_unrefused bytes t is)) whole;
       works = told_map a.held (λ files same. work_is files t (ap trace_of (sym same) ∙ is)) whole;
       names = copying.named t;
     }
 
-    pub copy_worked : {says : Trace → Type 0} (shown : List ℕ) (copied : HasCopied a.held name outputs says a b)
+    pub copy_worked : {says : Trace → Type 0} (shown : List ℕ)
+        (copied : HasCopied a.held name outputs says a b)
         → shown ≡ text copied.trace → IsWorked d a b status.Done shown
     copy_worked shown copied is =
         written_worked d (copy_with text outputs copied.trace) a b status.Done shown
-        (to_write copied.bytes copied.trace copied.whole copied.is) refl is (told a.held copying.again) copied.written
+        (to_write copied.bytes copied.trace copied.whole copied.is) refl is
+        (told a.held copying.again) copied.written
 
     -- ---- it gave up
 
-    part_at : (files : Files) → ((t : Trace) → trace_of (content files name) ≡ Some t → Goes a.written b.written (AllMayStand (outputs t)))
-        → ((r : Refusal) → refusal_of any (content files name) ≡ Some r → Goes a.written b.written AreSame)
+    part_at : (files : Files) → ((t : Trace) → trace_of (content files name) ≡ Some t
+        → Goes a.written b.written (AllMayStand (outputs t)))
+        → ((r : Refusal) → refusal_of any (content files name) ≡ Some r
+        → Goes a.written b.written AreSame)
         → (r : Option Refusal) → refusal_of any (content files name) ≡ r
         → Goes a.written b.written (AllMayStand (answer_of (Some d) files).outputs)
     part_at files fronts stays None none =
         let found = trace_found (content files name) none in
-        own_outputs d files (λ outs. Goes a.written b.written (AllMayStand outs)) (accepts files none)
-        (subst (λ (w : Work). Goes a.written b.written (AllMayStand w.outputs)) (sym (work_is files found.0 found.1))
+        own_outputs d files (λ outs. Goes a.written b.written (AllMayStand outs))
+        (accepts files none)
+        (subst (λ (w : Work). Goes a.written b.written (AllMayStand w.outputs))
+        (sym (work_is files found.0 found.1))
         (fronts found.0 found.1))
-    part_at files fronts stays (Some r) is = same_stands (answer_of (Some d) files).outputs a.written b.written (stays r is)
+    part_at files fronts stays (Some r) is = same_stands (answer_of (Some d) files).outputs
+        a.written b.written (stays r is)
 
     -- it is refused before anything is begun
-    refused_faulty : (r : Refusal) → HasFailed name (outputs_of d) outputs a b (Refused r) → IsRefusal (status_of_refusal r)
+    refused_faulty : (r : Refusal) → HasFailed name (outputs_of d) outputs a b (Refused r)
+        → IsRefusal (status_of_refusal r)
         → IsFaulty (Some d) a b (status_of_refusal r)
     refused_faulty r failed judged =
         let same = failed.stays r refl in
@@ -139,19 +182,23 @@ module _ (d : Demand) (name : List ℕ) (text : Trace → List ℕ) (outputs : T
         (told_map a.held (λ files e. ap (option_map status_of_refusal) e) (failed.refused r refl))
         (ap (λ (o : Outside). o.read_faults) same) (only_same a b same) in
         stopped_faulty d a b (status_of_refusal r)
-        (subst (λ (l : List Reading). IsStopped l a b (status_of_refusal r)) (sym copying.reads) stopped)
+        (subst (λ (l : List Reading). IsStopped l a b (status_of_refusal r))
+        (sym copying.reads) stopped)
 
     module _ (fault : CopyFault) (failed : HasFailed name (outputs_of d) outputs a b fault) where
-      part : Told a.held (λ files. Goes a.written b.written (AllMayStand (answer_of (Some d) files).outputs))
+      part : Told a.held (λ files. Goes a.written b.written
+          (AllMayStand (answer_of (Some d) files).outputs))
       part =
-          told_both a.held (λ files fronts stays. part_at files fronts stays (refusal_of any (content files name)) refl)
+          told_both a.held (λ files fronts stays. part_at files fronts stays
+          (refusal_of any (content files name)) refl)
           failed.stopped.fronts failed.begun
 
       only : OnlyAt (outputs_of d) a b
       only = others_only (outputs_of d) a b failed.stopped.others
 
       -- or it was refused once the copies were begun, and nothing is told
-      changed_faulty : (s : Status) → IsRefusal s → a.held ≡ None → fault ≢ ReadFault → IsFaulty (Some d) a b s
+      changed_faulty : (s : Status) → IsRefusal s → a.held ≡ None → fault ≢ ReadFault
+          → IsFaulty (Some d) a b s
       changed_faulty s judged none other =
           let caused : IsCaused (Some d) a b refusal = tt in
           let peace : ReadsInPeace a b refusal = failed.stopped.cause.read_quiet other in
@@ -177,18 +224,22 @@ module _ (d : Demand) (name : List ℕ) (text : Trace → List ℕ) (outputs : T
       read_faulty : fault ≡ ReadFault → IsFaulty (Some d) a b status.ReadFault
       read_faulty is =
           let rose = failed.stopped.cause.read_failed is in
-          let fails : (files : Files) → FailsInOrder (readings_of d) files a.read_faults b.read_faults =
-          λ files. subst (λ (l : List Reading). FailsInOrder l files a.read_faults b.read_faults) (sym copying.reads) (inl rose) in
+          let fails : (files : Files) → FailsInOrder (readings_of d) files a.read_faults
+          b.read_faults =
+          λ files. subst (λ (l : List Reading). FailsInOrder l files a.read_faults b.read_faults)
+          (sym copying.reads) (inl rose) in
           record {
             fault = λ e. cc;
             ends = told a.held fails;
             usage = λ u. cc;
             refuses = λ u. cc;
             memory = refl;
-            caused = subst (λ (l : List Reading). RoseAt (names_of l) a.read_faults b.read_faults) (sym copying.reads) (inl rose);
+            caused = subst (λ (l : List Reading). RoseAt (names_of l) a.read_faults b.read_faults)
+                (sym copying.reads) (inl rose);
             peace = tt;
             printable = told a.held (λ files. inr (inr (inl (refl, fails files))));
-            writes = subst (λ copies. StaysAtReadFault copies (Some d) a.held a.written b.written) (sym copying.copies) part;
+            writes = subst (λ copies. StaysAtReadFault copies (Some d) a.held a.written b.written)
+                (sym copying.copies) part;
             only = only;
             held = failed.stopped.held_stay;
             printed = failed.stopped.printed;
@@ -197,7 +248,8 @@ module _ (d : Demand) (name : List ℕ) (text : Trace → List ℕ) (outputs : T
 
       write_faulty : fault ≡ WriteFault → IsFaulty (Some d) a b status.WriteFault
       write_faulty is =
-          let rose = rose_at (outputs_of d) a.write_faults b.write_faults (failed.stopped.cause.write_failed is) in
+          let rose = rose_at (outputs_of d) a.write_faults b.write_faults
+          (failed.stopped.cause.write_failed is) in
           record {
             fault = λ e. cc;
             ends = told_map a.held accepts (failed.accepted is);
@@ -205,7 +257,8 @@ module _ (d : Demand) (name : List ℕ) (text : Trace → List ℕ) (outputs : T
             refuses = λ u. cc;
             memory = refl;
             caused = inl rose;
-            peace = failed.stopped.cause.read_quiet (λ e. let no : WriteFault ≡ ReadFault = sym is ∙ e in cc);
+            peace = failed.stopped.cause.read_quiet (λ e. let no : WriteFault ≡ ReadFault = sym is
+                ∙ e in cc);
             printable = told a.held (λ files. inr (inr (inr (refl, rose))));
             writes = part;
             only = only;
@@ -216,9 +269,11 @@ module _ (d : Demand) (name : List ℕ) (text : Trace → List ℕ) (outputs : T
 
       no_memory_faulty : IsFaulty (Some d) a b status.NoMemory
       no_memory_faulty =
-          starved (Some d) a b part only failed.stopped.held_stay failed.stopped.printed failed.stopped.print_faults
+          starved (Some d) a b part only failed.stopped.held_stay failed.stopped.printed
+          failed.stopped.print_faults
 
-    pub copy_faulty : (fault : CopyFault) → HasFailed name (outputs_of d) outputs a b fault → IsFaulty (Some d) a b (status_of_copy fault)
+    pub copy_faulty : (fault : CopyFault) → HasFailed name (outputs_of d) outputs a b fault
+        → IsFaulty (Some d) a b (status_of_copy fault)
     copy_faulty (Refused r) failed =
         elim (refusal_cases r) [
           | inl is ↦ absurd (failed.memory (ap Refused is))
@@ -226,8 +281,10 @@ module _ (d : Demand) (name : List ℕ) (text : Trace → List ℕ) (outputs : T
         ]
     copy_faulty (Changed r) failed =
         elim (refusal_cases r) [
-          | inl is ↦ subst (λ (x : Refusal). IsFaulty (Some d) a b (status_of_refusal x)) (sym is) (no_memory_faulty (Changed r) failed)
-          | inr judged ↦ changed_faulty (Changed r) failed (status_of_refusal r) judged (failed.changed r refl) (λ e. cc)
+          | inl is ↦ subst (λ (x : Refusal). IsFaulty (Some d) a b (status_of_refusal x)) (sym is)
+              (no_memory_faulty (Changed r) failed)
+          | inr judged ↦ changed_faulty (Changed r) failed (status_of_refusal r) judged
+              (failed.changed r refl) (λ e. cc)
         ]
     copy_faulty ReadFault failed = read_faulty ReadFault failed refl
     copy_faulty WriteFault failed = write_faulty WriteFault failed refl

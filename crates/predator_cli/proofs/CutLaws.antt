@@ -5,21 +5,21 @@ use Rattle.std.specs.Prelude.{flat_map}
 use Rattle.std.proofs.Common.{append_assoc}
 use Rattle.std.proofs.lemmas.List.{append-nil}
 use Rattle.std.proofs.lemmas.List.Elements.{filter_map-append}
-use Rattle.heap_objects.specs.Objects.{Objects, no_objects}
-use Rattle.object_states.specs.Spelling.{spell_objects}
-use Rattle.predator_base.specs.Levels.{Levels}
-use Rattle.predator_base.specs.Lines.{Grid}
-use Rattle.predator_base.specs.declared.ending.Ending.{Ending}
+use Rattle.objects.specs.Objects.{Objects, no_objects}
+use Rattle.saved_state.specs.ObjectSpelling.{spell_objects}
+use Rattle.base.specs.Levels.{Levels}
+use Rattle.base.specs.Lines.{Grid}
+use Rattle.base.specs.declared.ending.Ending.{Ending}
 use Rattle.report.specs.OfLists.{report_of}
 use Rattle.sharing_rules.specs.AccessLists.{AccessList}
 use Rattle.sightings.specs.Lives.{objects_after, objects_of}
 use Rattle.sightings.specs.Seen.{report_of_records}
-use Rattle.sightings.specs.SeenLaws.{objects_after-end}
-use Rattle.state_grammar.specs.OfLists.{state_of_list}
-use Rattle.trace_grammar.specs.Rules.{touch_in, touches_in}
-use Rattle.trace_grammar.specs.declared.record.TraceRecord.{TraceRecord}
-use Rattle.trace_grammar.specs.declared.record.TraceRecord.TheVariants as records
-use Rattle.trace_copies.specs.Copies.{first_half, second_half}
+use Rattle.sightings.specs.Laws.Seen.{objects_after-end}
+use Rattle.saved_state.specs.OfLists.{state_of_list}
+use Rattle.trace_format.specs.Rules.{touch_in, touches_in}
+use Rattle.trace_format.specs.declared.record.TraceRecord.{TraceRecord}
+use Rattle.trace_format.specs.declared.record.TraceRecord.TheVariants as records
+use Rattle.trace_files.specs.Copies.{first_half, second_half}
 use Rattle.trace_passes.specs.Passes.{Trace, all_records}
 use Rattle.predator_cli.specs.GoesOn.{IsCutIn, work_of_both}
 use Rattle.predator_cli.specs.Replay.{ended_at, shown, work_after}
@@ -40,14 +40,16 @@ module _ {X : Type 0} (shows : List TraceRecord → X)
         let ended : List TraceRecord = flat_map all_records parts in
         let bare : List TraceRecord = flat_map (λ t. t.items) parts in
         let end : List TraceRecord = records.End t.ending ∷ [] in
-        ap (λ (xs : List TraceRecord). shows (before ++ xs)) (append_assoc (t.items ++ end) ended behind)
+        ap (λ (xs : List TraceRecord). shows (before ++ xs))
+        (append_assoc (t.items ++ end) ended behind)
         ∙ ap shows (sym (append_assoc before (t.items ++ end) (ended ++ behind)))
         ∙ ap (λ (xs : List TraceRecord). shows (xs ++ (ended ++ behind)))
         (sym (append_assoc before t.items end))
         ∙ amid (before ++ t.items) (ended ++ behind) t.ending
         ∙ each_amid parts (before ++ t.items) behind
         ∙ ap shows (append_assoc before t.items (bare ++ behind))
-        ∙ ap (λ (xs : List TraceRecord). shows (before ++ xs)) (sym (append_assoc t.items bare behind))
+        ∙ ap (λ (xs : List TraceRecord). shows (before ++ xs))
+        (sym (append_assoc t.items bare behind))
 
     same_shown : (whole final : Trace) (earlier : List Trace)
         → whole.items ≡ flat_map (λ t. t.items) earlier ++ final.items

@@ -1,35 +1,45 @@
 -- What a command has done stands after a text is printed.
-use Rattle.std.proofs.Common.{◌≡◌, ◌≢◌, ℕ, ◌≤◌, Bool, true, false, List, [], Option, Some, None, sym, ◌∙◌, ap, refl, inl, inr, ◌⊎◌}
-use Rattle.shelf.specs.Shelf.{Files, Outside, Told, Goes, Rose, OnlyPrints, OnlyReads, Adds, AddsFront}
+use Rattle.std.proofs.Common.{◌≡◌, ◌≢◌, ℕ, ◌≤◌, Bool, true, false, List, [], Option, Some, None}
+use Rattle.std.proofs.Common.{sym, ◌∙◌, ap, refl, inl, inr, ◌⊎◌}
+use Rattle.shelf.specs.Shelf.{Files, Outside, Told, Goes, Rose, OnlyPrints, OnlyReads, Adds}
+use Rattle.shelf.specs.Shelf.{AddsFront}
 use Rattle.command_line.specs.Words.{Demand, outputs as outputs_of}
 use Rattle.command_files.specs.Readings.{IsStopped, first_refusal}
 use Rattle.command_files.specs.Works.{Work, done_with}
-use Rattle.command_files.specs.Statuses.{Kind, kind_of, done, refusal, read_fault, write_fault, no_memory, hides_no_memory}
-use Rattle.outputs.specs.Files.{AllMayStand, AreWhole, Output, bytes_for}
+use Rattle.command_files.specs.Statuses.{Kind, kind_of, done, refusal, read_fault, write_fault}
+use Rattle.command_files.specs.Statuses.{no_memory, hides_no_memory}
+use Rattle.shelf.specs.Files.{AllMayStand, AreWhole, Output, bytes_for}
 use Rattle.command_files.specs.Faults.{fault_text}
 use Rattle.command_files.specs.declared.status.Status.{Status}
 use Rattle.command_files.specs.declared.status.Status.TheVariants as status
-use Rattle.command_files.specs.Laws.Told.{goes_map, goes_same, rose_later, told, told_both, told_map, whole_prefix}
-use Rattle.predator_cli.specs.Commands.{readings_of, work_of}
-use Rattle.predator_cli.specs.Written.{AreSame, OnlyAt, StandsInPart, StaysAtReadFault, StaysAtRefusal, Writes}
-use Rattle.predator_cli.specs.Again.{RepeatsReport, WhereDone}
-use Rattle.predator_cli.specs.Answer.{answer_of, are_copies, outputs, refusal_of}
-use Rattle.predator_cli.specs.Meets.{EndsAs, IsAnswered, IsCaused, IsComplete, IsFaulty, IsPrintable, IsWorked, Meets, NoFaults, Printed}
+use Rattle.shelf.specs.Laws.Told.{goes_map, goes_same, rose_later, told, told_both, told_map}
+use Rattle.shelf.specs.Laws.Told.{whole_prefix}
+use Rattle.predator_cli.specs.Commands.{RepeatsReport, readings_of, work_of}
+use Rattle.predator_cli.specs.Written.{AreSame, OnlyAt, StandsInPart, StaysAtReadFault}
+use Rattle.predator_cli.specs.Written.{StaysAtRefusal, Writes}
+use Rattle.predator_cli.specs.Again.{WhereDone}
+use Rattle.predator_cli.specs.Answer.{answer_of, are_copies, outputs}
+use Rattle.predator_cli.specs.Judged.{refusal_of}
+use Rattle.predator_cli.specs.Meets.{EndsAs, IsAnswered, IsCaused, IsComplete, IsFaulty}
+use Rattle.predator_cli.specs.Meets.{IsPrintable, IsWorked, Meets, NoFaults, Printed}
 use Rattle.predator_cli.specs.Meets.{Prints, ReadsInPeace}
 use Rattle.predator_cli.proofs.Standing.{may_stay, only_same_names, same_stands, whole_stands}
 
 -- ---- the line of a fault
 
-caused_after : (asked : Option Demand) (a b d : Outside) (k : Kind) → OnlyPrints b d → b.print_faults ≤ d.print_faults
+caused_after : (asked : Option Demand) (a b d : Outside) (k : Kind) → OnlyPrints b d
+    → b.print_faults ≤ d.print_faults
     → IsCaused asked a b k → IsCaused asked a d k
 caused_after asked a b d done only later caused = tt
 caused_after asked a b d refusal only later caused = tt
 caused_after asked a b d no_memory only later caused = tt
 caused_after asked a b d read_fault only later caused = rw only.read_faults caused
 caused_after asked a b d write_fault only later (inl rose) = inl (rw only.write_faults rose)
-caused_after asked a b d write_fault only later (inr rose) = inr (rose_later a.print_faults b.print_faults d.print_faults rose later)
+caused_after asked a b d write_fault only later (inr rose) =
+    inr (rose_later a.print_faults b.print_faults d.print_faults rose later)
 
-ends_after : (asked : Option Demand) (files : Files) (a b d : Outside) (k : Kind) (s : Status) → OnlyPrints b d → EndsAs asked files a b k s
+ends_after : (asked : Option Demand) (files : Files) (a b d : Outside) (k : Kind) (s : Status)
+    → OnlyPrints b d → EndsAs asked files a b k s
     → EndsAs asked files a d k s
 ends_after asked files a b d done s only ends = ends
 ends_after asked files a b d refusal s only ends = ends
@@ -37,33 +47,39 @@ ends_after asked files a b d no_memory s only ends = tt
 ends_after asked files a b d read_fault s only ends = rw only.read_faults ends
 ends_after asked files a b d write_fault s only ends = ends
 
-printed_prefix : (a d : Outside) (text : List ℕ) → Printed a d text → AddsFront a.printed d.printed text
+printed_prefix : (a d : Outside) (text : List ℕ) → Printed a d text
+    → AddsFront a.printed d.printed text
 printed_prefix a d text (inl whole) = whole_prefix a.printed d.printed text whole
 printed_prefix a d text (inr (rose, part)) = part
 
-printable_after : (asked : Option Demand) (files : Files) (a b d : Outside) (text : List ℕ) → OnlyPrints b d
+printable_after : (asked : Option Demand) (files : Files) (a b d : Outside) (text : List ℕ)
+    → OnlyPrints b d
     → IsPrintable asked files a b text → IsPrintable asked files a d text
 printable_after asked files a b d text only p = rw (only.read_faults, only.write_faults) p
 
 -- a fault's line was printed, whole or in part
 prints_fault : (asked : Option Demand) (a d : Outside) (k : Kind) (s : Status) → (k ≡ done → ⊥)
-    → Told a.held (λ files. IsPrintable asked files a d (fault_text s)) → Printed a d (fault_text s) → Prints asked a d k s
+    → Told a.held (λ files. IsPrintable asked files a d (fault_text s)) → Printed a d (fault_text s)
+    → Prints asked a d k s
 prints_fault asked a d done s n p printed = absurd (n refl)
 prints_fault asked a d refusal s n p printed = printed
 prints_fault asked a d read_fault s n p printed = printed
 prints_fault asked a d write_fault s n p printed = told a.held (λ files. inl printed)
-prints_fault asked a d no_memory s n p printed = told_map a.held (λ files is. (fault_text s, is, printed_prefix a d (fault_text s) printed))
+prints_fault asked a d no_memory s n p printed = told_map a.held
+    (λ files is. (fault_text s, is, printed_prefix a d (fault_text s) printed))
     p
 
 -- printing writes no file, and reads none
-writes_after : (asked : Option Demand) (a b d : Outside) (k : Kind) → OnlyPrints b d → Writes asked a b k → Writes asked a d k
+writes_after : (asked : Option Demand) (a b d : Outside) (k : Kind) → OnlyPrints b d
+    → Writes asked a b k → Writes asked a d k
 writes_after asked a b d done only writes = rw only.written writes
 writes_after asked a b d refusal only writes = rw only.written writes
 writes_after asked a b d read_fault only writes = rw only.written writes
 writes_after asked a b d write_fault only writes = rw only.written writes
 writes_after asked a b d no_memory only writes = rw only.written writes
 
-peace_after : (a b d : Outside) (k : Kind) → OnlyPrints b d → ReadsInPeace a b k → ReadsInPeace a d k
+peace_after : (a b d : Outside) (k : Kind) → OnlyPrints b d → ReadsInPeace a b k
+    → ReadsInPeace a d k
 peace_after a b d done only peace = only.read_faults ∙ peace
 peace_after a b d refusal only peace = only.read_faults ∙ peace
 peace_after a b d read_fault only peace = tt
@@ -71,28 +87,35 @@ peace_after a b d write_fault only peace = only.read_faults ∙ peace
 peace_after a b d no_memory only peace = tt
 
 -- what stands at a fault may stand where memory runs out after it
-same_later : (asked : Option Demand) (a b : Outside) → Goes a.written b.written AreSame → Writes asked a b no_memory
-same_later asked a b goes = told a.held (λ files. same_stands (answer_of asked files).outputs a.written b.written goes)
+same_later : (asked : Option Demand) (a b : Outside) → Goes a.written b.written AreSame
+    → Writes asked a b no_memory
+same_later asked a b goes = told a.held (λ files. same_stands (answer_of asked files).outputs
+    a.written b.written goes)
 
-refused_later : (copies : Bool) (asked : Option Demand) (a b : Outside) → StaysAtRefusal copies a.held a.written b.written
+refused_later : (copies : Bool) (asked : Option Demand) (a b : Outside)
+    → StaysAtRefusal copies a.held a.written b.written
     → Writes asked a b no_memory
 refused_later false asked a b writes = same_later asked a b writes
 refused_later true asked a b writes =
-    told_map a.held (λ files goes. same_stands (answer_of asked files).outputs a.written b.written goes) writes
+    told_map a.held (λ files goes. same_stands (answer_of asked files).outputs a.written b.written
+    goes) writes
 
-unread_later : (copies : Bool) (asked : Option Demand) (a b : Outside) → StaysAtReadFault copies asked a.held a.written b.written
+unread_later : (copies : Bool) (asked : Option Demand) (a b : Outside)
+    → StaysAtReadFault copies asked a.held a.written b.written
     → Writes asked a b no_memory
 unread_later false asked a b writes = same_later asked a b writes
 unread_later true asked a b writes = writes
 
-writes_later : (asked : Option Demand) (a b : Outside) (k : Kind) → (k ≡ done → ⊥) → Writes asked a b k → Writes asked a b no_memory
+writes_later : (asked : Option Demand) (a b : Outside) (k : Kind) → (k ≡ done → ⊥)
+    → Writes asked a b k → Writes asked a b no_memory
 writes_later asked a b done n writes = absurd (n refl)
 writes_later asked a b refusal n writes = refused_later (are_copies asked) asked a b writes
 writes_later asked a b read_fault n writes = unread_later (are_copies asked) asked a b writes
 writes_later asked a b write_fault n writes = writes
 writes_later asked a b no_memory n writes = writes
 
-not_done : (P : Demand → Files → Type 0) (asked : Option Demand) (files : Files) (k : Kind) → (k ≡ done → ⊥) → WhereDone P asked files k
+not_done : (P : Demand → Files → Type 0) (asked : Option Demand) (files : Files) (k : Kind)
+    → (k ≡ done → ⊥) → WhereDone P asked files k
 not_done P None files k n = tt
 not_done P (Some demand) files done n = absurd (n refl)
 not_done P (Some demand) files refusal n = tt
@@ -100,19 +123,22 @@ not_done P (Some demand) files read_fault n = tt
 not_done P (Some demand) files write_fault n = tt
 not_done P (Some demand) files no_memory n = tt
 
-pub refuse_meets : (asked : Option Demand) (a b d : Outside) (s : Status) → IsFaulty asked a b s → OnlyPrints b d
+pub refuse_meets : (asked : Option Demand) (a b d : Outside) (s : Status) → IsFaulty asked a b s
+    → OnlyPrints b d
     → b.print_faults ≤ d.print_faults → Printed b d (fault_text s) → Meets asked a d s
 refuse_meets asked a b d s faulty only later printed =
     let same : Printed a d (fault_text s) = rw (← faulty.printed, ← faulty.print_faults) printed in
     record {
-      ends = told_map a.held (λ files ends. ends_after asked files a b d (kind_of s) s only ends) faulty.ends;
+      ends = told_map a.held (λ files ends. ends_after asked files a b d (kind_of s) s only ends)
+          faulty.ends;
       usage = faulty.usage;
       refuses = faulty.refuses;
       caused = caused_after asked a b d (kind_of s) only later faulty.caused;
       memory = faulty.memory;
       peace = peace_after a b d (kind_of s) only faulty.peace;
       prints = prints_fault asked a d (kind_of s) s faulty.fault
-          (told_map a.held (λ files p. printable_after asked files a b d (fault_text s) only p) faulty.printable) same;
+          (told_map a.held (λ files p. printable_after asked files a b d (fault_text s) only p)
+          faulty.printable) same;
       writes = writes_after asked a b d (kind_of s) only faulty.writes;
       only = rw only.written faulty.only;
       held = only.held ∙ faulty.held;
@@ -120,7 +146,8 @@ refuse_meets asked a b d s faulty only later printed =
     }
 
 -- memory ran out while a fault's line was printed
-pub refuse_out_of_memory : (asked : Option Demand) (a b d : Outside) (s : Status) → IsFaulty asked a b s → OnlyPrints b d
+pub refuse_out_of_memory : (asked : Option Demand) (a b d : Outside) (s : Status)
+    → IsFaulty asked a b s → OnlyPrints b d
     → AddsFront b.printed d.printed (fault_text s) → Meets asked a d status.NoMemory
 refuse_out_of_memory asked a b d s faulty only printed =
     let part : AddsFront a.printed d.printed (fault_text s) = rw (← faulty.printed) printed in
@@ -129,17 +156,21 @@ refuse_out_of_memory asked a b d s faulty only printed =
       usage = λ u. cc;
       refuses = λ r. inr refl;
       caused = tt;
-      prints = told_map a.held (λ files p. (fault_text s, printable_after asked files a b d (fault_text s) only p, part)) faulty.printable;
+      prints = told_map a.held (λ files p.
+          (fault_text s, printable_after asked files a b d (fault_text s) only p, part))
+          faulty.printable;
       memory = refl;
       peace = tt;
-      writes = writes_after asked a b d no_memory only (writes_later asked a b (kind_of s) faulty.fault faulty.writes);
+      writes = writes_after asked a b d no_memory only
+          (writes_later asked a b (kind_of s) faulty.fault faulty.writes);
       only = rw only.written faulty.only;
       held = only.held ∙ faulty.held;
       again = told a.held (λ files. not_done RepeatsReport asked files no_memory (λ e. cc));
     }
 
 -- memory ran out
-pub starved : (asked : Option Demand) (a b : Outside) → Writes asked a b no_memory → OnlyAt (outputs asked) a b → b.held ≡ a.held
+pub starved : (asked : Option Demand) (a b : Outside) → Writes asked a b no_memory
+    → OnlyAt (outputs asked) a b → b.held ≡ a.held
     → b.printed ≡ a.printed → b.print_faults ≡ a.print_faults → IsFaulty asked a b status.NoMemory
 starved asked a b writes only held printed print_faults = record {
   fault = λ e. cc;
@@ -158,58 +189,79 @@ starved asked a b writes only held printed print_faults = record {
 }
 
 -- memory ran out before it was
-pub faulty_for_memory : (asked : Option Demand) (a b : Outside) (s : Status) → IsFaulty asked a b s → IsFaulty asked a b status.NoMemory
+pub faulty_for_memory : (asked : Option Demand) (a b : Outside) (s : Status) → IsFaulty asked a b s
+    → IsFaulty asked a b status.NoMemory
 faulty_for_memory asked a b s faulty =
-    starved asked a b (writes_later asked a b (kind_of s) faulty.fault faulty.writes) faulty.only faulty.held faulty.printed
+    starved asked a b (writes_later asked a b (kind_of s) faulty.fault faulty.writes) faulty.only
+    faulty.held faulty.printed
     faulty.print_faults
 
 -- ---- the command's own text
 
 -- the answer of a command whose files are accepted
-pub accepted_answer : (demand : Demand) (files : Files) → first_refusal (readings_of demand) files ≡ None
+pub accepted_answer : (demand : Demand) (files : Files) → first_refusal (readings_of demand) files
+    ≡ None
     → answer_of (Some demand) files ≡ work_of demand files
 accepted_answer demand files none = rw none refl
 
-finished_ends : (demand : Demand) (files : Files) (a d : Outside) (s : Status) → kind_of s ≡ done → first_refusal (readings_of demand) files
+finished_ends : (demand : Demand) (files : Files) (a d : Outside) (s : Status) → kind_of s ≡ done
+    → first_refusal (readings_of demand) files
     ≡ None → (work_of demand files).status ≡ s → EndsAs (Some demand) files a d (kind_of s) s
-finished_ends demand files a d s kind none is = rw kind (ap (λ (w : Work). w.status) (accepted_answer demand files none) ∙ is)
+finished_ends demand files a d s kind none is = rw kind
+    (ap (λ (w : Work). w.status) (accepted_answer demand files none) ∙ is)
 
-own_text : (demand : Demand) (files : Files) (text : List ℕ) → first_refusal (readings_of demand) files ≡ None
+own_text : (demand : Demand) (files : Files) (text : List ℕ)
+    → first_refusal (readings_of demand) files ≡ None
     → (work_of demand files).text ≡ text → (answer_of (Some demand) files).text ≡ text
-own_text demand files text none is = ap (λ (w : Work). w.text) (accepted_answer demand files none) ∙ is
+own_text demand files text none is = ap (λ (w : Work). w.text) (accepted_answer demand files none)
+    ∙ is
 
-own_texts : (demand : Demand) (a b : Outside) (s : Status) (text : List ℕ) → IsWorked demand a b s text
+own_texts : (demand : Demand) (a b : Outside) (s : Status) (text : List ℕ)
+    → IsWorked demand a b s text
     → Told a.held (λ files. (answer_of (Some demand) files).text ≡ text)
-own_texts demand a b s text worked = told_both a.held (λ files none is. own_text demand files text none is) worked.accepts worked.same_text
+own_texts demand a b s text worked = told_both a.held
+    (λ files none is. own_text demand files text none is) worked.accepts worked.same_text
 
 -- the outputs of a command whose files are accepted
-pub own_outputs : (demand : Demand) (files : Files) (P : List Output → Type 0) → first_refusal (readings_of demand) files ≡ None
+pub own_outputs : (demand : Demand) (files : Files) (P : List Output → Type 0)
+    → first_refusal (readings_of demand) files ≡ None
     → P (work_of demand files).outputs → P (answer_of (Some demand) files).outputs
-own_outputs demand files P none p = rw (ap (λ (w : Work). w.outputs) (accepted_answer demand files none)) p
+own_outputs demand files P none p = rw (ap (λ (w : Work). w.outputs)
+    (accepted_answer demand files none)) p
 
-whole_after : (demand : Demand) (a b : Outside) (s : Status) (text : List ℕ) → IsWorked demand a b s text
-    → Told a.held (λ files. Goes a.written b.written (AreWhole (answer_of (Some demand) files).outputs))
+whole_after : (demand : Demand) (a b : Outside) (s : Status) (text : List ℕ)
+    → IsWorked demand a b s text
+    → Told a.held (λ files. Goes a.written b.written
+    (AreWhole (answer_of (Some demand) files).outputs))
 whole_after demand a b s text worked =
-    told_both a.held (λ files none whole. own_outputs demand files (λ outputs. Goes a.written b.written (AreWhole outputs)) none whole)
+    told_both a.held (λ files none whole. own_outputs demand files
+    (λ outputs. Goes a.written b.written (AreWhole outputs)) none whole)
     worked.accepts worked.whole
 
-part_after : (demand : Demand) (a b : Outside) (s : Status) (text : List ℕ) → IsWorked demand a b s text
-    → Told a.held (λ files. Goes a.written b.written (AllMayStand (answer_of (Some demand) files).outputs))
+part_after : (demand : Demand) (a b : Outside) (s : Status) (text : List ℕ)
+    → IsWorked demand a b s text
+    → Told a.held (λ files. Goes a.written b.written
+    (AllMayStand (answer_of (Some demand) files).outputs))
 part_after demand a b s text worked =
     told_map a.held
-    (λ files goes. goes_map a.written b.written (λ before now is. whole_stands (answer_of (Some demand) files).outputs before now is) goes)
+    (λ files goes. goes_map a.written b.written
+    (λ before now is. whole_stands (answer_of (Some demand) files).outputs before now is) goes)
     (whole_after demand a b s text worked)
 
 whole_writes : (k : Kind) (asked : Option Demand) (a b : Outside) → k ≡ done
-    → Told a.held (λ files. Goes a.written b.written (AreWhole (answer_of asked files).outputs)) → Writes asked a b k
+    → Told a.held (λ files. Goes a.written b.written (AreWhole (answer_of asked files).outputs))
+    → Writes asked a b k
 whole_writes k asked a b is whole = rw is whole
 
 whole_printed : (demand : Demand) (a d : Outside) (s : Status) (text : List ℕ) → kind_of s ≡ done
-    → Told a.held (λ files. (answer_of (Some demand) files).text ≡ text) → Adds a.printed d.printed text
+    → Told a.held (λ files. (answer_of (Some demand) files).text ≡ text)
+    → Adds a.printed d.printed text
     → Prints (Some demand) a d (kind_of s) s
-whole_printed demand a d s text kind texts printed = rw kind (told_map a.held (λ files is. rw is printed) texts)
+whole_printed demand a d s text kind texts printed = rw kind
+    (told_map a.held (λ files is. rw is printed) texts)
 
-peace_kept : (a d : Outside) (k : Kind) → k ≡ done → d.read_faults ≡ a.read_faults → ReadsInPeace a d k
+peace_kept : (a d : Outside) (k : Kind) → k ≡ done → d.read_faults ≡ a.read_faults
+    → ReadsInPeace a d k
 peace_kept a d k is same = rw is same
 
 no_memory_hidden : (s : Status) → kind_of s ≡ done → hides_no_memory s ≡ false
@@ -233,16 +285,19 @@ no_usage s kind u = let k : kind_of status.Usage ≡ done = ap kind_of (sym u) �
 no_cause : (asked : Option Demand) (a d : Outside) (k : Kind) → k ≡ done → IsCaused asked a d k
 no_cause asked a d k is = rw is tt
 
-at_done : (P : Demand → Files → Type 0) (k : Kind) (demand : Demand) (files : Files) → k ≡ done → P demand files
+at_done : (P : Demand → Files → Type 0) (k : Kind) (demand : Demand) (files : Files) → k ≡ done
+    → P demand files
     → WhereDone P (Some demand) files k
 at_done P k demand files is holds = rw is holds
 
-pub finish_meets : (demand : Demand) (a b d : Outside) (s : Status) (text : List ℕ) → kind_of s ≡ done → IsWorked demand a b s text
+pub finish_meets : (demand : Demand) (a b d : Outside) (s : Status) (text : List ℕ) → kind_of s
+    ≡ done → IsWorked demand a b s text
     → OnlyPrints b d → Adds b.printed d.printed text → Meets (Some demand) a d s
 finish_meets demand a b d s text kind worked only printed =
     let whole : Adds a.printed d.printed text = rw (← worked.printed) printed in
     record {
-      ends = told_both a.held (λ files none is. finished_ends demand files a d s kind none is) worked.accepts worked.ends;
+      ends = told_both a.held (λ files none is. finished_ends demand files a d s kind none is)
+          worked.accepts worked.ends;
       usage = λ u. absurd (no_usage s kind u);
       refuses = λ r. cc;
       caused = no_cause (Some demand) a d (kind_of s) kind;
@@ -253,12 +308,15 @@ finish_meets demand a b d s text kind worked only printed =
           (whole_writes (kind_of s) (Some demand) a b kind (whole_after demand a b s text worked));
       only = rw only.written worked.only;
       held = only.held ∙ worked.held;
-      again = told_map a.held (λ files is. at_done RepeatsReport (kind_of s) demand files kind is) worked.again;
+      again = told_map a.held (λ files is. at_done RepeatsReport (kind_of s) demand files kind is)
+          worked.again;
     }
 
 -- printing it failed
-pub finish_failed : (demand : Demand) (a b d : Outside) (s : Status) (text : List ℕ) → IsWorked demand a b s text → OnlyPrints b d
-    → Rose b.print_faults d.print_faults → AddsFront b.printed d.printed text → Meets (Some demand) a d status.WriteFault
+pub finish_failed : (demand : Demand) (a b d : Outside) (s : Status) (text : List ℕ)
+    → IsWorked demand a b s text → OnlyPrints b d
+    → Rose b.print_faults d.print_faults → AddsFront b.printed d.printed text
+    → Meets (Some demand) a d status.WriteFault
 finish_failed demand a b d s text worked only rose printed =
     let rose_a : Rose a.print_faults d.print_faults = rw (← worked.print_faults) rose in
     let part : AddsFront a.printed d.printed text = rw (← worked.printed) printed in
@@ -269,7 +327,8 @@ finish_failed demand a b d s text worked only rose printed =
       memory = refl;
       caused = inr rose_a;
       peace = only.read_faults ∙ worked.reads;
-      prints = told_map a.held (λ files is. inr (rose_a, rw is part)) (own_texts demand a b s text worked);
+      prints = told_map a.held (λ files is. inr (rose_a, rw is part))
+          (own_texts demand a b s text worked);
       writes = rw only.written (part_after demand a b s text worked);
       only = rw only.written worked.only;
       held = only.held ∙ worked.held;
@@ -277,7 +336,8 @@ finish_failed demand a b d s text worked only rose printed =
     }
 
 -- memory ran out while it was printed
-pub finish_out_of_memory : (demand : Demand) (a b d : Outside) (s : Status) (text : List ℕ) → IsWorked demand a b s text → OnlyPrints b d
+pub finish_out_of_memory : (demand : Demand) (a b d : Outside) (s : Status) (text : List ℕ)
+    → IsWorked demand a b s text → OnlyPrints b d
     → AddsFront b.printed d.printed text → Meets (Some demand) a d status.NoMemory
 finish_out_of_memory demand a b d s text worked only printed =
     let part : AddsFront a.printed d.printed text = rw (← worked.printed) printed in
@@ -288,7 +348,8 @@ finish_out_of_memory demand a b d s text worked only printed =
       memory = refl;
       caused = tt;
       peace = tt;
-      prints = told_map a.held (λ files is. (text, inl (sym is), part)) (own_texts demand a b s text worked);
+      prints = told_map a.held (λ files is. (text, inl (sym is), part))
+          (own_texts demand a b s text worked);
       writes = rw only.written (part_after demand a b s text worked);
       only = rw only.written worked.only;
       held = only.held ∙ worked.held;
@@ -296,21 +357,44 @@ finish_out_of_memory demand a b d s text worked only printed =
     }
 
 -- memory ran out before it was made
-pub finish_untold : (demand : Demand) (a b : Outside) (s : Status) (text : List ℕ) → IsWorked demand a b s text
+pub finish_untold : (demand : Demand) (a b : Outside) (s : Status) (text : List ℕ)
+    → IsWorked demand a b s text
     → IsFaulty (Some demand) a b status.NoMemory
 finish_untold demand a b s text worked =
-    starved (Some demand) a b (part_after demand a b s text worked) worked.only worked.held worked.printed worked.print_faults
+    starved (Some demand) a b (part_after demand a b s text worked) worked.only worked.held
+    worked.printed worked.print_faults
 
 -- a command that writes nothing
-pub answered_worked : (demand : Demand) (a b : Outside) (text : List ℕ) → IsAnswered demand a b text → IsWorked demand a b status.Done text
+module _ (o : Option Files) (work : Files → Work) (w : Work)
+    (works : Told o (λ files. work files ≡ w))
+  where
+    told_status : Told o (λ files. (work files).status ≡ w.status)
+    told_status = told_map o (λ files is. ap (λ (x : Work). x.status) is) works
+
+    told_text : Told o (λ files. (work files).text ≡ w.text)
+    told_text = told_map o (λ files is. ap (λ (x : Work). x.text) is) works
+
+    none_written : w.outputs ≡ [] → (before : Option Files)
+        → Told o (λ files. Goes before before (AreWhole (work files).outputs))
+    none_written none before =
+        told_map o (λ files is. goes_same _ before (λ names. no_outputs files names is)) works
+      where
+        no_outputs : (files names : Files) → work files ≡ w
+            → AreWhole (work files).outputs names names
+        no_outputs files names is =
+            rw (ap (λ (x : Work). x.outputs) is ∙ none) (λ name. refl)
+
+pub answered_worked : (demand : Demand) (a b : Outside) (text : List ℕ) → IsAnswered demand a b text
+    → IsWorked demand a b status.Done text
 answered_worked demand a b text answered =
     let same = answered.accepted.same in
     let written = ap (λ (o : Outside). o.written) same in
     record {
       accepts = answered.accepted.accepts;
-      ends = told_map a.held (λ files is. ap (λ (w : Work). w.status) is) answered.work;
-      same_text = told_map a.held (λ files is. ap (λ (w : Work). w.text) is) answered.work;
-      whole = rw written (told_map a.held (λ files is. goes_same _ a.written (λ before. no_outputs files before is)) answered.work);
+      ends = told_status a.held (work_of demand) (done_with text) answered.work;
+      same_text = told_text a.held (work_of demand) (done_with text) answered.work;
+      whole = rw written
+          (none_written a.held (work_of demand) (done_with text) answered.work refl a.written);
       only = only_same_names (outputs_of demand) a b written;
       again = told a.held answered.again;
       reads = ap (λ (o : Outside). o.read_faults) same;
@@ -318,9 +402,6 @@ answered_worked demand a b text answered =
       printed = ap (λ (o : Outside). o.printed) same;
       print_faults = ap (λ (o : Outside). o.print_faults) same;
     }
-  where
-    no_outputs : (files before : Files) → work_of demand files ≡ done_with text → AreWhole (work_of demand files).outputs before before
-    no_outputs files before is = rw (ap (λ (w : Work). w.outputs) is) (λ name. refl)
 
 -- ---- where nothing is read, or the reading stopped
 
@@ -344,39 +425,54 @@ words_refused a = record {
 
 part_same : (asked : Option Demand) (held o : Option Files) → StandsInPart asked held o o
 part_same asked held o =
-    told held (λ files. goes_same _ o (λ before name. may_stay (bytes_for (answer_of asked files).outputs name) (before name)))
+    told held (λ files. goes_same _ o (λ before name. may_stay
+    (bytes_for (answer_of asked files).outputs name) (before name)))
 
 refused_same : (copies : Bool) (held o : Option Files) → StaysAtRefusal copies held o o
 refused_same false held o = goes_same AreSame o (λ before name. refl)
 refused_same true held o = told held (λ files. goes_same AreSame o (λ before name. refl))
 
-unread_same : (copies : Bool) (asked : Option Demand) (held o : Option Files) → StaysAtReadFault copies asked held o o
+unread_same : (copies : Bool) (asked : Option Demand) (held o : Option Files)
+    → StaysAtReadFault copies asked held o o
 unread_same false asked held o = goes_same AreSame o (λ before name. refl)
 unread_same true asked held o = part_same asked held o
 
 -- memory ran out
-same_written : (asked : Option Demand) (a b : Outside) (k : Kind) → (k ≡ done → ⊥) → b.written ≡ a.written → Writes asked a b k
+same_written : (asked : Option Demand) (a b : Outside) (k : Kind) → (k ≡ done → ⊥) → b.written
+    ≡ a.written → Writes asked a b k
 same_written asked a b done n same = absurd (n refl)
 same_written asked a b refusal n same = rw same (refused_same (are_copies asked) a.held a.written)
-same_written asked a b read_fault n same = rw same (unread_same (are_copies asked) asked a.held a.written)
+same_written asked a b read_fault n same = rw same
+    (unread_same (are_copies asked) asked a.held a.written)
 same_written asked a b write_fault n same = rw same (part_same asked a.held a.written)
 same_written asked a b no_memory n same = rw same (part_same asked a.held a.written)
 
-pub memory_faulty : (asked : Option Demand) (a b : Outside) → OnlyReads a b → IsFaulty asked a b status.NoMemory
+pub memory_faulty : (asked : Option Demand) (a b : Outside) → OnlyReads a b
+    → IsFaulty asked a b status.NoMemory
 memory_faulty asked a b only =
-    starved asked a b (same_written asked a b no_memory (λ e. cc) only.written) (only_same_names (outputs asked) a b only.written) only.held
+    starved asked a b (same_written asked a b no_memory (λ e. cc) only.written)
+    (only_same_names (outputs asked) a b only.written) only.held
     only.printed only.print_faults
 
 pub words_unread : (asked : Option Demand) (a : Outside) → IsFaulty asked a a status.NoMemory
 words_unread asked a = memory_faulty asked a a
-    (record { held = refl; written = refl; printed = refl; write_faults = refl; print_faults = refl })
+    (record {
+      held = refl;
+      written = refl;
+      printed = refl;
+      write_faults = refl;
+      print_faults =
+          refl;
+    })
 
-refused_answer : (demand : Demand) (files : Files) (s : Status) → first_refusal (readings_of demand) files ≡ Some s
+refused_answer : (demand : Demand) (files : Files) (s : Status)
+    → first_refusal (readings_of demand) files ≡ Some s
     → answer_of (Some demand) files ≡ refusal_of s
 refused_answer demand files s is = rw is refl
 
 -- a file is refused
-file_faulty : (demand : Demand) (a b : Outside) (s : Status) → kind_of s ≡ refusal → s ≢ status.Usage → hides_no_memory s ≡ false
+file_faulty : (demand : Demand) (a b : Outside) (s : Status) → kind_of s ≡ refusal
+    → s ≢ status.Usage → hides_no_memory s ≡ false
     → Told a.held (λ files. first_refusal (readings_of demand) files ≡ Some s)
     → b.read_faults ≡ a.read_faults → OnlyReads a b → IsFaulty (Some demand) a b s
 file_faulty demand a b s kind words memory refused peace only = record {
@@ -387,7 +483,8 @@ file_faulty demand a b s kind words memory refused peace only = record {
   memory = memory;
   caused = caused_so;
   peace = peace_so;
-  printable = told_map a.held (λ files is. inl (sym (ap (λ (w : Work). w.text) (refused_answer demand files s is)))) refused;
+  printable = told_map a.held (λ files is. inl
+      (sym (ap (λ (w : Work). w.text) (refused_answer demand files s is)))) refused;
   writes = same_written (Some demand) a b (kind_of s) not_done_so only.written;
   only = only_same_names (outputs (Some demand)) a b only.written;
   held = only.held;
@@ -398,7 +495,8 @@ file_faulty demand a b s kind words memory refused peace only = record {
     not_done_so : kind_of s ≡ done → ⊥
     not_done_so e = let k : refusal ≡ done = sym kind ∙ e in cc
 
-    ends_so : (files : Files) → first_refusal (readings_of demand) files ≡ Some s → EndsAs (Some demand) files a b (kind_of s) s
+    ends_so : (files : Files) → first_refusal (readings_of demand) files ≡ Some s
+        → EndsAs (Some demand) files a b (kind_of s) s
     ends_so files is = rw kind (ap (λ (w : Work). w.status) (refused_answer demand files s is))
 
     caused_so : IsCaused (Some demand) a b (kind_of s)
@@ -408,7 +506,8 @@ file_faulty demand a b s kind words memory refused peace only = record {
     peace_so = rw kind peace
 
 -- reading a file failed
-reading_faulty : (demand : Demand) (a b : Outside) → IsStopped (readings_of demand) a b status.ReadFault
+reading_faulty : (demand : Demand) (a b : Outside)
+    → IsStopped (readings_of demand) a b status.ReadFault
     → IsFaulty (Some demand) a b status.ReadFault
 reading_faulty demand a b stopped = record {
   fault = λ e. cc;
@@ -426,18 +525,24 @@ reading_faulty demand a b stopped = record {
   print_faults = stopped.only.print_faults;
 }
 
-pub stopped_faulty : (demand : Demand) (a b : Outside) (s : Status) → IsStopped (readings_of demand) a b s → IsFaulty (Some demand) a b s
+pub stopped_faulty : (demand : Demand) (a b : Outside) (s : Status)
+    → IsStopped (readings_of demand) a b s → IsFaulty (Some demand) a b s
 stopped_faulty demand a b status.Done stopped = absurd stopped.why
 stopped_faulty demand a b status.Usage stopped = absurd (stopped.words refl)
-stopped_faulty demand a b (status.Elf fault) stopped = file_faulty demand a b (status.Elf fault) refl stopped.words stopped.memory
+stopped_faulty demand a b (status.Elf fault) stopped = file_faulty demand a b
+    (status.Elf fault) refl stopped.words stopped.memory
     stopped.why.0 stopped.why.1 stopped.only
-stopped_faulty demand a b (status.Schedule fault) stopped = file_faulty demand a b (status.Schedule fault) refl stopped.words stopped.memory
+stopped_faulty demand a b (status.Schedule fault) stopped = file_faulty demand a b
+    (status.Schedule fault) refl stopped.words stopped.memory
     stopped.why.0 stopped.why.1 stopped.only
-stopped_faulty demand a b (status.Settings fault) stopped = file_faulty demand a b (status.Settings fault) refl stopped.words stopped.memory
+stopped_faulty demand a b (status.Settings fault) stopped = file_faulty demand a b
+    (status.Settings fault) refl stopped.words stopped.memory
     stopped.why.0 stopped.why.1 stopped.only
-stopped_faulty demand a b (status.Trace fault) stopped = file_faulty demand a b (status.Trace fault) refl stopped.words stopped.memory
+stopped_faulty demand a b (status.Trace fault) stopped = file_faulty demand a b
+    (status.Trace fault) refl stopped.words stopped.memory
     stopped.why.0 stopped.why.1 stopped.only
-stopped_faulty demand a b (status.State fault) stopped = file_faulty demand a b (status.State fault) refl stopped.words stopped.memory
+stopped_faulty demand a b (status.State fault) stopped = file_faulty demand a b
+    (status.State fault) refl stopped.words stopped.memory
     stopped.why.0 stopped.why.1 stopped.only
 stopped_faulty demand a b status.ReadFault stopped = reading_faulty demand a b stopped
 stopped_faulty demand a b status.WriteFault stopped = absurd stopped.why
@@ -449,8 +554,10 @@ stopped_faulty demand a b status.Trapped stopped = absurd stopped.why
 -- ---- completeness
 
 -- without faults of the outside the end is the one that is asked for
-ends_without : (asked : Option Demand) (files : Files) (old new : Outside) (s : Status) → EndsAs asked files old new (kind_of s) s
-    → IsCaused asked old new (kind_of s) → NoFaults asked old new → (s ≡ (answer_of asked files).status) ⊎ (s ≡ status.NoMemory)
+ends_without : (asked : Option Demand) (files : Files) (old new : Outside) (s : Status)
+    → EndsAs asked files old new (kind_of s) s
+    → IsCaused asked old new (kind_of s) → NoFaults asked old new
+    → (s ≡ (answer_of asked files).status) ⊎ (s ≡ status.NoMemory)
 ends_without asked files old new status.Done ends caused none = inl (sym ends)
 ends_without asked files old new status.Usage ends caused none = inl (sym ends)
 ends_without asked files old new (status.Elf fault) ends caused none = inl (sym ends)
@@ -466,7 +573,9 @@ ends_without asked files old new status.Budget ends caused none = inl (sym ends)
 ends_without asked files old new status.Deadlock ends caused none = inl (sym ends)
 ends_without asked files old new status.Trapped ends caused none = inl (sym ends)
 
-pub meets_complete : (asked : Option Demand) (old new : Outside) (s : Status) → Meets asked old new s
+pub meets_complete : (asked : Option Demand) (old new : Outside) (s : Status)
+    → Meets asked old new s
     → Told old.held (λ files. IsComplete asked files old new s)
-meets_complete asked old new s meets = told_map old.held (λ files ends none. ends_without asked files old new s ends meets.caused none)
+meets_complete asked old new s meets = told_map old.held
+    (λ files ends none. ends_without asked files old new s ends meets.caused none)
     meets.ends

@@ -2,26 +2,33 @@
 use Rattle.std.proofs.Common.{◌≡◌, ℕ, List, Some, refl}
 use Rattle.command_line.specs.Gen.{GenDemand}
 use Rattle.command_line.specs.Words.{gen}
-use Rattle.outputs.specs.Files.{AreCut, AreWritten}
+use Rattle.shelf.specs.Files.{AreCut, AreWritten}
 use Rattle.shelf.specs.Shelf.{Outside}
 use Rattle.shelf.specs.declared.shelf.ShelfError.{ShelfError}
-use Rattle.trace_maker.specs.Made.{made_file}
+use Rattle.trace_files.specs.Made.{made_file}
 use Rattle.command_files.specs.Statuses.{status_of_writing}
 use Rattle.command_files.specs.declared.status.Status.TheVariants as status
-use Rattle.command_files.specs.Laws.Told.{told}
+use Rattle.shelf.specs.Laws.Told.{told}
 use Rattle.predator_cli.specs.Gen.{gen_work, summary_of}
 use Rattle.predator_cli.specs.Meets.{IsFaulty, IsWorked}
 use Rattle.predator_cli.proofs.WriteEnds.{IsToWrite, writing_cut, written_worked}
 
 -- nothing is read before
 to_write : (d : GenDemand) (a : Outside) → IsToWrite (gen d) (gen_work d) a
-to_write d a = record { accepts = told a.held (λ files. refl); works = told a.held (λ files. refl); names = refl }
+to_write d a = record {
+  accepts = told a.held (λ files. refl);
+  works = told a.held (λ files. refl);
+  names = refl;
+}
 
-pub made_worked : (d : GenDemand) (a b : Outside) (text : List ℕ) → text ≡ summary_of d.count → AreWritten (made_file d.file d.count) a b
+pub made_worked : (d : GenDemand) (a b : Outside) (text : List ℕ) → text ≡ summary_of d.count
+    → AreWritten (made_file d.file d.count) a b
     → IsWorked (gen d) a b status.Done text
 made_worked d a b text is written =
-    written_worked (gen d) (gen_work d) a b status.Done text (to_write d a) refl is (told a.held (λ files. tt)) written
+    written_worked (gen d) (gen_work d) a b status.Done text (to_write d a) refl is
+    (told a.held (λ files. tt)) written
 
-pub made_cut : (d : GenDemand) (a b : Outside) (error : ShelfError) → AreCut (made_file d.file d.count) a b error
+pub made_cut : (d : GenDemand) (a b : Outside) (error : ShelfError)
+    → AreCut (made_file d.file d.count) a b error
     → IsFaulty (Some (gen d)) a b (status_of_writing error)
 made_cut d a b error cut = writing_cut (gen d) (gen_work d) a b error (to_write d a) cut

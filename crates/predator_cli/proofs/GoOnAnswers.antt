@@ -1,26 +1,28 @@
 -- A replay that goes on from the state of some records is not refused.
-use Rattle.std.proofs.Common.{◌≡◌, ℕ, List, [], ◌∷◌, ◌++◌, length, Option, Some, None, Result, Ok, Err}
+use Rattle.std.proofs.Common.{◌≡◌, ℕ, List, [], ◌∷◌, ◌++◌, length, Option, Some, None, Result, Ok}
+use Rattle.std.proofs.Common.{Err}
 use Rattle.std.proofs.Common.{refl, ap, ◌∙◌}
 use Rattle.std.proofs.lemmas.Bool.{eq-eqb}
 use Rattle.std.proofs.lemmas.Option.{none-some, same_Some}
 use Rattle.std.specs.Option.{option_map, option_map_or, option_or}
 use Rattle.command_line.specs.Replay.{ReplayDemand}
 use Rattle.command_line.specs.Words.{replay}
-use Rattle.predator_base.specs.Levels.{Levels}
-use Rattle.predator_base.specs.Lines.{Grid}
-use Rattle.predator_base.specs.declared.ending.Ending.{Ending}
+use Rattle.base.specs.Levels.{Levels}
+use Rattle.base.specs.Lines.{Grid}
+use Rattle.base.specs.declared.ending.Ending.{Ending}
 use Rattle.shelf.specs.Shelf.{Files, content}
-use Rattle.trace_grammar.specs.Reading.{ending_of, reading_of}
-use Rattle.trace_grammar.specs.Rules.{touches_in}
-use Rattle.trace_grammar.specs.declared.fault.TraceFault.{TraceFault}
-use Rattle.trace_grammar.specs.declared.progress.Progress.{Progress}
-use Rattle.trace_grammar.specs.declared.record.Header.{Header}
-use Rattle.trace_grammar.specs.declared.record.TraceRecord.{TraceRecord}
+use Rattle.trace_format.specs.Reading.{ending_of, reading_of}
+use Rattle.trace_format.specs.Rules.{touches_in}
+use Rattle.trace_format.specs.declared.fault.TraceFault.{TraceFault}
+use Rattle.trace_format.specs.declared.read_so_far.ReadSoFar.{ReadSoFar}
+use Rattle.trace_format.specs.declared.record.Header.{Header}
+use Rattle.trace_format.specs.declared.record.TraceRecord.{TraceRecord}
 use Rattle.trace_passes.specs.Passes.{Trace, before_last, head_of, header_refusal, trace_at}
 use Rattle.trace_passes.specs.Passes.{trace_of, trace_refusal, refusal_of as refuses}
 use Rattle.trace_passes.specs.declared.wanted.Refusal.{Refusal}
 use Rattle.trace_passes.specs.declared.wanted.Wanted.{Wanted}
-use Rattle.predator_cli.specs.Answer.{answer_of, refusal_of}
+use Rattle.predator_cli.specs.Answer.{answer_of}
+use Rattle.predator_cli.specs.Judged.{refusal_of}
 use Rattle.predator_cli.specs.GoesOn.{HoldsBoth, begun_of}
 use Rattle.command_files.specs.Readings.{Reading, first_refusal}
 use Rattle.predator_cli.specs.Replay.{begun_in, grid_in, levels_in, replay_readings, replay_work}
@@ -36,7 +38,7 @@ use Rattle.command_files.specs.Laws.Readings.{accepted_both}
 -- ---- the trace
 
 module _ (w : Wanted) (t : Trace) (unrefused : header_refusal w (Some t.header) ≡ None) where
-  wanted_at : (all : List TraceRecord) (p : Option Progress) (end : Result Ending TraceFault)
+  wanted_at : (all : List TraceRecord) (p : Option ReadSoFar) (end : Result Ending TraceFault)
       → trace_at all p end ≡ Some t
       → option_or (header_refusal w (head_of p)) (trace_refusal end) ≡ None
   wanted_at all (Some p) (Ok e) is =
@@ -108,4 +110,5 @@ module _ (demand : ReplayDemand) (files : Files) (harts : ℕ) (before : List Tr
         let none : first_refusal (replay_readings demand) files ≡ None =
         accepted_both (settings_readings demand.settings) (states ++ traces) (Some files)
         settings (accepted_both states traces (Some files) state_accepted went_on) in
-        ap (λ (r : Option Status). option_map_or refusal_of r (replay_work demand files)) none ∙ work
+        ap (λ (r : Option Status). option_map_or refusal_of r (replay_work demand files)) none
+        ∙ work

@@ -1,5 +1,6 @@
 -- What a replay gives that goes on from the state of some records.
-use Rattle.std.proofs.Common.{◌≡◌, ◌<◌, ℕ, arith, List, [], ◌++◌, length, eqb, true, Option, Some, None}
+use Rattle.std.proofs.Common.{◌≡◌, ◌<◌, ℕ, arith, List, [], ◌++◌, length, eqb, true, Option, Some}
+use Rattle.std.proofs.Common.{None}
 use Rattle.std.proofs.Common.{Ok, Err, refl, sym, ap, ◌∙◌, subst}
 use Rattle.std.proofs.Math.Seq.{drop-append_seam}
 use Rattle.std.proofs.lemmas.Bool.{eq-eqb}
@@ -11,15 +12,15 @@ use Rattle.std.specs.Result.{result_ok}
 use Rattle.command_line.specs.Replay.{ReplayDemand}
 use Rattle.detector.specs.Standing.{StandsFor}
 use Rattle.detector.specs.Watch.{Watch}
-use Rattle.detector_states.specs.Resuming.{kept_of_list, resumption, resumption_in}
-use Rattle.detector_states.specs.Saving.{state_of}
-use Rattle.heap_objects.specs.Objects.{Objects}
-use Rattle.heap_objects.specs.Symbols.{NoTwoAlike}
-use Rattle.object_states.specs.Judging.{objects_judged}
-use Rattle.object_states.specs.Spelling.{spell_objects}
-use Rattle.predator_base.specs.Levels.{Levels, are_levels}
-use Rattle.predator_base.specs.Lines.{Grid, is_layout}
-use Rattle.predator_base.specs.declared.ending.Ending.{Ending}
+use Rattle.saved_state.specs.Resuming.{kept_of_list, resumption, resumption_in}
+use Rattle.saved_state.specs.Saving.{state_of}
+use Rattle.objects.specs.Objects.{Objects}
+use Rattle.objects.specs.Symbols.{NoTwoAlike}
+use Rattle.saved_state.specs.ObjectJudging.{objects_judged}
+use Rattle.saved_state.specs.ObjectSpelling.{spell_objects}
+use Rattle.base.specs.Levels.{Levels, are_levels}
+use Rattle.base.specs.Lines.{Grid, is_layout}
+use Rattle.base.specs.declared.ending.Ending.{Ending}
 use Rattle.report.specs.OfLists.{report_of}
 use Rattle.sharing_rules.specs.AccessLists.{AccessList}
 use Rattle.sharing_rules.specs.Listed.{may_predict}
@@ -27,10 +28,10 @@ use Rattle.shelf.specs.Shelf.{Files, content}
 use Rattle.sightings.specs.Lives.{objects_after, objects_of}
 use Rattle.sightings.specs.Seen.{HasSeen, IsNotable, report_of_records}
 use Rattle.sightings.specs.Sights.{Sighted, report_of_sighted, sighted_after}
-use Rattle.state_grammar.specs.OfLists.{MayKeep, state_of_list}
-use Rattle.state_grammar.specs.Spelling.{spell_state}
-use Rattle.trace_grammar.specs.Rules.{touch_in, touches_in}
-use Rattle.trace_grammar.specs.declared.record.TraceRecord.{TraceRecord}
+use Rattle.saved_state.specs.OfLists.{MayKeep, state_of_list}
+use Rattle.saved_state.specs.Spelling.{spell_state}
+use Rattle.trace_format.specs.Rules.{touch_in, touches_in}
+use Rattle.trace_format.specs.declared.record.TraceRecord.{TraceRecord}
 use Rattle.trace_passes.specs.Passes.{Trace, all_records, trace_of}
 use Rattle.predator_cli.specs.GoesOn.{MayStand, begun_of, work_of_both}
 use Rattle.predator_cli.specs.Replay.{begun_in, ended_at, grid_in, levels_in, replay_work}
@@ -62,7 +63,8 @@ none_differs w = rw (
 
 pub taken_up : (g : Grid) (v : Levels) (harts : ℕ) (before : List TraceRecord)
     → MayStand g v harts before
-    → ((more : List ℕ) → resumption_in v.report (state_of_list g v harts (touches_in before) ++ more)
+    → ((more : List ℕ) → resumption_in v.report
+    (state_of_list g v harts (touches_in before) ++ more)
     ≡ Ok (resumption (kept_of_list g v harts (touches_in before)) harts
     (length (state_of_list g v harts (touches_in before)))))
     → ((place : ℕ) → objects_judged place (length (touches_in before))
@@ -78,7 +80,8 @@ taken_up g v harts before may read again =
     state_resumed g v (first ++ spell_objects o) r may.short (read (spell_objects o))
     ∙ objects_found g v (first ++ spell_objects o) r (spell_objects o) o
     (sym (drop-append_seam first (spell_objects o))) (again (length first))
-    ∙ ap (λ (p : Option ℕ). option_map_or (λ place. Err (status.State (state.WrongSettings place))) p
+    ∙ ap (λ (p : Option ℕ). option_map_or (λ place. Err (status.State (state.WrongSettings place)))
+    p
     (Ok (begun_of g v harts before))) (none_differs w)
 
 -- ---- what a trace gives behind it
@@ -115,7 +118,8 @@ module _ (g : Grid) (v : Levels) (harts : ℕ) (before items : List TraceRecord)
     pub notable_now : IsNotable (begun_of g v harts before).sightings
         → NoTwoAlike (objects_of (before ++ items)).symbols → IsNotable now
     notable_now begun apart = record {
-      layout = subst (λ (x : Grid). IsTrue (is_layout x.size x.offset)) (sym seen.grid) begun.layout;
+      layout = subst (λ (x : Grid). IsTrue (is_layout x.size x.offset))
+          (sym seen.grid) begun.layout;
       native = subst (λ (x : Grid). IsTrue (may_predict x now.watch.levels)) (sym seen.grid)
           (subst (λ (x : Levels). IsTrue (may_predict g x)) (sym seen.levels) begun.native);
       some = subst (λ (x : Levels). 0 < x.tracking) (sym seen.levels) begun.some;

@@ -7,20 +7,20 @@ use Rattle.std.proofs.lemmas.List.Elements.{All-cons, All-contains, All-head, Al
 use Rattle.std.proofs.lemmas.List.Elements.{All-weaker}
 use Rattle.std.specs.List.{All}
 use Rattle.std.specs.Prelude.{IfSome, nat_le}
-use Rattle.heap_objects.specs.ApartLaws.{each_apart}
-use Rattle.heap_objects.specs.Blocks.{NoTwoLive}
-use Rattle.heap_objects.specs.Names.{longest_name}
-use Rattle.heap_objects.specs.Symbols.{NoTwoAlike, Symbol}
-use Rattle.heap_objects.specs.declared.block.Block.{Block}
-use Rattle.object_states.specs.Judging.{is_life}
-use Rattle.object_states.specs.Rules.{IsSavable, IsSavedBlock, IsSavedSymbol}
-use Rattle.predator_base.specs.Touch.{Touch}
+use Rattle.objects.specs.Laws.Apart.{each_apart}
+use Rattle.objects.specs.Blocks.{NoTwoLive}
+use Rattle.base.specs.Names.{longest_name}
+use Rattle.objects.specs.Symbols.{NoTwoAlike, Symbol}
+use Rattle.objects.specs.declared.block.Block.{Block}
+use Rattle.saved_state.specs.ObjectJudging.{is_life}
+use Rattle.saved_state.specs.ObjectRules.{IsSavable, IsSavedBlock, IsSavedSymbol}
+use Rattle.base.specs.Touch.{Touch}
 use Rattle.sightings.specs.Lives.{objects_of}
 use Rattle.sightings.specs.Origins.{IsBlockOf, IsSymbolOf}
-use Rattle.state_grammar.specs.OfLists.{AreOf}
-use Rattle.trace_grammar.specs.Rules.{IsGoodRecord, IsGoodSymbol, touches_in}
-use Rattle.trace_grammar.specs.declared.record.TraceRecord.{TraceRecord}
-use Rattle.trace_grammar.specs.declared.record.TraceRecord.TheVariants as records
+use Rattle.saved_state.specs.OfLists.{AreOf}
+use Rattle.trace_format.specs.Rules.{IsGoodRecord, IsGoodSymbol, touches_in}
+use Rattle.trace_format.specs.declared.record.TraceRecord.{TraceRecord}
+use Rattle.trace_format.specs.declared.record.TraceRecord.TheVariants as records
 
 -- ---- the objects
 

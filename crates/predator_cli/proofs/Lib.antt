@@ -1,20 +1,21 @@
-pub mod Standing
+pub mod CopyEnds
+pub mod CutLaws
 pub mod Ends
-mod SteadyLaws
-mod TraceFiles
-mod SpelledAgain
-mod SymbolLaws
-mod RunLaws
-mod RecountLaws
-mod WriteEnds
-mod RunEnds
-mod SummaryLaws
-mod GenEnds
-mod CopyEnds
-mod StateFiles
-mod ReplayEnds
-mod ReplayLaws
-mod GoodLaws
-mod GoOnLaws
-mod GoOnAnswers
-mod CutLaws
+pub mod GenEnds
+pub mod GoOnAnswers
+pub mod GoOnLaws
+pub mod GoodLaws
+pub mod ReplayEnds
+pub mod ReplayLaws
+pub mod Rows
+pub mod RunEnds
+pub mod RunLaws
+pub mod Sound
+pub mod SpelledAgain
+pub mod Standing
+pub mod StateFiles
+pub mod SteadyLaws
+pub mod SummaryLaws
+pub mod SymbolLaws
+pub mod TraceFiles
+pub mod WriteEnds

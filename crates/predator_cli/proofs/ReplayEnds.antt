@@ -1,12 +1,13 @@
 -- What a replay reads and gives, and how the command ends after it.
-use Rattle.std.proofs.Common.{◌≡◌, ℕ, List, [], ◌∷◌, ◌++◌, Option, Some, None, Ok, refl, sym, ap, subst, ◌∙◌}
+use Rattle.std.proofs.Common.{◌≡◌, ℕ, List, [], ◌∷◌, ◌++◌, Option, Some, None, Ok, refl, sym, ap}
+use Rattle.std.proofs.Common.{subst, ◌∙◌}
 use Rattle.std.specs.Option.{option_map_or}
 use Rattle.command_line.specs.Names.{given}
 use Rattle.command_line.specs.Replay.{ReplayDemand}
 use Rattle.command_line.specs.Words.{replay}
-use Rattle.outputs.specs.Files.{AreCut, AreWritten}
-use Rattle.predator_base.specs.Levels.{Levels}
-use Rattle.predator_base.specs.Lines.{Grid}
+use Rattle.shelf.specs.Files.{AreCut, AreWritten}
+use Rattle.base.specs.Levels.{Levels}
+use Rattle.base.specs.Lines.{Grid}
 use Rattle.settings.specs.declared.values.Settings.{Settings}
 use Rattle.shelf.specs.Shelf.{Files, Outside, Told, content}
 use Rattle.shelf.specs.declared.shelf.ShelfError.{ShelfError}
@@ -18,11 +19,14 @@ use Rattle.command_files.specs.Works.{done_with, output_for}
 use Rattle.command_files.specs.declared.status.Status.{Status}
 use Rattle.command_files.specs.declared.status.Status.TheVariants as status
 use Rattle.command_files.specs.Laws.Settings.{settings_chosen}
-use Rattle.command_files.specs.Laws.Readings.{accepted_behind, alike_accepted, alike_stopped, stopped_behind, stopped_first, told_again}
-use Rattle.command_files.specs.Laws.Told.{told, told_both, told_map}
+use Rattle.command_files.specs.Laws.Readings.{accepted_behind, alike_accepted, alike_stopped}
+use Rattle.command_files.specs.Laws.Readings.{stopped_behind, stopped_first, told_again}
+use Rattle.shelf.specs.Laws.Told.{told, told_both, told_map}
 use Rattle.predator_cli.specs.Meets.{IsFaulty, IsWorked}
-use Rattle.predator_cli.specs.Replay.{IsCounted, IsToShow, begun_in, begun_under, grid_in, levels_in, refuses_trace, replay_readings}
-use Rattle.predator_cli.specs.Replay.{replay_work, shown, state_readings, trace_reading, wanted_after, work_after}
+use Rattle.predator_cli.specs.Replay.{IsCounted, IsToShow, begun_in, begun_under, grid_in}
+use Rattle.predator_cli.specs.Replay.{levels_in, refuses_trace, replay_readings}
+use Rattle.predator_cli.specs.Replay.{replay_work, shown, state_readings, trace_reading}
+use Rattle.predator_cli.specs.Replay.{wanted_after, work_after}
 use Rattle.predator_cli.specs.declared.state_file.Begun.{Begun}
 use Rattle.predator_cli.proofs.StateFiles.{states_accepted, states_stopped}
 use Rattle.predator_cli.proofs.WriteEnds.{IsToWrite, names_in, writing_cut, written_worked}
@@ -33,14 +37,16 @@ told_back : (P : Files → Type 0) (a b : Outside) → b ≡ a → Told b.held P
 told_back P a b same is = subst (λ (o : Outside). Told o.held P) same is
 
 -- the settings are refused
-pub settings_stopped : (d : ReplayDemand) (a b : Outside) (s : Status) → IsStopped (settings_readings d.settings) a b s
+pub settings_stopped : (d : ReplayDemand) (a b : Outside) (s : Status)
+    → IsStopped (settings_readings d.settings) a b s
     → IsStopped (replay_readings d) a b s
 settings_stopped d a b s stopped =
     stopped_first (settings_readings d.settings) (state_readings (grid_in d) (levels_in d) d.resume
     ++ trace_reading (λ files. wanted_after (begun_in d files)) d.trace ∷ []) a b s stopped
 
 -- the layout and the thresholds are those of the settings, which were read
-module _ (d : ReplayDemand) (s : Settings) (g : Grid) (v : Levels) (grid_is : g ≡ layout_of d.layout s)
+module _ (d : ReplayDemand) (s : Settings) (g : Grid) (v : Levels)
+    (grid_is : g ≡ layout_of d.layout s)
     (levels_is : v ≡ levels_of d.layout s)
   where
     chosen : (a : Outside) → Told a.held (λ files. settings_in d.settings files ≡ Ok s)
@@ -62,26 +68,35 @@ module _ (d : ReplayDemand) (s : Settings) (g : Grid) (v : Levels) (grid_is : g 
     abbrev traces : List Reading
     traces = trace_reading (λ files. wanted_after (begun_in d files)) d.trace ∷ []
 
-    wanted_alike : (begun : Option Begun) (a : Outside) → Told a.held (λ files. settings_in d.settings files ≡ Ok s)
+    wanted_alike : (begun : Option Begun) (a : Outside)
+        → Told a.held (λ files. settings_in d.settings files ≡ Ok s)
         → Told a.held (λ files. begun_under g v d.resume files ≡ begun)
-        → Told a.held (λ files. refuses_trace (wanted_after (begun_in d files)) d.trace files ≡ refuses_trace
+        → Told a.held (λ files. refuses_trace (wanted_after (begun_in d files)) d.trace files
+        ≡ refuses_trace
         (wanted_after begun) d.trace files)
     wanted_alike begun a read is =
-        told_both a.held (λ files same e. ap (λ (x : Option Begun). refuses_trace (wanted_after x) d.trace files) (begun_alike files same
+        told_both a.held (λ files same e. ap
+        (λ (x : Option Begun). refuses_trace (wanted_after x) d.trace files)
+        (begun_alike files same
         ∙ e))
         (chosen a read) is
 
     -- the state is refused, behind the settings
-    pub state_stopped : (a m p : Outside) (st : Status) → Told a.held (λ files. settings_in d.settings files ≡ Ok s)
-        → IsAccepted (settings_readings d.settings) a m → IsStopped (state_readings (λ x. g) (λ x. v) d.resume) m p st
+    pub state_stopped : (a m p : Outside) (st : Status)
+        → Told a.held (λ files. settings_in d.settings files ≡ Ok s)
+        → IsAccepted (settings_readings d.settings) a m
+        → IsStopped (state_readings (λ x. g) (λ x. v) d.resume) m p st
         → IsStopped (replay_readings d) a p st
     state_stopped a m p st read first stopped =
         let at_m = told_again (λ files. settings_in d.settings files ≡ Ok s) a m first.same read in
         stopped_behind (settings_readings d.settings) (states ++ traces) a m p st first
-        (stopped_first states traces m p st (states_stopped (grid_in d) (levels_in d) g v d.resume m p st (chosen m at_m) stopped))
+        (stopped_first states traces m p st
+        (states_stopped (grid_in d) (levels_in d) g v d.resume m p st (chosen m at_m) stopped))
 
-    module _ (begun : Option Begun) (a m p b : Outside) (read : Told a.held (λ files. settings_in d.settings files ≡ Ok s))
-        (first : IsAccepted (settings_readings d.settings) a m) (then : IsAccepted (state_readings (λ x. g) (λ x. v) d.resume) m p)
+    module _ (begun : Option Begun) (a m p b : Outside)
+        (read : Told a.held (λ files. settings_in d.settings files ≡ Ok s))
+        (first : IsAccepted (settings_readings d.settings) a m)
+        (then : IsAccepted (state_readings (λ x. g) (λ x. v) d.resume) m p)
         (is : Told m.held (λ files. begun_under g v d.resume files ≡ begun))
       where
         at_m : Told m.held (λ files. settings_in d.settings files ≡ Ok s)
@@ -97,46 +112,63 @@ module _ (d : ReplayDemand) (s : Settings) (g : Grid) (v : Levels) (grid_is : g 
         behind = states_accepted (grid_in d) (levels_in d) g v d.resume m p (chosen m at_m) then
 
         -- the trace is refused, behind both
-        pub trace_stopped : (st : Status) → IsStopped (trace_reading (λ x. wanted_after begun) d.trace ∷ []) p b st
+        pub trace_stopped : (st : Status)
+            → IsStopped (trace_reading (λ x. wanted_after begun) d.trace ∷ []) p b st
             → IsStopped (replay_readings d) a b st
         trace_stopped st stopped =
             stopped_behind (settings_readings d.settings) (states ++ traces) a m b st first
             (stopped_behind states traces m p b st behind
             (alike_stopped d.trace (λ files. refuses_trace (wanted_after begun) d.trace files)
-            (λ files. refuses_trace (wanted_after (begun_in d files)) d.trace files) p b st (wanted_alike begun p at_p begun_at_p) stopped))
+            (λ files. refuses_trace (wanted_after (begun_in d files)) d.trace files) p b st
+            (wanted_alike begun p at_p begun_at_p) stopped))
 
-        all_accepted : IsAccepted (trace_reading (λ x. wanted_after begun) d.trace ∷ []) p b → IsAccepted (replay_readings d) a b
+        all_accepted : IsAccepted (trace_reading (λ x. wanted_after begun) d.trace ∷ []) p b
+            → IsAccepted (replay_readings d) a b
         all_accepted last =
             accepted_behind (settings_readings d.settings) (states ++ traces) a m b first
             (accepted_behind states traces m p b behind
             (alike_accepted d.trace (λ files. refuses_trace (wanted_after begun) d.trace files)
-            (λ files. refuses_trace (wanted_after (begun_in d files)) d.trace files) p b (wanted_alike begun p at_p begun_at_p) last))
+            (λ files. refuses_trace (wanted_after (begun_in d files)) d.trace files) p b
+            (wanted_alike begun p at_p begun_at_p) last))
 
-        work_is : (files : Files) (bytes text state : List ℕ) → (grid_in d files ≡ g) × (levels_in d files ≡ v)
-            → begun_under g v d.resume files ≡ begun → bytes ≡ content files d.trace → IsCounted d.save g v begun bytes text state
+        work_is : (files : Files) (bytes text state : List ℕ) → (grid_in d files ≡ g)
+            × (levels_in d files ≡ v)
+            → begun_under g v d.resume files ≡ begun → bytes ≡ content files d.trace
+            → IsCounted d.save g v begun bytes text state
             → replay_work d files ≡ shown d.save text state
         work_is files bytes text state same e whole counted =
-            ap (λ (x : Grid). option_map_or (work_after d.save x (levels_in d files) (begun_in d files)) (trace_of (content files d.trace))
+            ap (λ (x : Grid). option_map_or
+            (work_after d.save x (levels_in d files) (begun_in d files))
+            (trace_of (content files d.trace))
             (done_with [])) same.0
-            ∙ ap (λ (x : Levels). option_map_or (work_after d.save g x (begun_in d files)) (trace_of (content files d.trace))
+            ∙ ap (λ (x : Levels). option_map_or (work_after d.save g x (begun_in d files))
+            (trace_of (content files d.trace))
             (done_with []))
             same.1
-            ∙ ap (λ (x : Option Begun). option_map_or (work_after d.save g v x) (trace_of (content files d.trace)) (done_with []))
+            ∙ ap (λ (x : Option Begun). option_map_or (work_after d.save g v x)
+            (trace_of (content files d.trace)) (done_with []))
             (begun_alike files same ∙ e)
-            ∙ ap (λ (x : List ℕ). option_map_or (work_after d.save g v begun) (trace_of x) (done_with [])) (sym whole)
-            ∙ ap (λ (x : Option Trace). option_map_or (work_after d.save g v begun) x (done_with [])) counted.1 ∙ counted.2
+            ∙ ap (λ (x : List ℕ). option_map_or (work_after d.save g v begun) (trace_of x)
+            (done_with [])) (sym whole)
+            ∙ ap (λ (x : Option Trace). option_map_or (work_after d.save g v begun) x
+            (done_with [])) counted.1 ∙ counted.2
 
         -- all three are read
-        pub trace_counted : (text state : List ℕ) → IsAccepted (trace_reading (λ x. wanted_after begun) d.trace ∷ []) p b
-            → IsReadFrom p.held d.trace (λ bytes. IsCounted d.save g v begun bytes text state) → IsToShow d a b text state
+        pub trace_counted : (text state : List ℕ)
+            → IsAccepted (trace_reading (λ x. wanted_after begun) d.trace ∷ []) p b
+            → IsReadFrom p.held d.trace (λ bytes. IsCounted d.save g v begun bytes text state)
+            → IsToShow d a b text state
         trace_counted text state last counted =
-            let ready : Told p.held (λ files. counted.bytes ≡ content files d.trace → replay_work d files ≡ shown d.save text state) =
-            told_both p.held (λ files same e whole. work_is files counted.bytes text state same e whole counted.given)
+            let ready : Told p.held (λ files. counted.bytes ≡ content files d.trace
+            → replay_work d files ≡ shown d.save text state) =
+            told_both p.held (λ files same e whole. work_is files counted.bytes text state same e
+            whole counted.given)
             (chosen p at_p) begun_at_p
             in
             record {
               accepted = all_accepted last;
-              work = told_back (λ files. replay_work d files ≡ shown d.save text state) a p (then.same ∙ first.same)
+              work = told_back (λ files. replay_work d files ≡ shown d.save text state) a p
+                  (then.same ∙ first.same)
                   (told_both p.held (λ files f whole. f whole) ready counted.whole);
             }
 
@@ -146,14 +178,23 @@ named : (save : Option (List ℕ)) (bytes : List ℕ) → names_in (output_for s
 named None bytes = refl
 named (Some name) bytes = refl
 
-module _ (d : ReplayDemand) (text state : List ℕ) (old m b : Outside) (ready : IsToShow d old m text state) where
+module _ (d : ReplayDemand) (text state : List ℕ) (old m b : Outside)
+    (ready : IsToShow d old m text state) where
   to_write : IsToWrite (replay d) (shown d.save text state) old
-  to_write = record { accepts = ready.accepted.accepts; works = ready.work; names = named d.save state }
+  to_write = record {
+    accepts = ready.accepted.accepts;
+    works = ready.work;
+    names =
+        named d.save state;
+  }
 
-  pub saved_worked : AreWritten (output_for d.save state) m b → IsWorked (replay d) old b status.Done text
+  pub saved_worked : AreWritten (output_for d.save state) m b
+      → IsWorked (replay d) old b status.Done text
   saved_worked written =
-      written_worked (replay d) (shown d.save text state) old b status.Done text to_write refl refl (told old.held (λ files. tt))
-      (subst (λ (o : Outside). AreWritten (output_for d.save state) o b) ready.accepted.same written)
+      written_worked (replay d) (shown d.save text state) old b status.Done text to_write refl refl
+      (told old.held (λ files. tt))
+      (subst (λ (o : Outside). AreWritten (output_for d.save state) o b) ready.accepted.same
+      written)
 
   pub saved_cut : (error : ShelfError) → AreCut (output_for d.save state) m b error
       → IsFaulty (Some (replay d)) old b (status_of_writing error)

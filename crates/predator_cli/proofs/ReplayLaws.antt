@@ -1,31 +1,48 @@
--- The state of what was seen.
+-- The state of what was seen, and the recount of what is reported.
 use Rattle.std.proofs.Common.{◌≡◌, ℕ, List, ◌++◌, ap, ◌∙◌}
+use Rattle.command_files.specs.SettingsFiles.{chosen_settings, layout_of, levels_of}
+use Rattle.command_line.specs.Replay.{ReplayDemand}
+use Rattle.sharing_rules.specs.Laws.Recounts.{listed_are_recounted}
+use Rattle.shelf.specs.Shelf.{Files}
+use Rattle.trace_passes.specs.Passes.{all_records}
+use Rattle.predator_cli.specs.Recounts.{ReplayIsRecounted}
 use Rattle.detector.specs.Watch.{Watch}
-use Rattle.detector_states.specs.Saving.{state_of}
-use Rattle.heap_objects.specs.Objects.{Objects}
-use Rattle.object_states.specs.Spelling.{spell_objects}
-use Rattle.predator_base.specs.Levels.{Levels}
-use Rattle.predator_base.specs.Lines.{Grid}
+use Rattle.saved_state.specs.Saving.{state_of}
+use Rattle.objects.specs.Objects.{Objects}
+use Rattle.saved_state.specs.ObjectSpelling.{spell_objects}
+use Rattle.base.specs.Levels.{Levels}
+use Rattle.base.specs.Lines.{Grid}
 use Rattle.sightings.specs.Seen.{HasSeen}
 use Rattle.sightings.specs.Sights.{Sighted, nothing_sighted}
-use Rattle.state_grammar.specs.OfLists.{state_of_list}
-use Rattle.state_grammar.specs.Spelling.{spell_state}
-use Rattle.trace_grammar.specs.Rules.{touches_in}
-use Rattle.trace_grammar.specs.declared.record.TraceRecord.{TraceRecord}
+use Rattle.saved_state.specs.OfLists.{state_of_list}
+use Rattle.saved_state.specs.Spelling.{spell_state}
+use Rattle.trace_format.specs.Rules.{touches_in}
+use Rattle.trace_format.specs.declared.record.TraceRecord.{TraceRecord}
 use Rattle.predator_cli.specs.States.{state_of_records, state_of_sighted}
 
-module _ (harts : ℕ) (s : Sighted) (w : Watch) (o : Objects) (all first second : List ℕ) (both : all ≡ first ++ second)
+-- every line that the report of a replay lists is recounted
+pub replay_recounted : (d : ReplayDemand) (files : Files) → ReplayIsRecounted d files
+replay_recounted d files =
+    let s = chosen_settings d.settings files in
+    λ alone t read. listed_are_recounted (layout_of d.layout s) (levels_of d.layout s)
+    (touches_in (all_records t))
+
+module _ (harts : ℕ) (s : Sighted) (w : Watch) (o : Objects) (all first second : List ℕ)
+    (both : all ≡ first ++ second)
     (objects : second ≡ spell_objects o) (watch_is : w ≡ s.watch) (objects_are : o ≡ s.objects)
   where
     pub held_state : first ≡ spell_state (state_of harts w) → all ≡ state_of_sighted harts s
     unfolding state_of_sighted
     held_state spelled =
-        both ∙ ap (λ (b : List ℕ). b ++ second) spelled ∙ ap (λ (b : List ℕ). spell_state (state_of harts w) ++ b) objects
+        both ∙ ap (λ (b : List ℕ). b ++ second) spelled
+        ∙ ap (λ (b : List ℕ). spell_state (state_of harts w) ++ b) objects
         ∙ ap (λ (x : Watch). spell_state (state_of harts x) ++ spell_objects o) watch_is
         ∙ ap (λ (x : Objects). spell_state (state_of harts s.watch) ++ spell_objects x) objects_are
 
-    pub seen_state : (g : Grid) (v : Levels) (items : List TraceRecord) → HasSeen (nothing_sighted g v) s items
-        → first ≡ state_of_list w.grid w.levels harts (touches_in items) → all ≡ state_of_records g v harts items
+    pub seen_state : (g : Grid) (v : Levels) (items : List TraceRecord)
+        → HasSeen (nothing_sighted g v) s items
+        → first ≡ state_of_list w.grid w.levels harts (touches_in items) → all
+        ≡ state_of_records g v harts items
     unfolding state_of_records
     seen_state g v items seen spelled =
         both ∙ ap (λ (b : List ℕ). b ++ second) spelled
@@ -34,4 +51,5 @@ module _ (harts : ℕ) (s : Sighted) (w : Watch) (o : Objects) (all first second
         (ap (λ (x : Watch). x.grid) watch_is ∙ seen.grid)
         ∙ ap (λ (x : Levels). state_of_list g x harts (touches_in items) ++ spell_objects o)
         (ap (λ (x : Watch). x.levels) watch_is ∙ seen.levels)
-        ∙ ap (λ (x : Objects). state_of_list g v harts (touches_in items) ++ spell_objects x) (objects_are ∙ seen.objects)
+        ∙ ap (λ (x : Objects). state_of_list g v harts (touches_in items) ++ spell_objects x)
+        (objects_are ∙ seen.objects)

@@ -1,5 +1,6 @@
 -- What a run leaves in its files, and how the command ends after it.
-use Rattle.std.proofs.Common.{◌≡◌, ℕ, List, [], ◌∷◌, ◌++◌, Option, Some, None, Ok, Bool, true, false, refl, sym, ap, subst, ◌∙◌, inl, inr}
+use Rattle.std.proofs.Common.{◌≡◌, ℕ, List, [], ◌∷◌, ◌++◌, Option, Some, None, Ok, Bool, true}
+use Rattle.std.proofs.Common.{false, refl, sym, ap, subst, ◌∙◌, inl, inr}
 use Rattle.std.proofs.Common.{not, ◌&&◌, unwrap_or}
 use Rattle.std.proofs.lemmas.Bool.{cases_Bool}
 use Rattle.std.proofs.lemmas.Option.{none-some, same_Some}
@@ -15,17 +16,18 @@ use Rattle.command_line.specs.Run.{RunDemand, run_meaning, run_outputs}
 use Rattle.command_line.specs.Split.{SplitDemand, split_outputs}
 use Rattle.command_line.specs.declared.run.RunOptions.{RunOptions}
 use Rattle.std.specs.Borrow.{Bor}
-use Rattle.command_line.specs.Words.{Demand, asked_of, demand_of, replay, run, split, with_names_apart}
+use Rattle.command_line.specs.Words.{Demand, asked_of, demand_of, replay, run, split}
+use Rattle.command_line.specs.Words.{with_names_apart}
 use Rattle.command_line.specs.Words.{inputs as inputs_of, outputs as outputs_of}
 use Rattle.settings.specs.declared.values.Settings.{Settings}
-use Rattle.guest_run.specs.Runs.{Run, output_of}
-use Rattle.trace_grammar.specs.declared.record.TraceRecord.{TraceRecord}
-use Rattle.trace_passes.specs.Passes.{Trace, refusal_of, trace_of}
-use Rattle.outputs.specs.Files.{AreCut, AreWritten, Output, bytes_for}
-use Rattle.outputs.specs.OnTheirWay.{AreApart, IsNew}
-use Rattle.run_recorder.specs.Recorded.{IsKept, names_of, outputs_for, spell_trace, trace_for}
-use Rattle.run_recorder.specs.declared.file.Content.TheVariants as Content
-use Rattle.run_recorder.specs.declared.file.RunFile.{RunFile}
+use Rattle.guest.specs.Runs.{Run, output_of}
+use Rattle.trace_format.specs.declared.record.TraceRecord.{TraceRecord}
+use Rattle.trace_passes.specs.Passes.{Trace, refusal_of, spell_trace, trace_of}
+use Rattle.shelf.specs.Files.{AreCut, AreWritten, Output, bytes_for}
+use Rattle.shelf.specs.OnTheirWay.{AreApart, IsNew}
+use Rattle.run_recorder.specs.Recorded.{IsKept, names_of, outputs_for, trace_for}
+use Rattle.run_recorder.specs.declared.run_file.Content.TheVariants as Content
+use Rattle.run_recorder.specs.declared.run_file.RunFile.{RunFile}
 use Rattle.command_files.specs.Readings.{first_refusal}
 use Rattle.command_files.specs.SettingsFiles.{levels_of, native_of, settings_in, settings_readings}
 use Rattle.command_files.specs.Statuses.{status_of_writing}
@@ -33,20 +35,23 @@ use Rattle.command_files.specs.Works.{Work, done_with, output_for}
 use Rattle.command_files.specs.declared.status.Status.{Status}
 use Rattle.command_files.specs.Laws.Settings.{settings_chosen, settings_pass}
 use Rattle.command_files.specs.Laws.Readings.{none_alone, passed}
-use Rattle.command_files.specs.Laws.Told.{told_both}
-use Rattle.predator_cli.specs.Again.{RepeatsReport, RunRepeats, whole_replay}
+use Rattle.shelf.specs.Laws.Told.{told_both}
+use Rattle.predator_cli.specs.Again.{RunRepeats, whole_replay}
 use Rattle.predator_cli.specs.Answer.{answer_of}
-use Rattle.predator_cli.specs.Commands.{work_of}
+use Rattle.predator_cli.specs.Commands.{RepeatsReport, work_of}
 use Rattle.predator_cli.specs.Meets.{IsFaulty, IsWorked}
-use Rattle.predator_cli.specs.Replay.{begun_in, grid_in, levels_in, refuses_trace, replay_readings, report_of, state_readings}
+use Rattle.predator_cli.specs.Replay.{begun_in, grid_in, levels_in, refuses_trace, replay_readings}
+use Rattle.predator_cli.specs.Replay.{report_of, state_readings}
 use Rattle.predator_cli.specs.Replay.{trace_reading}
 use Rattle.predator_cli.specs.Replay.{wanted_after, whole}
-use Rattle.predator_cli.specs.Run.{IsReady, file_for, outputs_of_run, run_for_demand, run_readings, status_for}
+use Rattle.predator_cli.specs.Run.{IsReady, file_for, outputs_of_run, run_for_demand, run_readings}
+use Rattle.predator_cli.specs.Run.{status_for}
 use Rattle.predator_cli.specs.Run.{trace_for_demand, work_of_run}
 use Rattle.predator_cli.specs.TraceFaults.{status_of_refusal}
 use Rattle.predator_cli.proofs.Ends.{accepted_answer}
 use Rattle.predator_cli.proofs.SpelledAgain.{spelled_again, spelled_wanted}
-use Rattle.predator_cli.proofs.WriteEnds.{IsToWrite, names_in, or_false, writing_cut, written_worked}
+use Rattle.predator_cli.proofs.WriteEnds.{IsToWrite, names_in, or_false, writing_cut}
+use Rattle.predator_cli.proofs.WriteEnds.{written_worked}
 
 -- ---- names
 
@@ -54,7 +59,8 @@ use Rattle.predator_cli.proofs.WriteEnds.{IsToWrite, names_in, or_false, writing
 run_names : (d : RunDemand) (t : Trace) (r : Run) → names_in (outputs_of_run d t r) ≡ run_outputs d
 run_names d t r = names_so d.trace d.output
   where
-    names_so : (trace output : Option (List ℕ)) → names_in (output_for trace (spell_trace t) ++ output_for output (output_of r))
+    names_so : (trace output : Option (List ℕ))
+        → names_in (output_for trace (spell_trace t) ++ output_for output (output_of r))
         ≡ given trace (given output [])
     names_so None None = refl
     names_so (Some n) None = refl
@@ -62,11 +68,13 @@ run_names d t r = names_so d.trace d.output
     names_so (Some n) (Some o) = refl
 
 -- the files that are handed on are those of the demand
-files_named : (options : RunOptions) → names_of (file_for options.trace Content.Trace ++ file_for options.output Content.Output)
+files_named : (options : RunOptions) → names_of
+    (file_for options.trace Content.Trace ++ file_for options.output Content.Output)
     ≡ run_outputs (run_meaning options)
 files_named options = named_so options.trace options.output
   where
-    named_so : (trace output : Option (Bor (List ℕ))) → names_of (file_for trace Content.Trace ++ file_for output Content.Output) ≡ given
+    named_so : (trace output : Option (Bor (List ℕ)))
+        → names_of (file_for trace Content.Trace ++ file_for output Content.Output) ≡ given
         (text_of trace) (given (text_of output) [])
     named_so None None = refl
     named_so (Some t) None = refl
@@ -74,13 +82,15 @@ files_named options = named_so options.trace options.output
     named_so (Some t) (Some o) = refl
 
 files_left : (options : RunOptions) (harts : ℕ) (symbols : List TraceRecord) (r : Run)
-    → outputs_for harts symbols r (file_for options.trace Content.Trace ++ file_for options.output Content.Output) ≡ outputs_of_run
+    → outputs_for harts symbols r (file_for options.trace Content.Trace ++ file_for options.output
+    Content.Output) ≡ outputs_of_run
     (run_meaning options) (trace_for harts symbols r) r
 files_left options harts symbols r = left_so options.trace options.output
   where
     left_so : (trace output : Option (Bor (List ℕ))) → outputs_for harts symbols r
         (file_for trace Content.Trace ++ file_for output Content.Output)
-        ≡ output_for (text_of trace) (spell_trace (trace_for harts symbols r)) ++ output_for (text_of output) (output_of r)
+        ≡ output_for (text_of trace) (spell_trace (trace_for harts symbols r)) ++ output_for
+        (text_of output) (output_of r)
     left_so None None = refl
     left_so (Some t) None = refl
     left_so None (Some o) = refl
@@ -92,11 +102,13 @@ not_true : (b c : Bool) → (not b && c) ≡ true → b ≡ false
 not_true true c e = cc
 not_true false c e = refl
 
-new_name : (name : List ℕ) (names rest : List (List ℕ)) → is_named name (names ++ rest) ≡ false → IsNew name names
+new_name : (name : List ℕ) (names rest : List (List ℕ)) → is_named name (names ++ rest) ≡ false
+    → IsNew name names
 new_name name [] rest not_so = tt
 new_name name (n ∷ names) rest not_so =
     let both = or_false (bytes_eq name n) (is_named name (names ++ rest)) not_so in (
-      λ same. let so : bytes_eq name n ≡ true = (bytes_eq-Decides name n).1 (sym same) in let no : true ≡ false = sym so ∙ both.0
+      λ same. let so : bytes_eq name n ≡ true = (bytes_eq-Decides name n).1 (sym same) in
+          let no : true ≡ false = sym so ∙ both.0
           in cc,
       new_name name names rest both.1,
     )
@@ -108,101 +120,136 @@ and_true false c e = cc
 names_apart : (outputs inputs : List (List ℕ)) → are_apart outputs inputs ≡ true → AreApart outputs
 names_apart [] inputs apart = tt
 names_apart (n ∷ outputs) inputs apart =
-    let none : is_named n (outputs ++ inputs) ≡ false = not_true (is_named n (outputs ++ inputs)) (are_apart outputs inputs) apart in (
+    let none : is_named n (outputs ++ inputs) ≡ false = not_true (is_named n (outputs ++ inputs))
+    (are_apart outputs inputs) apart in (
       new_name n outputs inputs none,
-      names_apart outputs inputs (and_true (not (is_named n (outputs ++ inputs))) (are_apart outputs inputs)
+      names_apart outputs inputs (and_true (not (is_named n (outputs ++ inputs)))
+          (are_apart outputs inputs)
           apart).1,
     )
 
-kept_apart : (x d : Demand) → with_names_apart x ≡ Some d → are_apart (outputs_of d) (inputs_of d) ≡ true
+kept_apart : (x d : Demand) → with_names_apart x ≡ Some d → are_apart (outputs_of d) (inputs_of d)
+    ≡ true
 kept_apart x d is =
     elim (cases_Bool (are_apart (outputs_of x) (inputs_of x))) [
-      | inl so ↦ let e : Some x ≡ Some d = rw so at is in ap (λ z. are_apart (outputs_of z) (inputs_of z)) (sym (same_Some x d e)) ∙ so
+      | inl so ↦ let e : Some x ≡ Some d = rw so at is in ap
+          (λ z. are_apart (outputs_of z) (inputs_of z)) (sym (same_Some x d e)) ∙ so
       | inr not_so ↦ let e : None ≡ Some d = rw not_so at is in absurd (none-some d e)
     ]
 
-asked_apart : (o : Option Demand) (d : Demand) → option_and_then with_names_apart o ≡ Some d → are_apart (outputs_of d) (inputs_of d) ≡ true
+asked_apart : (o : Option Demand) (d : Demand) → option_and_then with_names_apart o ≡ Some d
+    → are_apart (outputs_of d) (inputs_of d) ≡ true
 asked_apart None d is = absurd (none-some d is)
 asked_apart (Some x) d is = kept_apart x d is
 
 demanded : (words : List (List ℕ)) (d : Demand) → demand_of words ≡ Some d → AreApart (outputs_of d)
 demanded [] d is = absurd (none-some d is)
-demanded (command ∷ rest) d is = names_apart (outputs_of d) (inputs_of d) (asked_apart (asked_of command (command ∷ rest)) d is)
+demanded (command ∷ rest) d is = names_apart (outputs_of d) (inputs_of d)
+    (asked_apart (asked_of command (command ∷ rest)) d is)
 
 -- the outputs of a run that the words ask for have two names, and so have the halves of a trace
-pub demanded_apart : (words : List (List ℕ)) (d : RunDemand) → demand_of words ≡ Some (run d) → AreApart (run_outputs d)
+pub demanded_apart : (words : List (List ℕ)) (d : RunDemand) → demand_of words ≡ Some (run d)
+    → AreApart (run_outputs d)
 demanded_apart words d is = demanded words (run d) is
 
-pub halves_apart : (words : List (List ℕ)) (d : SplitDemand) → demand_of words ≡ Some (split d) → AreApart (split_outputs d)
+pub halves_apart : (words : List (List ℕ)) (d : SplitDemand) → demand_of words ≡ Some (split d)
+    → AreApart (split_outputs d)
 halves_apart words d is = demanded words (split d) is
 
 -- ---- how the command ends
 
-run_work_is : (d : RunDemand) (s : Settings) (files : Files) (t : Trace) (r : Run) → settings_in d.settings files ≡ Ok s
-    → t ≡ trace_for_demand d s files → r ≡ run_for_demand d s files → work_of (run d) files ≡ work_of_run d s t r
+run_work_is : (d : RunDemand) (s : Settings) (files : Files) (t : Trace) (r : Run)
+    → settings_in d.settings files ≡ Ok s
+    → t ≡ trace_for_demand d s files → r ≡ run_for_demand d s files → work_of (run d) files
+    ≡ work_of_run d s t r
 run_work_is d s files t r is traced same =
-    ap (λ x. work_of_run d x (trace_for_demand d x files) (run_for_demand d x files)) (settings_chosen d.settings files s is)
-    ∙ ap (λ x. work_of_run d s x (run_for_demand d s files)) (sym traced) ∙ ap (work_of_run d s t) (sym same)
+    ap (λ x. work_of_run d x (trace_for_demand d x files) (run_for_demand d x files))
+    (settings_chosen d.settings files s is)
+    ∙ ap (λ x. work_of_run d s x (run_for_demand d s files)) (sym traced)
+    ∙ ap (work_of_run d s t) (sym same)
 
-works : (d : RunDemand) (s : Settings) (o : Option Files) (t : Trace) (r : Run) → Told o (λ files. settings_in d.settings files ≡ Ok s)
-    → Told o (λ files. t ≡ trace_for_demand d s files) → Told o (λ files. r ≡ run_for_demand d s files)
+works : (d : RunDemand) (s : Settings) (o : Option Files) (t : Trace) (r : Run)
+    → Told o (λ files. settings_in d.settings files ≡ Ok s)
+    → Told o (λ files. t ≡ trace_for_demand d s files)
+    → Told o (λ files. r ≡ run_for_demand d s files)
     → Told o (λ files. work_of (run d) files ≡ work_of_run d s t r)
 works d s o t r read traced same =
-    let both : Told o (λ files. settings_in d.settings files ≡ Ok s → work_of (run d) files ≡ work_of_run d s t r) =
+    let both : Told o (λ files. settings_in d.settings files ≡ Ok s → work_of (run d) files
+    ≡ work_of_run d s t r) =
     told_both o (λ files x y e. run_work_is d s files t r e x y) traced same in
     told_both o (λ files e f. f e) read both
 
 -- ---- the replay of the trace
 
-found_bytes : (n bytes : List ℕ) (rest : List Output) → bytes_for (record { name = n; bytes = bytes } ∷ rest) n ≡ Some bytes
+found_bytes : (n bytes : List ℕ) (rest : List Output)
+    → bytes_for (record { name = n; bytes = bytes } ∷ rest) n ≡ Some bytes
 found_bytes n bytes rest = rw ((bytes_eq-Decides n n).1 refl) refl
 
 all_pass : (d : ReplayDemand) (later : Files) (s : Settings) → settings_in d.settings later ≡ Ok s
     → first_refusal (state_readings (grid_in d) (levels_in d) d.resume) later ≡ None
-    → refusal_of (wanted_after (begun_in d later)) (content later d.trace) ≡ None → first_refusal (replay_readings d) later ≡ None
+    → refusal_of (wanted_after (begun_in d later)) (content later d.trace) ≡ None
+    → first_refusal (replay_readings d) later ≡ None
 all_pass d later s is states none =
     let traces = trace_reading (λ files. wanted_after (begun_in d files)) d.trace ∷ [] in
-    passed (settings_readings d.settings) (state_readings (grid_in d) (levels_in d) d.resume ++ traces) later
+    passed (settings_readings d.settings)
+    (state_readings (grid_in d) (levels_in d) d.resume ++ traces) later
     (settings_pass d.settings later s is)
     ∙ passed (state_readings (grid_in d) (levels_in d) d.resume) traces later states
-    ∙ none_alone (refuses_trace (wanted_after (begun_in d later)) d.trace later) (ap (option_map status_of_refusal) none)
+    ∙ none_alone (refuses_trace (wanted_after (begun_in d later)) d.trace later)
+    (ap (option_map status_of_refusal) none)
 
-replay_passes : (settings : Option (List ℕ)) (name : List ℕ) (later : Files) (s : Settings) → settings_in settings later ≡ Ok s
-    → refusal_of whole (content later name) ≡ None → first_refusal (replay_readings (whole_replay settings name)) later ≡ None
-replay_passes settings name later s is none = all_pass (whole_replay settings name) later s is refl none
+replay_passes : (settings : Option (List ℕ)) (name : List ℕ) (later : Files) (s : Settings)
+    → settings_in settings later ≡ Ok s
+    → refusal_of whole (content later name) ≡ None
+    → first_refusal (replay_readings (whole_replay settings name)) later ≡ None
+replay_passes settings name later s is none = all_pass (whole_replay settings name) later s is refl
+    none
 
-replay_work : (d : RunDemand) (name : List ℕ) (later : Files) (s : Settings) (t : Trace) → settings_in d.settings later ≡ Ok s
+replay_work : (d : RunDemand) (name : List ℕ) (later : Files) (s : Settings) (t : Trace)
+    → settings_in d.settings later ≡ Ok s
     → trace_of (content later name) ≡ Some t
-    → work_of (replay (whole_replay d.settings name)) later ≡ done_with (report_of (levels_of None s) (native_of s) t)
+    → work_of (replay (whole_replay d.settings name)) later
+    ≡ done_with (report_of (levels_of None s) (native_of s) t)
 replay_work d name later s t is read = rw (read, is) refl
 
-replay_answer : (d : RunDemand) (name : List ℕ) (later : Files) (s : Settings) (t : Trace) → settings_in d.settings later ≡ Ok s
+replay_answer : (d : RunDemand) (name : List ℕ) (later : Files) (s : Settings) (t : Trace)
+    → settings_in d.settings later ≡ Ok s
     → refusal_of whole (content later name) ≡ None → trace_of (content later name) ≡ Some t
-    → answer_of (Some (replay (whole_replay d.settings name))) later ≡ done_with (report_of (levels_of None s) (native_of s) t)
+    → answer_of (Some (replay (whole_replay d.settings name))) later
+    ≡ done_with (report_of (levels_of None s) (native_of s) t)
 replay_answer d name later s t is none read =
-    accepted_answer (replay (whole_replay d.settings name)) later (replay_passes d.settings name later s is none)
+    accepted_answer (replay (whole_replay d.settings name)) later
+    (replay_passes d.settings name later s is none)
     ∙ replay_work d name later s t is read
 
 -- of files that hold what was written
-repeats : (d : RunDemand) (s : Settings) (files : Files) (t : Trace) (r : Run) → IsKept t → t.header.first ≡ 0
-    → settings_in d.settings files ≡ Ok s → answer_of (Some (run d)) files ≡ work_of_run d s t r → RunRepeats d files
+repeats : (d : RunDemand) (s : Settings) (files : Files) (t : Trace) (r : Run) → IsKept t
+    → t.header.first ≡ 0
+    → settings_in d.settings files ≡ Ok s → answer_of (Some (run d)) files ≡ work_of_run d s t r
+    → RunRepeats d files
 repeats d s files t r good first is answer = λ name later named_so holds same.
     let written : later name ≡ Some (spell_trace t) =
     holds ∙ ap (λ (w : Work). bytes_for w.outputs name) answer
-    ∙ ap (λ x. bytes_for (output_for x (spell_trace t) ++ output_for d.output (output_of r)) name) named_so
+    ∙ ap (λ x. bytes_for (output_for x (spell_trace t) ++ output_for d.output (output_of r)) name)
+    named_so
     ∙ found_bytes name (spell_trace t) (output_for d.output (output_of r)) in
     let bytes : content later name ≡ spell_trace t = ap (λ o. unwrap_or o []) written in
     let read : trace_of (content later name) ≡ Some t = ap trace_of bytes ∙ spelled_again t good in
-    let none : refusal_of whole (content later name) ≡ None = ap (refusal_of whole) bytes ∙ spelled_wanted t good first in
-    replay_answer d name later s t (same ∙ is) none read ∙ ap done_with (sym (ap (λ (w : Work). w.text) answer))
+    let none : refusal_of whole (content later name) ≡ None = ap (refusal_of whole) bytes
+    ∙ spelled_wanted t good first in
+    replay_answer d name later s t (same ∙ is) none read
+    ∙ ap done_with (sym (ap (λ (w : Work). w.text) answer))
 
-run_repeats : (d : RunDemand) (s : Settings) (o : Option Files) (t : Trace) (r : Run) → IsKept t → t.header.first ≡ 0
-    → Told o (λ files. settings_in d.settings files ≡ Ok s) → Told o (λ files. t ≡ trace_for_demand d s files)
+run_repeats : (d : RunDemand) (s : Settings) (o : Option Files) (t : Trace) (r : Run) → IsKept t
+    → t.header.first ≡ 0
+    → Told o (λ files. settings_in d.settings files ≡ Ok s)
+    → Told o (λ files. t ≡ trace_for_demand d s files)
     → Told o (λ files. r ≡ run_for_demand d s files)
     → Told o (λ files. first_refusal (run_readings d) files ≡ None) → Told o (RepeatsReport (run d))
 run_repeats d s o t r good first read traced same accepts =
     told_both o (λ files e answer. repeats d s files t r good first e answer) read
-    (told_both o (λ files none w. accepted_answer (run d) files none ∙ w) accepts (works d s o t r read traced same))
+    (told_both o (λ files none w. accepted_answer (run d) files none ∙ w) accepts
+    (works d s o t r read traced same))
 
 -- what is to be written, before it is
 to_write : (d : RunDemand) (s : Settings) (t : Trace) (r : Run) (a : Outside) → IsReady d s t r a a
@@ -213,20 +260,28 @@ to_write d s t r a ready = record {
   names = run_names d t r;
 }
 
-run_worked : (d : RunDemand) (s : Settings) (a b : Outside) (t : Trace) (r : Run) (st : Status) (text : List ℕ) → IsReady d s t r a a
+run_worked : (d : RunDemand) (s : Settings) (a b : Outside) (t : Trace) (r : Run) (st : Status)
+    (text : List ℕ) → IsReady d s t r a a
     → st ≡ status_for r.ending.outcome → text ≡ report_of (levels_of None s) (native_of s) t
-    → IsKept t → t.header.first ≡ 0 → AreWritten (outputs_of_run d t r) a b → IsWorked (run d) a b st text
+    → IsKept t → t.header.first ≡ 0 → AreWritten (outputs_of_run d t r) a b
+    → IsWorked (run d) a b st text
 run_worked d s a b t r st text ready ends told_text good first written =
-    written_worked (run d) (work_of_run d s t r) a b st text (to_write d s t r a ready) ends told_text
-    (run_repeats d s a.held t r good first ready.read ready.traced ready.runs ready.accepted.accepts) written
+    written_worked (run d) (work_of_run d s t r) a b st text (to_write d s t r a ready) ends
+    told_text
+    (run_repeats d s a.held t r good first ready.read ready.traced ready.runs
+    ready.accepted.accepts) written
 
 -- the writing of the files stopped
-run_cut : (d : RunDemand) (s : Settings) (a b : Outside) (t : Trace) (r : Run) (error : ShelfError) → IsReady d s t r a a
-    → AreCut (outputs_of_run d t r) a b error → IsFaulty (Some (run d)) a b (status_of_writing error)
-run_cut d s a b t r error ready cut = writing_cut (run d) (work_of_run d s t r) a b error (to_write d s t r a ready) cut
+run_cut : (d : RunDemand) (s : Settings) (a b : Outside) (t : Trace) (r : Run) (error : ShelfError)
+    → IsReady d s t r a a
+    → AreCut (outputs_of_run d t r) a b error
+    → IsFaulty (Some (run d)) a b (status_of_writing error)
+run_cut d s a b t r error ready cut = writing_cut (run d) (work_of_run d s t r) a b error
+    (to_write d s t r a ready) cut
 
 -- nothing was done after the reading
-ready_now : (d : RunDemand) (s : Settings) (t : Trace) (r : Run) (a m : Outside) → IsReady d s t r a m → IsReady d s t r a a
+ready_now : (d : RunDemand) (s : Settings) (t : Trace) (r : Run) (a m : Outside)
+    → IsReady d s t r a m → IsReady d s t r a a
 ready_now d s t r a m ready = record {
   read = ready.read;
   runs = ready.runs;
@@ -236,24 +291,33 @@ ready_now d s t r a m ready = record {
 }
 
 -- the same where the files are those that the options name
-pub handed_on : (options : RunOptions) (harts : ℕ) (symbols : List TraceRecord) (r : Run) (files : List RunFile)
+pub handed_on : (options : RunOptions) (harts : ℕ) (symbols : List TraceRecord) (r : Run)
+    (files : List RunFile)
     → files ≡ file_for options.trace Content.Trace ++ file_for options.output Content.Output
-    → outputs_for harts symbols r files ≡ outputs_of_run (run_meaning options) (trace_for harts symbols r) r
-handed_on options harts symbols r files is = ap (outputs_for harts symbols r) is ∙ files_left options harts symbols r
+    → outputs_for harts symbols r files ≡ outputs_of_run (run_meaning options)
+    (trace_for harts symbols r) r
+handed_on options harts symbols r files is = ap (outputs_for harts symbols r) is
+    ∙ files_left options harts symbols r
 
-pub shown_worked : (d : RunDemand) (s : Settings) (t : Trace) (old m b : Outside) (r : Run) (st : Status) (text : List ℕ)
-    → IsReady d s t r old m → st ≡ status_for r.ending.outcome → text ≡ report_of (levels_of None s) (native_of s) t → IsKept t
+pub shown_worked : (d : RunDemand) (s : Settings) (t : Trace) (old m b : Outside) (r : Run)
+    (st : Status) (text : List ℕ)
+    → IsReady d s t r old m → st ≡ status_for r.ending.outcome → text ≡ report_of (levels_of None s)
+    (native_of s) t → IsKept t
     → t.header.first ≡ 0 → AreWritten (outputs_of_run d t r) m b → IsWorked (run d) old b st text
 shown_worked d s t old m b r st text ready ends told_text good first written =
     run_worked d s old b t r st text (ready_now d s t r old m ready) ends told_text good first
     (subst (λ (o : Outside). AreWritten (outputs_of_run d t r) o b) ready.accepted.same written)
 
-pub shown_cut : (d : RunDemand) (s : Settings) (t : Trace) (old m b : Outside) (r : Run) (error : ShelfError) → IsReady d s t r old m
-    → AreCut (outputs_of_run d t r) m b error → IsFaulty (Some (run d)) old b (status_of_writing error)
+pub shown_cut : (d : RunDemand) (s : Settings) (t : Trace) (old m b : Outside) (r : Run)
+    (error : ShelfError) → IsReady d s t r old m
+    → AreCut (outputs_of_run d t r) m b error → IsFaulty (Some (run d)) old b
+    (status_of_writing error)
 shown_cut d s t old m b r error ready cut =
     run_cut d s old b t r error (ready_now d s t r old m ready)
     (subst (λ (o : Outside). AreCut (outputs_of_run d t r) o b error) ready.accepted.same cut)
 
-pub handed_apart : (options : RunOptions) (files : List RunFile) → files ≡ file_for options.trace Content.Trace ++ file_for options.output
+pub handed_apart : (options : RunOptions) (files : List RunFile) → files
+    ≡ file_for options.trace Content.Trace ++ file_for options.output
     Content.Output → AreApart (run_outputs (run_meaning options)) → AreApart (names_of files)
-handed_apart options files is apart = subst (λ names. AreApart names) (sym (ap names_of is ∙ files_named options)) apart
+handed_apart options files is apart = subst (λ names. AreApart names)
+    (sym (ap names_of is ∙ files_named options)) apart

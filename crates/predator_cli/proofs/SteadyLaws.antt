@@ -9,7 +9,8 @@ use Rattle.command_files.specs.declared.status.Status.TheVariants as status
 use Rattle.predator_cli.specs.Answer.{inputs, outputs}
 use Rattle.predator_cli.specs.Meets.{IsCaused, NoFaults}
 
-none_rose : (names : List (List ℕ)) (before now : List ℕ → ℕ) → ((n : List ℕ) → now n ≡ 0) → RoseAt names before now → ⊥
+none_rose : (names : List (List ℕ)) (before now : List ℕ → ℕ) → ((n : List ℕ) → now n ≡ 0)
+    → RoseAt names before now → ⊥
 none_rose [] before now zero rose = rose
 none_rose (n ∷ names) before now zero (inl rose) = omega (arith, zero n, rose)
 none_rose (n ∷ names) before now zero (inr rose) = none_rose names before now zero rose
@@ -22,15 +23,19 @@ no_faults asked old new reads writes prints = record {
   prints = λ rose. omega (arith, prints, rose);
 }
 
-pub no_read_fault : (asked : Option Demand) (old new : Outside) (s : Status) → NoFaults asked old new → IsCaused asked old new (kind_of s)
+pub no_read_fault : (asked : Option Demand) (old new : Outside) (s : Status)
+    → NoFaults asked old new → IsCaused asked old new (kind_of s)
     → s ≢ status.ReadFault
-no_read_fault asked old new s none caused e = none.reads (subst (λ (x : Status). IsCaused asked old new (kind_of x)) e caused)
+no_read_fault asked old new s none caused e = none.reads
+    (subst (λ (x : Status). IsCaused asked old new (kind_of x)) e caused)
 
-write_cause : (asked : Option Demand) (old new : Outside) → NoFaults asked old new → IsCaused asked old new write_fault → ⊥
+write_cause : (asked : Option Demand) (old new : Outside) → NoFaults asked old new
+    → IsCaused asked old new write_fault → ⊥
 write_cause asked old new none (inl rose) = none.writes rose
 write_cause asked old new none (inr rose) = none.prints rose
 
-pub no_write_fault : (asked : Option Demand) (old new : Outside) (s : Status) → NoFaults asked old new → IsCaused asked old new (kind_of s)
+pub no_write_fault : (asked : Option Demand) (old new : Outside) (s : Status)
+    → NoFaults asked old new → IsCaused asked old new (kind_of s)
     → s ≢ status.WriteFault
 no_write_fault asked old new s none caused e = write_cause asked old new none
     (subst (λ (x : Status). IsCaused asked old new (kind_of x)) e caused)

@@ -1,8 +1,9 @@
 -- How the reading of a trace stops.
-use Rattle.std.proofs.Common.{◌≡◌, ◌≢◌, ◌⊎◌, inl, inr, ℕ, List, [], ◌∷◌, Option, Some, None, Err, refl, ap}
+use Rattle.std.proofs.Common.{◌≡◌, ◌≢◌, ◌⊎◌, inl, inr, ℕ, List, [], ◌∷◌, Option, Some, None, Err}
+use Rattle.std.proofs.Common.{refl, ap}
 use Rattle.std.specs.Option.{option_map}
 use Rattle.shelf.specs.Shelf.{Files, OnlyReads, Outside, Told, content}
-use Rattle.trace_grammar.specs.declared.fault.TraceFault.TheVariants as trace
+use Rattle.trace_format.specs.declared.fault.TraceFault.TheVariants as trace
 use Rattle.trace_passes.specs.Passes.{HasPassCause, refusal_of}
 use Rattle.trace_passes.specs.declared.passes.PassFault.{PassFault}
 use Rattle.trace_passes.specs.declared.passes.PassFault.TheVariants.{NoMemory, ReadFault, Refused}
@@ -10,40 +11,58 @@ use Rattle.trace_passes.specs.declared.wanted.Refusal.{Refusal}
 use Rattle.trace_passes.specs.declared.wanted.Refusal.TheVariants as refusals
 use Rattle.trace_passes.specs.declared.wanted.Wanted.{Wanted}
 use Rattle.command_files.specs.Readings.{IsRefusal, IsStopped, first_refusal}
-use Rattle.command_files.specs.Laws.Readings.{accepted_alone, fault_stopped, memory_stopped, refused_stopped}
-use Rattle.command_files.specs.Laws.Told.{told_map}
+use Rattle.command_files.specs.Laws.Readings.{accepted_alone, fault_stopped, memory_stopped}
+use Rattle.command_files.specs.Laws.Readings.{refused_stopped}
+use Rattle.shelf.specs.Laws.Told.{told_map}
 use Rattle.predator_cli.specs.Replay.{refuses_trace, trace_reading}
 use Rattle.predator_cli.specs.TraceFaults.{status_of_pass, status_of_refusal}
 
 -- a refusal of a trace is want of memory, or a refusal of a file
-pub refusal_cases : (r : Refusal) → (r ≡ refusals.Trace trace.NoMemory) ⊎ IsRefusal (status_of_refusal r)
-refusal_cases (refusals.Trace trace.BadMagic) = inr (record { kind = refl; words = λ e. cc; memory = refl })
-refusal_cases (refusals.Trace trace.BadHarts) = inr (record { kind = refl; words = λ e. cc; memory = refl })
-refusal_cases (refusals.Trace (trace.BadTag place)) = inr (record { kind = refl; words = λ e. cc; memory = refl })
-refusal_cases (refusals.Trace (trace.BadField place)) = inr (record { kind = refl; words = λ e. cc; memory = refl })
-refusal_cases (refusals.Trace (trace.Truncated size)) = inr (record { kind = refl; words = λ e. cc; memory = refl })
-refusal_cases (refusals.Trace (trace.CountMismatch told counted)) = inr (record { kind = refl; words = λ e. cc; memory = refl })
-refusal_cases (refusals.Trace (trace.AfterEnd place)) = inr (record { kind = refl; words = λ e. cc; memory = refl })
-refusal_cases (refusals.Trace trace.TooLong) = inr (record { kind = refl; words = λ e. cc; memory = refl })
+pub refusal_cases : (r : Refusal) → (r ≡ refusals.Trace trace.NoMemory)
+    ⊎ IsRefusal (status_of_refusal r)
+refusal_cases (refusals.Trace trace.BadMagic) =
+    inr (record { kind = refl; words = λ e. cc; memory = refl })
+refusal_cases (refusals.Trace trace.BadHarts) =
+    inr (record { kind = refl; words = λ e. cc; memory = refl })
+refusal_cases (refusals.Trace (trace.BadTag place)) =
+    inr (record { kind = refl; words = λ e. cc; memory = refl })
+refusal_cases (refusals.Trace (trace.BadField place)) =
+    inr (record { kind = refl; words = λ e. cc; memory = refl })
+refusal_cases (refusals.Trace (trace.Truncated size)) =
+    inr (record { kind = refl; words = λ e. cc; memory = refl })
+refusal_cases (refusals.Trace (trace.CountMismatch told counted)) =
+    inr (record { kind = refl; words = λ e. cc; memory = refl })
+refusal_cases (refusals.Trace (trace.AfterEnd place)) =
+    inr (record { kind = refl; words = λ e. cc; memory = refl })
+refusal_cases (refusals.Trace trace.TooLong) =
+    inr (record { kind = refl; words = λ e. cc; memory = refl })
 refusal_cases (refusals.Trace trace.NoMemory) = inl refl
 refusal_cases refusals.Harts = inr (record { kind = refl; words = λ e. cc; memory = refl })
-refusal_cases (refusals.Position saved first) = inr (record { kind = refl; words = λ e. cc; memory = refl })
+refusal_cases (refusals.Position saved first) =
+    inr (record { kind = refl; words = λ e. cc; memory = refl })
 
 is_refusal : (r : Refusal) → r ≢ refusals.Trace trace.NoMemory → IsRefusal (status_of_refusal r)
 is_refusal r other = elim (refusal_cases r) [ inl is ↦ absurd (other is) | inr judged ↦ judged ]
 
-pub pass_accepted : (w : Wanted) (name : List ℕ) (o : Option Files) → Told o (λ files. refusal_of w (content files name) ≡ None)
+pub pass_accepted : (w : Wanted) (name : List ℕ) (o : Option Files)
+    → Told o (λ files. refusal_of w (content files name) ≡ None)
     → Told o (λ files. first_refusal (trace_reading (λ _. w) name ∷ []) files ≡ None)
 pass_accepted w name o none =
-    accepted_alone name (refuses_trace w name) o (told_map o (λ files is. ap (option_map status_of_refusal) is) none)
+    accepted_alone name (refuses_trace w name) o
+    (told_map o (λ files is. ap (option_map status_of_refusal) is) none)
 
 pub pass_stopped : {T : Type 0} (w : Wanted) (name : List ℕ) (a b : Outside) (fault : PassFault)
-    → ((r : Refusal) → fault ≡ Refused r → Told a.held (λ files. refusal_of w (content files name) ≡ Some r))
-    → fault ≢ Refused (refusals.Trace trace.NoMemory) → HasPassCause {T = T} name a b (Err fault) → OnlyReads a b
+    → ((r : Refusal) → fault ≡ Refused r → Told a.held (λ files. refusal_of w (content files name)
+    ≡ Some r))
+    → fault ≢ Refused (refusals.Trace trace.NoMemory) → HasPassCause {T = T} name a b (Err fault)
+    → OnlyReads a b
     → IsStopped (trace_reading (λ _. w) name ∷ []) a b (status_of_pass fault)
 pass_stopped {T} w name a b (Refused r) told memory cause only =
-    refused_stopped name (refuses_trace w name) a b (status_of_refusal r) (is_refusal r (λ e. memory (ap Refused e)))
-    (told_map a.held (λ files is. ap (option_map status_of_refusal) is) (told r refl)) (cause.quiet (λ e. cc)) only
+    refused_stopped name (refuses_trace w name) a b (status_of_refusal r)
+    (is_refusal r (λ e. memory (ap Refused e)))
+    (told_map a.held (λ files is. ap (option_map status_of_refusal) is) (told r refl))
+    (cause.quiet (λ e. cc)) only
 pass_stopped {T} w name a b ReadFault told memory cause only =
     fault_stopped name (refuses_trace w name) a b (cause.failed refl) only
-pass_stopped {T} w name a b NoMemory told memory cause only = memory_stopped (trace_reading (λ _. w) name ∷ []) a b only
+pass_stopped {T} w name a b NoMemory told memory cause only = memory_stopped
+    (trace_reading (λ _. w) name ∷ []) a b only

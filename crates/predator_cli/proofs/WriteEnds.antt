@@ -1,5 +1,6 @@
 -- How a command ends whose files are written, whole or in part.
-use Rattle.std.proofs.Common.{◌≡◌, ℕ, List, [], ◌∷◌, Option, Some, None, Bool, true, false, ◌||◌, ◌≤◌, map}
+use Rattle.std.proofs.Common.{◌≡◌, ℕ, List, [], ◌∷◌, Option, Some, None, Bool, true, false, ◌||◌}
+use Rattle.std.proofs.Common.{◌≤◌, map}
 use Rattle.std.proofs.Common.{arith, refl, sym, ap, subst, ◌∙◌, inl, inr}
 use Rattle.std.proofs.lemmas.Option.{none-some}
 use Rattle.std.specs.List.{list_any}
@@ -9,16 +10,16 @@ use Rattle.shelf.specs.Shelf.{Goes, Outside, Told}
 use Rattle.shelf.specs.declared.shelf.ShelfError.{ShelfError}
 use Rattle.shelf.specs.declared.shelf.ShelfError.TheVariants.{Failed, NoMemory}
 use Rattle.command_line.specs.Words.{Demand, outputs as outputs_of}
-use Rattle.outputs.specs.Files.{AllMayStand, AreCut, AreWhole, AreWritten, MayStand, Output, RoseAmong, bytes_for}
+use Rattle.shelf.specs.Files.{AllMayStand, AreCut, AreWhole, AreWritten, MayStand, Output}
+use Rattle.shelf.specs.Files.{RoseAmong, bytes_for}
 use Rattle.command_files.specs.Readings.{RoseAt, first_refusal}
 use Rattle.command_files.specs.Statuses.{status_of_writing}
 use Rattle.command_files.specs.Works.{Work}
 use Rattle.command_files.specs.declared.status.Status.{Status}
-use Rattle.command_files.specs.Laws.Told.{goes_map, told, told_both, told_map}
+use Rattle.shelf.specs.Laws.Told.{goes_map, told, told_both, told_map}
 use Rattle.predator_cli.specs.Written.{OnlyAt}
-use Rattle.predator_cli.specs.Again.{RepeatsReport}
 use Rattle.predator_cli.specs.Answer.{answer_of}
-use Rattle.predator_cli.specs.Commands.{readings_of, work_of}
+use Rattle.predator_cli.specs.Commands.{RepeatsReport, readings_of, work_of}
 use Rattle.predator_cli.specs.Meets.{IsFaulty, IsWorked}
 use Rattle.predator_cli.proofs.Ends.{own_outputs, starved}
 use Rattle.predator_cli.proofs.Standing.{whole_stands}
@@ -29,7 +30,8 @@ pub or_false : (b c : Bool) → (b || c) ≡ false → (b ≡ false) × (c ≡ f
 or_false true c e = cc
 or_false false c e = (refl, e)
 
-missed : (n bytes name : List ℕ) (rest : List Output) → bytes_eq n name ≡ false → bytes_for (record { name = n; bytes = bytes } ∷ rest) name
+missed : (n bytes name : List ℕ) (rest : List Output) → bytes_eq n name ≡ false
+    → bytes_for (record { name = n; bytes = bytes } ∷ rest) name
     ≡ bytes_for rest name
 missed n bytes name rest not_so = rw not_so refl
 
@@ -38,43 +40,54 @@ abbrev pub names_in : List Output → List (List ℕ)
 names_in outputs = map (λ o. o.name) outputs
 
 -- a name that is none of the outputs has no bytes
-not_written : (outputs : List Output) (name : List ℕ) → list_any (λ n. bytes_eq n name) (names_in outputs) ≡ false
+not_written : (outputs : List Output) (name : List ℕ) → list_any (λ n. bytes_eq n name)
+    (names_in outputs) ≡ false
     → bytes_for outputs name ≡ None
 not_written [] name not_so = refl
 not_written (o ∷ outputs) name not_so =
-    let both = or_false (bytes_eq o.name name) (list_any (λ n. bytes_eq n name) (names_in outputs)) not_so in
+    let both = or_false (bytes_eq o.name name) (list_any (λ n. bytes_eq n name) (names_in outputs))
+    not_so in
     missed o.name o.bytes name outputs both.0 ∙ not_written outputs name both.1
 
-may_same : (bytes before now : Option (List ℕ)) → bytes ≡ None → MayStand bytes before now → now ≡ before
+may_same : (bytes before now : Option (List ℕ)) → bytes ≡ None → MayStand bytes before now → now
+    ≡ before
 may_same None before now none may = may
 may_same (Some b) before now none may = absurd (none-some b (sym none))
 
-whole_only : (outputs : List Output) (a b : Outside) → Goes a.written b.written (AreWhole outputs) → OnlyAt (names_in outputs) a b
+whole_only : (outputs : List Output) (a b : Outside) → Goes a.written b.written (AreWhole outputs)
+    → OnlyAt (names_in outputs) a b
 whole_only outputs a b goes =
-    goes_map a.written b.written (λ before now whole name not_so. whole name ∙ ap (λ x. option_or x (before name))
+    goes_map a.written b.written (λ before now whole name not_so. whole name
+    ∙ ap (λ x. option_or x (before name))
     (not_written outputs name not_so)) goes
 
-cut_only : (outputs : List Output) (a b : Outside) → Goes a.written b.written (AllMayStand outputs) → OnlyAt (names_in outputs) a b
+cut_only : (outputs : List Output) (a b : Outside) → Goes a.written b.written (AllMayStand outputs)
+    → OnlyAt (names_in outputs) a b
 cut_only outputs a b goes =
-    goes_map a.written b.written (λ before now may name not_so. may_same (bytes_for outputs name) (before name) (now name)
+    goes_map a.written b.written (λ before now may name not_so. may_same (bytes_for outputs name)
+    (before name) (now name)
     (not_written outputs name not_so) (may name)) goes
 
 -- the faults of one of the outputs rose
-rose_among : (outputs : List Output) (before now : List ℕ → ℕ) → RoseAmong outputs before now → RoseAt (names_in outputs) before now
+rose_among : (outputs : List Output) (before now : List ℕ → ℕ) → RoseAmong outputs before now
+    → RoseAt (names_in outputs) before now
 rose_among [] before now rose = rose
 rose_among (o ∷ outputs) before now (inl rose) = inl rose
 rose_among (o ∷ outputs) before now (inr rose) = inr (rose_among outputs before now rose)
 
 -- memory may run out once all is written
-pub written_cut : (outputs : List Output) (a b : Outside) → AreWritten outputs a b → AreCut outputs a b NoMemory
+pub written_cut : (outputs : List Output) (a b : Outside) → AreWritten outputs a b
+    → AreCut outputs a b NoMemory
 written_cut outputs a b written = record {
-  may = goes_map a.written b.written (λ before now is. whole_stands outputs before now is) written.whole;
+  may = goes_map a.written b.written (λ before now is. whole_stands outputs before now is)
+      written.whole;
   cause = record { later = λ n. later_so n; failed = λ e. cc; quiet = λ e. written.faults };
   only = written.only;
 }
   where
     later_so : (n : List ℕ) → a.write_faults n ≤ b.write_faults n
-    later_so n = let same : b.write_faults n ≡ a.write_faults n = ap (λ (f : List ℕ → ℕ). f n) written.faults in omega (arith, same)
+    later_so n = let same : b.write_faults n
+        ≡ a.write_faults n = ap (λ (f : List ℕ → ℕ). f n) written.faults in omega (arith, same)
 
 -- ---- how the command ends
 
@@ -84,14 +97,18 @@ pub record IsToWrite (d : Demand) (w : Work) (a : Outside) : Type 0 where
   pub works : Told a.held (λ files. work_of d files ≡ w)
   pub names : names_in w.outputs ≡ outputs_of d
 
-pub written_worked : (d : Demand) (w : Work) (a b : Outside) (st : Status) (text : List ℕ) → IsToWrite d w a
-    → st ≡ w.status → text ≡ w.text → Told a.held (RepeatsReport d) → AreWritten w.outputs a b → IsWorked d a b st text
+pub written_worked : (d : Demand) (w : Work) (a b : Outside) (st : Status) (text : List ℕ)
+    → IsToWrite d w a
+    → st ≡ w.status → text ≡ w.text → Told a.held (RepeatsReport d) → AreWritten w.outputs a b
+    → IsWorked d a b st text
 written_worked d w a b st text ready ends told_text again written = record {
   accepts = ready.accepts;
   ends = told_map a.held (λ files is. ap (λ (x : Work). x.status) is ∙ sym ends) ready.works;
-  same_text = told_map a.held (λ files is. ap (λ (x : Work). x.text) is ∙ sym told_text) ready.works;
+  same_text = told_map a.held (λ files is. ap (λ (x : Work). x.text) is ∙ sym told_text)
+      ready.works;
   whole = told_map a.held
-      (λ files is. subst (λ (x : Work). Goes a.written b.written (AreWhole x.outputs)) (sym is) written.whole) ready.works;
+      (λ files is. subst (λ (x : Work). Goes a.written b.written (AreWhole x.outputs))
+      (sym is) written.whole) ready.works;
   only = subst (λ names. OnlyAt names a b) ready.names (whole_only w.outputs a b written.whole);
   again = again;
   held = written.only.held;
@@ -101,14 +118,18 @@ written_worked d w a b st text ready ends told_text again written = record {
 }
 
 -- writing failed, or memory ran out
-cut_stands : (d : Demand) (w : Work) (a b : Outside) → IsToWrite d w a → Goes a.written b.written (AllMayStand w.outputs)
-    → Told a.held (λ files. Goes a.written b.written (AllMayStand (answer_of (Some d) files).outputs))
+cut_stands : (d : Demand) (w : Work) (a b : Outside) → IsToWrite d w a
+    → Goes a.written b.written (AllMayStand w.outputs)
+    → Told a.held (λ files. Goes a.written b.written
+    (AllMayStand (answer_of (Some d) files).outputs))
 cut_stands d w a b ready cut =
-    told_both a.held (λ files none is. own_outputs d files (λ outputs. Goes a.written b.written (AllMayStand outputs)) none
+    told_both a.held (λ files none is. own_outputs d files
+    (λ outputs. Goes a.written b.written (AllMayStand outputs)) none
     (subst (λ (x : Work). Goes a.written b.written (AllMayStand x.outputs)) (sym is) cut))
     ready.accepts ready.works
 
-pub writing_cut : (d : Demand) (w : Work) (a b : Outside) (error : ShelfError) → IsToWrite d w a → AreCut w.outputs a b error
+pub writing_cut : (d : Demand) (w : Work) (a b : Outside) (error : ShelfError) → IsToWrite d w a
+    → AreCut w.outputs a b error
     → IsFaulty (Some d) a b (status_of_writing error)
 writing_cut d w a b Failed ready cut =
     let rose_at : RoseAt (outputs_of d) a.write_faults b.write_faults =
@@ -131,4 +152,5 @@ writing_cut d w a b Failed ready cut =
     }
 writing_cut d w a b NoMemory ready cut =
     starved (Some d) a b (cut_stands d w a b ready cut.may)
-    (subst (λ names. OnlyAt names a b) ready.names (cut_only w.outputs a b cut.may)) cut.only.held cut.only.printed cut.only.print_faults
+    (subst (λ names. OnlyAt names a b) ready.names (cut_only w.outputs a b cut.may)) cut.only.held
+    cut.only.printed cut.only.print_faults

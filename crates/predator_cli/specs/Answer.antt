@@ -4,12 +4,11 @@ use Rattle.std.specs.Prelude.{Bool, false, List, [], ℕ, Option, Some, None}
 use Rattle.std.specs.Option.{option_map_or}
 use Rattle.shelf.specs.Shelf.{Files}
 use Rattle.command_line.specs.Words.{Demand, outputs as outputs_of}
-use Rattle.command_files.specs.Readings.{Reading, first_refusal, names_of}
+use Rattle.command_files.specs.Readings.{Reading, names_of}
 use Rattle.command_files.specs.Works.{Work}
-use Rattle.command_files.specs.Faults.{fault_text}
-use Rattle.command_files.specs.declared.status.Status.{Status}
 use Rattle.command_files.specs.declared.status.Status.TheVariants as status
 use Rattle.predator_cli.specs.Commands.{is_copy, readings_of, work_of}
+use Rattle.predator_cli.specs.Judged.{judged, refusal_of}
 
 -- the files that are read for words, none for words that are refused
 abbrev pub files_of : Option Demand → List Reading
@@ -25,11 +24,6 @@ outputs asked = option_map_or outputs_of asked []
 abbrev pub are_copies : Option Demand → Bool
 are_copies asked = option_map_or is_copy asked false
 
-abbrev pub refusal_of : Status → Work
-refusal_of s = record { status = s; text = fault_text s; outputs = [] }
-
--- the first refusal, or the command's work
 abbrev pub answer_of : Option Demand → Files → Work
 answer_of None files = refusal_of status.Usage
-answer_of (Some demand) files = option_map_or refusal_of (first_refusal (readings_of demand) files)
-    (work_of demand files)
+answer_of (Some demand) files = judged (readings_of demand) (work_of demand) files

@@ -1,7 +1,7 @@
 -- The command `check`: what it reads, and the summary that it gives of a program.
 use Rattle.std.specs.Prelude.{ℕ, List, [], ◌∷◌, ◌++◌}
 use Rattle.command_line.specs.Check.{CheckDemand}
-use Rattle.program_summary.specs.Summaries.{placed_text}
+use Rattle.program_files.specs.Summaries.{placed_text}
 use Rattle.settings.specs.declared.values.Settings.{Settings}
 use Rattle.shelf.specs.Shelf.{Files, content}
 use Rattle.command_files.specs.Readings.{Reading}

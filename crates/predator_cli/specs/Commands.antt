@@ -1,37 +1,82 @@
--- What each command reads, in which order, and what its work gives where all of it is accepted.
-use Rattle.std.specs.Prelude.{Bool, true, false, List}
+-- What a command is to the top call, and the table of the commands, a row each. The names of the
+-- files that a command writes stand in the table of its words, in `command_line`.
+use Rattle.std.specs.Prelude.{Bool, true, false, List, Option, Some, None}
 use Rattle.command_line.specs.Words.{Demand, replay, check, run, split, gen, convert}
 use Rattle.shelf.specs.Shelf.{Files}
 use Rattle.command_files.specs.Readings.{Reading}
 use Rattle.command_files.specs.Works.{Work}
+use Rattle.predator_cli.specs.Again.{RunRepeats}
 use Rattle.predator_cli.specs.Check.{check_readings, check_work}
 use Rattle.predator_cli.specs.Convert.{convert_readings, convert_work}
 use Rattle.predator_cli.specs.Gen.{gen_readings, gen_work}
+use Rattle.predator_cli.specs.Recounts.{ReplayIsRecounted, RunIsRecounted}
 use Rattle.predator_cli.specs.Replay.{replay_readings, replay_work}
-use Rattle.predator_cli.specs.Run.{run_readings, run_work}
+use Rattle.predator_cli.specs.Run.{RunStaysWithin, run_readings, run_work}
 use Rattle.predator_cli.specs.Split.{split_readings, split_work}
 
+-- what is asked of a command
+pub record Command : Type 1 where
+  -- the files that it reads, in the order in which they are judged
+  pub readings : List Reading
+  -- what it gives where none of them is refused
+  pub work : Files → Work
+  -- it reads its trace a second time, once its outputs are begun
+  pub is_copy : Bool
+  -- what another command repeats of it, once its work is done
+  pub repeats : Files → Type 0
+  -- it makes at most as many steps as its budget has
+  pub within : Files → Type 0
+  -- a plain recount of each line that its report lists counts no less, and alike after its start
+  pub recounts : Files → Type 0
+
+-- a command of which no more is promised than what it answers
+abbrev pub plain : List Reading → (Files → Work) → Command
+plain readings work = record {
+  readings = readings;
+  work = work;
+  is_copy = false;
+  repeats = λ files. Unit {0};
+  within = λ files. Unit {0};
+  recounts = λ files. Unit {0};
+}
+
+abbrev pub copy : List Reading → (Files → Work) → Command
+copy readings work = record (plain readings work) { is_copy = true }
+
+abbrev pub command_of : Demand → Command
+command_of (run demand) = record (plain (run_readings demand) (run_work demand)) {
+  repeats = RunRepeats demand;
+  within = RunStaysWithin demand;
+  recounts = RunIsRecounted demand;
+}
+command_of (replay demand) =
+    record (plain (replay_readings demand) (replay_work demand)) {
+      recounts = ReplayIsRecounted demand;
+    }
+command_of (check demand) = plain (check_readings demand) (check_work demand)
+command_of (split demand) = copy (split_readings demand) (split_work demand)
+command_of (gen demand) = plain (gen_readings demand) (λ files. gen_work demand)
+command_of (convert demand) = copy (convert_readings demand) (convert_work demand)
+
+-- ---- what follows from the rows
+
 abbrev pub readings_of : Demand → List Reading
-readings_of (replay demand) = replay_readings demand
-readings_of (check demand) = check_readings demand
-readings_of (run demand) = run_readings demand
-readings_of (split demand) = split_readings demand
-readings_of (gen demand) = gen_readings demand
-readings_of (convert demand) = convert_readings demand
+readings_of demand = (command_of demand).readings
 
 abbrev pub work_of : Demand → Files → Work
-work_of (replay demand) files = replay_work demand files
-work_of (check demand) files = check_work demand files
-work_of (run demand) files = run_work demand files
-work_of (split demand) files = split_work demand files
-work_of (gen demand) files = gen_work demand
-work_of (convert demand) files = convert_work demand files
+work_of demand = (command_of demand).work
 
--- the command reads its trace a second time, once its outputs are begun
 abbrev pub is_copy : Demand → Bool
-is_copy (replay demand) = false
-is_copy (check demand) = false
-is_copy (run demand) = false
-is_copy (split demand) = true
-is_copy (gen demand) = false
-is_copy (convert demand) = true
+is_copy demand = (command_of demand).is_copy
+
+abbrev pub RepeatsReport : Demand → Files → Type 0
+RepeatsReport demand = (command_of demand).repeats
+
+-- the last two, of what words ask for
+abbrev pub StaysWithinBudget : Option Demand → Files → Type 0
+StaysWithinBudget None files = Unit {0}
+StaysWithinBudget (Some demand) files = (command_of demand).within files
+
+abbrev pub ReportIsRecounted : Option Demand → Files → Type 0
+ReportIsRecounted None files = Unit {0}
+ReportIsRecounted (Some demand) files = (command_of demand).recounts files

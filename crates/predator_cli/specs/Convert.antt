@@ -2,10 +2,10 @@
 use Rattle.std.specs.Prelude.{ℕ, List, [], ◌∷◌, codes, length}
 use Rattle.command_line.specs.Convert.{ConvertDemand}
 use Rattle.shelf.specs.Shelf.{Files}
-use Rattle.trace_copies.specs.Copies.{conversion, other_version}
-use Rattle.trace_grammar.specs.Rules.{touches_in}
-use Rattle.trace_grammar.specs.declared.record.Version.{Version}
-use Rattle.trace_grammar.specs.declared.record.Version.TheVariants.{One, Two}
+use Rattle.trace_files.specs.Copies.{conversion, other_version}
+use Rattle.trace_format.specs.Rules.{touches_in}
+use Rattle.trace_format.specs.declared.record.Version.{Version}
+use Rattle.trace_format.specs.declared.record.Version.TheVariants.{One, Two}
 use Rattle.trace_passes.specs.Passes.{Trace}
 use Rattle.command_files.specs.Readings.{Reading}
 use Rattle.command_files.specs.Works.{Work}

@@ -2,9 +2,9 @@
 use Rattle.std.specs.Prelude.{ℕ, List, [], ◌++◌, codes}
 use Rattle.std.specs.Fmt.{decimal}
 use Rattle.std.specs.Option.{option_map_or}
-use Rattle.outputs.specs.Files.{Output}
+use Rattle.shelf.specs.Files.{Output}
 use Rattle.shelf.specs.Shelf.{Files, content}
-use Rattle.trace_copies.specs.Copies.{any}
+use Rattle.trace_files.specs.Copies.{any}
 use Rattle.trace_passes.specs.Passes.{Trace, trace_of}
 use Rattle.command_files.specs.Readings.{Reading, reading}
 use Rattle.command_files.specs.Texts.{line}

@@ -3,12 +3,12 @@ use Rattle.std.specs.Prelude.{ℕ, List, [], ◌∷◌, None, codes}
 use Rattle.std.specs.Fmt.{decimal}
 use Rattle.command_line.specs.Gen.{GenDemand}
 use Rattle.sharing_rules.specs.AccessLists.{AccessList}
-use Rattle.text_forms.specs.Lines.{text_of}
-use Rattle.trace_grammar.specs.Rules.{touches_in}
-use Rattle.trace_maker.specs.Made.{made, made_file}
+use Rattle.base.specs.TextLines.{text_of}
+use Rattle.trace_format.specs.Rules.{touches_in}
+use Rattle.trace_files.specs.Made.{made, made_file}
 use Rattle.trace_passes.specs.Passes.{all_records}
-use Rattle.track_totals.specs.TotalsOf.{totals_of}
-use Rattle.track_totals.specs.declared.count.Totals.{Totals}
+use Rattle.detector.specs.TotalsOf.{totals_of}
+use Rattle.detector.specs.declared.totals.Totals.{Totals}
 use Rattle.command_files.specs.Readings.{Reading}
 use Rattle.command_files.specs.SettingsFiles.{levels_of, native_of, usual_settings}
 use Rattle.command_files.specs.Works.{Work}

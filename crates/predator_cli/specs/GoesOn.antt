@@ -1,17 +1,17 @@
 -- What a replay gives that goes on from the saved state of some records.
 use Rattle.std.specs.Prelude.{◌≡◌, ℕ, ◌≤◌, ◌^◌, List, ◌++◌, length, flat_map, Option, Some}
 use Rattle.command_line.specs.Replay.{ReplayDemand}
-use Rattle.detector_states.specs.Resuming.{kept_of_list}
-use Rattle.object_states.specs.Rules.{IsSavable}
-use Rattle.predator_base.specs.Levels.{Levels}
-use Rattle.predator_base.specs.Lines.{Grid}
-use Rattle.predator_base.specs.declared.ending.Ending.{Ending}
+use Rattle.saved_state.specs.Resuming.{kept_of_list}
+use Rattle.saved_state.specs.ObjectRules.{IsSavable}
+use Rattle.base.specs.Levels.{Levels}
+use Rattle.base.specs.Lines.{Grid}
+use Rattle.base.specs.declared.ending.Ending.{Ending}
 use Rattle.shelf.specs.Shelf.{Files, content}
 use Rattle.sightings.specs.Lives.{objects_of}
 use Rattle.sightings.specs.Seen.{report_of_records}
-use Rattle.state_grammar.specs.OfLists.{MayKeep}
-use Rattle.trace_grammar.specs.Rules.{touches_in}
-use Rattle.trace_grammar.specs.declared.record.TraceRecord.{TraceRecord}
+use Rattle.saved_state.specs.OfLists.{MayKeep}
+use Rattle.trace_format.specs.Rules.{touches_in}
+use Rattle.trace_format.specs.declared.record.TraceRecord.{TraceRecord}
 use Rattle.trace_passes.specs.Passes.{Trace, all_records, trace_of}
 use Rattle.predator_cli.specs.Replay.{ended_at, grid_in, levels_in, shown}
 use Rattle.predator_cli.specs.States.{state_of_records}

@@ -5,15 +5,15 @@ use Rattle.command_line.specs.Words.{Demand, outputs as outputs_of}
 use Rattle.command_files.specs.Readings.{FailsInOrder, RoseAt, first_refusal, IsAccepted}
 use Rattle.command_files.specs.Works.{done_with}
 use Rattle.command_files.specs.Statuses.{Kind, kind_of, done, refusal, read_fault, write_fault}
-use Rattle.outputs.specs.Files.{AreWhole}
+use Rattle.shelf.specs.Files.{AreWhole}
 use Rattle.command_files.specs.Statuses.{no_memory, hides_no_memory}
 use Rattle.command_files.specs.Faults.{fault_text}
 use Rattle.command_files.specs.declared.status.Status.{Status}
 use Rattle.command_files.specs.declared.status.Status.TheVariants as status
-use Rattle.predator_cli.specs.Commands.{readings_of, work_of}
+use Rattle.predator_cli.specs.Commands.{RepeatsReport, readings_of, work_of}
 use Rattle.predator_cli.specs.Written.{OnlyAt, Writes}
 use Rattle.predator_cli.specs.Answer.{answer_of, files_of, inputs, outputs}
-use Rattle.predator_cli.specs.Again.{RepeatsReport, WhereDone}
+use Rattle.predator_cli.specs.Again.{WhereDone}
 
 -- It ends as the answer says, or by a fault of the outside: of reading, before which no file is
 -- refused, or of the command's own work, before which none is refused at all.

@@ -1,16 +1,15 @@
 -- What is promised of the counts in a report: what a plain recount of the same lines says of them.
-use Rattle.std.specs.Prelude.{◌≡◌, Option, Some, None}
+use Rattle.std.specs.Prelude.{◌≡◌, Some, None}
 use Rattle.std.specs.List.{All}
 use Rattle.command_line.specs.Replay.{ReplayDemand}
 use Rattle.command_line.specs.Run.{RunDemand}
-use Rattle.command_line.specs.Words.{Demand, replay, check, run, split, gen, convert}
-use Rattle.predator_base.specs.Levels.{Levels}
-use Rattle.predator_base.specs.Lines.{Grid}
+use Rattle.base.specs.Levels.{Levels}
+use Rattle.base.specs.Lines.{Grid}
 use Rattle.sharing_rules.specs.AccessLists.{AccessList}
 use Rattle.sharing_rules.specs.Listed.{listed}
 use Rattle.sharing_rules.specs.Recounts.{IsRecounted}
 use Rattle.shelf.specs.Shelf.{Files, content}
-use Rattle.trace_grammar.specs.Rules.{touches_in}
+use Rattle.trace_format.specs.Rules.{touches_in}
 use Rattle.trace_passes.specs.Passes.{Trace, all_records, trace_of}
 use Rattle.command_files.specs.SettingsFiles.{chosen_settings, layout_of, levels_of, native_of}
 use Rattle.predator_cli.specs.Run.{trace_for_demand}
@@ -38,13 +37,3 @@ RunIsRecounted demand files =
     let settings = chosen_settings demand.settings files in
     IsRecountedIn (native_of settings) (levels_of None settings)
     (trace_for_demand demand settings files)
-
--- the same of what is asked for
-abbrev pub ReportIsRecounted : Option Demand → Files → Type 0
-ReportIsRecounted None files = Unit {0}
-ReportIsRecounted (Some (replay demand)) files = ReplayIsRecounted demand files
-ReportIsRecounted (Some (check demand)) files = Unit {0}
-ReportIsRecounted (Some (split demand)) files = Unit {0}
-ReportIsRecounted (Some (gen demand)) files = Unit {0}
-ReportIsRecounted (Some (convert demand)) files = Unit {0}
-ReportIsRecounted (Some (run demand)) files = RunIsRecounted demand files

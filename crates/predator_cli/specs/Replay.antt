@@ -4,9 +4,9 @@ use Rattle.std.specs.Prelude.{ℕ, List, [], ◌∷◌, ◌++◌, ◌≡◌, Opt
 use Rattle.std.specs.Option.{option_and_then, option_map, option_map_or}
 use Rattle.std.specs.Result.{result_ok}
 use Rattle.command_line.specs.Replay.{ReplayDemand}
-use Rattle.predator_base.specs.Lines.{Grid}
-use Rattle.predator_base.specs.Levels.{Levels}
-use Rattle.predator_base.specs.declared.ending.Ending.{Ending}
+use Rattle.base.specs.Lines.{Grid}
+use Rattle.base.specs.Levels.{Levels}
+use Rattle.base.specs.declared.ending.Ending.{Ending}
 use Rattle.shelf.specs.Shelf.{Files, Outside, Told, content}
 use Rattle.sightings.specs.Seen.{report_of_records}
 use Rattle.sightings.specs.Sights.{report_of_sighted, sighted_after}

@@ -4,28 +4,28 @@ use Rattle.std.specs.Prelude.{None, Result, Ok, Err}
 use Rattle.std.specs.List.{All}
 use Rattle.std.specs.Option.{option_map_or}
 use Rattle.command_line.specs.Run.{RunDemand}
-use Rattle.elf_loader.specs.declared.image.Image.{Image}
-use Rattle.elf_loader.specs.PlacedImages.{image_of}
-use Rattle.guest_run.specs.declared.setup.Setup.{Setup}
-use Rattle.guest_run.specs.Configs.{first_config}
-use Rattle.guest_run.specs.Places.{heap_over}
-use Rattle.guest_run.specs.Runs.{Run, output_of, run_of}
+use Rattle.program_files.specs.declared.image.Image.{Image}
+use Rattle.program_files.specs.PlacedImages.{image_of}
+use Rattle.guest.specs.declared.setup.Setup.{Setup}
+use Rattle.guest.specs.Configs.{first_config}
+use Rattle.guest.specs.LeastPlaces.{heap_over}
+use Rattle.guest.specs.Runs.{Run, output_of, run_of}
 use Rattle.hart_scheduler.specs.Choices.{Plan}
 use Rattle.hart_scheduler.specs.Texts.{plan_of, schedule_of}
 use Rattle.hart_scheduler.specs.declared.fault.ScheduleFault.{ScheduleFault}
-use Rattle.predator_base.specs.declared.ending.Outcome.{Outcome}
-use Rattle.predator_base.specs.declared.ending.Outcome.TheVariants.{Exit, Budget, Deadlock, Trap}
-use Rattle.predator_base.specs.declared.ending.Outcome.TheVariants.{Part}
-use Rattle.outputs.specs.Files.{Output}
-use Rattle.elf_loader.specs.Symbols.{symbols_of}
-use Rattle.heap_objects.specs.Names.{name_of}
-use Rattle.heap_objects.specs.Symbols.{Symbol}
-use Rattle.run_recorder.specs.Recorded.{IsSymbolRecord, spell_trace, trace_for}
-use Rattle.trace_grammar.specs.declared.record.TraceRecord.{TraceRecord}
-use Rattle.trace_grammar.specs.declared.record.TraceRecord.TheVariants as records
-use Rattle.trace_passes.specs.Passes.{Trace}
-use Rattle.run_recorder.specs.declared.file.Content.{Content}
-use Rattle.run_recorder.specs.declared.file.RunFile.{RunFile}
+use Rattle.base.specs.declared.ending.Outcome.{Outcome}
+use Rattle.base.specs.declared.ending.Outcome.TheVariants.{Exit, Budget, Deadlock, Trap}
+use Rattle.base.specs.declared.ending.Outcome.TheVariants.{Part}
+use Rattle.shelf.specs.Files.{Output}
+use Rattle.program_files.specs.Symbols.{symbols_of}
+use Rattle.base.specs.Names.{name_of}
+use Rattle.objects.specs.Symbols.{Symbol}
+use Rattle.run_recorder.specs.Recorded.{IsSymbolRecord, trace_for}
+use Rattle.trace_format.specs.declared.record.TraceRecord.{TraceRecord}
+use Rattle.trace_format.specs.declared.record.TraceRecord.TheVariants as records
+use Rattle.trace_passes.specs.Passes.{Trace, spell_trace}
+use Rattle.run_recorder.specs.declared.run_file.Content.{Content}
+use Rattle.run_recorder.specs.declared.run_file.RunFile.{RunFile}
 use Rattle.std.specs.Borrow.{Bor}
 use Rattle.settings.specs.declared.values.Settings.{Settings}
 use Rattle.shelf.specs.Shelf.{Files, Outside, Told, content}
@@ -163,8 +163,8 @@ file_for (Some name) content = record { name = name; content = content } ∷ []
 -- ---- its law
 
 -- the run makes at most as many steps as its budget has
-abbrev pub StaysWithinBudget : RunDemand → Files → Type 0
-StaysWithinBudget demand files =
+abbrev pub RunStaysWithin : RunDemand → Files → Type 0
+RunStaysWithin demand files =
     let settings = chosen_settings demand.settings files in
     (run_for_demand demand settings files).ending.steps ≤ settings.budget
 

@@ -2,8 +2,8 @@
 use Rattle.std.specs.Prelude.{ℕ, ◌-◌, min, List, [], ◌∷◌, codes, length}
 use Rattle.command_line.specs.Split.{SplitDemand}
 use Rattle.shelf.specs.Shelf.{Files}
-use Rattle.trace_copies.specs.Copies.{halves}
-use Rattle.trace_grammar.specs.Rules.{touches_in}
+use Rattle.trace_files.specs.Copies.{halves}
+use Rattle.trace_format.specs.Rules.{touches_in}
 use Rattle.trace_passes.specs.Passes.{Trace}
 use Rattle.command_files.specs.Readings.{Reading}
 use Rattle.command_files.specs.Works.{Work}

@@ -3,20 +3,22 @@ use Rattle.std.specs.Prelude.{ℕ, ◌^◌, ◌==◌, nat_eq, nat_lt, List, ◌+
 use Rattle.std.specs.Prelude.{Option, Some, None, Result, Ok, Err, if◌then◌else◌}
 use Rattle.std.specs.Option.{option_eq, option_map_or}
 use Rattle.detector.specs.Watch.{Watch}
-use Rattle.detector_states.specs.Resuming.{Resumption, resumption_in}
-use Rattle.detector_states.specs.Saving.{state_of}
-use Rattle.heap_objects.specs.Objects.{Objects}
-use Rattle.object_states.specs.Judging.{objects_judged}
-use Rattle.object_states.specs.Spelling.{spell_objects}
-use Rattle.predator_base.specs.Levels.{Levels}
-use Rattle.predator_base.specs.Lines.{Grid}
-use Rattle.predator_base.specs.declared.faults.ResumeFault.{ResumeFault}
+use Rattle.saved_state.specs.HeaderPlaces.{offset_place, prediction_place, size_place}
+use Rattle.saved_state.specs.HeaderPlaces.{tracking_place}
+use Rattle.saved_state.specs.Resuming.{Resumption, resumption_in}
+use Rattle.saved_state.specs.Saving.{state_of}
+use Rattle.objects.specs.Objects.{Objects}
+use Rattle.saved_state.specs.ObjectJudging.{objects_judged}
+use Rattle.saved_state.specs.ObjectSpelling.{spell_objects}
+use Rattle.base.specs.Levels.{Levels}
+use Rattle.base.specs.Lines.{Grid}
+use Rattle.base.specs.declared.faults.ResumeFault.{ResumeFault}
 use Rattle.sightings.specs.Lives.{objects_of}
 use Rattle.sightings.specs.Sights.{Sighted}
-use Rattle.state_grammar.specs.OfLists.{state_of_list}
-use Rattle.state_grammar.specs.Spelling.{spell_state}
-use Rattle.trace_grammar.specs.Rules.{touches_in}
-use Rattle.trace_grammar.specs.declared.record.TraceRecord.{TraceRecord}
+use Rattle.saved_state.specs.OfLists.{state_of_list}
+use Rattle.saved_state.specs.Spelling.{spell_state}
+use Rattle.trace_format.specs.Rules.{touches_in}
+use Rattle.trace_format.specs.declared.record.TraceRecord.{TraceRecord}
 use Rattle.command_files.specs.Statuses.{status_of_resume}
 use Rattle.command_files.specs.declared.status.StateFault.TheVariants as state
 use Rattle.command_files.specs.declared.status.Status.{Status}
@@ -31,8 +33,9 @@ abbrev pub differing_field : Grid → Levels → Watch → Option ℕ
 differing_field g v w =
     if w.grid.size == g.size then (if w.grid.offset == g.offset
     then (if w.levels.tracking == v.tracking
-    then (if option_eq nat_eq w.levels.prediction v.prediction then None else Some 24)
-    else Some 16) else Some 12) else Some 8
+    then (if option_eq nat_eq w.levels.prediction v.prediction then None
+    else Some prediction_place) else Some tracking_place) else Some offset_place)
+    else Some size_place
 
 -- what was seen of a trace of so many harts, unless a field differs
 abbrev pub begun_with : Grid → Levels → Watch → ℕ → Objects → Result Begun Status

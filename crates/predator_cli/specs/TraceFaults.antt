@@ -1,19 +1,20 @@
 -- The status of each end of a trace that is passed or copied.
-use Rattle.trace_copies.specs.declared.fault.CopyFault.{CopyFault}
-use Rattle.trace_copies.specs.declared.fault.CopyFault.TheVariants as copies
+use Rattle.trace_files.specs.declared.copy_fault.CopyFault.{CopyFault}
+use Rattle.trace_files.specs.declared.copy_fault.CopyFault.TheVariants as copies
 use Rattle.trace_passes.specs.declared.passes.PassFault.{PassFault}
 use Rattle.trace_passes.specs.declared.passes.PassFault.TheVariants as passes
 use Rattle.trace_passes.specs.declared.wanted.Refusal.{Refusal}
 use Rattle.trace_passes.specs.declared.wanted.Refusal.TheVariants as refusals
+use Rattle.saved_state.specs.HeaderPlaces.{harts_place}
 use Rattle.command_files.specs.Statuses.{status_of_trace}
 use Rattle.command_files.specs.declared.status.StateFault.TheVariants as state
 use Rattle.command_files.specs.declared.status.Status.{Status}
 use Rattle.command_files.specs.declared.status.Status.TheVariants as status
 
--- a header of another number of harts differs from the field of a saved state at place 32
+-- a header of another number of harts differs from that field of a saved state
 abbrev pub status_of_refusal : Refusal → Status
 status_of_refusal (refusals.Trace fault) = status_of_trace fault
-status_of_refusal refusals.Harts = status.State (state.WrongSettings 32)
+status_of_refusal refusals.Harts = status.State (state.WrongSettings harts_place)
 status_of_refusal (refusals.Position saved first) = status.State (state.WrongPosition saved first)
 
 abbrev pub status_of_pass : PassFault → Status

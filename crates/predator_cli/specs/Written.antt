@@ -4,7 +4,7 @@ use Rattle.std.specs.List.{list_any}
 use Rattle.std.specs.Str.{bytes_eq}
 use Rattle.shelf.specs.Shelf.{Files, Goes, Outside, Told}
 use Rattle.command_line.specs.Words.{Demand}
-use Rattle.outputs.specs.Files.{AllMayStand, AreWhole}
+use Rattle.shelf.specs.Files.{AllMayStand, AreWhole}
 use Rattle.command_files.specs.Statuses.{Kind, done, refusal, read_fault, write_fault, no_memory}
 use Rattle.predator_cli.specs.Answer.{answer_of, are_copies}
 

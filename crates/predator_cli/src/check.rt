@@ -2,22 +2,21 @@
 ghost use Rattle.std.specs.Prelude.{◌≡◌, IfErr, IfOk, Some, string_bytes};
 ghost use Rattle.command_line.specs.Check.{check_meaning};
 ghost use Rattle.command_line.specs.Words.{check as asks};
-ghost use Rattle.elf_loader.specs.PlacedImages.{IsImageOf};
-ghost use Rattle.elf_loader.specs.Symbols.{symbols_of};
-ghost use Rattle.elf_loader.specs.declared.image.Space.{Space};
-ghost use Rattle.program_summary.specs.Summaries.{placed_text};
+ghost use Rattle.program_files.specs.PlacedImages.{IsImageOf};
+ghost use Rattle.program_files.specs.Symbols.{symbols_of};
+ghost use Rattle.program_files.specs.declared.image.Space.{Space};
+ghost use Rattle.program_files.specs.Summaries.{placed_text};
 ghost use Rattle.command_files.specs.Readings.{IsStopped};
 ghost use Rattle.predator_cli.specs.Check.{check_readings};
 ghost use Rattle.predator_cli.specs.Meets.{IsAnswered, Meets};
 
 use crate::endings::{answer, stop};
+use base::NoMemory;
 use command_files::{
     Judge, PROGRAM_LIMIT, Program, Status, judge_program, read_judged, read_settings,
 };
 use command_line::CheckOptions;
-use elf_loader::ElfFault;
-use predator_base::NoMemory;
-use program_summary::{note_symbols, summary};
+use program_files::{ElfFault, note_symbols, summary};
 use settings::Settings;
 use shelf::Shelf;
 use std::alloc::Global;
@@ -45,7 +44,7 @@ struct SummaryOf {
 }
 
 impl Judge for SummaryOf {
-    ghost use Rattle.std.specs.Prelude.{◌<◌, ◌≤◌, ◌^◌, None, OnOk, length};
+    ghost use Rattle.std.specs.Prelude.{◌^◌};
     ghost use Rattle.settings.specs.Allowed.{IsAllowed};
     ghost use Rattle.predator_cli.specs.Check.{checked};
     ghost use Rattle.command_files.specs.ProgramFiles.{program_refusal};

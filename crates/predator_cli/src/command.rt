@@ -5,9 +5,10 @@ ghost use Rattle.command_line.specs.Words.{demand_of};
 ghost use Rattle.command_files.specs.Statuses.{hides_no_memory, kind_of};
 ghost use Rattle.predator_cli.specs.Meets.{EndsAs, IsCaused, IsComplete, Meets, Prints};
 ghost use Rattle.predator_cli.specs.Meets.{ReadsInPeace};
-ghost use Rattle.predator_cli.specs.Again.{RepeatsReport, StaysWithinBudget, WhereDone};
+ghost use Rattle.predator_cli.specs.Again.{WhereDone};
 ghost use Rattle.predator_cli.specs.Answer.{outputs};
-ghost use Rattle.predator_cli.specs.Recounts.{ReportIsRecounted};
+ghost use Rattle.predator_cli.specs.Commands.{RepeatsReport, ReportIsRecounted};
+ghost use Rattle.predator_cli.specs.Commands.{StaysWithinBudget};
 ghost use Rattle.predator_cli.specs.Written.{OnlyAt, Writes};
 ghost use Rattle.shelf.specs.Shelf.{Told};
 
@@ -20,7 +21,7 @@ use crate::run::run;
 use crate::split::split;
 use command_files::Status;
 use command_line::{Demand, WordsFault, read_words};
-use guest_run::runs_are_short;
+use guest::runs_are_short;
 use shelf::Shelf;
 use std::alloc::Global;
 
@@ -36,7 +37,7 @@ fn obey<S: Shelf>(alloc: Global, words: &[String], shelf: &mut S) -> Status
         Ok(Demand::Split(options)) => split(alloc, &options, shelf),
         Ok(Demand::Gen(options)) => generate(alloc, &options, shelf),
         Ok(Demand::Convert(options)) => convert(alloc, &options, shelf),
-        Err(WordsFault::Usage) => refuse_words(shelf),
+        Err(WordsFault::Usage(_)) => refuse_words(shelf),
         Err(WordsFault::NoMemory) => refuse(alloc, shelf, Status::NoMemory),
     }
 }
@@ -44,7 +45,7 @@ fn obey<S: Shelf>(alloc: Global, words: &[String], shelf: &mut S) -> Status
 /// All that the program does, by the words after its name.
 ///
 /// The words are judged first, and then the files in the order in which the command reads them: the
-/// settings, then the trace or the program, then the schedule. The status is `Usage` exactly where
+/// settings, the saved state, the trace or the program, the schedule. The status is `Usage` exactly where
 /// the words are refused, and else the first refusal of a file, if there is one. `ReadFault` comes
 /// only where reading a named file failed in this call and no file before it is refused,
 /// `WriteFault` only where printing or writing a named file failed and none is refused, and
@@ -97,9 +98,9 @@ pub fn predator<S: Shelf>(alloc: Global, words: &[String], shelf: &mut S) -> Sta
     // The run that is asked for makes at most as many steps as its budget has.
     ensures within { Told (S.outside shelf.old).held
         (StaysWithinBudget (demand_of (texts words.now))) }
-    // Each count that a report lists is at most a plain recount of the same line over the same
-    // accesses, under the line's own layout with tracking threshold 1, and after the line's start
-    // both count alike.
+    // Each count that a report of a run or of a whole trace lists is at most a plain recount of the
+    // same line over the same accesses, under the line's own layout with tracking threshold 1, and
+    // after the line's start both count alike.
     ensures recounts { Told (S.outside shelf.old).held
         (ReportIsRecounted (demand_of (texts words.now))) }
     // No other name's file changes.

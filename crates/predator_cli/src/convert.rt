@@ -12,8 +12,8 @@ use command_files::Status;
 use command_line::ConvertOptions;
 use shelf::Shelf;
 use std::alloc::Global;
-use trace_copies::convert_trace;
-use trace_grammar::Version;
+use trace_files::convert_trace;
+use trace_format::Version;
 
 fn version_number(version: Version) -> u64
     ensures { result ≡ version_number version }

@@ -1,5 +1,5 @@
 // How a command prints its last text and ends.
-ghost use Rattle.std.specs.Prelude.{◌≡◌, Option, None, Some, string_bytes};
+ghost use Rattle.std.specs.Prelude.{◌≡◌, Option, None, Some};
 ghost use Rattle.command_line.specs.Words.{Demand};
 ghost use Rattle.shelf.specs.Shelf.{Outside};
 ghost use Rattle.command_files.specs.Faults.{fault_text};
@@ -8,7 +8,8 @@ ghost use Rattle.command_files.specs.Readings.{IsStopped};
 ghost use Rattle.predator_cli.specs.Meets.{IsAnswered, IsFaulty, IsWorked, Meets};
 ghost use Rattle.predator_cli.specs.Commands.{readings_of};
 
-use command_files::{NO_MEMORY_LINE, Status, USAGE, fault_line};
+use command_files::{NO_MEMORY_LINE, Status, fault_line};
+use command_line::USAGE;
 use shelf::{Shelf, ShelfError};
 use std::alloc::Global;
 

@@ -4,25 +4,25 @@ ghost use Rattle.std.specs.Prelude.{string_bytes};
 ghost use Rattle.command_line.specs.Gen.{gen_meaning};
 ghost use Rattle.command_line.specs.Words.{gen as asks};
 ghost use Rattle.detector.specs.Standing.{StandsFor};
-ghost use Rattle.outputs.specs.Files.{AreCut, AreWritten};
+ghost use Rattle.shelf.specs.Files.{AreCut, AreWritten};
 ghost use Rattle.sharing_rules.specs.AccessLists.{AccessList};
 ghost use Rattle.sharing_rules.specs.Listed.{may_predict};
 ghost use Rattle.sightings.specs.Seen.{HasSeen, begins_at};
-ghost use Rattle.trace_maker.specs.Made.{made_file};
-ghost use Rattle.track_totals.specs.TotalsOf.{totals_of};
+ghost use Rattle.trace_files.specs.Made.{made_file};
+ghost use Rattle.detector.specs.TotalsOf.{totals_of};
 ghost use Rattle.predator_cli.specs.Gen.{made_accesses, summary_of, summary_text};
 ghost use Rattle.predator_cli.specs.Meets.{Meets};
 
 use crate::endings::{finish, refuse};
+use base::{Layout, NoMemory, Thresholds};
 use command_files::{Status, native_layout, thresholds_of};
 use command_line::GenOptions;
-use predator_base::{Layout, NoMemory, Thresholds};
+use detector::{Totals, count_tracks};
 use settings::Settings;
 use shelf::{Shelf, ShelfError};
 use sightings::Sightings;
 use std::alloc::{AllocError, Global};
-use trace_maker::make_trace;
-use track_totals::{Totals, count_tracks};
+use trace_files::make_trace;
 
 // Puts the summary of so many accesses whose lines come to these totals behind a text.
 fn push_summary(text: &mut String, count: u64, totals: Totals) -> Result<(), AllocError>

@@ -6,15 +6,15 @@ ghost use Rattle.command_files.specs.Readings.{first_refusal};
 ghost use Rattle.command_files.specs.SettingsFiles.{settings_readings};
 ghost use Rattle.command_line.specs.Replay.{ReplayDemand};
 ghost use Rattle.command_line.specs.Words.{replay};
-ghost use Rattle.object_states.specs.Rules.{IsSavable};
-ghost use Rattle.predator_base.specs.Levels.{Levels};
-ghost use Rattle.predator_base.specs.Lines.{Grid};
+ghost use Rattle.saved_state.specs.ObjectRules.{IsSavable};
+ghost use Rattle.base.specs.Levels.{Levels};
+ghost use Rattle.base.specs.Lines.{Grid};
 ghost use Rattle.shelf.specs.Shelf.{Files, content};
 ghost use Rattle.sightings.specs.Lives.{objects_of};
-ghost use Rattle.state_grammar.specs.OfLists.{AreOf};
-ghost use Rattle.trace_grammar.specs.Rules.{IsGoodRecord, touches_in};
-ghost use Rattle.trace_grammar.specs.declared.record.TraceRecord.{TraceRecord as Record};
-ghost use Rattle.trace_copies.specs.Copies.{first_half, second_half};
+ghost use Rattle.saved_state.specs.OfLists.{AreOf};
+ghost use Rattle.trace_format.specs.Rules.{IsGoodRecord, touches_in};
+ghost use Rattle.trace_format.specs.declared.record.TraceRecord.{TraceRecord as Record};
+ghost use Rattle.trace_files.specs.Copies.{first_half, second_half};
 ghost use Rattle.trace_passes.specs.Passes.{Trace, all_records, trace_of};
 ghost use Rattle.predator_cli.specs.Answer.{answer_of};
 ghost use Rattle.predator_cli.specs.GoesOn.{HoldsBoth, IsCutIn, MayStand, begun_of};
@@ -22,10 +22,9 @@ ghost use Rattle.predator_cli.specs.GoesOn.{work_of_both};
 ghost use Rattle.predator_cli.specs.Replay.{grid_in, levels_in, replay_work, work_after};
 ghost use Rattle.predator_cli.specs.States.{judged_state, state_of_records};
 
-use detector_states::the_state_of_a_list_is_taken_up;
-use object_states::what_is_resumed_was_saved;
+use saved_state::{the_state_of_a_list_is_taken_up, what_is_resumed_was_saved};
 use sightings::{what_is_noted_is_seen, what_stands_was_noted};
-use trace_copies::the_halves_have_the_accesses_of_the_whole;
+use trace_files::the_halves_have_the_accesses_of_the_whole;
 use trace_passes::a_trace_is_its_spelling;
 
 /// A replay that goes on from the state of some records gives the report, and saves the state, of

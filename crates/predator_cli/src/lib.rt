@@ -4,7 +4,7 @@
 //! in the other version.
 //!
 //! The call says what it answers by `answer_of` (specs/Answer.antt), over the definitions of
-//! `sharing_rules` and of `guest_run`; what it prints, writes and excuses at each end is `Meets`
+//! `sharing_rules` and of `guest`; what it prints, writes and excuses at each end is `Meets`
 //! (specs/Meets.antt).
 #![tactic(auto)]
 
@@ -24,8 +24,6 @@ mod symbols;
 mod trace_faults;
 
 pub use command::predator;
-pub use command_files::{
-    StateFault, Status, USAGE, advice_on, advise, exit_code, give_up, words_of,
-};
+pub use command_files::{StateFault, Status, advice_on, advise, exit_code, give_up, words_of};
 pub use laws::a_replay_goes_on_from_a_list;
 pub use steady::predator_steady;

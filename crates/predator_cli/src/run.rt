@@ -1,23 +1,23 @@
 // The command `run`.
-ghost use Rattle.std.specs.Prelude.{◌≡◌, ℕ, ◌≤◌, ◌%◌, ◌^◌, ◌++◌, IfErr, IfOk, List, [], Ok, OnOk};
-ghost use Rattle.std.specs.Prelude.{Option, Some, length, take, IsTrue, None};
+ghost use Rattle.std.specs.Prelude.{◌≡◌, ℕ, ◌≤◌, ◌^◌, ◌++◌, IfErr, IfOk, List, [], Ok, OnOk};
+ghost use Rattle.std.specs.Prelude.{Option, Some, length, take, None};
 ghost use Rattle.command_line.specs.Demands.{text_of};
 ghost use Rattle.command_line.specs.Run.{run_meaning, run_outputs};
 ghost use Rattle.command_line.specs.Words.{run as asks};
-ghost use Rattle.guest_run.specs.Runs.{IsShort, rest_of};
-ghost use Rattle.outputs.specs.Files.{AreCut, AreWritten};
-ghost use Rattle.outputs.specs.OnTheirWay.{AreApart};
+ghost use Rattle.guest.specs.Runs.{IsShort, rest_of};
+ghost use Rattle.shelf.specs.Files.{AreCut, AreWritten};
+ghost use Rattle.shelf.specs.OnTheirWay.{AreApart};
 ghost use Rattle.run_recorder.specs.Recorded.{IsKept, IsSymbolRecord, names_of, outputs_for};
 ghost use Rattle.run_recorder.specs.Recorded.{trace_for};
 ghost use Rattle.std.specs.List.{All};
 ghost use Rattle.command_files.specs.ProgramFiles.{IsStartable};
-ghost use Rattle.predator_base.specs.Levels.{Levels};
-ghost use Rattle.predator_base.specs.Lines.{Grid};
+ghost use Rattle.base.specs.Levels.{Levels};
+ghost use Rattle.base.specs.Lines.{Grid};
 ghost use Rattle.settings.specs.Allowed.{IsAllowed};
 ghost use Rattle.sightings.specs.Seen.{HasSeen, begins_at};
 ghost use Rattle.sightings.specs.Sights.{nothing_sighted};
 ghost use Rattle.shelf.specs.Shelf.{Outside, Told, content};
-ghost use Rattle.command_files.specs.Readings.{IsAccepted, IsJudged, IsReadFrom, IsStopped};
+ghost use Rattle.command_files.specs.Readings.{IsAccepted, IsStopped};
 ghost use Rattle.command_files.specs.SettingsFiles.{levels_of, native_of, settings_in};
 ghost use Rattle.command_files.specs.Statuses.{kind_of, done};
 ghost use Rattle.predator_cli.specs.Meets.{Meets};
@@ -28,21 +28,21 @@ ghost use Rattle.predator_cli.specs.Run.{symbol_records, whole_run};
 
 use crate::endings::{finish, refuse, stop};
 use crate::symbols::records_of;
+use base::{NoMemory, Outcome};
 use command_files::{
     Judge, PROGRAM_LIMIT, Program, Status, judge_program, native_layout, read_judged,
     read_settings, thresholds_of,
 };
 use command_line::RunOptions;
-use elf_loader::{ElfFault, Image};
-use guest_run::{Guest, RunSettings};
+use guest::{Guest, RunSettings};
 use hart_scheduler::{Schedule, ScheduleFault};
-use predator_base::{NoMemory, Outcome};
+use program_files::{ElfFault, Image};
 use run_recorder::{Content, RunFile, record_run};
 use settings::Settings;
 use shelf::{Shelf, ShelfError};
 use sightings::Sightings;
 use std::alloc::Global;
-use trace_grammar::TraceRecord;
+use trace_format::TraceRecord;
 
 // How the program ends after a run with this outcome.
 fn status_of(outcome: Outcome) -> Status
@@ -73,7 +73,6 @@ struct ProgramUnder {
 }
 
 impl Judge for ProgramUnder {
-    ghost use Rattle.std.specs.Prelude.{◌<◌};
     ghost use Rattle.command_files.specs.ProgramFiles.{program_refusal};
     ghost use Rattle.predator_cli.specs.Run.{IsLoading};
 
@@ -115,7 +114,6 @@ struct ScheduleUnder {
 }
 
 impl Judge for ScheduleUnder {
-    ghost use Rattle.std.specs.Prelude.{◌<◌};
     ghost use Rattle.hart_scheduler.specs.Texts.{schedule_of};
     ghost use Rattle.predator_cli.specs.Run.{schedule_refusal};
 

@@ -1,8 +1,8 @@
 // The command `split`.
-ghost use Rattle.std.specs.Prelude.{◌≡◌, Some};
+ghost use Rattle.std.specs.Prelude.{Some};
 ghost use Rattle.command_line.specs.Split.{split_meaning, split_outputs};
 ghost use Rattle.command_line.specs.Words.{split as asks};
-ghost use Rattle.outputs.specs.OnTheirWay.{AreApart};
+ghost use Rattle.shelf.specs.OnTheirWay.{AreApart};
 ghost use Rattle.predator_cli.specs.Meets.{Meets};
 
 use crate::copies::tell;
@@ -12,7 +12,7 @@ use command_files::Status;
 use command_line::SplitOptions;
 use shelf::Shelf;
 use std::alloc::Global;
-use trace_copies::split_trace;
+use trace_files::split_trace;
 
 /// Cuts the trace of a name in two, writes each half under a name of its own, and prints how many
 /// accesses each has.

@@ -1,7 +1,7 @@
 // The saved state from which a replay goes on.
 ghost use Rattle.std.specs.Prelude.{◌≡◌, IfErr, IfOk, IsTrue, Ok, OnOk, drop};
 ghost use Rattle.command_line.specs.Demands.{text_of};
-ghost use Rattle.detector_states.specs.Resuming.{resumption};
+ghost use Rattle.saved_state.specs.Resuming.{resumption};
 ghost use Rattle.sharing_rules.specs.Listed.{may_predict};
 ghost use Rattle.shelf.specs.Shelf.{Told};
 ghost use Rattle.command_files.specs.Readings.{IsAccepted, IsJudged, IsStopped};
@@ -9,27 +9,20 @@ ghost use Rattle.predator_cli.specs.Replay.{begun_under, state_readings};
 ghost use Rattle.predator_cli.specs.States.{begun_with, differing_field, resumed_state};
 ghost use Rattle.predator_cli.specs.States.{state_refusal};
 
+use base::{Layout, Thresholds};
 use command_files::{Judge, StateFault, Status, read_judged};
 use detector::{Detector, PagedIndex};
-use detector_states::{Resumed, resume_detector};
-use heap_objects::ObjectTable;
-use object_states::resume_objects;
-use predator_base::{Layout, Thresholds};
+use objects::ObjectTable;
+use saved_state::{
+    OFFSET_PLACE, PREDICTION_PLACE, Resumed, SIZE_PLACE, TRACKING_PLACE, resume_detector,
+    resume_objects,
+};
 use shelf::Shelf;
 use sightings::Sightings;
 use std::alloc::Global;
 
 // The most bytes of a saved state.
 const STATE_LIMIT: u64 = 1 << 40;
-
-// Where a saved state tells its layout and its thresholds.
-const SIZE_PLACE: u64 = 8;
-
-const OFFSET_PLACE: u64 = 12;
-
-const TRACKING_PLACE: u64 = 16;
-
-const PREDICTION_PLACE: u64 = 24;
 
 /// What a saved state says: what was seen of a trace, and how many harts the trace has.
 #[derive(Drop)]
@@ -131,7 +124,7 @@ struct StateUnder {
 }
 
 impl Judge for StateUnder {
-    ghost use Rattle.std.specs.Prelude.{◌≤◌, ◌^◌, length};
+    ghost use Rattle.std.specs.Prelude.{◌^◌};
     ghost use Rattle.predator_cli.specs.States.{judged_state, state_refusal};
 
     type Given = Begun;

@@ -1,16 +1,16 @@
 // The symbols of a program, as its trace tells them.
-ghost use Rattle.std.specs.Prelude.{◌≡◌, ◌≤◌, ◌≢◌, ◌++◌, ◌∷◌, [], OnOk, IfOk, length, map};
+ghost use Rattle.std.specs.Prelude.{◌≡◌, ◌≤◌, ◌≢◌, IfOk, map};
 ghost use Rattle.std.specs.List.{All};
-ghost use Rattle.heap_objects.specs.Names.{name_of};
-ghost use Rattle.trace_grammar.specs.declared.record.TraceRecord.TheVariants as records;
+ghost use Rattle.base.specs.Names.{name_of};
+ghost use Rattle.trace_format.specs.declared.record.TraceRecord.TheVariants as records;
 ghost use Rattle.run_recorder.specs.Recorded.{IsSymbolRecord};
 ghost use Rattle.predator_cli.specs.Run.{HasNameAndSize, symbol_record};
 
-use elf_loader::Symbols;
-use heap_objects::{Name, SymbolKind};
-use predator_base::NoMemory;
+use base::{Name, NoMemory};
+use objects::SymbolKind;
+use program_files::Symbols;
 use std::alloc::Global;
-use trace_grammar::TraceRecord;
+use trace_format::TraceRecord;
 
 // A symbol of some bytes, as a trace tells it: of a name of more than 1024 bytes the first 1024.
 fn record_of(

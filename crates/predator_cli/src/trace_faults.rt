@@ -4,11 +4,9 @@ ghost use Rattle.predator_cli.specs.TraceFaults.{status_of_copy, status_of_pass}
 ghost use Rattle.predator_cli.specs.TraceFaults.{status_of_refusal};
 
 use command_files::{StateFault, Status};
-use trace_copies::CopyFault;
+use saved_state::HARTS_PLACE;
+use trace_files::CopyFault;
 use trace_passes::{PassFault, Refusal};
-
-// Where a saved state tells how many harts there are.
-const HARTS_PLACE: u64 = 32;
 
 /// The status of a trace that is refused.
 pub fn status_of_refusal(refusal: Refusal) -> Status

@@ -1,8 +1,8 @@
 //! The program on a trace that is not there: its exit status is not 0.
 #![tactic(auto)]
 
+use base::NoMemory;
 use disk_shelf::DiskShelf;
-use predator_base::NoMemory;
 use predator_cli::{exit_code, give_up, predator, words_of};
 use std::env;
 use std::process::ExitCode;

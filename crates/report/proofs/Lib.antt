@@ -1,4 +1,5 @@
-pub mod TextLaws
-pub mod StableLaws
-pub mod ShownLaws
 pub mod ChunkLaws
+pub mod ShownLaws
+pub mod StableLaws
+pub mod StandingLaws
+pub mod TextLaws

@@ -2,7 +2,7 @@
 use Rattle.std.specs.Prelude.{◌≡◌, ℕ, List, ◌++◌, string_bytes}
 use Rattle.std.specs.declared.string.String.{String}
 use Rattle.std.specs.declared.alloc.Global.{Global}
-use Rattle.text_forms.specs.Lines.{line_text, text_of}
+use Rattle.base.specs.TextLines.{line_text, text_of}
 
 -- some bytes
 abbrev pub AddsText : String Global → String Global → List ℕ → Type 0

@@ -1,6 +1,6 @@
 -- Bounds of the addresses of blocks.
 use Rattle.std.specs.Prelude.{ℕ, ◌+◌, nat_le, Bool, ◌&&◌}
-use Rattle.heap_objects.specs.declared.block.Block.{Block}
+use Rattle.objects.specs.declared.block.Block.{Block}
 
 -- whether a block's bytes lie from one address on and up to another
 abbrev pub lies_in : ℕ → ℕ → Block → Bool

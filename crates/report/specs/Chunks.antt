@@ -1,7 +1,7 @@
 -- Blocks in chunks. One is passed over where its bounds don't meet a range.
 use Rattle.std.specs.Prelude.{ℕ, pos, ◌+ℤ◌, int_lt, Bool, ◌&&◌, List}
-use Rattle.heap_objects.specs.declared.block.Block.{Block}
-use Rattle.predator_base.specs.declared.layout.Range.{Range}
+use Rattle.objects.specs.declared.block.Block.{Block}
+use Rattle.base.specs.declared.layout.Range.{Range}
 use Rattle.report.specs.declared.chunks.Chunk.{Chunk}
 
 -- whether a range meets the addresses from `low` on and up to `high`

@@ -1,9 +1,10 @@
-pub mod Shown
-pub mod Lines
-pub mod Reports
-pub mod OfLists
 pub mod Added
-pub mod Rows
 pub mod Bounds
 pub mod Chunks
 pub mod Laws
+pub mod Lines
+pub mod ListedTracks
+pub mod OfLists
+pub mod Reports
+pub mod Shown
+pub mod Standing

@@ -3,17 +3,17 @@ use Rattle.std.specs.Prelude.{ℕ, pos, ◌+ℤ◌, ◌*◌, nat_lt, ◌&&◌, L
 use Rattle.std.specs.Prelude.{flat_map, map, Option, None, Some}
 use Rattle.std.specs.Fmt.{decimal}
 use Rattle.std.specs.List.{enumerate_from}
-use Rattle.text_forms.specs.Addresses.{address_text}
-use Rattle.text_forms.specs.Names.{name_text}
-use Rattle.predator_base.specs.declared.layout.Range.{Range}
-use Rattle.predator_base.specs.declared.ending.Cause.{Cause}
-use Rattle.predator_base.specs.declared.ending.Cause.TheVariants.{Illegal, Breakpoint}
-use Rattle.predator_base.specs.declared.ending.Cause.TheVariants.{FetchMisaligned, FetchOutside}
-use Rattle.predator_base.specs.declared.ending.Cause.TheVariants.{LoadMisaligned, LoadOutside}
-use Rattle.predator_base.specs.declared.ending.Cause.TheVariants.{StoreMisaligned, StoreOutside}
-use Rattle.predator_base.specs.declared.ending.Outcome.{Outcome}
-use Rattle.predator_base.specs.declared.ending.Outcome.TheVariants.{Exit, Budget, Deadlock, Trap}
-use Rattle.predator_base.specs.declared.ending.Outcome.TheVariants.{Part}
+use Rattle.base.specs.Addresses.{address_text}
+use Rattle.base.specs.PrintedNames.{name_text}
+use Rattle.base.specs.declared.layout.Range.{Range}
+use Rattle.base.specs.declared.ending.Cause.{Cause}
+use Rattle.base.specs.declared.ending.Cause.TheVariants.{Illegal, Breakpoint}
+use Rattle.base.specs.declared.ending.Cause.TheVariants.{FetchMisaligned, FetchOutside}
+use Rattle.base.specs.declared.ending.Cause.TheVariants.{LoadMisaligned, LoadOutside}
+use Rattle.base.specs.declared.ending.Cause.TheVariants.{StoreMisaligned, StoreOutside}
+use Rattle.base.specs.declared.ending.Outcome.{Outcome}
+use Rattle.base.specs.declared.ending.Outcome.TheVariants.{Exit, Budget, Deadlock, Trap}
+use Rattle.base.specs.declared.ending.Outcome.TheVariants.{Part}
 use Rattle.sharing_rules.specs.Words.{accesses}
 use Rattle.sharing_rules.specs.Verdicts.{verdict_of}
 use Rattle.sharing_rules.specs.declared.word.Word.{Word}
@@ -24,11 +24,11 @@ use Rattle.sharing_rules.specs.declared.line_kind.LineKind.TheVariants.{Observed
 use Rattle.sharing_rules.specs.declared.line_kind.Verdict.{Verdict}
 use Rattle.sharing_rules.specs.declared.line_kind.Verdict.TheVariants.{FalseSharing, TrueSharing}
 use Rattle.sharing_rules.specs.declared.line_kind.Verdict.TheVariants.{Mixed}
-use Rattle.heap_objects.specs.Symbols.{Symbol, function_at, is_same_kind}
-use Rattle.heap_objects.specs.Objects.{Objects}
-use Rattle.heap_objects.specs.declared.symbol.SymbolKind.TheVariants.{Object}
-use Rattle.heap_objects.specs.declared.block.Block.{Block}
-use Rattle.sharing_classifier.specs.Standing.{symbol_stands, block_stands}
+use Rattle.objects.specs.Symbols.{Symbol, function_at, is_same_kind}
+use Rattle.objects.specs.Objects.{Objects}
+use Rattle.objects.specs.declared.symbol.SymbolKind.TheVariants.{Object}
+use Rattle.objects.specs.declared.block.Block.{Block}
+use Rattle.report.specs.Standing.{symbol_stands, block_stands}
 use Rattle.report.specs.Shown.{ShownLine}
 
 -- a line, as its words

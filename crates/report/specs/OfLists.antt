@@ -1,17 +1,17 @@
 -- The report of an access list.
 use Rattle.std.specs.Prelude.{ℕ, List, map}
 use Rattle.std.specs.List.Sorted.{IsPermutation}
-use Rattle.text_forms.specs.Lines.{text_of}
-use Rattle.predator_base.specs.Levels.{Levels}
-use Rattle.predator_base.specs.Lines.{Grid}
-use Rattle.predator_base.specs.declared.ending.Ending.{Ending}
-use Rattle.heap_objects.specs.Objects.{Objects}
+use Rattle.base.specs.TextLines.{text_of}
+use Rattle.base.specs.Levels.{Levels}
+use Rattle.base.specs.Lines.{Grid}
+use Rattle.base.specs.declared.ending.Ending.{Ending}
+use Rattle.objects.specs.Objects.{Objects}
 use Rattle.sharing_rules.specs.AccessLists.{AccessList}
 use Rattle.sharing_rules.specs.Lines.{range_of}
 use Rattle.sharing_rules.specs.Listed.{Finding, listed}
 use Rattle.sharing_rules.specs.Words.{words_since}
 use Rattle.sharing_rules.specs.Opened.{opened}
-use Rattle.virtual_lines.specs.KeptIn.{kept_in}
+use Rattle.line_tracks.specs.KeptIn.{kept_in}
 use Rattle.report.specs.declared.findings.Findings.{Findings}
 use Rattle.report.specs.Shown.{ShownLine}
 use Rattle.report.specs.Reports.{report_lines}

@@ -1,11 +1,11 @@
 -- The report of findings, as a text of lines of words.
 use Rattle.std.specs.Prelude.{ℕ, List, [], ◌∷◌, ◌++◌, codes, length, flat_map}
 use Rattle.std.specs.Fmt.{decimal}
-use Rattle.text_forms.specs.Lines.{text_of}
-use Rattle.predator_base.specs.Levels.{Levels}
-use Rattle.predator_base.specs.Lines.{Grid}
-use Rattle.predator_base.specs.declared.ending.Ending.{Ending}
-use Rattle.heap_objects.specs.Objects.{Objects}
+use Rattle.base.specs.TextLines.{text_of}
+use Rattle.base.specs.Levels.{Levels}
+use Rattle.base.specs.Lines.{Grid}
+use Rattle.base.specs.declared.ending.Ending.{Ending}
+use Rattle.objects.specs.Objects.{Objects}
 use Rattle.report.specs.Shown.{ShownLine, listed_tracks}
 use Rattle.report.specs.Lines.{TextLine, head_line, object_lines, outcome_words, threshold_word}
 use Rattle.report.specs.Lines.{word_lines}

@@ -1,11 +1,11 @@
 -- What a report shows of a tracked line, and which lines it lists, in which order.
 use Rattle.std.specs.Prelude.{ℕ, Bool, ◌&&◌, ◌||◌, ◌==◌, nat_le, nat_lt, int_lt, List, Option}
 use Rattle.std.specs.Prelude.{filter, filter_map, option_map}
-use Rattle.predator_base.specs.declared.layout.Range.{Range}
+use Rattle.base.specs.declared.layout.Range.{Range}
 use Rattle.sharing_rules.specs.Listed.{in_order, rank}
 use Rattle.sharing_rules.specs.declared.line_kind.LineKind.{LineKind}
 use Rattle.sharing_rules.specs.declared.word.Word.{Word}
-use Rattle.virtual_lines.specs.Kept.{Kept}
+use Rattle.line_tracks.specs.Kept.{Kept}
 
 -- a line, with where it starts, its count and its words since
 pub record ShownLine : Type 0 where

@@ -4,7 +4,7 @@ ghost use Rattle.std.specs.Prelude.{◌≡◌, ◌+◌, ◌≤◌, IsTrue};
 ghost use Rattle.std.specs.List.{list_all};
 ghost use Rattle.report.specs.Bounds.{lies_in};
 
-use heap_objects::Block;
+use objects::Block;
 
 /// Some blocks, one after another in order of making. Their bytes lie from `low` on and up to
 /// `high`.

@@ -1,7 +1,7 @@
 // What a report is written of.
-use heap_objects::ObjectTable;
-use predator_base::{Ending, Layout, Thresholds};
-use virtual_lines::Track;
+use base::{Ending, Layout, Thresholds};
+use line_tracks::Track;
+use objects::ObjectTable;
 
 /// What a run or a trace has shown.
 #[derive(Clone, Copy)]

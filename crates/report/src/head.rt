@@ -6,9 +6,8 @@ ghost use Rattle.report.specs.Lines.{outcome_words};
 ghost use Rattle.report.specs.Reports.{ending_lines, setting_lines, threshold_line};
 
 use crate::words::cause_name;
-use predator_base::{Cause, Ending, Hart, Layout, Outcome, Thresholds};
+use base::{Cause, Ending, Hart, Layout, Outcome, Thresholds, push_address};
 use std::alloc::AllocError;
-use text_forms::push_address;
 
 // The line of an end by a trap.
 fn push_trap(text: &mut String, hart: Hart, pc: u32, cause: Cause) -> Result<(), AllocError>

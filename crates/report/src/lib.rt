@@ -1,4 +1,5 @@
-//! The report of what was found.
+//! The report of what was found: the listed lines by weight, the objects that stand on each, its
+//! words, and the verdict over them.
 #![tactic(auto)]
 
 mod chunks;
@@ -6,10 +7,12 @@ mod findings;
 mod head;
 mod lines;
 mod listing;
-mod near;
-mod objects;
+mod near_blocks;
+mod object_lines;
 mod report;
+mod standing;
 mod words;
 
 pub use findings::Findings;
 pub use report::write_report;
+pub use standing::{block_on, symbol_on};

@@ -1,21 +1,18 @@
 // The lines of one listed line.
-ghost use Rattle.std.specs.Prelude.{◌++◌, ◌∷◌, ◌+◌, ◌*◌, ◌+ℤ◌, [], pos, codes, OnOk, nat_lt};
+ghost use Rattle.std.specs.Prelude.{◌++◌, ◌∷◌, ◌*◌, ◌+ℤ◌, [], pos, codes, OnOk, nat_lt};
 ghost use Rattle.std.specs.Prelude.{if◌then◌else◌};
 ghost use Rattle.std.specs.Fmt.{decimal};
 ghost use Rattle.sharing_rules.specs.Words.{accesses};
-ghost use Rattle.text_forms.specs.Addresses.{address_text};
+ghost use Rattle.base.specs.Addresses.{address_text};
 ghost use Rattle.report.specs.Added.{AddsLine, AddsLines, AddsText};
 ghost use Rattle.report.specs.Lines.{head_line, owner_words, rest_of_line, word_line, word_lines};
 ghost use Rattle.report.specs.Shown.{shown_from};
 
 use crate::words::{kind_name, verdict_name};
-use predator_base::Range;
-use sharing_classifier::verdict;
+use base::{Range, push_address_past};
+use line_tracks::{Shadow, Track, verdict};
 use sharing_rules::{Owner, Word};
 use std::alloc::AllocError;
-use text_forms::push_address_past;
-use virtual_lines::Track;
-use word_shadow::Shadow;
 
 /// The line of a listed line.
 pub fn push_head(text: &mut String, track: &Track, start: u64) -> Result<(), AllocError>

@@ -7,30 +7,30 @@ ghost use Rattle.report.specs.Added.{AddsLines, AddsText};
 ghost use Rattle.report.specs.Chunks.{blocks_in};
 ghost use Rattle.report.specs.Reports.{lines_of, lines_of_findings, report_text};
 ghost use Rattle.report.specs.OfLists.{AreTracksOf, report_of_list};
-ghost use Rattle.report.specs.Rows.{row_shown};
+ghost use Rattle.report.specs.ListedTracks.{track_shown};
 
 use crate::chunks::Chunk;
 use crate::findings::Findings;
 use crate::head::{push_ending, push_settings};
 use crate::lines::{push_head, push_words};
-use crate::listing::{Row, listed};
-use crate::near::{chunks_of, push_near};
-use crate::objects::push_symbols;
-use heap_objects::ObjectTable;
-use predator_base::NoMemory;
+use crate::listing::{ListedTrack, listed};
+use crate::near_blocks::{chunks_of, push_near};
+use crate::object_lines::push_symbols;
+use base::NoMemory;
+use objects::ObjectTable;
 use std::alloc::{AllocError, Global};
 
 // The lines of a listed track.
-fn push_row(
+fn push_listed(
     text: &mut String,
-    row: &Row<'_>,
+    row: &ListedTrack<'_>,
     objects: &ObjectTable,
     chunks: &[Chunk<'_>],
     end: u64,
 ) -> Result<(), AllocError>
     requires { flat_map blocks_in chunks.now ≡ objects.now.blocks }
     ensures { OnOk result (AddsLines text.old text.new
-        (lines_of objects.now end (row_shown row.now))) }
+        (lines_of objects.now end (track_shown row.now))) }
 {
     let range = row.track.range();
     push_head(text, row.track, row.start)?;
@@ -40,19 +40,19 @@ fn push_row(
 }
 
 // The lines of the listed tracks.
-fn push_rows(
+fn push_tracks(
     text: &mut String,
-    rows: &[Row<'_>],
+    rows: &[ListedTrack<'_>],
     objects: &ObjectTable,
     chunks: &[Chunk<'_>],
     end: u64,
 ) -> Result<(), AllocError>
     requires { flat_map blocks_in chunks.now ≡ objects.now.blocks }
     ensures { OnOk result (AddsLines text.old text.new
-        (flat_map (lines_of objects.now end) (map row_shown rows.now))) }
+        (flat_map (lines_of objects.now end) (map track_shown rows.now))) }
 {
     for row in rows {
-        push_row(text, row, objects, chunks, end)?;
+        push_listed(text, row, objects, chunks, end)?;
     }
     Ok(())
 }
@@ -68,16 +68,16 @@ fn push_end(text: &mut String) -> Result<(), AllocError>
 fn push_report(
     text: &mut String,
     findings: &Findings<'_>,
-    rows: &[Row<'_>],
+    rows: &[ListedTrack<'_>],
     chunks: &[Chunk<'_>],
 ) -> Result<(), AllocError>
     requires { flat_map blocks_in chunks.now ≡ findings.now.objects.now.blocks }
     ensures { OnOk result (AddsLines text.old text.new
-        (lines_of_findings findings.now (map row_shown rows.now))) }
+        (lines_of_findings findings.now (map track_shown rows.now))) }
 {
     push_ending(text, &findings.ending)?;
     push_settings(text, findings.layout, findings.thresholds, rows.len())?;
-    push_rows(
+    push_tracks(
         text,
         rows,
         findings.objects,

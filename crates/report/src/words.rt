@@ -2,7 +2,7 @@
 ghost use Rattle.std.specs.Prelude.{◌≡◌};
 ghost use Rattle.report.specs.Lines.{cause_word, kind_word, verdict_word};
 
-use predator_base::Cause;
+use base::Cause;
 use sharing_rules::{LineKind, Verdict};
 
 /// Why an instruction could not be carried out.

@@ -1,29 +1,35 @@
 -- The trace of a run keeps the rules of the format.
-use Rattle.std.proofs.Common.{◌≡◌, ℕ, suc, ◌+◌, ◌*◌, ◌^◌, ◌≤◌, List, [], ◌∷◌, ◌++◌, length, refl, sym, ap, ◌∙◌, arith}
+use Rattle.std.proofs.Common.{◌≡◌, ℕ, suc, ◌+◌, ◌*◌, ◌^◌, ◌≤◌, List, [], ◌∷◌, ◌++◌, length, refl}
+use Rattle.std.proofs.Common.{sym, ap, ◌∙◌, arith}
 use Rattle.std.specs.Int.{w32, to_le_bytes}
 use Rattle.std.specs.List.{All, flat_map}
 use Rattle.std.proofs.Math.Nat.{mul-suc}
 use Rattle.std.proofs.lemmas.List.{length-append}
-use Rattle.std.proofs.lemmas.List.Elements.{All-append, All-cons, All-head, All-nil, All-tail, All-weaker}
-use Rattle.heap_objects.specs.declared.symbol.SymbolKind.{SymbolKind}
-use Rattle.predator_base.specs.Touch.{Touch as ATouch}
-use Rattle.predator_base.specs.declared.ending.Ending.{Ending}
-use Rattle.predator_base.specs.declared.ending.Outcome.{Outcome}
-use Rattle.predator_base.specs.declared.ending.Outcome.TheVariants.{Exit, Budget, Deadlock, Trap, Part}
-use Rattle.trace_grammar.specs.declared.record.TraceRecord.{TraceRecord}
-use Rattle.trace_grammar.specs.declared.record.TraceRecord.TheVariants as records
-use Rattle.trace_grammar.specs.declared.record.Version.TheVariants.{One}
-use Rattle.trace_grammar.specs.Rules.{FitsFields, IsAllowedEnd, IsGoodRecord, IsInner, IsWritable, longest_trace}
-use Rattle.trace_grammar.specs.Rules.{touches_in as touches_among}
-use Rattle.trace_grammar.specs.Spelling.{spell, spell_alloc, spell_ending, spell_free, spell_header, spell_record, spell_symbol}
-use Rattle.trace_grammar.specs.Spelling.{spell_touch}
-use Rattle.guest_run.specs.Calls.{RunEvent, quiet, touch, alloc, free, output}
-use Rattle.guest_run.specs.Facts.{IsEndOf}
-use Rattle.guest_run.specs.Runs.{IsShort, Run, touch_in, touches_in}
-use Rattle.guest_run.specs.declared.setup.Setup.{Setup}
-use Rattle.run_recorder.specs.Recorded.{IsKept, IsSymbolRecord, record_in, records_in, records_of, trace_for}
-use Rattle.run_recorder.specs.Recording.{traced}
-use Rattle.run_recorder.proofs.Records.{spelled-all, touches-among, touches-in, traced-append, traced-one}
+use Rattle.std.proofs.lemmas.List.Elements.{All-append, All-cons, All-head, All-nil, All-tail}
+use Rattle.std.proofs.lemmas.List.Elements.{All-weaker}
+use Rattle.objects.specs.declared.symbol.SymbolKind.{SymbolKind}
+use Rattle.base.specs.Touch.{Touch as ATouch}
+use Rattle.base.specs.declared.ending.Ending.{Ending}
+use Rattle.base.specs.declared.ending.Outcome.{Outcome}
+use Rattle.base.specs.declared.ending.Outcome.TheVariants.{Exit, Budget, Deadlock, Trap, Part}
+use Rattle.trace_format.specs.declared.record.TraceRecord.{TraceRecord}
+use Rattle.trace_format.specs.declared.record.TraceRecord.TheVariants as records
+use Rattle.trace_format.specs.declared.record.Version.TheVariants.{One}
+use Rattle.trace_format.specs.Rules.{FitsFields, IsAllowedEnd, IsGoodRecord, IsInner, IsWritable}
+use Rattle.trace_format.specs.Rules.{longest_trace}
+use Rattle.trace_format.specs.Rules.{touches_in as touches_among}
+use Rattle.trace_format.specs.Spelling.{spell, spell_alloc, spell_ending, spell_free, spell_header}
+use Rattle.trace_format.specs.Spelling.{spell_record, spell_symbol}
+use Rattle.trace_format.specs.Spelling.{spell_touch}
+use Rattle.guest.specs.GuestCalls.{RunEvent, quiet, touch, alloc, free, output}
+use Rattle.guest.specs.SeenTurns.{IsEndOf}
+use Rattle.guest.specs.Runs.{IsShort, Run, touch_in, touches_in}
+use Rattle.guest.specs.declared.setup.Setup.{Setup}
+use Rattle.run_recorder.specs.Recorded.{IsKept, IsSymbolRecord, record_in, records_in, records_of}
+use Rattle.run_recorder.specs.Recorded.{trace_for}
+use Rattle.trace_format.specs.Laws.Writing.{spelled_each}
+use Rattle.run_recorder.proofs.Records.{touches-among, touches-in, traced, traced-append}
+use Rattle.run_recorder.proofs.Records.{traced-one}
 
 -- ---- symbols
 
@@ -56,20 +62,24 @@ symbol_untouched (records.Symbol kind addr size name) is = refl
 symbol_untouched (records.End e) is = absurd is
 
 -- symbols have no access
-pub untouched : (symbols : List TraceRecord) → All IsSymbolRecord symbols → touches_among symbols ≡ []
+pub untouched : (symbols : List TraceRecord) → All IsSymbolRecord symbols → touches_among symbols
+    ≡ []
 untouched [] all = refl
 untouched (item ∷ symbols) all =
     touches-among (item ∷ []) symbols
-    ∙ ap (λ (l : List ATouch). l ++ touches_among symbols) (symbol_untouched item (All-head IsSymbolRecord item symbols all))
+    ∙ ap (λ (l : List ATouch). l ++ touches_among symbols)
+    (symbol_untouched item (All-head IsSymbolRecord item symbols all))
     ∙ untouched symbols (All-tail IsSymbolRecord item symbols all)
 
-twelve_more : (n : ℕ) → suc (suc (suc (suc (suc (suc (suc (suc (suc (suc (suc (suc n))))))))))) ≡ n + 12
+twelve_more : (n : ℕ) → suc (suc (suc (suc (suc (suc (suc (suc (suc (suc (suc (suc n)))))))))))
+    ≡ n + 12
 twelve_more n = omega arith
 
 nine_more : (n : ℕ) → suc (suc (suc (suc (suc (suc (suc (suc (suc n)))))))) ≡ n + 9
 nine_more n = omega arith
 
-symbol_long : (kind : SymbolKind) (addr size : ℕ) (name : List ℕ) → length (spell_symbol kind addr size name) ≡ length name + 12
+symbol_long : (kind : SymbolKind) (addr size : ℕ) (name : List ℕ)
+    → length (spell_symbol kind addr size name) ≡ length name + 12
 unfolding spell_symbol
 symbol_long kind addr size name = twelve_more (length name)
 
@@ -77,21 +87,26 @@ symbol_short : (item : TraceRecord) → IsSymbolRecord item → length (spell_re
 symbol_short (records.Touch a) is = absurd is
 symbol_short (records.Alloc addr size sites) is = absurd is
 symbol_short (records.Free addr) is = absurd is
-symbol_short (records.Symbol kind addr size name) is = omega (arith, symbol_long kind addr size name, is.short)
+symbol_short (records.Symbol kind addr size name) is = omega
+    (arith, symbol_long kind addr size name, is.short)
 symbol_short (records.End e) is = absurd is
 
 -- a sum with one term more
-at_most : (all one rest most n : ℕ) → all ≡ one + rest → one ≤ most → rest ≤ most * n → all ≤ most * suc n
+at_most : (all one rest most n : ℕ) → all ≡ one + rest → one ≤ most → rest ≤ most * n
+    → all ≤ most * suc n
 at_most all one rest most n is first later = omega (arith, is, first, later, mul-suc most n)
 
-symbols_short : (symbols : List TraceRecord) → All IsSymbolRecord symbols → length (traced symbols) ≤ 1036 * length symbols
+symbols_short : (symbols : List TraceRecord) → All IsSymbolRecord symbols
+    → length (traced symbols) ≤ 1036 * length symbols
 symbols_short [] all = omega arith
 symbols_short (item ∷ symbols) all =
     let one = symbol_short item (All-head IsSymbolRecord item symbols all) in
     let rest = symbols_short symbols (All-tail IsSymbolRecord item symbols all) in
-    let all : length (traced (item ∷ symbols)) ≡ length (spell_record One 0 item) + length (traced symbols) =
+    let all : length (traced (item ∷ symbols)) ≡ length (spell_record One 0 item) + length
+    (traced symbols) =
     length-append (spell_record One 0 item) (traced symbols) in
-    at_most (length (traced (item ∷ symbols))) (length (spell_record One 0 item)) (length (traced symbols)) 1036 (length symbols) all one
+    at_most (length (traced (item ∷ symbols))) (length (spell_record One 0 item))
+    (length (traced symbols)) 1036 (length symbols) all one
     rest
 
 -- ---- events
@@ -99,13 +114,15 @@ symbols_short (item ∷ symbols) all =
 event_inner : (e : RunEvent) → All IsInner (record_in e)
 event_inner quiet = All-nil IsInner
 event_inner (touch a) = All-cons IsInner (records.Touch a) [] tt (All-nil IsInner)
-event_inner (alloc at size sites) = All-cons IsInner (records.Alloc at size sites) [] tt (All-nil IsInner)
+event_inner (alloc at size sites) = All-cons IsInner (records.Alloc at size sites) [] tt
+    (All-nil IsInner)
 event_inner (free at) = All-cons IsInner (records.Free at) [] tt (All-nil IsInner)
 event_inner (output at bytes) = All-nil IsInner
 
 events_inner : (events : List RunEvent) → All IsInner (records_in events)
 events_inner [] = All-nil IsInner
-events_inner (e ∷ events) = All-append IsInner (record_in e) (records_in events) (event_inner e) (events_inner events)
+events_inner (e ∷ events) = All-append IsInner (record_in e) (records_in events) (event_inner e)
+    (events_inner events)
 
 four_more : (n : ℕ) → 4 + 4 * n ≡ 4 * suc n
 four_more n = omega arith
@@ -114,18 +131,22 @@ sites_long : (sites : List ℕ) → length (flat_map (to_le_bytes w32) sites) �
 sites_long [] = refl
 sites_long (s ∷ sites) =
     let four : length (to_le_bytes w32 s) ≡ 4 = refl in
-    let all : length (to_le_bytes w32 s ++ flat_map (to_le_bytes w32) sites) ≡ length (to_le_bytes w32 s) + length
+    let all : length (to_le_bytes w32 s ++ flat_map (to_le_bytes w32) sites)
+    ≡ length (to_le_bytes w32 s) + length
     (flat_map (to_le_bytes w32) sites) =
     length-append (to_le_bytes w32 s) (flat_map (to_le_bytes w32) sites) in
-    let sum : length (to_le_bytes w32 s ++ flat_map (to_le_bytes w32) sites) ≡ 4 + 4 * length sites =
-    all ∙ ap (λ (n : ℕ). n + length (flat_map (to_le_bytes w32) sites)) four ∙ ap (λ (n : ℕ). 4 + n) (sites_long sites) in
+    let sum : length (to_le_bytes w32 s ++ flat_map (to_le_bytes w32) sites)
+    ≡ 4 + 4 * length sites =
+    all ∙ ap (λ (n : ℕ). n + length (flat_map (to_le_bytes w32) sites)) four
+    ∙ ap (λ (n : ℕ). 4 + n) (sites_long sites) in
     sum ∙ four_more (length sites)
 
 touch_long : (a : ATouch) → length (spell_touch One 0 a) ≡ 8
 unfolding spell_touch
 touch_long a = refl
 
-alloc_long : (at size : ℕ) (sites : List ℕ) → length (spell_alloc at size sites) ≡ length (flat_map (to_le_bytes w32) sites) + 9
+alloc_long : (at size : ℕ) (sites : List ℕ) → length (spell_alloc at size sites)
+    ≡ length (flat_map (to_le_bytes w32) sites) + 9
 unfolding spell_alloc
 alloc_long at size sites = nine_more (length (flat_map (to_le_bytes w32) sites))
 
@@ -136,16 +157,24 @@ free_long at = refl
 item_alone : (item : TraceRecord) → length (traced (item ∷ [])) ≡ length (spell_record One 0 item)
 item_alone item = ap length (traced-one item)
 
-event_short : (harts : ℕ) (e : RunEvent) → All (IsGoodRecord harts) (record_in e) → length (traced (record_in e)) ≤ 25
+event_short : (harts : ℕ) (e : RunEvent) → All (IsGoodRecord harts) (record_in e)
+    → length (traced (record_in e)) ≤ 25
 event_short harts quiet good = omega arith
 event_short harts (touch a) good = omega (arith, item_alone (records.Touch a), touch_long a)
 event_short harts (alloc at size sites) good =
     let is = All-head (IsGoodRecord harts) (records.Alloc at size sites) [] good in
-    omega (arith, item_alone (records.Alloc at size sites), alloc_long at size sites, sites_long sites, is.2)
+    omega (
+      arith,
+      item_alone (records.Alloc at size sites),
+      alloc_long at size sites,
+      sites_long sites,
+      is.2,
+    )
 event_short harts (free at) good = omega (arith, item_alone (records.Free at), free_long at)
 event_short harts (output at bytes) good = omega arith
 
-good_front : (harts : ℕ) (e : RunEvent) (events : List RunEvent) → All (IsGoodRecord harts) (record_in e ++ records_in events)
+good_front : (harts : ℕ) (e : RunEvent) (events : List RunEvent)
+    → All (IsGoodRecord harts) (record_in e ++ records_in events)
     → All (IsGoodRecord harts) (record_in e) × All (IsGoodRecord harts) (records_in events)
 good_front harts quiet events good = (All-nil (IsGoodRecord harts), good)
 good_front harts (touch a) events good =
@@ -155,8 +184,10 @@ good_front harts (touch a) events good =
           (records_in events) good,
     )
 good_front harts (alloc at size sites) events good =
-    let h = All-head (IsGoodRecord harts) (records.Alloc at size sites) (records_in events) good in (
-      All-cons (IsGoodRecord harts) (records.Alloc at size sites) [] h (All-nil (IsGoodRecord harts)),
+    let item : TraceRecord = records.Alloc at size sites in
+    let h = All-head (IsGoodRecord harts) item (records_in events) good in (
+      All-cons (IsGoodRecord harts) (records.Alloc at size sites) [] h
+          (All-nil (IsGoodRecord harts)),
       All-tail (IsGoodRecord harts)
           (records.Alloc at size sites) (records_in events) good,
     )
@@ -173,9 +204,12 @@ events_short : (harts : ℕ) (events : List RunEvent) → All (IsGoodRecord hart
 events_short harts [] good = omega arith
 events_short harts (e ∷ events) good =
     let parts = good_front harts e events good in
-    let all : length (traced (record_in e ++ records_in events)) ≡ length (traced (record_in e)) + length (traced (records_in events)) =
-    ap length (traced-append (record_in e) (records_in events)) ∙ length-append (traced (record_in e)) (traced (records_in events)) in
-    at_most (length (traced (record_in e ++ records_in events))) (length (traced (record_in e))) (length (traced (records_in events))) 25
+    let all : length (traced (record_in e ++ records_in events))
+    ≡ length (traced (record_in e)) + length (traced (records_in events)) =
+    ap length (traced-append (record_in e) (records_in events))
+    ∙ length-append (traced (record_in e)) (traced (records_in events)) in
+    at_most (length (traced (record_in e ++ records_in events))) (length (traced (record_in e)))
+    (length (traced (records_in events))) 25
     (length events) all
     (event_short harts e parts.0) (events_short harts events parts.1)
 
@@ -192,9 +226,11 @@ one_more all one rest n is first later = omega (arith, is, first, later)
 pub few_touches : (events : List RunEvent) → length (touches_in events) ≤ length events
 few_touches [] = omega arith
 few_touches (e ∷ events) =
-    let all : length (touches_in (e ∷ events)) ≡ length (touch_in e) + length (touches_in events) = length-append (touch_in e)
+    let all : length (touches_in (e ∷ events)) ≡ length (touch_in e) + length (touches_in events) =
+    length-append (touch_in e)
     (touches_in events) in
-    one_more (length (touches_in (e ∷ events))) (length (touch_in e)) (length (touches_in events)) (length events) all (few_touch e)
+    one_more (length (touches_in (e ∷ events))) (length (touch_in e)) (length (touches_in events))
+    (length events) all (few_touch e)
     (few_touches events)
 
 -- ---- the end
@@ -220,7 +256,8 @@ ending_long : (e : Ending) → length (spell_ending e) ≡ 25
 unfolding spell_ending
 ending_long e = outcome_long e.outcome
   where
-    outcome_long : (o : Outcome) → length (spell_ending (record { outcome = o; steps = e.steps; accesses = e.accesses })) ≡ 25
+    outcome_long : (o : Outcome) → length
+        (spell_ending (record { outcome = o; steps = e.steps; accesses = e.accesses })) ≡ 25
     outcome_long (Exit code) = refl
     outcome_long Budget = refl
     outcome_long Deadlock = refl
@@ -234,39 +271,53 @@ header_long harts = refl
 whole_long : (harts : ℕ) (symbols : List TraceRecord) (r : Run)
     → length (spell One (record { first = 0; harts = harts }) (records_of symbols r) r.ending)
     ≡ length (spell_header One (record { first = 0; harts = harts }))
-    + ((length (traced symbols) + length (traced (records_in r.events))) + length (spell_ending r.ending))
+    + ((length (traced symbols) + length (traced (records_in r.events))) + length
+    (spell_ending r.ending))
 unfolding spell
 whole_long harts symbols r =
     let head : List ℕ = spell_header One (record { first = 0; harts = harts }) in
     let end : List ℕ = spell_ending r.ending in
-    ap (λ (l : List ℕ). length (head ++ (l ++ end))) (spelled-all 0 (records_of symbols r) ∙ traced-append symbols (records_in r.events))
+    ap (λ (l : List ℕ). length (head ++ (l ++ end)))
+    (spelled_each 0 (records_of symbols r) ∙ traced-append symbols (records_in r.events))
     ∙ length-append head ((traced symbols ++ traced (records_in r.events)) ++ end)
-    ∙ ap (λ (n : ℕ). length head + n) (length-append (traced symbols ++ traced (records_in r.events)) end
-    ∙ ap (λ (n : ℕ). n + length end) (length-append (traced symbols) (traced (records_in r.events))))
+    ∙ ap (λ (n : ℕ). length head + n) (length-append
+    (traced symbols ++ traced (records_in r.events)) end
+    ∙ ap (λ (n : ℕ). n + length end) (length-append (traced symbols)
+    (traced (records_in r.events))))
 
 -- the lengths of a trace's parts, summed
-sum_short : (all head symbols events end n m : ℕ) → all ≡ head + ((symbols + events) + end) → head ≡ 20 → end ≡ 25
+sum_short : (all head symbols events end n m : ℕ) → all ≡ head + ((symbols + events) + end) → head
+    ≡ 20 → end ≡ 25
     → symbols ≤ 1036 * n → n ≤ 2 ^ 20 → events ≤ 25 * m → m ≤ 2 ^ 36 → all ≤ longest_trace
-sum_short all head symbols events end n m is h e s few v short = omega (arith, is, h, e, s, few, v, short)
+sum_short all head symbols events end n m is h e s few v short = omega
+    (arith, is, h, e, s, few, v, short)
 
-run_short : (harts : ℕ) (symbols : List TraceRecord) (r : Run) → All IsSymbolRecord symbols → length symbols ≤ 2 ^ 20
+run_short : (harts : ℕ) (symbols : List TraceRecord) (r : Run) → All IsSymbolRecord symbols
+    → length symbols ≤ 2 ^ 20
     → All (IsGoodRecord harts) (records_in r.events) → length r.events ≤ 2 ^ 36
-    → length (spell One (record { first = 0; harts = harts }) (records_of symbols r) r.ending) ≤ longest_trace
+    → length (spell One (record { first = 0; harts = harts }) (records_of symbols r) r.ending) ≤
+    longest_trace
 run_short harts symbols r told few good short =
-    sum_short (length (spell One (record { first = 0; harts = harts }) (records_of symbols r) r.ending))
-    (length (spell_header One (record { first = 0; harts = harts }))) (length (traced symbols)) (length (traced (records_in r.events)))
-    (length (spell_ending r.ending)) (length symbols) (length r.events) (whole_long harts symbols r) (header_long harts)
+    sum_short (length (spell One (record { first = 0; harts = harts })
+    (records_of symbols r) r.ending))
+    (length (spell_header One (record { first = 0; harts = harts }))) (length (traced symbols))
+    (length (traced (records_in r.events)))
+    (length (spell_ending r.ending)) (length symbols) (length r.events) (whole_long harts symbols r)
+    (header_long harts)
     (ending_long r.ending) (symbols_short symbols told) few (events_short harts r.events good) short
 
-pub kept_rules : (harts : ℕ) (symbols : List TraceRecord) (s : Setup) (r : Run) → 1 ≤ harts → harts ≤ 256
+pub kept_rules : (harts : ℕ) (symbols : List TraceRecord) (s : Setup) (r : Run) → 1 ≤ harts
+    → harts ≤ 256
     → All IsSymbolRecord symbols → length symbols ≤ 2 ^ 20 → IsShort s r → s.budget ≤ 2 ^ 36
     → All (IsGoodRecord harts) (records_in r.events) → IsEndOf harts r.ending.outcome
     → IsKept (trace_for harts symbols r)
 kept_rules harts symbols s r some most told few short budget good end =
     let touched : touches_among (records_of symbols r) ≡ touches_in r.events =
     touches-among symbols (records_in r.events)
-    ∙ ap (λ (l : List ATouch). l ++ touches_among (records_in r.events)) (untouched symbols told) ∙ touches-in r.events in
-    let count : r.ending.accesses ≡ length (touches_among (records_of symbols r)) = short.accesses ∙ ap length (sym touched) in
+    ∙ ap (λ (l : List ATouch). l ++ touches_among (records_in r.events)) (untouched symbols told)
+    ∙ touches-in r.events in
+    let count : r.ending.accesses ≡ length (touches_among (records_of symbols r)) = short.accesses
+    ∙ ap length (sym touched) in
     let fewer = few_touches r.events in
     record {
       header = record { position = omega arith; some = some; few = most };

@@ -1,7 +1,7 @@
-pub mod Putting
 pub mod Beginning
-pub mod Records
 pub mod Events
-pub mod Kept
-pub mod Symbols
 pub mod Following
+pub mod Kept
+pub mod Putting
+pub mod Records
+pub mod Symbols

@@ -1,17 +1,16 @@
 -- What a run leaves: its trace, and what it puts out, in files.
 use Rattle.std.specs.Prelude.{ℕ, List, [], ◌∷◌, ◌++◌, map}
-use Rattle.outputs.specs.Files.{Output as AnOutput}
-use Rattle.trace_grammar.specs.declared.record.TraceRecord.{TraceRecord}
-use Rattle.trace_grammar.specs.declared.record.TraceRecord.TheVariants as records
-use Rattle.trace_grammar.specs.declared.record.Version.TheVariants.{One}
-use Rattle.trace_grammar.specs.Rules.{IsGoodSymbol, IsGoodTrace}
-use Rattle.trace_grammar.specs.Spelling.{spell}
-use Rattle.trace_passes.specs.Passes.{Trace as ATrace}
-use Rattle.guest_run.specs.Calls.{RunEvent, quiet, touch, alloc, free, output}
-use Rattle.guest_run.specs.Runs.{Run, output_of}
-use Rattle.run_recorder.specs.declared.file.Content.{Content}
-use Rattle.run_recorder.specs.declared.file.Content.TheVariants.{Trace, Output}
-use Rattle.run_recorder.specs.declared.file.RunFile.{RunFile}
+use Rattle.shelf.specs.Files.{Output as AnOutput}
+use Rattle.trace_format.specs.declared.record.TraceRecord.{TraceRecord}
+use Rattle.trace_format.specs.declared.record.TraceRecord.TheVariants as records
+use Rattle.trace_format.specs.declared.record.Version.TheVariants.{One}
+use Rattle.trace_format.specs.Rules.{IsGoodSymbol, IsGoodTrace}
+use Rattle.trace_passes.specs.Passes.{Trace as ATrace, spell_trace}
+use Rattle.guest.specs.GuestCalls.{RunEvent, quiet, touch, alloc, free, output}
+use Rattle.guest.specs.Runs.{Run, output_of}
+use Rattle.run_recorder.specs.declared.run_file.Content.{Content}
+use Rattle.run_recorder.specs.declared.run_file.Content.TheVariants.{Trace, Output}
+use Rattle.run_recorder.specs.declared.run_file.RunFile.{RunFile}
 
 -- ---- the records of a run
 
@@ -50,10 +49,6 @@ abbrev pub IsKept : ATrace → Type 0
 IsKept t = IsGoodTrace t.version t.header t.items t.ending
 
 -- ---- its files
-
--- the spelling of a trace
-abbrev pub spell_trace : ATrace → List ℕ
-spell_trace t = spell t.version t.header t.items t.ending
 
 -- all bytes of a file with this content
 abbrev pub bytes_of : ℕ → List TraceRecord → Run → Content → List ℕ

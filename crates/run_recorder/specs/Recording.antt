@@ -1,52 +1,37 @@
 -- How far the recording of a run has come.
-use Rattle.std.specs.Prelude.{◌≡◌, ◌≤◌, ℕ, List, [], ◌++◌}
-use Rattle.std.specs.List.{flat_map}
+use Rattle.std.specs.Prelude.{◌≡◌, ℕ, List, [], ◌++◌}
 use Rattle.shelf.specs.Shelf.{Outside}
 use Rattle.shelf.specs.declared.shelf.ShelfError.{ShelfError}
-use Rattle.outputs.specs.Files.{AreCut}
-use Rattle.outputs.specs.OneFile.{Waiting}
-use Rattle.outputs.specs.OnTheirWay.{IsOutputs}
-use Rattle.trace_grammar.specs.declared.record.TraceRecord.{TraceRecord}
-use Rattle.trace_grammar.specs.declared.record.Version.TheVariants.{One}
-use Rattle.trace_grammar.specs.Rules.{IsWritable, touches_in}
-use Rattle.trace_grammar.specs.Spelling.{spell_header, spell_record}
-use Rattle.guest_run.specs.Calls.{RunEvent}
-use Rattle.guest_run.specs.Configs.{Config}
-use Rattle.guest_run.specs.Facts.{IsSeen, seen}
-use Rattle.guest_run.specs.Runs.{Run, bytes_in}
-use Rattle.guest_run.specs.declared.turn.Event.{Event}
-use Rattle.guest_run.specs.declared.turn.Turn.TheVariants.{Ran}
-use Rattle.run_recorder.specs.declared.file.Content.{Content}
-use Rattle.run_recorder.specs.declared.file.Content.TheVariants as content
-use Rattle.run_recorder.specs.declared.file.RunFile.{RunFile}
-use Rattle.run_recorder.specs.declared.moment.Moment.{Moment}
-use Rattle.run_recorder.specs.declared.moment.Moment.TheVariants.{Start, Record, Output}
+use Rattle.shelf.specs.Files.{AreCut}
+use Rattle.shelf.specs.OneFile.{Waiting}
+use Rattle.shelf.specs.OnTheirWay.{IsOutputs}
+use Rattle.trace_format.specs.declared.record.TraceRecord.{TraceRecord}
+use Rattle.trace_format.specs.declared.record.Version.TheVariants.{One}
+use Rattle.trace_format.specs.Rules.{touches_in}
+use Rattle.trace_format.specs.Spelling.{spell_record}
+use Rattle.trace_format.specs.Writing.{begun_with}
+use Rattle.guest.specs.GuestCalls.{RunEvent}
+use Rattle.guest.specs.Configs.{Config}
+use Rattle.guest.specs.SeenTurns.{IsSeen, seen}
+use Rattle.guest.specs.Runs.{Run, bytes_in}
+use Rattle.guest.specs.declared.turn.Event.{Event}
+use Rattle.guest.specs.declared.turn.Turn.TheVariants.{Ran}
+use Rattle.run_recorder.specs.declared.run_file.Content.{Content}
+use Rattle.run_recorder.specs.declared.run_file.Content.TheVariants as content
+use Rattle.run_recorder.specs.declared.run_file.RunFile.{RunFile}
 use Rattle.run_recorder.specs.Recorded.{outputs_of, record_in}
 
--- ---- a moment
+-- ---- what a file gets
 
--- what the trace gets of a moment
-abbrev pub trace_bytes : Moment → List ℕ
-trace_bytes (Start harts) = spell_header One (record { first = 0; harts = harts })
-trace_bytes (Record item) = spell_record One 0 item.now
-trace_bytes (Output bytes) = []
+-- of a record, by its content
+abbrev pub record_part : TraceRecord → Content → List ℕ
+record_part item content.Trace = spell_record One 0 item
+record_part item content.Output = []
 
--- what the output gets
-abbrev pub output_bytes : Moment → List ℕ
-output_bytes (Start harts) = []
-output_bytes (Record item) = []
-output_bytes (Output bytes) = bytes.now
-
--- what a file gets, by its content
-abbrev pub spelled : Moment → Content → List ℕ
-spelled moment content.Trace = trace_bytes moment
-spelled moment content.Output = output_bytes moment
-
--- a trace has 1 to 256 harts, and records that the format allows
-abbrev pub IsAllowedMoment : Moment → Type 0
-IsAllowedMoment (Start harts) = (1 ≤ harts) × (harts ≤ 256)
-IsAllowedMoment (Record item) = IsWritable item.now
-IsAllowedMoment (Output bytes) = Unit {0}
+-- of bytes that the guest puts out
+abbrev pub output_part : List ℕ → Content → List ℕ
+output_part bytes content.Trace = []
+output_part bytes content.Output = bytes
 
 -- ---- a step
 
@@ -63,18 +48,10 @@ IsTold harts event config = IsSeen harts (Ran event) config
 
 -- ---- a run
 
--- no bytes yet
-abbrev pub no_bytes : Content → List ℕ
-no_bytes content = []
-
--- what records add to the trace
-abbrev pub traced : List TraceRecord → List ℕ
-traced items = flat_map (spell_record One 0) items
-
 -- the bytes of a file once these records were noted and these bytes put out
 abbrev pub bytes_so_far : ℕ → List TraceRecord → List ℕ → Content → List ℕ
-bytes_so_far harts items put content.Trace = spell_header One (record { first = 0; harts = harts })
-    ++ traced items
+bytes_so_far harts items put content.Trace =
+    begun_with One (record { first = 0; harts = harts }) items
 bytes_so_far harts items put content.Output = put
 
 -- the files got these records and these bytes

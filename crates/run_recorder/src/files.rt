@@ -1,53 +1,81 @@
 // The files of a run, on their way.
-ghost use Rattle.std.specs.Prelude.{◌≡◌, ◌<◌, ◌++◌, List, ℕ, [], length, map, IfErr, OnOk};
+ghost use Rattle.std.specs.Prelude.{◌≡◌, ◌<◌, ◌≤◌, ◌++◌, ◌∷◌, List, ℕ, [], length, IfErr, OnOk};
 ghost use Rattle.shelf.specs.Shelf.{Outside};
-ghost use Rattle.outputs.specs.Files.{Output, AreCut, AreWritten};
-ghost use Rattle.outputs.specs.OnTheirWay.{AreApart, AreBegun, IsOutputs, outputs_with};
-ghost use Rattle.outputs.specs.OnTheirWay.{names_of as waiting_names};
-ghost use Rattle.run_recorder.specs.declared.file.Content.{Content as AContent};
+ghost use Rattle.shelf.specs.Files.{Output, AreCut};
+ghost use Rattle.shelf.specs.OnTheirWay.{AreApart, AreBegun, IsNew, IsOutputs, outputs_with};
+ghost use Rattle.shelf.specs.OnTheirWay.{names_of as waiting_names};
+ghost use Rattle.trace_format.specs.Rules.{IsWritable};
+ghost use Rattle.run_recorder.specs.declared.run_file.Content.{Content as AContent};
 ghost use Rattle.run_recorder.specs.Recorded.{names_of, outputs_of};
-ghost use Rattle.run_recorder.specs.Recording.{IsAllowedMoment, no_bytes, spelled};
+ghost use Rattle.run_recorder.specs.Recording.{AreCutAfter, AreNoted, bytes_so_far};
+ghost use Rattle.run_recorder.specs.Recording.{output_part, record_part};
 
-use crate::file::{Content, RunFile};
-use crate::moment::{Moment, fill_piece};
-use outputs::Outputs;
+use crate::run_file::{Content, RunFile};
 use shelf::{Shelf, ShelfError};
 use std::alloc::Global;
-use std::marker::Model;
+use trace_files::TraceOutputs;
+use trace_format::{Header, TraceRecord, TraceWriter, Version};
 
-/// The files of a run on their way, and the bytes of one record. Contracts see what waits for the
-/// files.
-#[derive(Drop)]
-pub(crate) struct RunOutputs<'a> {
-    outputs: Outputs<'a>,
-    piece: Vec<u8>,
-}
-
-impl<'a> Model for RunOutputs<'a> {
-    ghost use Rattle.std.specs.Prelude.{List};
-    ghost use Rattle.outputs.specs.OneFile.{Waiting};
-
-    ghost Value = { List Waiting };
-
-    ghost view = { λ o. o.outputs };
-}
-
-// Begins the files, in their order, where there are none.
-fn begin_outputs<'a, S: Shelf>(
+// Begins a file behind the others, as its content begins.
+fn begin_one<'a, S: Shelf>(
     alloc: Global,
     shelf: &mut S,
+    harts: u16,
+    place: usize,
+    name: &'a str,
+    content: Content,
+    outputs: &mut TraceOutputs<'a>,
+) -> Result<(), ShelfError>
+    requires place { length outputs.old ≡ place }
+    requires name { IsNew name.now (waiting_names outputs.old) }
+    requires begun { AreBegun (waiting_names outputs.old) (S.outside shelf.old) }
+    requires some { 1 ≤ harts }
+    requires most { harts ≤ 256 }
+    ensures outputs { OnOk result ((all : List Output) (before : Outside)
+        → IsOutputs outputs.old all before (S.outside shelf.old)
+        → IsOutputs outputs.new (all ++ record
+        { name = name.now; bytes = bytes_so_far harts [] [] content } ∷ []) before
+        (S.outside shelf.new)) }
+    ensures cut { IfErr result (λ error. (all : List Output) (before : Outside)
+        → IsOutputs outputs.old all before (S.outside shelf.old)
+        → AreCut (all ++ record
+        { name = name.now; bytes = bytes_so_far harts [] [] content } ∷ []) before
+        (S.outside shelf.new) error) }
+{
+    match content {
+        Content::Trace => {
+            let header = Header { first: 0, harts };
+            match outputs.begin_trace(alloc, shelf, place, name, Version::One, header) {
+                Ok(_) => Ok(()),
+                Err(error) => Err(error),
+            }
+        }
+        Content::Output => outputs.begin(alloc, shelf, name),
+    }
+}
+
+// Begins the files, in their order, where there are none: each trace has its header.
+pub(crate) fn begin<'a, S: Shelf>(
+    alloc: Global,
+    shelf: &mut S,
+    harts: u16,
     files: &[RunFile<'a>],
-    outputs: &mut Outputs<'a>,
+    outputs: &mut TraceOutputs<'a>,
 ) -> Result<(), ShelfError>
     requires none { (outside : Outside) → IsOutputs outputs.old [] outside outside }
     requires apart { AreApart (names_of files.now) }
-    ensures outputs { OnOk result (IsOutputs outputs.new (outputs_of files.now no_bytes)
+    requires some { 1 ≤ harts }
+    requires most { harts ≤ 256 }
+    ensures noted { OnOk result (AreNoted harts [] [] files.now outputs.new
         (S.outside shelf.old) (S.outside shelf.new)) }
-    ensures cut { IfErr result (λ error. AreCut (outputs_of files.now no_bytes)
+    ensures begun { OnOk result (AreBegun (waiting_names outputs.new) (S.outside shelf.new)) }
+    ensures count { OnOk result (length outputs.new ≡ length files.now) }
+    ensures cut { IfErr result (λ error. AreCutAfter harts [] [] files.now
         (S.outside shelf.old) (S.outside shelf.new) error) }
 {
     for place in 0..files.len() {
-        match outputs.begin(alloc, shelf, files[place].name) {
+        let RunFile { name, content } = files[place];
+        match begin_one(alloc, shelf, harts, place, name, content, outputs) {
             Ok(()) => {}
             Err(error) => return Err(error),
         }
@@ -55,113 +83,125 @@ fn begin_outputs<'a, S: Shelf>(
     Ok(())
 }
 
-impl<'a> RunOutputs<'a> {
-    // No file yet.
-    pub(crate) fn new(alloc: Global) -> RunOutputs<'a>
-        ensures { (outside : Outside) → IsOutputs result [] outside outside }
-    {
-        RunOutputs {
-            outputs: Outputs::new(alloc),
-            piece: Vec::new(alloc),
+// Puts a record into the file at a place, if that is a trace. The writer knows of no access before:
+// version 1 spells each access alone.
+#[inline(never)]
+fn put_record_into<S: Shelf>(
+    shelf: &mut S,
+    place: usize,
+    content: Content,
+    outputs: &mut TraceOutputs<'_>,
+    item: &TraceRecord,
+) -> Result<(), ShelfError>
+    requires place { place < length outputs.old }
+    requires begun { AreBegun (waiting_names outputs.old) (S.outside shelf.old) }
+    requires writable { IsWritable item.now }
+    ensures count { length outputs.new ≡ length outputs.old }
+    ensures begun { AreBegun (waiting_names outputs.new) (S.outside shelf.new) }
+    ensures outputs { OnOk result ((all : List Output) (before : Outside)
+        → IsOutputs outputs.old all before (S.outside shelf.old)
+        → IsOutputs outputs.new (outputs_with all place (record_part item.now content)) before
+        (S.outside shelf.new)) }
+    ensures cut { IfErr result (λ error. (all : List Output) (before : Outside)
+        → IsOutputs outputs.old all before (S.outside shelf.old)
+        → AreCut (outputs_with all place (record_part item.now content)) before
+        (S.outside shelf.new) error) }
+{
+    match content {
+        Content::Trace => {
+            let mut writer = TraceWriter::new(Version::One);
+            outputs.put_record(shelf, place, &mut writer, item)
+        }
+        Content::Output => Ok(()),
+    }
+}
+
+// Puts a record into each trace: nothing is called where a run writes no file.
+#[inline(always)]
+pub(crate) fn put_record<S: Shelf>(
+    shelf: &mut S,
+    files: &[RunFile<'_>],
+    outputs: &mut TraceOutputs<'_>,
+    item: &TraceRecord,
+) -> Result<(), ShelfError>
+    requires paired { length outputs.old ≡ length files.now }
+    requires begun { AreBegun (waiting_names outputs.old) (S.outside shelf.old) }
+    requires writable { IsWritable item.now }
+    ensures count { length outputs.new ≡ length outputs.old }
+    ensures begun { OnOk result (AreBegun (waiting_names outputs.new) (S.outside shelf.new)) }
+    ensures outputs { OnOk result ((bytes : AContent → List ℕ) (before : Outside)
+        → IsOutputs outputs.old (outputs_of files.now bytes) before (S.outside shelf.old)
+        → IsOutputs outputs.new
+        (outputs_of files.now (λ content. bytes content ++ record_part item.now content))
+        before (S.outside shelf.new)) }
+    ensures cut { IfErr result (λ error. (bytes : AContent → List ℕ) (before : Outside)
+        → IsOutputs outputs.old (outputs_of files.now bytes) before (S.outside shelf.old)
+        → AreCut (outputs_of files.now (λ content. bytes content ++ record_part item.now content))
+        before (S.outside shelf.new) error) }
+{
+    for place in 0..files.len() {
+        match put_record_into(shelf, place, files[place].content, outputs, item) {
+            Ok(()) => {}
+            Err(error) => return Err(error),
         }
     }
+    Ok(())
+}
 
-    // Begins the files, in their order, with nothing put, where there are none.
-    pub(crate) fn begin<S: Shelf>(
-        &mut self,
-        alloc: Global,
-        shelf: &mut S,
-        files: &[RunFile<'a>],
-    ) -> Result<(), ShelfError>
-        requires none { (outside : Outside) → IsOutputs self.old [] outside outside }
-        requires apart { AreApart (names_of files.now) }
-        ensures outputs { OnOk result (IsOutputs self.new (outputs_of files.now no_bytes)
-            (S.outside shelf.old) (S.outside shelf.new)) }
-        ensures begun { OnOk result (AreBegun (waiting_names self.new) (S.outside shelf.new)) }
-        ensures count { OnOk result (length self.new ≡ length files.now) }
-        ensures cut { IfErr result (λ error. AreCut (outputs_of files.now no_bytes)
-            (S.outside shelf.old) (S.outside shelf.new) error) }
-    {
-        begin_outputs(alloc, shelf, files, &mut self.outputs)
+// Puts bytes that the guest put out into the file at a place, if that holds them.
+fn put_output_into<S: Shelf>(
+    shelf: &mut S,
+    place: usize,
+    content: Content,
+    outputs: &mut TraceOutputs<'_>,
+    bytes: &[u8],
+) -> Result<(), ShelfError>
+    requires place { place < length outputs.old }
+    requires begun { AreBegun (waiting_names outputs.old) (S.outside shelf.old) }
+    ensures count { length outputs.new ≡ length outputs.old }
+    ensures begun { AreBegun (waiting_names outputs.new) (S.outside shelf.new) }
+    ensures outputs { OnOk result ((all : List Output) (before : Outside)
+        → IsOutputs outputs.old all before (S.outside shelf.old)
+        → IsOutputs outputs.new (outputs_with all place (output_part bytes.now content)) before
+        (S.outside shelf.new)) }
+    ensures cut { IfErr result (λ error. (all : List Output) (before : Outside)
+        → IsOutputs outputs.old all before (S.outside shelf.old)
+        → AreCut (outputs_with all place (output_part bytes.now content)) before
+        (S.outside shelf.new) error) }
+{
+    match content {
+        Content::Trace => Ok(()),
+        Content::Output => outputs.put_bytes(shelf, place, bytes),
     }
+}
 
-    // Puts what a file of a content gets of a moment into the file at a place.
-    #[inline(never)]
-    fn put_one<S: Shelf>(
-        &mut self,
-        shelf: &mut S,
-        place: usize,
-        content: Content,
-        moment: &Moment<'_>,
-    ) -> Result<(), ShelfError>
-        requires place { place < length self.old }
-        requires begun { AreBegun (waiting_names self.old) (S.outside shelf.old) }
-        requires allowed { IsAllowedMoment moment.now }
-        ensures count { length self.new ≡ length self.old }
-        ensures begun { AreBegun (waiting_names self.new) (S.outside shelf.new) }
-        ensures outputs { OnOk result ((outputs : List Output) (before : Outside)
-            → IsOutputs self.old outputs before (S.outside shelf.old)
-            → IsOutputs self.new (outputs_with outputs place (spelled moment.now content)) before
-            (S.outside shelf.new)) }
-        ensures cut { IfErr result (λ error. (outputs : List Output) (before : Outside)
-            → IsOutputs self.old outputs before (S.outside shelf.old)
-            → AreCut (outputs_with outputs place (spelled moment.now content)) before
-            (S.outside shelf.new) error) }
-    {
-        match content {
-            Content::Trace => match fill_piece(&mut self.piece, moment) {
-                Ok(()) => self.outputs.put(shelf, place, &self.piece),
-                Err(_) => Err(ShelfError::NoMemory),
-            },
-            Content::Output => match moment {
-                Moment::Output(bytes) => self.outputs.put(shelf, place, bytes),
-                Moment::Start(_) | Moment::Record(_) => Ok(()),
-            },
+// Puts bytes that the guest put out into each file that holds them.
+pub(crate) fn put_output<S: Shelf>(
+    shelf: &mut S,
+    files: &[RunFile<'_>],
+    outputs: &mut TraceOutputs<'_>,
+    bytes: &[u8],
+) -> Result<(), ShelfError>
+    requires paired { length outputs.old ≡ length files.now }
+    requires begun { AreBegun (waiting_names outputs.old) (S.outside shelf.old) }
+    ensures count { length outputs.new ≡ length outputs.old }
+    ensures begun { OnOk result (AreBegun (waiting_names outputs.new) (S.outside shelf.new)) }
+    ensures outputs { OnOk result ((so_far : AContent → List ℕ) (before : Outside)
+        → IsOutputs outputs.old (outputs_of files.now so_far) before (S.outside shelf.old)
+        → IsOutputs outputs.new
+        (outputs_of files.now (λ content. so_far content ++ output_part bytes.now content))
+        before (S.outside shelf.new)) }
+    ensures cut { IfErr result (λ error. (so_far : AContent → List ℕ) (before : Outside)
+        → IsOutputs outputs.old (outputs_of files.now so_far) before (S.outside shelf.old)
+        → AreCut
+        (outputs_of files.now (λ content. so_far content ++ output_part bytes.now content))
+        before (S.outside shelf.new) error) }
+{
+    for place in 0..files.len() {
+        match put_output_into(shelf, place, files[place].content, outputs, bytes) {
+            Ok(()) => {}
+            Err(error) => return Err(error),
         }
     }
-
-    // Puts a moment into each of the files: nothing is called where a run writes none.
-    #[inline(always)]
-    pub(crate) fn put<S: Shelf>(
-        &mut self,
-        shelf: &mut S,
-        files: &[RunFile<'_>],
-        moment: &Moment<'_>,
-    ) -> Result<(), ShelfError>
-        requires paired { length self.old ≡ length files.now }
-        requires begun { AreBegun (waiting_names self.old) (S.outside shelf.old) }
-        requires allowed { IsAllowedMoment moment.now }
-        ensures count { length self.new ≡ length self.old }
-        ensures begun { OnOk result (AreBegun (waiting_names self.new) (S.outside shelf.new)) }
-        ensures outputs { OnOk result ((bytes : AContent → List ℕ) (before : Outside)
-            → IsOutputs self.old (outputs_of files.now bytes) before (S.outside shelf.old)
-            → IsOutputs self.new
-            (outputs_of files.now (λ content. bytes content ++ spelled moment.now content))
-            before (S.outside shelf.new)) }
-        ensures cut { IfErr result (λ error. (bytes : AContent → List ℕ) (before : Outside)
-            → IsOutputs self.old (outputs_of files.now bytes) before (S.outside shelf.old)
-            → AreCut (outputs_of files.now (λ content. bytes content ++ spelled moment.now content))
-            before (S.outside shelf.new) error) }
-    {
-        for place in 0..files.len() {
-            match self.put_one(shelf, place, files[place].content, moment) {
-                Ok(()) => {}
-                Err(error) => return Err(error),
-            }
-        }
-        Ok(())
-    }
-
-    // Appends what still waits to the files.
-    pub(crate) fn finish<S: Shelf>(&mut self, shelf: &mut S) -> Result<(), ShelfError>
-        requires { AreBegun (waiting_names self.old) (S.outside shelf.old) }
-        ensures written { OnOk result ((outputs : List Output) (before : Outside)
-            → IsOutputs self.old outputs before (S.outside shelf.old)
-            → AreWritten outputs before (S.outside shelf.new)) }
-        ensures cut { IfErr result (λ error. (outputs : List Output) (before : Outside)
-            → IsOutputs self.old outputs before (S.outside shelf.old)
-            → AreCut outputs before (S.outside shelf.new) error) }
-    {
-        self.outputs.finish(shelf)
-    }
+    Ok(())
 }

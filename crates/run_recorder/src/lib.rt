@@ -2,15 +2,14 @@
 //! what its content says.
 //!
 //! [`record_run`] runs a guest to its end. Nothing of the run is kept but what the observer keeps,
-//! and the bytes that wait for their file. What a file gets of a moment of the run is said in one
-//! place, [`moment`]: a record more of the trace is a variant more there.
+//! and the bytes that wait for their file. What each file gets, by its content, is said in one
+//! place, [`files`]: a content more is a variant more there.
 #![tactic(auto)]
 
-mod file;
 mod files;
-mod moment;
-mod record;
-mod recorder;
+mod notes;
+mod run_file;
+mod whole_run;
 
-pub use file::{Content, RunFile};
-pub use record::record_run;
+pub use run_file::{Content, RunFile};
+pub use whole_run::record_run;

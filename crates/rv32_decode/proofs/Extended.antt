@@ -1,5 +1,6 @@
 -- The immediates, as the code puts them together.
-use Rattle.std.proofs.Common.{◌≡◌, ℕ, ℤ, pos, ◌+◌, ◌*◌, ◌/◌, ◌%◌, ◌^◌, ◌<◌, w32, to_z, of_z, arith, bit_and}
+use Rattle.std.proofs.Common.{◌≡◌, ℕ, ℤ, pos, ◌+◌, ◌*◌, ◌/◌, ◌%◌, ◌^◌, ◌<◌, w32, to_z, of_z, arith}
+use Rattle.std.proofs.Common.{bit_and}
 use Rattle.std.specs.Int.Signed.{shr_z}
 use Rattle.std.specs.Prelude.{◌+ℤ◌, ◌*ℤ◌}
 use Rattle.std.proofs.lemmas.Int.{ints}
@@ -7,7 +8,8 @@ use Rattle.std.proofs.lemmas.Nat.{and_mask}
 use Rattle.rv32_decode.specs.Fields.{imm_b, imm_j, imm_s}
 
 pub store : (w : ℕ) (z : ℤ) → w < 2 ^ 32 → z ≡ to_z w32 w
-    → to_z w32 (of_z w32 (to_z w32 (of_z w32 (to_z w32 (of_z w32 (shr_z (to_z w32 (of_z w32 z)) 33554432)) *ℤ pos 32))
+    → to_z w32 (of_z w32 (to_z w32
+    (of_z w32 (to_z w32 (of_z w32 (shr_z (to_z w32 (of_z w32 z)) 33554432)) *ℤ pos 32))
     +ℤ to_z w32 (bit_and (w / 128) 31)))
     ≡ imm_s w
 store w z h e =
@@ -15,8 +17,10 @@ store w z h e =
     rw (low, e) (grind (arith, ints))
 
 pub branch : (w : ℕ) (z : ℤ) → w < 2 ^ 32 → z ≡ to_z w32 w
-    → to_z w32 (of_z w32 (to_z w32 (of_z w32 (to_z w32 (of_z w32 (shr_z (to_z w32 (of_z w32 z)) 2147483648)) *ℤ pos 4096))
-    +ℤ to_z w32 (bit_and (w / 128) 1 * 2048 % 4294967296 + bit_and (w / 33554432) 63 * 32 % 4294967296
+    → to_z w32 (of_z w32 (to_z w32
+    (of_z w32 (to_z w32 (of_z w32 (shr_z (to_z w32 (of_z w32 z)) 2147483648)) *ℤ pos 4096))
+    +ℤ to_z w32 (bit_and (w / 128) 1 * 2048 % 4294967296 + bit_and (w / 33554432)
+    63 * 32 % 4294967296
     + bit_and (w / 256) 15 * 2 % 4294967296)))
     ≡ imm_b w
 branch w z h e =
@@ -26,8 +30,10 @@ branch w z h e =
     rw (one, two, three, e) (grind (arith, ints))
 
 pub jump : (w : ℕ) (z : ℤ) → w < 2 ^ 32 → z ≡ to_z w32 w
-    → to_z w32 (of_z w32 (to_z w32 (of_z w32 (to_z w32 (of_z w32 (shr_z (to_z w32 (of_z w32 z)) 2147483648)) *ℤ pos 1048576))
-    +ℤ to_z w32 (bit_and (w / 4096) 255 * 4096 % 4294967296 + bit_and (w / 1048576) 1 * 2048 % 4294967296
+    → to_z w32 (of_z w32 (to_z w32
+    (of_z w32 (to_z w32 (of_z w32 (shr_z (to_z w32 (of_z w32 z)) 2147483648)) *ℤ pos 1048576))
+    +ℤ to_z w32 (bit_and (w / 4096) 255 * 4096 % 4294967296 + bit_and (w / 1048576)
+    1 * 2048 % 4294967296
     + bit_and (w / 2097152) 1023 * 2 % 4294967296)))
     ≡ imm_j w
 jump w z h e =

@@ -1,10 +1,10 @@
-pub mod Masks
-pub mod Signs
-pub mod Forms
-pub mod Meeting
-pub mod Spelled
-pub mod Extended
-pub mod Found
 pub mod Again
+pub mod Extended
+pub mod Forms
+pub mod Found
+pub mod Masks
+pub mod Meeting
 pub mod Nowhere
+pub mod Signs
 pub mod Single
+pub mod Spelled

@@ -1,5 +1,6 @@
 -- Which row a word meets, and that it meets no other.
-use Rattle.std.proofs.Common.{◌≡◌, ℕ, suc, zero, ◌<◌, Bool, true, false, not, Some, List, [], ◌∷◌, take, get_or, ap, sym, ◌∙◌, arith}
+use Rattle.std.proofs.Common.{◌≡◌, ℕ, suc, zero, ◌<◌, Bool, true, false, not, Some, List, [], ◌∷◌}
+use Rattle.std.proofs.Common.{take, get_or, ap, sym, ◌∙◌, arith}
 use Rattle.std.proofs.Common.{bit_and, find, eq-eqb, nat_eq, length, refl}
 use Rattle.std.specs.Option.{option_map}
 use Rattle.std.specs.List.{list_all}
@@ -16,23 +17,28 @@ pub meets-clash : (w : ℕ) (r s : Row) → clash r s ≡ true → meets w s ≡
 meets-clash w r s c e = ne_eqb (bit_and w r.mask) r.value (λ h.
     let m : bit_and w s.mask ≡ s.value = eqb-true _ _ e in
     let same : bit_and r.value s.mask ≡ bit_and s.value r.mask =
-    ap (λ x. bit_and x s.mask) (sym h) ∙ and_assoc s.mask w r.mask ∙ ap (λ x. bit_and w x) (and_comm r.mask s.mask)
+    ap (λ x. bit_and x s.mask) (sym h) ∙ and_assoc s.mask w r.mask
+    ∙ ap (λ x. bit_and w x) (and_comm r.mask s.mask)
     ∙ sym (and_assoc r.mask w s.mask) ∙ ap (λ x. bit_and x r.mask) m in
     grind (arith, eq-eqb _ _ same, c))
 
-found_at : (w k : ℕ) (rows : List Row) (r : Row) → list_all (λ s. clash s (get_or rows k r)) (take k rows) ≡ true → k < length rows
+found_at : (w k : ℕ) (rows : List Row) (r : Row) → list_all (λ s. clash s (get_or rows k r))
+    (take k rows) ≡ true → k < length rows
     → meets w (get_or rows k r) ≡ true → find (meets w) rows ≡ Some (get_or rows k r)
 found_at w k [] r a b c = absurd (omega arith)
 found_at w zero (x ∷ rows) r a b c = rw c refl
 found_at w (suc k) (x ∷ rows) r a b c =
-    let p = and_parts (clash x (get_or rows k r)) (list_all (λ s. clash s (get_or rows k r)) (take k rows)) a in
+    let p = and_parts (clash x (get_or rows k r))
+    (list_all (λ s. clash s (get_or rows k r)) (take k rows)) a in
     rw (meets-clash w x (get_or rows k r) p.0 c) (found_at w k rows r p.1 (omega arith) c)
 
 abbrev pub nth : ℕ → Row
 nth k = get_or table k (row 0 0 (λ w. Ebreak))
 
 -- the instruction of a word that meets the row at k, which clashes with each row before it
-pub at : (w k : ℕ) → list_all (λ s. clash s (nth k)) (take k table) ≡ true → k < length table → bit_and w (nth k).mask ≡ (nth k).value
+pub at : (w k : ℕ) → list_all (λ s. clash s (nth k)) (take k table) ≡ true → k < length table
+    → bit_and w (nth k).mask ≡ (nth k).value
     → decoded w ≡ Some ((nth k).make w)
 unfolding decoded
-at w k a b c = ap (option_map (λ r. r.make w)) (found_at w k table (row 0 0 (λ w. Ebreak)) a b (eq-eqb _ _ c))
+at w k a b c = ap (option_map (λ r. r.make w))
+    (found_at w k table (row 0 0 (λ w. Ebreak)) a b (eq-eqb _ _ c))

@@ -1,5 +1,6 @@
 -- Signed numbers and the bits that stand for them.
-use Rattle.std.proofs.Common.{◌≡◌, ℕ, ℤ, pos, negsuc, ◌*◌, ◌%◌, ◌<◌, w32, to_z, of_z, ◌∙◌, SFits, arith}
+use Rattle.std.proofs.Common.{◌≡◌, ℕ, ℤ, pos, negsuc, ◌*◌, ◌%◌, ◌<◌, w32, to_z, of_z, ◌∙◌, SFits}
+use Rattle.std.proofs.Common.{arith}
 use Rattle.std.proofs.lemmas.Int.{ints, to_z-of_z}
 use Rattle.rv32_decode.specs.Fields.{signed, low_bits}
 use Rattle.rv32_decode.specs.Validity.{IsWithin, IsEvenWithin}

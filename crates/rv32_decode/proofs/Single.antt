@@ -1,5 +1,6 @@
 -- No word meets two rows of the table, and the instruction of a word is what its row makes.
-use Rattle.std.proofs.Common.{◌≡◌, ℕ, ◌≤◌, Bool, true, ◌&&◌, Option, Some, List, [], ◌∷◌, length, refl, ap, ◌∙◌, arith, find, inl, inr}
+use Rattle.std.proofs.Common.{◌≡◌, ℕ, ◌≤◌, Bool, true, ◌&&◌, Option, Some, List, [], ◌∷◌, length}
+use Rattle.std.proofs.Common.{refl, ap, ◌∙◌, arith, find, inl, inr}
 use Rattle.std.specs.Prelude.{All, filter, ◌↔◌, IsNone, slice_get}
 use Rattle.std.specs.Option.{option_map}
 use Rattle.std.specs.List.{list_all, AllByRecursion}
@@ -15,13 +16,15 @@ apart [] = true
 apart (r ∷ rows) = list_all (λ s. clash s r) rows && apart rows
 
 -- a word that meets r meets none that clashes with it
-filter-clash : (w : ℕ) (r : Row) (rows : List Row) → list_all (λ s. clash s r) rows ≡ true → meets w r ≡ true → filter (meets w) rows ≡ []
+filter-clash : (w : ℕ) (r : Row) (rows : List Row) → list_all (λ s. clash s r) rows ≡ true
+    → meets w r ≡ true → filter (meets w) rows ≡ []
 filter-clash w r [] a m = refl
 filter-clash w r (s ∷ rows) a m =
     let p = and_parts (clash s r) (list_all (λ s. clash s r) rows) a in
     rw (meets-clash w s r p.0 m) (filter-clash w r rows p.1 m)
 
-length-filter_apart : (w : ℕ) (rows : List Row) → apart rows ≡ true → length (filter (meets w) rows) ≤ 1
+length-filter_apart : (w : ℕ) (rows : List Row) → apart rows ≡ true
+    → length (filter (meets w) rows) ≤ 1
 length-filter_apart w [] a = omega arith
 length-filter_apart w (r ∷ rows) a =
     let p = and_parts (list_all (λ s. clash s r) rows) (apart rows) a in
@@ -59,7 +62,8 @@ made w o e =
     let all = All-from_recursion _ _ (made_by_first w (rows_of w) (length-rows_of w)) in
     λ k d h. e ∙ decoded-rows_of w ∙ all k d h
 
-first_none : (w : ℕ) (rows : List Row) → IsNone (option_map (λ r. r.make w) (slice_get rows 0)) ↔ (rows ≡ [])
+first_none : (w : ℕ) (rows : List Row) → IsNone (option_map (λ r. r.make w) (slice_get rows 0))
+    ↔ (rows ≡ [])
 first_none w [] = (λ _. refl, λ _. refl)
 first_none w (r ∷ rows) = (λ h. absurd (cc), λ e. absurd (cc))
 

@@ -1,5 +1,5 @@
-pub mod Fields
 pub mod Codes
-pub mod Table
+pub mod Fields
 pub mod Spelling
+pub mod Table
 pub mod Validity

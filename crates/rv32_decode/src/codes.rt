@@ -2,9 +2,6 @@
 ghost use Rattle.std.specs.Prelude.{◌≡◌, ◌≢◌, ◌<◌, IfSome, IfNone};
 ghost use Rattle.rv32_decode.specs.Codes.{test_code, load_code, store_code, imm_code, alu_code};
 ghost use Rattle.rv32_decode.specs.Codes.{alu_high, amo_code};
-ghost use Rattle.rv32_decode.specs.declared.instruction.Test.{Test};
-ghost use Rattle.rv32_decode.specs.declared.instruction.LoadKind.{LoadKind};
-ghost use Rattle.rv32_decode.specs.declared.instruction.StoreKind.{StoreKind};
 ghost use Rattle.rv32_decode.specs.declared.instruction.AluOp.{AluOp};
 ghost use Rattle.rv32_decode.specs.declared.instruction.AmoOp.{AmoOp};
 

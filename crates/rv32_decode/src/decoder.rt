@@ -15,8 +15,7 @@ use crate::fields::{
 use crate::instruction::{ImmOp, Instr, LoadKind, StoreKind, Test};
 
 /// The instruction that a word is, or `None` where it is none of RV32I, M and A. The low byte of
-/// the
-/// word is the first in memory.
+/// the word is the first in memory.
 pub fn decode(word: u32) -> Option<Instr>
     // What the table's row makes of the word, and None exactly where the word meets no row.
     ensures row { result ≡ decoded word }

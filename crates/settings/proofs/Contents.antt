@@ -1,5 +1,6 @@
 -- What a content gives, from what reading it as TOML gave.
-use Rattle.std.proofs.Common.{◌≡◌, ◌≤◌, ℕ, false, List, length, Some, None, Err, IsUtf8, sym, ◌∙◌, inl, inr, arith}
+use Rattle.std.proofs.Common.{◌≡◌, ◌≤◌, ℕ, false, List, length, Some, None, Err, IsUtf8, sym, ◌∙◌}
+use Rattle.std.proofs.Common.{inl, inr, arith}
 use Rattle.std.proofs.lemmas.Bool.{cases_Bool}
 use Rattle.std.proofs.lemmas.Bool.Decides.{nat_tests}
 use Rattle.std.proofs.lemmas.Option.{same_Some}
@@ -13,15 +14,19 @@ use Rattle.settings.specs.declared.fault.SettingsFault.TheVariants.{BadToml}
 use Rattle.settings.specs.Tables.{least_unknown}
 use Rattle.settings.specs.Answers.{longest_content, settings_of, judged_table}
 
-short : (content : List ℕ) → length content ≤ longest_content → nat_lt longest_content (length content) ≡ false
+short : (content : List ℕ) → length content ≤ longest_content
+    → nat_lt longest_content (length content) ≡ false
 short content h = grind (arith, nat_tests)
 
-pub settings_of-table : (content : List ℕ) (table : Members) → length content ≤ longest_content → IsUtf8 content
+pub settings_of-table : (content : List ℕ) (table : Members) → length content ≤ longest_content
+    → IsUtf8 content
     → parse_document content ≡ Some table
     → settings_of content ≡ judged_table table
-settings_of-table content table fits text parsed = rw (short content fits, is_utf8-from_IsUtf8 content text, parsed)
+settings_of-table content table fits text parsed =
+    rw (short content fits, is_utf8-from_IsUtf8 content text, parsed)
 
-pub settings_of-refused : (content : List ℕ) → length content ≤ longest_content → (IsUtf8 content → parse_document content ≡ None)
+pub settings_of-refused : (content : List ℕ) → length content ≤ longest_content
+    → (IsUtf8 content → parse_document content ≡ None)
     → settings_of content ≡ Err BadToml
 settings_of-refused content fits refused =
     elim (cases_Bool (is_utf8 content)) [
@@ -30,13 +35,16 @@ settings_of-refused content fits refused =
     ]
 
 -- white space and comments alone are the empty table
-pub parse_document-blank : (content : List ℕ) → IsBlank content → parse_document content ≡ Some no_members
+pub parse_document-blank : (content : List ℕ) → IsBlank content → parse_document content
+    ≡ Some no_members
 unfolding parse_document lines
 parse_document-blank content blank = rw blank
 
-pub no_unknown-blank : (content : List ℕ) (table : Members) → IsBlank content → parse_document content ≡ Some table
+pub no_unknown-blank : (content : List ℕ) (table : Members) → IsBlank content
+    → parse_document content ≡ Some table
     → least_unknown table ≡ None
 unfolding least_unknown
 no_unknown-blank content table blank parsed =
-    let empty : no_members ≡ table = same_Some _ _ (sym (parse_document-blank content blank) ∙ parsed) in
+    let empty : no_members ≡ table = same_Some _ _
+    (sym (parse_document-blank content blank) ∙ parsed) in
     rw (← empty)

@@ -1,3 +1,3 @@
+pub mod Contents
 pub mod Numbers
 pub mod Unknown
-pub mod Contents

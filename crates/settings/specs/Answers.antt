@@ -4,7 +4,7 @@ use Rattle.std.specs.Option.{option_map_or}
 use Rattle.std.specs.Str.{is_utf8}
 use Rattle.toml.specs.Data.{Members}
 use Rattle.toml.specs.Parse.{parse_document}
-use Rattle.heap_objects.specs.Names.{name_of}
+use Rattle.base.specs.Names.{name_of}
 use Rattle.settings.specs.declared.values.Settings.{Settings}
 use Rattle.settings.specs.declared.fault.SettingsFault.{SettingsFault}
 use Rattle.settings.specs.declared.fault.SettingsFault.TheVariants.{TooLong, BadToml, UnknownKey}

@@ -2,7 +2,7 @@
 use Rattle.std.specs.Prelude.{◌≡◌, ℕ, ◌^◌, ◌%◌, ◌==◌, ◌≤◌, Bool, ◌&&◌, eqb, max, List, [], ◌∷◌}
 use Rattle.std.specs.Prelude.{IsTrue, codes}
 use Rattle.std.specs.List.{list_any}
-use Rattle.predator_base.specs.Levels.{is_from_to}
+use Rattle.base.specs.Levels.{is_from_to}
 use Rattle.settings.specs.declared.key.Key.{Key}
 use Rattle.settings.specs.declared.key.Key.TheVariants.{Harts, Memory, Stack, Tracking, Prediction}
 use Rattle.settings.specs.declared.key.Key.TheVariants.{Report, Quantum, Budget, Line}

@@ -1,4 +1,4 @@
+pub mod Allowed
+pub mod Answers
 pub mod Keys
 pub mod Tables
-pub mod Answers
-pub mod Allowed

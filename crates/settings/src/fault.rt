@@ -1,7 +1,7 @@
 // Why a settings file is refused.
 
 use crate::key::Key;
-use heap_objects::Name;
+use base::Name;
 
 /// Why a settings file is refused, in the order in which faults are judged.
 #[derive(PartialEq, Eq, Drop, Debug)]

@@ -15,8 +15,7 @@ ghost use Rattle.settings.specs.Allowed.{IsAllowed};
 use crate::fault::SettingsFault;
 use crate::key::{Form, Key};
 use crate::values::Settings;
-use heap_objects::Name;
-use predator_base::NoMemory;
+use base::{Name, NoMemory};
 use std::alloc::Global;
 use toml::{Table, Value};
 

@@ -1,2 +1,2 @@
-pub mod LoopLaws
 pub mod InsertLaws
+pub mod LoopLaws

@@ -1,12 +1,12 @@
 // Who came to a line since its last write.
-ghost use Rattle.std.specs.Prelude.{◌≡◌, ◌≢◌, ℕ, List, [], ◌∷◌, IfOk, OnOk, IsTrue, IsFalse, eqb};
+ghost use Rattle.std.specs.Prelude.{◌≡◌, ◌≢◌, [], ◌∷◌, IfOk, OnOk, IsTrue, IsFalse, eqb};
 ghost use Rattle.std.specs.List.{list_any};
-ghost use Rattle.predator_base.specs.Touch.{is_write};
+ghost use Rattle.base.specs.Touch.{is_write};
 ghost use Rattle.sharing_rules.specs.Arrivals as arrivals;
 ghost use Rattle.sharing_rules.specs.Arrivals.{note_arrival};
 ghost use Rattle.sharing_rules.specs.Lines.{is_inside};
 
-use predator_base::{Access, Hart, NoMemory};
+use base::{Access, Hart, NoMemory};
 use sharing_rules::CacheLine;
 use std::alloc::Global;
 

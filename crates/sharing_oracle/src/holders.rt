@@ -1,13 +1,11 @@
 // The simulation of one cache for each hart, run anew for each question.
-ghost use Rattle.std.specs.Prelude.{◌≡◌, ℕ, ◌≤◌, Bool, ◌&&◌, not, ◌==◌, nat_lt, length, take, IfOk};
-ghost use Rattle.std.specs.List.{list_any};
-ghost use Rattle.predator_base.specs.Lines.{line_number};
-ghost use Rattle.sharing_rules.specs.Holders.{holders, after_access, is_held_by_another};
-ghost use Rattle.sharing_rules.specs.Holders.{is_invalidation, line_count_since};
-ghost use Rattle.sharing_rules.specs.Lines.{is_inside};
+ghost use Rattle.std.specs.Prelude.{◌≡◌, ◌≤◌, length};
+ghost use Rattle.base.specs.Lines.{line_number};
+ghost use Rattle.sharing_rules.specs.Holders.{holders, is_held_by_another};
+ghost use Rattle.sharing_rules.specs.Holders.{line_count_since};
 
 use crate::places::{Question, count_places};
-use predator_base::{Access, Hart};
+use base::{Access, Hart};
 use sharing_rules::CacheLine;
 
 /// Whether the cache of a hart has a line after these accesses.
@@ -50,7 +48,7 @@ pub struct Invalidations {
 
 impl Question for Invalidations {
     ghost use Rattle.std.specs.Prelude.{◌&&◌, nat_lt, length};
-    ghost use Rattle.predator_base.specs.Lines.{line_number};
+    ghost use Rattle.base.specs.Lines.{line_number};
     ghost use Rattle.sharing_rules.specs.Holders.{is_invalidation};
 
     ghost asked = { λ q before a. nat_lt q.start (length before) && is_invalidation

@@ -18,15 +18,9 @@ mod starts;
 mod verdicts;
 
 pub use arrivals::arrivals_of;
-pub use holders::{count_since, is_held_elsewhere, is_holder};
-pub use line_words::{word_since, words_since};
-pub use listed::{TrackedLine, observed_lines, written_lines};
+pub use line_words::words_since;
+pub use listed::{TrackedLine, observed_lines};
 pub use listing::{listed_lines, may_predict, tracked};
-pub use pairs::{Neighbours, best_pair};
-pub use places::{Question, count_places, first_place};
 pub use predicted::NativePair;
-pub use predictions::{
-    doubled_lines, predicted_lines, shifted_lines, tracked_doubled, tracked_shifted,
-};
-pub use starts::{first_write_from, is_write_to, observed_start, predicted_start, write_count};
+pub use predictions::predicted_lines;
 pub use verdicts::verdict;

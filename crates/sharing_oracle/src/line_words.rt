@@ -1,10 +1,10 @@
 // The words of a line since a position.
-ghost use Rattle.std.specs.Prelude.{◌≡◌, ℕ, ◌&&◌, ◌==◌, ◌≤◌, ◌<◌, ◌^◌, ◌/◌, length, IfOk};
+ghost use Rattle.std.specs.Prelude.{◌≡◌, ◌&&◌, ◌==◌, ◌≤◌, ◌^◌, length, IfOk};
 ghost use Rattle.std.specs.List.{All};
 ghost use Rattle.sharing_rules.specs.Lines.{is_inside, word_place};
 ghost use Rattle.sharing_rules.specs.Words as words;
 
-use predator_base::{Access, NoMemory};
+use base::{Access, NoMemory};
 use sharing_rules::{CacheLine, Word};
 use std::alloc::Global;
 

@@ -1,5 +1,5 @@
 // The best hot pair of two neighbouring lines.
-ghost use Rattle.std.specs.Prelude.{◌≡◌, ℕ, ◌+◌, ◌*◌, ◌<◌, ◌≤◌, ◌^◌, length, sum_by, List, ◌++◌};
+ghost use Rattle.std.specs.Prelude.{◌≡◌, ℕ, ◌<◌, ◌≤◌, ◌^◌, length, sum_by, List, ◌++◌};
 ghost use Rattle.std.specs.Prelude.{filter, Some, IfSome};
 ghost use Rattle.sharing_rules.specs.Words.{accesses};
 ghost use Rattle.sharing_rules.specs.Pairs.{score, first_best, best_pair_of};

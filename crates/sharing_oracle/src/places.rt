@@ -1,9 +1,9 @@
 // Places of an access list: the first that passes a question, and how many do.
-ghost use Rattle.std.specs.Prelude.{◌≡◌, ℕ, ◌≤◌, ◌<◌, Bool, List, length};
-ghost use Rattle.predator_base.specs.Touch.{Touch};
+ghost use Rattle.std.specs.Prelude.{◌≡◌, ◌≤◌, Bool, List, length};
+ghost use Rattle.base.specs.Touch.{Touch};
 ghost use Rattle.sharing_rules.specs.Places as places;
 
-use predator_base::Access;
+use base::Access;
 
 /// A question about a place of an access list.
 pub trait Question {

@@ -1,7 +1,7 @@
 // Where the predicted lines of a pair of neighbours open, and which they are.
-ghost use Rattle.std.specs.Prelude.{◌≡◌, ℕ, ◌≤◌, ◌<◌, ◌*◌, ◌^◌, ◌+◌, ◌||◌, ◌↔◌, IfOk, IfSome};
+ghost use Rattle.std.specs.Prelude.{◌≡◌, ◌≤◌, ◌<◌, ◌^◌, ◌+◌, ◌||◌, ◌↔◌, IfOk, IfSome};
 ghost use Rattle.std.specs.Prelude.{IsSome, IsTrue, length};
-ghost use Rattle.predator_base.specs.Lines.{is_layout};
+ghost use Rattle.base.specs.Lines.{is_layout};
 ghost use Rattle.sharing_rules.specs.Places as places;
 ghost use Rattle.sharing_rules.specs.Predicted as predicted;
 ghost use Rattle.sharing_rules.specs.Predicted.{is_native_size, is_opening};
@@ -9,7 +9,7 @@ ghost use Rattle.sharing_rules.specs.Predicted.{is_native_size, is_opening};
 use crate::line_words::words_since;
 use crate::pairs::{Neighbours, best_pair};
 use crate::starts::{is_write_to, observed_start, write_count};
-use predator_base::{Access, Layout, NoMemory};
+use base::{Access, Layout, NoMemory};
 use sharing_rules::{CacheLine, line_from, shifted_base, word_address};
 use std::alloc::Global;
 

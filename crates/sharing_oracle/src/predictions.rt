@@ -1,12 +1,12 @@
 // The predicted lines of an access list: shifted and doubled.
-ghost use Rattle.std.specs.Prelude.{◌≡◌, ℕ, ◌≤◌, ◌<◌, ◌^◌, IfOk, IsTrue, length};
+ghost use Rattle.std.specs.Prelude.{◌≡◌, ◌≤◌, ◌<◌, ◌^◌, IfOk, IsTrue, length};
 ghost use Rattle.sharing_rules.specs.Predicted.{is_native_size};
 ghost use Rattle.sharing_rules.specs.Listed as listed;
 
 use crate::listed::{TrackedLine, push_some, written_lines};
 use crate::predicted::NativePair;
 use crate::starts::predicted_start;
-use predator_base::{Access, Layout, NoMemory, Thresholds};
+use base::{Access, Layout, NoMemory, Thresholds};
 use sharing_rules::{CacheLine, LineKind};
 use std::alloc::Global;
 

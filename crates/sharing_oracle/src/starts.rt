@@ -6,7 +6,7 @@ ghost use Rattle.sharing_rules.specs.Observed as observed;
 ghost use Rattle.sharing_rules.specs.Predicted as predicted;
 
 use crate::places::{Question, first_place};
-use predator_base::Access;
+use base::Access;
 use sharing_rules::CacheLine;
 
 /// Which accesses are the write of a number, counted from 1, of a line.

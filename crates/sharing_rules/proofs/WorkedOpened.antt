@@ -1,13 +1,14 @@
 -- What is kept of worked lists, computed from the definitions.
 use Rattle.std.proofs.Common.{◌≡◌, ℕ, List, [], ◌∷◌, Some, None, refl}
-use Rattle.predator_base.specs.Touch.{Touch}
-use Rattle.predator_base.specs.Levels.{Levels}
-use Rattle.predator_base.specs.declared.access.Kind.TheVariants.{Read, Write}
+use Rattle.base.specs.Touch.{Touch}
+use Rattle.base.specs.Levels.{Levels}
+use Rattle.base.specs.declared.access.Kind.TheVariants.{Read, Write}
 use Rattle.sharing_rules.specs.Places.{first_place}
 use Rattle.sharing_rules.specs.Lines.{native_grid, native_line, line_from}
 use Rattle.sharing_rules.specs.Words.{words_since}
 use Rattle.sharing_rules.specs.Pairs.{best_pair_of}
-use Rattle.sharing_rules.specs.Opened.{Opened, observed_from, shifted_after, doubled_after, opened, opened_now}
+use Rattle.sharing_rules.specs.Opened.{Opened, observed_from, shifted_after, doubled_after, opened}
+use Rattle.sharing_rules.specs.Opened.{opened_now}
 
 abbrev wr : ℕ → ℕ → Touch
 wr h a = record { hart = h; addr = a; kind = Write; size = 4 }
@@ -48,11 +49,13 @@ unfolding first_place best_pair_of words_since
 both_observed = refl
 
 -- the second write of one of them opens the shifted and the doubled line, which may start after it
-both_open : opened_now (native_grid 64) (levels 1 2) once (wr 0 0x103c) ≡ shifted 2 ∷ (doubled 2 ∷ [])
+both_open : opened_now (native_grid 64) (levels 1 2) once (wr 0 0x103c)
+    ≡ shifted 2 ∷ (doubled 2 ∷ [])
 unfolding first_place best_pair_of words_since
 both_open = refl
 
-all_kept : opened (native_grid 64) (levels 1 2) twice ≡ lower ∷ (upper ∷ (shifted 2 ∷ (doubled 2 ∷ [])))
+all_kept : opened (native_grid 64) (levels 1 2) twice
+    ≡ lower ∷ (upper ∷ (shifted 2 ∷ (doubled 2 ∷ [])))
 unfolding first_place best_pair_of words_since
 all_kept = refl
 
@@ -67,7 +70,8 @@ unfolding first_place best_pair_of words_since
 reads_open_nothing = refl
 
 -- a line is observed at its T-th write, and not before
-second_write : opened_now (native_grid 64) (observing 2) (wr 0 0x1000 ∷ []) (wr 1 0x103c) ≡ observed_from (native_line 64 65) 1 ∷ []
+second_write : opened_now (native_grid 64) (observing 2) (wr 0 0x1000 ∷ []) (wr 1 0x103c)
+    ≡ observed_from (native_line 64 65) 1 ∷ []
 unfolding first_place
 second_write = refl
 
@@ -76,7 +80,8 @@ unfolding first_place
 first_write = refl
 
 -- at one write a line is observed and both of its predicted lines open
-all_at_once : opened_now (native_grid 64) (levels 1 1) (wr 0 0x103c ∷ []) (wr 1 0x1040) ≡ upper ∷ (shifted 1 ∷ (doubled 1 ∷ []))
+all_at_once : opened_now (native_grid 64) (levels 1 1) (wr 0 0x103c ∷ []) (wr 1 0x1040)
+    ≡ upper ∷ (shifted 1 ∷ (doubled 1 ∷ []))
 unfolding first_place best_pair_of words_since
 all_at_once = refl
 
@@ -84,6 +89,7 @@ all_at_once = refl
 abbrev no_pair : List Touch
 no_pair = wr 0 0x107c ∷ (wr 1 0x1080 ∷ [])
 
-no_even_pair : opened_now (native_grid 64) (levels 1 2) no_pair (wr 0 0x107c) ≡ shifted_after 2 (line_from 64 0x1060) ∷ []
+no_even_pair : opened_now (native_grid 64) (levels 1 2) no_pair (wr 0 0x107c)
+    ≡ shifted_after 2 (line_from 64 0x1060) ∷ []
 unfolding first_place best_pair_of words_since
 no_even_pair = refl

@@ -9,7 +9,8 @@ use Rattle.sharing_rules.specs.Recounts.{recount, layout_of, plain_levels}
 use Rattle.sharing_rules.specs.declared.line_kind.LineKind.TheVariants.{Observed, Shifted, Doubled}
 use Rattle.sharing_rules.proofs.WorkedLists.{finding, native, predicting, rd, turns, wr}
 
--- Lines predicted from the third access on count two, and their recounts five: three up to their start and two since.
+-- Lines predicted from the third access on count two, and their recounts five: three up to their
+-- start and two since.
 late_lines : listed (native 64) (predicting 2) (turns 0x103c 0x1040)
     ≡ finding Shifted (line_from 64 0x1020) 3 2 ∷ (finding Doubled (line_from 128 0x1000) 3 2 ∷ [])
 unfolding first_place count_places best_pair_of words_since

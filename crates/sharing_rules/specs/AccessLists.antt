@@ -1,6 +1,6 @@
 -- Access lists: the accesses of a run in order, numbered from 0.
 use Rattle.std.specs.Prelude.{ℕ, Bool, ◌&&◌, List}
-use Rattle.predator_base.specs.Touch.{Touch, is_write}
+use Rattle.base.specs.Touch.{Touch, is_write}
 
 abbrev pub AccessList : Type 0
 AccessList = List Touch

@@ -3,8 +3,8 @@
 use Rattle.std.specs.Prelude.{ℕ, Bool, false, not, ◌&&◌, ◌||◌, ◌==◌, nat_lt, if◌then◌else◌, length}
 use Rattle.std.specs.Prelude.{fold}
 use Rattle.std.specs.List.{list_any}
-use Rattle.predator_base.specs.Touch.{Touch, is_write}
-use Rattle.predator_base.specs.Lines.{line_number}
+use Rattle.base.specs.Touch.{Touch, is_write}
+use Rattle.base.specs.Lines.{line_number}
 use Rattle.sharing_rules.specs.AccessLists.{AccessList}
 use Rattle.sharing_rules.specs.Places.{Question, count_places}
 use Rattle.sharing_rules.specs.Lines.{Line}

@@ -1,8 +1,8 @@
 -- A line: a set of addresses, with a place for each of its words.
-use Rattle.std.specs.Prelude.{ℕ, ◌+◌, ◌-◌, ◌/◌, ◌%◌, Bool, ◌==◌}
-use Rattle.predator_base.specs.Lines.{Grid, line_number}
-use Rattle.predator_base.specs.Ranges.{line_range}
-use Rattle.predator_base.specs.declared.layout.Range.{Range}
+use Rattle.std.specs.Prelude.{ℕ, ◌+◌, ◌-◌, ◌/◌, ◌%◌, Bool, ◌==◌, ℤ, pos, ◌+ℤ◌, ◌-ℤ◌, nat_abs}
+use Rattle.base.specs.Lines.{Grid, line_number}
+use Rattle.base.specs.Ranges.{line_range}
+use Rattle.base.specs.declared.layout.Range.{Range}
 
 -- line `number` of the layout (size, offset)
 pub record Line : Type 0 where
@@ -41,3 +41,7 @@ native_line n k = record { size = n; offset = 0; number = k }
 -- the line of n bytes that begins at an address
 abbrev pub line_from : ℕ → ℕ → Line
 line_from n base = line_at (record { size = n; offset = base % n }) base
+
+-- the number of the line of a layout in which an address lies, which may be one below 0
+abbrev pub number_of_base : Grid → ℤ → ℕ
+number_of_base g base = nat_abs (base +ℤ pos g.size -ℤ pos g.offset) / g.size

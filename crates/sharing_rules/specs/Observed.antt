@@ -1,8 +1,8 @@
 -- Observed lines: those with at least T writes. Their start is the position of the T-th.
 use Rattle.std.specs.Prelude.{ℕ, ◌+◌, Bool, ◌&&◌, ◌==◌, nat_le, List, Option, length, count_by}
 use Rattle.std.specs.Prelude.{filter, map}
-use Rattle.predator_base.specs.Touch.{is_write}
-use Rattle.predator_base.specs.Lines.{Grid, line_number}
+use Rattle.base.specs.Touch.{is_write}
+use Rattle.base.specs.Lines.{Grid, line_number}
 use Rattle.sharing_rules.specs.AccessLists.{AccessList, writes_to}
 use Rattle.sharing_rules.specs.Places.{first_place}
 use Rattle.sharing_rules.specs.Arrivals.{each_once}

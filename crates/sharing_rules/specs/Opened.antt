@@ -3,9 +3,9 @@ use Rattle.std.specs.Prelude.{Bool, ◌||◌, nat_lt, int_lt, ℕ, suc, ◌+◌,
 use Rattle.std.specs.Prelude.{if◌then◌else◌, List, [], ◌∷◌, ◌++◌, Option, None, Some, length}
 use Rattle.std.specs.Prelude.{filter_map, is_some, option_map, option_and_then, option_to_list}
 use Rattle.std.specs.Option.{option_map_or}
-use Rattle.predator_base.specs.Touch.{Touch}
-use Rattle.predator_base.specs.Lines.{Grid, line_number}
-use Rattle.predator_base.specs.Levels.{Levels}
+use Rattle.base.specs.Touch.{Touch}
+use Rattle.base.specs.Lines.{Grid, line_number}
+use Rattle.base.specs.Levels.{Levels}
 use Rattle.sharing_rules.specs.AccessLists.{AccessList, writes_to}
 use Rattle.sharing_rules.specs.Lines.{Line, is_inside, native_grid, grid_line, line_at, range_of}
 use Rattle.sharing_rules.specs.Observed.{write_count, observed_start, first_write_from}

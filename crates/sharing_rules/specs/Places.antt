@@ -3,7 +3,7 @@
 use Rattle.std.specs.Prelude.{ℕ, zero, suc, ◌+◌, Bool, false, List, [], ◌∷◌, ◌++◌, Option, Some}
 use Rattle.std.specs.Prelude.{None, if◌then◌else◌, length, take, slice_get}
 use Rattle.std.specs.Option.{option_map_or, option_or}
-use Rattle.predator_base.specs.Touch.{Touch}
+use Rattle.base.specs.Touch.{Touch}
 use Rattle.sharing_rules.specs.AccessLists.{AccessList}
 
 -- a question about a place

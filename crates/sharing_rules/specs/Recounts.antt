@@ -2,8 +2,8 @@
 -- on.
 use Rattle.std.specs.Prelude.{◌≡◌, ◌≤◌, ◌<◌, ℕ, suc, ◌+◌, take, Option, None}
 use Rattle.std.specs.Option.{option_map_or}
-use Rattle.predator_base.specs.Lines.{Grid}
-use Rattle.predator_base.specs.Levels.{Levels}
+use Rattle.base.specs.Lines.{Grid}
+use Rattle.base.specs.Levels.{Levels}
 use Rattle.sharing_rules.specs.AccessLists.{AccessList}
 use Rattle.sharing_rules.specs.Lines.{Line}
 use Rattle.sharing_rules.specs.Holders.{line_count_since}

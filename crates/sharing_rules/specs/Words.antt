@@ -1,7 +1,7 @@
 -- The words of a line since a position: their reads, their writes and their harts.
 use Rattle.std.specs.Prelude.{ℕ, ◌+◌, ◌/◌, not, ◌&&◌, ◌==◌, if◌then◌else◌, List, [], ◌∷◌, map}
 use Rattle.std.specs.Prelude.{filter, drop, count_by}
-use Rattle.predator_base.specs.Touch.{Touch, is_write}
+use Rattle.base.specs.Touch.{Touch, is_write}
 use Rattle.sharing_rules.specs.AccessLists.{AccessList}
 use Rattle.sharing_rules.specs.Places.{below}
 use Rattle.sharing_rules.specs.Lines.{Line, is_inside, word_place}

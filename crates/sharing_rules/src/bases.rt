@@ -1,11 +1,11 @@
 // Addresses of words, bases of shifted lines, and the lines that begin at a base.
-ghost use Rattle.std.specs.Prelude.{◌≡◌, ◌≤◌, ◌<◌, ◌^◌, ◌%◌, IsTrue};
-ghost use Rattle.predator_base.specs.Lines.{is_layout, line_number};
+ghost use Rattle.std.specs.Prelude.{◌≡◌, ◌≤◌, ◌<◌, ◌^◌, ◌%◌, IsTrue, pos, ◌+ℤ◌, ◌-ℤ◌, nat_abs};
+ghost use Rattle.base.specs.Lines.{is_layout, line_number};
 ghost use Rattle.sharing_rules.specs.Lines as lines;
 ghost use Rattle.sharing_rules.specs.Predicted as predicted;
 
 use crate::cache_line::CacheLine;
-use predator_base::Layout;
+use base::Layout;
 
 /// The address of a word of a native line, by the number of the line and the place of the word.
 pub fn word_address(size: u32, number: u64, word: usize) -> u64
@@ -41,4 +41,24 @@ pub fn line_from(size: u32, base: u64) -> CacheLine
     let offset = base % bytes;
     let layout = Layout::new(size, offset as u32).unwrap();
     CacheLine::numbered(layout, (base + bytes - offset) / bytes)
+}
+
+// The end of the line that begins at an address, less the offset of lines, without its sign.
+#[tactic(auto, using(std::proofs::lemmas::Int::ints))]
+fn end_of(layout: Layout, base: i64) -> u64
+    ensures { result ≡ nat_abs (base +ℤ pos layout.size -ℤ pos layout.offset) }
+{
+    let up = u64::from(layout.size() - layout.offset());
+    if base < 0 {
+        base.unsigned_abs().abs_diff(up)
+    } else {
+        base.unsigned_abs() + up
+    }
+}
+
+/// The number of the line in which an address lies, which may be one below 0 or past 2^32.
+pub fn number_of_base(layout: Layout, base: i64) -> u64
+    ensures { result ≡ lines.number_of_base layout base }
+{
+    end_of(layout, base) / u64::from(layout.size())
 }

@@ -1,8 +1,8 @@
 // A line of a layout.
-ghost use Rattle.std.specs.Prelude.{◌≡◌, ◌+◌, ◌/◌, ◌<◌, ◌≤◌, ◌^◌};
+ghost use Rattle.std.specs.Prelude.{◌≡◌, ◌/◌, ◌≤◌, ◌^◌};
 ghost use Rattle.sharing_rules.specs.Lines.{line_at, is_inside, range_of, word_place};
 
-use predator_base::{Layout, Range};
+use base::{Layout, Range};
 use std::marker::Model;
 
 /// A line, by its layout and its number in it. Contracts see its size in bytes, its offset and its

@@ -3,9 +3,9 @@ ghost use Rattle.std.specs.Prelude.{◌≡◌, ℕ, ◌*◌, ◌<◌, ◌≤◌,
 ghost use Rattle.std.specs.Prelude.{Some, IsTrue};
 ghost use Rattle.std.specs.List.{All, IsDistinct};
 ghost use Rattle.std.specs.List.Sorted.{IsPermutation};
-ghost use Rattle.predator_base.specs.Levels.{Levels};
-ghost use Rattle.predator_base.specs.Lines.{Grid};
-ghost use Rattle.predator_base.specs.Touch.{Touch};
+ghost use Rattle.base.specs.Levels.{Levels};
+ghost use Rattle.base.specs.Lines.{Grid};
+ghost use Rattle.base.specs.Touch.{Touch};
 ghost use Rattle.sharing_rules.specs.AccessLists.{AccessList};
 ghost use Rattle.sharing_rules.specs.Lines.{native_grid};
 ghost use Rattle.sharing_rules.specs.Listed.{Finding, listed, may_predict, tracked};

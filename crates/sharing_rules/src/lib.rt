@@ -11,12 +11,14 @@ mod bases;
 mod cache_line;
 mod laws;
 mod line_kind;
+mod native;
 mod verdicts;
 mod word;
 
-pub use bases::{line_from, shifted_base, word_address};
+pub use bases::{line_from, number_of_base, shifted_base, word_address};
 pub use cache_line::CacheLine;
 pub use laws::{a_longer_list_moves_no_start, findings_are_recounted, kept_lines};
 pub use line_kind::{LineKind, Verdict};
+pub use native::is_native;
 pub use verdicts::is_truly_shared;
 pub use word::{Owner, Word};

@@ -2,7 +2,7 @@
 ghost use Rattle.std.specs.Prelude.{◌≡◌, ◌+◌, ◌<◌, ◌^◌, []};
 ghost use Rattle.sharing_rules.specs.Words.{accesses, note_owner, note_word, tally};
 
-use predator_base::{Access, Hart, Kind};
+use base::{Access, Hart, Kind};
 
 /// Which harts touched a word.
 #[derive(Clone, Copy, PartialEq, Eq, Debug)]

@@ -1,2 +1,4 @@
-pub mod Front
 pub mod FileLemmas
+pub mod Front
+pub mod Fronts
+pub mod OutputLists

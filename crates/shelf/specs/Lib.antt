@@ -1,6 +1,10 @@
-pub mod Shelf
-pub mod Fetch
-pub mod HeldFile
 pub mod Failing
+pub mod Fetch
+pub mod Files
+pub mod HeldFile
+pub mod Laws
 pub mod MemoryShelf
 pub mod NeverFails
+pub mod OnTheirWay
+pub mod OneFile
+pub mod Shelf

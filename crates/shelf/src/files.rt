@@ -1,5 +1,5 @@
 // Files with names in a list: the first of a name counts.
-ghost use Rattle.std.specs.Prelude.{◌≡◌, ◌≤◌, ◌-◌, ◌↔◌, min, List, ℕ, [], Some, length, OnOk};
+ghost use Rattle.std.specs.Prelude.{◌≡◌, ◌-◌, ◌↔◌, min, List, ℕ, [], Some, length, OnOk};
 ghost use Rattle.std.specs.Prelude.{OnErr, IsOkUnless, IfSome, IsSome, position};
 ghost use Rattle.std.specs.Option.{option_copied};
 ghost use Rattle.std.specs.Io.KnownBytes.{Appends};

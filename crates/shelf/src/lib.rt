@@ -4,16 +4,25 @@
 //! files that can be read, what was written and printed, where the shelf tells it, and how often
 //! calls have failed. [`MemoryShelf`] keeps all in memory and fails where it is told to,
 //! [`NeverFails`] never fails, and [`fetch`] reads a whole file from any shelf.
+//!
+//! [`Outputs`] is a list of named files on their way to a shelf. Each is begun once, gets its bytes
+//! in pieces, and is whole once all is finished. What is put into a file waits until there are 64
+//! KiB of it, so that a caller who adds some bytes at a time makes few calls of the shelf. However
+//! many files there are, the clauses say the same: which bytes stand in each file, that a front of
+//! them stands where a call gave up, whose faults rose then, and that no other name is touched.
 #![tactic(auto)]
 
 mod files;
 mod memory;
 mod never_fails;
+mod outputs;
 mod shelf;
+mod sink;
 mod whole_file;
 
 pub use files::HeldFile;
 pub use memory::{Failing, MemoryShelf};
 pub use never_fails::NeverFails;
+pub use outputs::Outputs;
 pub use shelf::{Shelf, ShelfError};
 pub use whole_file::{FetchError, fetch};

@@ -11,7 +11,7 @@ ghost use Rattle.shelf.specs.Failing.{failing_at, kept_of};
 
 use crate::files::{append_to, begin_file, bytes_of, read_file};
 use crate::{HeldFile, Shelf, ShelfError};
-use predator_base::NoMemory;
+use base::NoMemory;
 use std::alloc::Global;
 
 /// A call of a shelf in memory that is to fail.

@@ -1,5 +1,5 @@
 // A whole file, read in pieces.
-ghost use Rattle.std.specs.Prelude.{◌≡◌, ◌<◌, ◌≤◌, ◌+◌, ◌^◌, List, ℕ, [], true, false, length, IfOk};
+ghost use Rattle.std.specs.Prelude.{◌≡◌, ◌<◌, ◌≤◌, ◌+◌, ◌^◌, [], true, false, length, IfOk};
 ghost use Rattle.std.specs.Prelude.{OnOk, IsErrOf};
 ghost use Rattle.shelf.specs.Shelf.{content, Told, HasCauseAt, OnlyReads};
 ghost use Rattle.shelf.specs.Fetch.{HasFetchCause, IsFront};

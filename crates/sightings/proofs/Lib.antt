@@ -1,5 +1,5 @@
-mod NextLaws
-mod Records
-mod NotedLaws
-mod ObjectLaws
-mod OriginLaws
+pub mod NextLaws
+pub mod NotedLaws
+pub mod ObjectLaws
+pub mod OriginLaws
+pub mod Records

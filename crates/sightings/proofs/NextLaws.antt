@@ -1,59 +1,58 @@
 -- What has been seen, with one record more.
-use Rattle.std.proofs.Common.{◌≡◌, ℕ, ◌+◌, ◌≤◌, List, [], ◌∷◌, ◌++◌, length, map, refl, sym, ap, ◌∙◌, subst, append_assoc, arith}
+use Rattle.std.proofs.Common.{◌≡◌, ℕ, ◌+◌, ◌≤◌, List, [], ◌∷◌, ◌++◌, length, map, refl, sym, ap}
+use Rattle.std.proofs.Common.{◌∙◌, subst, append_assoc, arith, Option, Some, None, Result, Ok, Err}
 use Rattle.std.proofs.Math.Nat.{add-zero}
 use Rattle.std.proofs.lemmas.List.{append-nil, length-append}
 use Rattle.std.proofs.lemmas.List.Elements.{filter_map-append}
-use Rattle.std.proofs.Common.{Option, Some, None, Result, Ok, Err}
-use Rattle.std.specs.Prelude.{OnOk, unwrap_or}
-use Rattle.std.specs.Ordering.{nat_cmp}
-use Rattle.std.specs.FinMap as finite
-use Rattle.std.specs.List.Sorted.{IsPermutation}
-use Rattle.std.proofs.lemmas.List.Sorted.{IsPermutation-refl}
-use Rattle.predator_base.specs.Levels.{Levels}
-use Rattle.predator_base.specs.Lines.{Grid}
-use Rattle.predator_base.specs.Touch.{Touch}
-use Rattle.predator_base.specs.declared.ending.Ending.{Ending}
-use Rattle.virtual_lines.specs.KeptIn.{kept_in}
-use Rattle.sharing_rules.specs.Opened.{Opened}
-use Rattle.sharing_rules.specs.Laws.Opened.{opened-empty}
+use Rattle.std.specs.Prelude.{OnOk}
+use Rattle.base.specs.Levels.{Levels}
+use Rattle.base.specs.Lines.{Grid}
+use Rattle.base.specs.Touch.{Touch}
+use Rattle.base.specs.declared.ending.Ending.{Ending}
 use Rattle.sharing_rules.specs.AccessLists.{AccessList}
-use Rattle.heap_objects.specs.declared.block.Block.{Block}
-use Rattle.heap_objects.specs.Objects.{Objects}
-use Rattle.heap_objects.specs.Blocks.{blocks_after_alloc, blocks_after_free}
-use Rattle.heap_objects.specs.Symbols.{NoTwoAlike, Symbol, kept_symbol, symbols_of}
-use Rattle.heap_objects.specs.declared.symbol.SymbolKind.{SymbolKind}
-use Rattle.detector.specs.Watch.{Watch, nothing_seen, watched}
+use Rattle.objects.specs.declared.block.Block.{Block}
+use Rattle.objects.specs.Objects.{Objects}
+use Rattle.objects.specs.Blocks.{blocks_after_alloc, blocks_after_free}
+use Rattle.objects.specs.Symbols.{NoTwoAlike, Symbol, kept_symbol, symbols_of}
+use Rattle.objects.specs.declared.symbol.SymbolKind.{SymbolKind}
+use Rattle.detector.specs.Watch.{Watch, watched}
 use Rattle.detector.specs.Standing.{StandsFor}
-use Rattle.trace_grammar.specs.Reading.{counted_after}
-use Rattle.trace_grammar.specs.Rules.{last_position, touch_in, touches_in}
-use Rattle.trace_grammar.specs.declared.record.TraceRecord.{TraceRecord}
-use Rattle.trace_grammar.specs.declared.record.TraceRecord.TheVariants as records
+use Rattle.trace_format.specs.Reading.{counted_after}
+use Rattle.trace_format.specs.Rules.{last_position, touch_in, touches_in}
+use Rattle.trace_format.specs.declared.record.TraceRecord.{TraceRecord}
+use Rattle.trace_format.specs.declared.record.TraceRecord.TheVariants as records
 use Rattle.trace_passes.specs.Rooms.{HasRoom}
 use Rattle.sightings.specs.Lives.{lived, made_by, objects_after, symbol_in, symbols_in}
 use Rattle.report.specs.OfLists.{report_of}
 use Rattle.sightings.specs.Seen.{HasSeen, begins_at, SeesNext, report_of_records}
 use Rattle.report.specs.Reports.{report_lines}
 use Rattle.report.specs.Shown.{listed_tracks}
-use Rattle.text_forms.specs.Lines.{text_of}
-use Rattle.virtual_lines.specs.Kept.{Kept}
-use Rattle.sightings.specs.Sights.{Sighted, noted, nothing_sighted, objects_noted, report_of_sighted, sighted_after, watch_noted}
-use Rattle.sightings.specs.SeenLaws.{sighted_after-push}
-use Rattle.sightings.specs.LifeLaws.{blocks_behind, blocks_behind-push, ended, none_ended, position_after}
+use Rattle.base.specs.TextLines.{text_of}
+use Rattle.line_tracks.specs.Kept.{Kept}
+use Rattle.sightings.specs.Sights.{Sighted, noted, nothing_sighted, objects_noted}
+use Rattle.sightings.specs.Sights.{report_of_sighted, sighted_after, watch_noted}
+use Rattle.sightings.specs.Laws.Seen.{sighted_after-push}
+use Rattle.sightings.specs.Laws.Lives.{blocks_behind, blocks_behind-push, ended, none_ended}
+use Rattle.sightings.specs.Laws.Lives.{position_after}
+use Rattle.detector.specs.Laws.Standing.{stands_nothing}
 
 -- one record more at a position, over any blocks
 pub blocks_noted : (before : Objects) (q : ℕ) (x : TraceRecord)
     → map (ended q x) before.blocks ++ made_by q x [] ≡ (objects_noted before x q).blocks
-blocks_noted before q (records.Touch a) = append-nil _ ∙ none_ended q (records.Touch a) (λ addr. refl) before.blocks
+blocks_noted before q (records.Touch a) = append-nil _
+    ∙ none_ended q (records.Touch a) (λ addr. refl) before.blocks
 blocks_noted before q (records.Alloc addr size sites) = refl
 blocks_noted before q (records.Free addr) = append-nil _
 blocks_noted before q (records.Symbol kind addr size name) =
     append-nil _ ∙ none_ended q (records.Symbol kind addr size name) (λ addr. refl) before.blocks
-blocks_noted before q (records.End e) = append-nil _ ∙ none_ended q (records.End e) (λ addr. refl) before.blocks
+blocks_noted before q (records.End e) = append-nil _
+    ∙ none_ended q (records.End e) (λ addr. refl) before.blocks
 
 -- what one record changed
 pub record IsNext (old new : Sighted) (x : TraceRecord) : Type 0 where
   pub value : new ≡ noted old x
-  pub stands : (t : AccessList) → StandsFor t old.watch → StandsFor (t ++ touches_in (x ∷ [])) new.watch
+  pub stands : (t : AccessList) → StandsFor t old.watch
+      → StandsFor (t ++ touches_in (x ∷ [])) new.watch
   pub position : new.watch.position ≡ counted_after old.watch.position x
   pub symbols : (list : List Symbol) → old.objects.symbols ≡ symbols_of list
       → new.objects.symbols ≡ symbols_of (list ++ symbols_in (x ∷ []))
@@ -61,7 +60,8 @@ pub record IsNext (old new : Sighted) (x : TraceRecord) : Type 0 where
   pub grid : new.watch.grid ≡ old.watch.grid
   pub levels : new.watch.levels ≡ old.watch.levels
 
-touches-push : (xs : List TraceRecord) (x : TraceRecord) → touches_in (xs ++ x ∷ []) ≡ touches_in xs ++ touches_in (x ∷ [])
+touches-push : (xs : List TraceRecord) (x : TraceRecord) → touches_in (xs ++ x ∷ []) ≡ touches_in xs
+    ++ touches_in (x ∷ [])
 touches-push xs x = filter_map-append touch_in xs (x ∷ [])
 
 counted-one : (p : ℕ) (x : TraceRecord) → counted_after p x ≡ p + length (touches_in (x ∷ []))
@@ -73,37 +73,47 @@ counted-one p (records.End e) = sym (add-zero p)
 
 pub same_objects : (a b : Objects) → a.symbols ≡ b.symbols → a.blocks ≡ b.blocks → a ≡ b
 same_objects a b symbols blocks =
-    ap (λ s. record { symbols = s; blocks = a.blocks }) symbols ∙ ap (λ bs. record { symbols = b.symbols; blocks = bs }) blocks
+    ap (λ s. record { symbols = s; blocks = a.blocks }) symbols
+    ∙ ap (λ bs. record { symbols = b.symbols; blocks = bs }) blocks
 
-module _ (begun old new : Sighted) (xs : List TraceRecord) (x : TraceRecord) (one : IsNext old new x) (so_far : HasSeen begun old xs)
+module _ (begun old new : Sighted) (xs : List TraceRecord) (x : TraceRecord)
+    (one : IsNext old new x) (so_far : HasSeen begun old xs)
   where
     next_value : new ≡ sighted_after begun (xs ++ x ∷ [])
-    next_value = one.value ∙ ap (λ (s : Sighted). noted s x) so_far.value ∙ sym (sighted_after-push begun xs x)
+    next_value = one.value ∙ ap (λ (s : Sighted). noted s x) so_far.value
+        ∙ sym (sighted_after-push begun xs x)
 
-    next_stands : (t : AccessList) → StandsFor t begun.watch → StandsFor (t ++ touches_in (xs ++ x ∷ [])) new.watch
+    next_stands : (t : AccessList) → StandsFor t begun.watch
+        → StandsFor (t ++ touches_in (xs ++ x ∷ [])) new.watch
     next_stands t stood =
         let P : AccessList → Type 0 = λ list. StandsFor list new.watch in
-        subst P (append_assoc t (touches_in xs) (touches_in (x ∷ [])) ∙ ap (λ list. t ++ list) (sym (touches-push xs x)))
+        subst P (append_assoc t (touches_in xs) (touches_in (x ∷ []))
+        ∙ ap (λ list. t ++ list) (sym (touches-push xs x)))
         (one.stands (t ++ touches_in xs) (so_far.stands t stood))
 
     next_position : new.watch.position ≡ begun.watch.position + length (touches_in (xs ++ x ∷ []))
     next_position =
-        let all : length (touches_in (xs ++ x ∷ [])) ≡ length (touches_in xs) + length (touches_in (x ∷ [])) =
+        let all : length (touches_in (xs ++ x ∷ []))
+        ≡ length (touches_in xs) + length (touches_in (x ∷ [])) =
         ap length (touches-push xs x) ∙ length-append (touches_in xs) (touches_in (x ∷ [])) in
         omega (arith, all, one.position, counted-one old.watch.position x, so_far.position)
 
-    next_symbols : new.objects.symbols ≡ symbols_of (begun.objects.symbols ++ symbols_in (xs ++ x ∷ []))
+    next_symbols : new.objects.symbols ≡ symbols_of
+        (begun.objects.symbols ++ symbols_in (xs ++ x ∷ []))
     next_symbols =
-        one.symbols (begun.objects.symbols ++ symbols_in xs) (ap (λ (o : Objects). o.symbols) so_far.objects)
+        one.symbols (begun.objects.symbols ++ symbols_in xs)
+        (ap (λ (o : Objects). o.symbols) so_far.objects)
         ∙ ap symbols_of (append_assoc begun.objects.symbols (symbols_in xs) (symbols_in (x ∷ []))
         ∙ ap (λ ss. begun.objects.symbols ++ ss) (sym (filter_map-append symbol_in xs (x ∷ []))))
 
-    next_blocks : new.objects.blocks ≡ blocks_behind begun.objects.blocks begun.watch.position (xs ++ x ∷ [])
+    next_blocks : new.objects.blocks ≡ blocks_behind begun.objects.blocks begun.watch.position
+        (xs ++ x ∷ [])
     next_blocks =
         let first : ℕ = begun.watch.position in
         one.blocks
         ∙ ap (λ (o : Objects). (objects_noted o x old.watch.position).blocks) so_far.objects
-        ∙ ap (λ q. (objects_noted (objects_after begun.objects first xs) x q).blocks) so_far.position
+        ∙ ap (λ q. (objects_noted (objects_after begun.objects first xs) x q).blocks)
+        so_far.position
         ∙ sym (blocks_noted (objects_after begun.objects first xs) (position_after first xs) x)
         ∙ sym (blocks_behind-push begun.objects.blocks first xs x)
 
@@ -112,7 +122,8 @@ module _ (begun old new : Sighted) (xs : List TraceRecord) (x : TraceRecord) (on
       value = next_value;
       stands = next_stands;
       position = next_position;
-      objects = same_objects new.objects (objects_after begun.objects begun.watch.position (xs ++ x ∷ [])) next_symbols next_blocks;
+      objects = same_objects new.objects (objects_after begun.objects begun.watch.position
+          (xs ++ x ∷ [])) next_symbols next_blocks;
       grid = one.grid ∙ so_far.grid;
       levels = one.levels ∙ so_far.levels;
     }
@@ -123,7 +134,8 @@ sees_next old new x one begun xs so_far = next begun old new xs x one so_far
 abbrev sighted : Watch → Objects → Sighted
 sighted w o = record { watch = w; objects = o }
 
-no_symbol : (old new list : List Symbol) → new ≡ old → old ≡ symbols_of list → new ≡ symbols_of (list ++ [])
+no_symbol : (old new list : List Symbol) → new ≡ old → old ≡ symbols_of list → new
+    ≡ symbols_of (list ++ [])
 no_symbol old new list same is = same ∙ is ∙ ap symbols_of (sym (append-nil list))
 
 -- an access, over any objects
@@ -145,7 +157,8 @@ next_access o old new a is stands =
 module _ (w : Watch) (old new : Objects) where
   another : (x : TraceRecord) → touches_in (x ∷ []) ≡ [] → counted_after w.position x ≡ w.position
       → watch_noted w x ≡ w → new ≡ objects_noted old x w.position
-      → ((list : List Symbol) → old.symbols ≡ symbols_of list → new.symbols ≡ symbols_of (list ++ symbols_in (x ∷ [])))
+      → ((list : List Symbol) → old.symbols ≡ symbols_of list → new.symbols
+      ≡ symbols_of (list ++ symbols_in (x ∷ [])))
       → SeesNext (sighted w old) (sighted w new) x
   another x none stays unseen is symbols =
       sees_next (sighted w old) (sighted w new) x (record {
@@ -169,15 +182,22 @@ module _ (w : Watch) (old new : Objects) where
       another (records.Alloc addr size sites) refl refl refl is
       (λ list was. no_symbol old.symbols new.symbols list (ap (λ (o : Objects). o.symbols) is) was)
 
-  pub next_free : (addr : ℕ) → new ≡ record old { blocks = blocks_after_free old.blocks w.position addr }
+  pub next_free : (addr : ℕ) → new ≡ record old {
+    blocks =
+        blocks_after_free old.blocks w.position addr;
+  }
       → SeesNext (sighted w old) (sighted w new) (records.Free addr)
   next_free addr is =
       another (records.Free addr) refl refl refl is
       (λ list was. no_symbol old.symbols new.symbols list (ap (λ (o : Objects). o.symbols) is) was)
 
   pub next_symbol : (kind : SymbolKind) (addr size : ℕ) (name : List ℕ)
-      → new ≡ record old { symbols = symbols_of (old.symbols ++ kept_symbol kind addr size name ∷ []) }
-      → ((list : List Symbol) → old.symbols ≡ symbols_of list → new.symbols ≡ symbols_of (list ++ kept_symbol kind addr size name ∷ []))
+      → new ≡ record old {
+        symbols = symbols_of (old.symbols
+            ++ kept_symbol kind addr size name ∷ []);
+      }
+      → ((list : List Symbol) → old.symbols ≡ symbols_of list → new.symbols
+      ≡ symbols_of (list ++ kept_symbol kind addr size name ∷ []))
       → SeesNext (sighted w old) (sighted w new) (records.Symbol kind addr size name)
   next_symbol kind addr size name is whole =
       another (records.Symbol kind addr size name) refl refl refl is whole
@@ -194,43 +214,43 @@ on_both (Ok x) f p q = f p q
 on_both (Err e) f p q = tt
 
 -- where no record is left, each block stays as it is
-as_it_is : (p : ℕ) (b : Block) (died : Option ℕ) → lived p [] (record b { died = died }) ≡ record b { died = died }
+as_it_is : (p : ℕ) (b : Block) (died : Option ℕ) → lived p [] (record b { died = died })
+    ≡ record b { died = died }
 as_it_is p b None = refl
 as_it_is p b (Some d) = refl
 
 pub none_left : (p : ℕ) (bs : List Block) → map (lived p []) bs ≡ bs
 none_left p [] = refl
-none_left p (b ∷ bs) = ap (λ c. c ∷ map (lived p []) bs) (as_it_is p b b.died) ∙ ap (λ cs. b ∷ cs) (none_left p bs)
+none_left p (b ∷ bs) = ap (λ c. c ∷ map (lived p []) bs) (as_it_is p b b.died)
+    ∙ ap (λ cs. b ∷ cs) (none_left p bs)
 
 -- before any record
 pub seen_nothing : (s : Sighted) → NoTwoAlike s.objects.symbols → HasSeen s s []
 seen_nothing s apart = record {
   value = refl;
-  stands = λ t stood. subst (λ (list : AccessList). StandsFor list s.watch) (sym (append-nil t)) stood;
+  stands = λ t stood. subst (λ (list : AccessList). StandsFor list s.watch)
+      (sym (append-nil t)) stood;
   position = sym (add-zero s.watch.position);
   objects = same_objects s.objects (objects_after s.objects s.watch.position [])
       (sym (ap symbols_of (append-nil s.objects.symbols) ∙ apart))
-      (sym (append-nil (map (lived s.watch.position []) s.objects.blocks) ∙ none_left s.watch.position s.objects.blocks));
+      (sym (append-nil (map (lived s.watch.position []) s.objects.blocks)
+      ∙ none_left s.watch.position s.objects.blocks));
   grid = refl;
   levels = refl;
 }
 
--- a detector that has seen nothing stands for the empty list
-pub stands_nothing : (g : Grid) (v : Levels) → StandsFor [] (nothing_seen g v)
-stands_nothing g v = record {
-  position = refl;
-  writes = λ k. ap (λ (o : Option ℕ). unwrap_or o 0) (finite.get-empty nat_cmp k);
-  tracks = subst (λ (lines : List Opened). IsPermutation [] (map (kept_in []) lines)) (sym (opened-empty g v)) (IsPermutation-refl []);
-}
-
--- what was seen from the beginning stands for the accesses, under the layout and thresholds of the beginning
-pub seen_whole : (g : Grid) (v : Levels) (now : Sighted) (items : List TraceRecord) → HasSeen (nothing_sighted g v) now items
+-- what was seen from the beginning stands for the accesses, under the layout and thresholds of the
+-- beginning
+pub seen_whole : (g : Grid) (v : Levels) (now : Sighted) (items : List TraceRecord)
+    → HasSeen (nothing_sighted g v) now items
     → StandsFor (touches_in items) now.watch
 seen_whole g v now items so_far = so_far.stands [] (stands_nothing g v)
 
 -- the report of what was seen from the beginning
-pub reported : (e : Ending) (g : Grid) (v : Levels) (now : Sighted) (items : List TraceRecord) → HasSeen (nothing_sighted g v) now items
-    → report_of e now.watch.grid now.watch.levels now.objects (touches_in items) ≡ report_of_records e g v items
+pub reported : (e : Ending) (g : Grid) (v : Levels) (now : Sighted) (items : List TraceRecord)
+    → HasSeen (nothing_sighted g v) now items
+    → report_of e now.watch.grid now.watch.levels now.objects (touches_in items)
+    ≡ report_of_records e g v items
 unfolding report_of_records
 reported e g v now items so_far =
     ap (λ (q : Grid). report_of e q now.watch.levels now.objects (touches_in items)) so_far.grid
@@ -238,21 +258,34 @@ reported e g v now items so_far =
     ∙ ap (λ (o : Objects). report_of e g v o (touches_in items)) so_far.objects
 
 -- the report of what is held
-pub reported_held : (e : Ending) (g : Grid) (v : Levels) (tracks : List Kept) (s : Sighted) → g ≡ s.watch.grid → v ≡ s.watch.levels
-    → tracks ≡ s.watch.tracks → text_of (report_lines e g v s.objects (listed_tracks v.report tracks)) ≡ report_of_sighted e s
+pub reported_held : (e : Ending) (g : Grid) (v : Levels) (tracks : List Kept) (s : Sighted) → g
+    ≡ s.watch.grid → v ≡ s.watch.levels
+    → tracks ≡ s.watch.tracks → text_of (report_lines e g v s.objects
+    (listed_tracks v.report tracks)) ≡ report_of_sighted e s
 unfolding report_of_sighted
 reported_held e g v tracks s grid levels kept =
     ap (λ (q : Grid). text_of (report_lines e q v s.objects (listed_tracks v.report tracks))) grid
-    ∙ ap (λ (q : Levels). text_of (report_lines e s.watch.grid q s.objects (listed_tracks q.report tracks))) levels
-    ∙ ap (λ (q : List Kept). text_of (report_lines e s.watch.grid s.watch.levels s.objects (listed_tracks s.watch.levels.report q))) kept
+    ∙ ap (λ (q : Levels). text_of (report_lines e s.watch.grid q s.objects
+    (listed_tracks q.report tracks))) levels
+    ∙ ap (λ (q : List Kept). text_of (report_lines e s.watch.grid s.watch.levels s.objects
+    (listed_tracks s.watch.levels.report q))) kept
 
 -- where a list has room for one record more, the position that is next has
 pub room_for_one : (now : Sighted) (x : TraceRecord) → HasRoom begins_at HasSeen now (x ∷ [])
     → counted_after now.watch.position x ≤ last_position
 room_for_one now x room =
-    let all : length (touches_in (room.seen ++ x ∷ [])) ≡ length (touches_in room.seen) + length (touches_in (x ∷ [])) =
-    ap length (touches-push room.seen x) ∙ length-append (touches_in room.seen) (touches_in (x ∷ [])) in
-    omega (arith, all, counted-one now.watch.position x, room.given_so_far.position, room.begins_there, room.room)
+    let all : length (touches_in (room.seen ++ x ∷ []))
+    ≡ length (touches_in room.seen) + length (touches_in (x ∷ [])) =
+    ap length (touches-push room.seen x) ∙ length-append (touches_in room.seen)
+    (touches_in (x ∷ [])) in
+    omega (
+      arith,
+      all,
+      counted-one now.watch.position x,
+      room.given_so_far.position,
+      room.begins_there,
+      room.room,
+    )
 
 -- a call that ended well made the symbols those of each list with one more
 pub whole_ok : {T E : Type 0} (r : Result T E) (old new : List Symbol) (one : Symbol)

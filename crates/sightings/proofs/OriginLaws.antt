@@ -1,25 +1,28 @@
 -- The objects of a list came of its records, and no two blocks of it live at one address.
-use Rattle.std.proofs.Common.{◌≡◌, ℕ, zero, suc, ◌+◌, ◌≤◌, Bool, true, false, ◌&&◌, List, [], ◌∷◌, ◌++◌, All, length, get_or, map, Some}
+use Rattle.std.proofs.Common.{◌≡◌, ℕ, zero, suc, ◌+◌, ◌≤◌, Bool, true, false, ◌&&◌, List, [], ◌∷◌}
+use Rattle.std.proofs.Common.{◌++◌, All, length, get_or, map, Some}
 use Rattle.std.proofs.Common.{refl, sym, ap, ◌∙◌, subst, arith}
 use Rattle.std.specs.Prelude.{if◌then◌else◌, is_none}
 use Rattle.std.specs.List.{AllPairs, Contains}
 use Rattle.std.proofs.Math.Bool.{and-false}
 use Rattle.std.proofs.lemmas.List.{length-append}
-use Rattle.std.proofs.lemmas.List.Elements.{All-append, All-cons, All-contains_itself, All-head, All-map, All-nil, All-tail}
-use Rattle.std.proofs.lemmas.List.Elements.{All-weaker, Contains-append_left, Contains-push, filter_map-append}
+use Rattle.std.proofs.lemmas.List.Elements.{All-append, All-cons, All-contains_itself, All-head}
+use Rattle.std.proofs.lemmas.List.Elements.{All-map, All-nil, All-tail}
+use Rattle.std.proofs.lemmas.List.Elements.{All-weaker, Contains-append_left, Contains-push}
+use Rattle.std.proofs.lemmas.List.Elements.{filter_map-append}
 use Rattle.std.proofs.lemmas.List.Kept.{AllPairs-cons}
 use Rattle.std.proofs.lemmas.List.Quantifiers.{all_pairs_push}
 use Rattle.std.proofs.lemmas.Option.{IfSome_then}
-use Rattle.heap_objects.specs.declared.block.Block.{Block}
-use Rattle.heap_objects.specs.Blocks.{NoTwoLive, blocks_after_free, is_live_at, live_together, newborn}
-use Rattle.heap_objects.specs.Objects.{Objects}
-use Rattle.heap_objects.specs.Symbols.{kept_symbol}
-use Rattle.heap_objects.specs.SymbolLaws.{All-symbols_of, symbols_of-fewer}
-use Rattle.trace_grammar.specs.Reading.{counted_after}
-use Rattle.trace_grammar.specs.Rules.{touch_in, touches_in}
-use Rattle.trace_grammar.specs.declared.record.TraceRecord.{TraceRecord}
-use Rattle.trace_grammar.specs.declared.record.TraceRecord.TheVariants as records
-use Rattle.sightings.specs.LifeLaws.{blocks_behind-push, ended, position_after}
+use Rattle.objects.specs.declared.block.Block.{Block}
+use Rattle.objects.specs.Blocks.{NoTwoLive, blocks_after_free, is_live_at, live_together, newborn}
+use Rattle.objects.specs.Objects.{Objects}
+use Rattle.objects.specs.Symbols.{kept_symbol}
+use Rattle.objects.specs.Laws.Symbols.{All-symbols_of, symbols_of-fewer}
+use Rattle.trace_format.specs.Reading.{counted_after}
+use Rattle.trace_format.specs.Rules.{touch_in, touches_in}
+use Rattle.trace_format.specs.declared.record.TraceRecord.{TraceRecord}
+use Rattle.trace_format.specs.declared.record.TraceRecord.TheVariants as records
+use Rattle.sightings.specs.Laws.Lives.{blocks_behind-push, ended, position_after}
 use Rattle.sightings.specs.Lives.{ends_at, made_by, made_in, objects_of, symbols_in}
 use Rattle.sightings.specs.Origins.{IsBlockOf, IsSymbolOf}
 use Rattle.sightings.specs.Sights.{objects_noted}
@@ -33,16 +36,20 @@ all_pairs_map : {X : Type 0} (R : X → X → Type 0) (f : X → X) → ((a b : 
 all_pairs_map R f keeps [] each = each
 all_pairs_map R f keeps (x ∷ xs) each =
     AllPairs-cons R (f x) (map f xs)
-    (All-map (R (f x)) f xs (λ k d within. keeps x (get_or xs k d) (each zero (suc k) d (omega arith) (omega arith))))
-    (all_pairs_map R f keeps xs (λ i j d before within. each (suc i) (suc j) d (omega arith) (omega arith)))
+    (All-map (R (f x)) f xs (λ k d within. keeps x (get_or xs k d)
+    (each zero (suc k) d (omega arith) (omega arith))))
+    (all_pairs_map R f keeps xs (λ i j d before within. each (suc i) (suc j) d (omega arith)
+    (omega arith)))
 
 abbrev Apart : Block → Block → Type 0
 Apart a b = live_together a b ≡ false
 
 -- whichever of two blocks dies
 apart_still : (q : ℕ) (c d : Bool) (a b : Block) → Apart a b
-    → Apart (if c then record a { died = Some q } else a) (if d then record b { died = Some q } else b)
-apart_still q true d a b apart = and-false (is_none (if d then record b { died = Some q } else b).died)
+    → Apart (if c then record a { died = Some q } else a)
+    (if d then record b { died = Some q } else b)
+apart_still q true d a b apart = and-false (is_none
+    (if d then record b { died = Some q } else b).died)
 apart_still q false true a b apart = refl
 apart_still q false false a b apart = apart
 
@@ -57,28 +64,34 @@ gone : (q addr : ℕ) (b : Block) (here : Bool) → is_live_at addr b ≡ here
 gone q addr b true is = refl
 gone q addr b false is = is
 
-none_there : (bs : List Block) (q addr : ℕ) → All (λ b. is_live_at addr b ≡ false) (blocks_after_free bs q addr)
+none_there : (bs : List Block) (q addr : ℕ) → All (λ b. is_live_at addr b ≡ false)
+    (blocks_after_free bs q addr)
 none_there bs q addr =
-    All-map (λ b. is_live_at addr b ≡ false) (λ b. if is_live_at addr b then record b { died = Some q } else b) bs
+    All-map (λ b. is_live_at addr b ≡ false) (λ b. if is_live_at addr b
+    then record b { died = Some q } else b) bs
     (λ k d within. gone q addr (get_or bs k d) (is_live_at addr (get_or bs k d)) refl)
 
-lone_noted : (o : Objects) (x : TraceRecord) (q : ℕ) → NoTwoLive o.blocks → NoTwoLive (objects_noted o x q).blocks
+lone_noted : (o : Objects) (x : TraceRecord) (q : ℕ) → NoTwoLive o.blocks
+    → NoTwoLive (objects_noted o x q).blocks
 lone_noted o (records.Touch a) q lone = lone
 lone_noted o (records.Alloc addr size sites) q lone =
-    all_pairs_push Apart (blocks_after_free o.blocks q addr) (newborn q addr size sites) (lone_free o.blocks q addr lone)
+    all_pairs_push Apart (blocks_after_free o.blocks q addr) (newborn q addr size sites)
+    (lone_free o.blocks q addr lone)
     (λ k d within. none_there o.blocks q addr k d within)
 lone_noted o (records.Free addr) q lone = lone_free o.blocks q addr lone
 lone_noted o (records.Symbol kind addr size name) q lone = lone
 lone_noted o (records.End e) q lone = lone
 
 pub lone_list : (items : List TraceRecord) → NoTwoLive (objects_of items).blocks
-lone_list items = by_records (λ done. NoTwoLive (objects_of done).blocks) one_more (λ i j d before within. absurd (omega arith)) items
+lone_list items = by_records (λ done. NoTwoLive (objects_of done).blocks) one_more
+    (λ i j d before within. absurd (omega arith)) items
   where
     one_more : (done : List TraceRecord) (x : TraceRecord) → NoTwoLive (objects_of done).blocks
         → NoTwoLive (objects_of (done ++ x ∷ [])).blocks
     one_more done x lone =
         let q : ℕ = position_after 0 done in
-        subst NoTwoLive (sym (blocks_behind-push [] 0 done x ∙ blocks_noted (objects_of done) q x)) (lone_noted (objects_of done) x q lone)
+        subst NoTwoLive (sym (blocks_behind-push [] 0 done x ∙ blocks_noted (objects_of done) q x))
+        (lone_noted (objects_of done) x q lone)
 
 -- ---- each block was made by a record
 
@@ -89,7 +102,8 @@ module _ (done : List TraceRecord) (x : TraceRecord) where
   longer : length (touches_in done) ≤ length (touches_in all)
   longer =
       let both : length (touches_in all) ≡ length (touches_in done) + length (touches_in (x ∷ [])) =
-      ap length (filter_map-append touch_in done (x ∷ [])) ∙ length-append (touches_in done) (touches_in (x ∷ [])) in
+      ap length (filter_map-append touch_in done (x ∷ []))
+      ∙ length-append (touches_in done) (touches_in (x ∷ [])) in
       omega (arith, both)
 
   -- one more record may end its life
@@ -104,7 +118,8 @@ module _ (done : List TraceRecord) (x : TraceRecord) where
     made = Contains-append_left done (x ∷ []) (records.Alloc b.addr b.size b.sites) was.made;
     born = omega (arith, was.born, longer);
     died = IfSome_then b.died {P = λ d. (b.born ≤ d) × (d ≤ length (touches_in done))}
-        {Q = λ d. (b.born ≤ d) × (d ≤ length (touches_in all))} was.died (λ d life. (life.0, omega (arith, life.1, longer)));
+        {Q = λ d. (b.born ≤ d) × (d ≤ length (touches_in all))} was.died
+        (λ d life. (life.0, omega (arith, life.1, longer)));
   }
 
 blocks_made : (done : List TraceRecord) (x : TraceRecord)
@@ -118,15 +133,19 @@ blocks_made done (records.Alloc addr size sites) =
       born = omega (arith, longer done x);
       died = tt;
     } in
-    All-cons (IsBlockOf (done ++ x ∷ [])) (newborn q addr size sites) [] one (All-nil (IsBlockOf (done ++ x ∷ [])))
+    All-cons (IsBlockOf (done ++ x ∷ [])) (newborn q addr size sites) [] one
+    (All-nil (IsBlockOf (done ++ x ∷ [])))
 blocks_made done (records.Free addr) = All-nil (IsBlockOf (done ++ records.Free addr ∷ []))
-blocks_made done (records.Symbol kind addr size name) = All-nil (IsBlockOf (done ++ records.Symbol kind addr size name ∷ []))
+blocks_made done (records.Symbol kind addr size name) =
+    All-nil (IsBlockOf (done ++ records.Symbol kind addr size name ∷ []))
 blocks_made done (records.End e) = All-nil (IsBlockOf (done ++ records.End e ∷ []))
 
 pub blocks_of_list : (items : List TraceRecord) → All (IsBlockOf items) (objects_of items).blocks
-blocks_of_list items = by_records (λ done. All (IsBlockOf done) (objects_of done).blocks) one_more (All-nil (IsBlockOf [])) items
+blocks_of_list items = by_records (λ done. All (IsBlockOf done) (objects_of done).blocks) one_more
+    (All-nil (IsBlockOf [])) items
   where
-    one_more : (done : List TraceRecord) (x : TraceRecord) → All (IsBlockOf done) (objects_of done).blocks
+    one_more : (done : List TraceRecord) (x : TraceRecord)
+        → All (IsBlockOf done) (objects_of done).blocks
         → All (IsBlockOf (done ++ x ∷ [])) (objects_of (done ++ x ∷ [])).blocks
     one_more done x each =
         let P : Block → Type 0 = IsBlockOf (done ++ x ∷ []) in
@@ -140,22 +159,27 @@ blocks_of_list items = by_records (λ done. All (IsBlockOf done) (objects_of don
 
 -- ---- each symbol was told by a record
 
-symbols_told : (all items : List TraceRecord) → All (Contains all) items → All (IsSymbolOf all) (symbols_in items)
+symbols_told : (all items : List TraceRecord) → All (Contains all) items
+    → All (IsSymbolOf all) (symbols_in items)
 symbols_told all [] each = All-nil (IsSymbolOf all)
-symbols_told all (records.Touch a ∷ items) each = symbols_told all items (All-tail (Contains all) (records.Touch a) items each)
+symbols_told all (records.Touch a ∷ items) each =
+    symbols_told all items (All-tail (Contains all) (records.Touch a) items each)
 symbols_told all (records.Alloc addr size sites ∷ items) each =
     symbols_told all items (All-tail (Contains all) (records.Alloc addr size sites) items each)
-symbols_told all (records.Free addr ∷ items) each = symbols_told all items (All-tail (Contains all) (records.Free addr) items each)
+symbols_told all (records.Free addr ∷ items) each =
+    symbols_told all items (All-tail (Contains all) (records.Free addr) items each)
 symbols_told all (records.Symbol kind addr size name ∷ items) each =
     let x : TraceRecord = records.Symbol kind addr size name in
     All-cons (IsSymbolOf all) (kept_symbol kind addr size name) (symbols_in items)
     (record { told_name = name; told = All-head (Contains all) x items each; name = refl })
     (symbols_told all items (All-tail (Contains all) x items each))
-symbols_told all (records.End e ∷ items) each = symbols_told all items (All-tail (Contains all) (records.End e) items each)
+symbols_told all (records.End e ∷ items) each =
+    symbols_told all items (All-tail (Contains all) (records.End e) items each)
 
 pub symbols_of_list : (items : List TraceRecord) → All (IsSymbolOf items) (objects_of items).symbols
 symbols_of_list items =
-    All-symbols_of (IsSymbolOf items) (symbols_in items) (symbols_told items items (All-contains_itself items))
+    All-symbols_of (IsSymbolOf items) (symbols_in items)
+    (symbols_told items items (All-contains_itself items))
 
 -- ---- there are no more of either than records
 
@@ -181,7 +205,13 @@ fewer_blocks : (p : ℕ) (items : List TraceRecord) → length (made_in p items)
 fewer_blocks p [] = omega arith
 fewer_blocks p (x ∷ items) =
     let q : ℕ = counted_after p x in
-    omega (arith, length-append (made_by p x items) (made_in q items), one_at_most p x items, fewer_blocks q items)
+    omega (
+      arith,
+      length-append (made_by p x items)
+          (made_in q items),
+      one_at_most p x items,
+      fewer_blocks q items,
+    )
 
 pub few_blocks : (items : List TraceRecord) → length (objects_of items).blocks ≤ length items
 few_blocks items = fewer_blocks 0 items

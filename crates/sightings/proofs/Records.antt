@@ -1,9 +1,10 @@
 -- What holds of a list of records, one after the other.
 use Rattle.std.proofs.Common.{List, [], ◌∷◌, ◌++◌, sym, subst, append_assoc}
 use Rattle.std.proofs.lemmas.List.{append-nil}
-use Rattle.trace_grammar.specs.declared.record.TraceRecord.{TraceRecord}
+use Rattle.trace_format.specs.declared.record.TraceRecord.{TraceRecord}
 
-module _ (P : List TraceRecord → Type 0) (step : (xs : List TraceRecord) (x : TraceRecord) → P xs → P (xs ++ x ∷ [])) where
+module _ (P : List TraceRecord → Type 0) (step : (xs : List TraceRecord) (x : TraceRecord) → P xs
+    → P (xs ++ x ∷ [])) where
   on_from : (done more : List TraceRecord) → P done → P (done ++ more)
   on_from done [] so_far = subst P (sym (append-nil done)) so_far
   on_from done (x ∷ more) so_far =

@@ -1,7 +1,6 @@
+pub mod Laws
 pub mod Lives
 pub mod Origins
-pub mod LifeLaws
-pub mod Sights
-pub mod SightedCode
 pub mod Seen
-pub mod SeenLaws
+pub mod SightedCode
+pub mod Sights

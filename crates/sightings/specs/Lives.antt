@@ -3,13 +3,13 @@
 use Rattle.std.specs.Prelude.{ℕ, List, [], ◌∷◌, ◌++◌, map, Bool, false, ◌==◌, if◌then◌else◌}
 use Rattle.std.specs.Prelude.{Option, Some, None, is_none}
 use Rattle.std.specs.List.{filter_map}
-use Rattle.heap_objects.specs.declared.block.Block.{Block}
-use Rattle.heap_objects.specs.Blocks.{newborn}
-use Rattle.heap_objects.specs.Objects.{Objects, no_objects}
-use Rattle.heap_objects.specs.Symbols.{Symbol, kept_symbol, symbols_of}
-use Rattle.trace_grammar.specs.Reading.{counted_after}
-use Rattle.trace_grammar.specs.declared.record.TraceRecord.{TraceRecord}
-use Rattle.trace_grammar.specs.declared.record.TraceRecord.TheVariants as records
+use Rattle.objects.specs.declared.block.Block.{Block}
+use Rattle.objects.specs.Blocks.{newborn}
+use Rattle.objects.specs.Objects.{Objects, no_objects}
+use Rattle.objects.specs.Symbols.{Symbol, kept_symbol, symbols_of}
+use Rattle.trace_format.specs.Reading.{counted_after}
+use Rattle.trace_format.specs.declared.record.TraceRecord.{TraceRecord}
+use Rattle.trace_format.specs.declared.record.TraceRecord.TheVariants as records
 
 -- whether a record frees an address, or makes a block there: a block of that address dies
 abbrev pub ends_at : ℕ → TraceRecord → Bool

@@ -1,12 +1,12 @@
 -- From which records of a list its objects came.
 use Rattle.std.specs.Prelude.{◌≡◌, ◌≤◌, ℕ, List, length, IfSome}
 use Rattle.std.specs.List.{Contains}
-use Rattle.heap_objects.specs.Names.{name_of}
-use Rattle.heap_objects.specs.Symbols.{Symbol}
-use Rattle.heap_objects.specs.declared.block.Block.{Block}
-use Rattle.trace_grammar.specs.Rules.{touches_in}
-use Rattle.trace_grammar.specs.declared.record.TraceRecord.{TraceRecord}
-use Rattle.trace_grammar.specs.declared.record.TraceRecord.TheVariants as records
+use Rattle.base.specs.Names.{name_of}
+use Rattle.objects.specs.Symbols.{Symbol}
+use Rattle.objects.specs.declared.block.Block.{Block}
+use Rattle.trace_format.specs.Rules.{touches_in}
+use Rattle.trace_format.specs.declared.record.TraceRecord.{TraceRecord}
+use Rattle.trace_format.specs.declared.record.TraceRecord.TheVariants as records
 
 -- a block that records leave
 pub record IsBlockOf (items : List TraceRecord) (b : Block) : Type 0 where

@@ -1,15 +1,15 @@
 -- What a list of trace records has shown, and its report.
 use Rattle.std.specs.Prelude.{◌≡◌, ℕ, ◌+◌, ◌<◌, List, [], ◌∷◌, ◌++◌, length, IsTrue}
-use Rattle.predator_base.specs.Levels.{Levels}
-use Rattle.predator_base.specs.Lines.{Grid, is_layout}
-use Rattle.predator_base.specs.declared.ending.Ending.{Ending}
-use Rattle.heap_objects.specs.Symbols.{NoTwoAlike}
+use Rattle.base.specs.Levels.{Levels}
+use Rattle.base.specs.Lines.{Grid, is_layout}
+use Rattle.base.specs.declared.ending.Ending.{Ending}
+use Rattle.objects.specs.Symbols.{NoTwoAlike}
 use Rattle.sharing_rules.specs.AccessLists.{AccessList}
 use Rattle.sharing_rules.specs.Listed.{may_predict}
 use Rattle.detector.specs.Standing.{StandsFor}
 use Rattle.report.specs.OfLists.{report_of}
-use Rattle.trace_grammar.specs.Rules.{touches_in}
-use Rattle.trace_grammar.specs.declared.record.TraceRecord.{TraceRecord}
+use Rattle.trace_format.specs.Rules.{touches_in}
+use Rattle.trace_format.specs.declared.record.TraceRecord.{TraceRecord}
 use Rattle.sightings.specs.Lives.{objects_after, objects_of}
 use Rattle.sightings.specs.Sights.{Sighted, sighted_after}
 

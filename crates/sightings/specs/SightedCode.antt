@@ -1,11 +1,11 @@
 -- What is seen, as plain data.
 use Rattle.std.specs.Prelude.{◌≡◌, ℕ, zero, suc, List, Option, refl}
 use Rattle.std.specs.Coded.{Coded, code_by, coded×, coded_ℕ, coded_list, coded_option}
-use Rattle.heap_objects.specs.declared.block.Block.{Block}
-use Rattle.heap_objects.specs.declared.symbol.SymbolKind.{SymbolKind}
-use Rattle.heap_objects.specs.declared.symbol.SymbolKind.TheVariants.{Object, Function}
-use Rattle.heap_objects.specs.Objects.{Objects}
-use Rattle.heap_objects.specs.Symbols.{Symbol}
+use Rattle.objects.specs.declared.block.Block.{Block}
+use Rattle.objects.specs.declared.symbol.SymbolKind.{SymbolKind}
+use Rattle.objects.specs.declared.symbol.SymbolKind.TheVariants.{Object, Function}
+use Rattle.objects.specs.Objects.{Objects}
+use Rattle.objects.specs.Symbols.{Symbol}
 use Rattle.detector.specs.Watch.{Watch}
 use Rattle.detector.specs.WatchCode.{watch_code}
 use Rattle.sightings.specs.Sights.{Sighted}

@@ -1,18 +1,18 @@
 -- What is seen of trace records: what the accesses show, and what stands in memory.
 use Rattle.std.specs.Prelude.{ℕ, List, [], ◌∷◌, ◌++◌, Bool, true, false, not}
 use Rattle.std.specs.List.{list_any}
-use Rattle.predator_base.specs.Levels.{Levels}
-use Rattle.predator_base.specs.Lines.{Grid}
-use Rattle.predator_base.specs.declared.ending.Ending.{Ending}
-use Rattle.heap_objects.specs.Blocks.{blocks_after_alloc, blocks_after_free}
-use Rattle.heap_objects.specs.Objects.{Objects, no_objects}
-use Rattle.heap_objects.specs.Symbols.{is_in_place_of, kept_symbol, symbols_of}
+use Rattle.base.specs.Levels.{Levels}
+use Rattle.base.specs.Lines.{Grid}
+use Rattle.base.specs.declared.ending.Ending.{Ending}
+use Rattle.objects.specs.Blocks.{blocks_after_alloc, blocks_after_free}
+use Rattle.objects.specs.Objects.{Objects, no_objects}
+use Rattle.objects.specs.Symbols.{is_in_place_of, kept_symbol, symbols_of}
 use Rattle.detector.specs.Watch.{Watch, nothing_seen, takes_memory, watched}
 use Rattle.report.specs.Reports.{report_lines}
 use Rattle.report.specs.Shown.{listed_tracks}
-use Rattle.text_forms.specs.Lines.{text_of}
-use Rattle.trace_grammar.specs.declared.record.TraceRecord.{TraceRecord}
-use Rattle.trace_grammar.specs.declared.record.TraceRecord.TheVariants as records
+use Rattle.base.specs.TextLines.{text_of}
+use Rattle.trace_format.specs.declared.record.TraceRecord.{TraceRecord}
+use Rattle.trace_format.specs.declared.record.TraceRecord.TheVariants as records
 
 pub record Sighted : Type 0 where
   pub watch : Watch

@@ -1,17 +1,17 @@
 // Laws of what was seen, for whoever reads contracts alone.
 ghost use Rattle.std.specs.Prelude.{◌≡◌, ◌≤◌, ◌++◌, ◌∷◌, [], List, length};
 ghost use Rattle.std.specs.List.{All};
-ghost use Rattle.predator_base.specs.Levels.{Levels};
-ghost use Rattle.predator_base.specs.Lines.{Grid};
-ghost use Rattle.predator_base.specs.declared.ending.Ending.{Ending as End};
-ghost use Rattle.heap_objects.specs.Blocks.{NoTwoLive};
-ghost use Rattle.heap_objects.specs.Symbols.{NoTwoAlike};
+ghost use Rattle.base.specs.Levels.{Levels};
+ghost use Rattle.base.specs.Lines.{Grid};
+ghost use Rattle.base.specs.declared.ending.Ending.{Ending as End};
+ghost use Rattle.objects.specs.Blocks.{NoTwoLive};
+ghost use Rattle.objects.specs.Symbols.{NoTwoAlike};
 ghost use Rattle.sharing_rules.specs.AccessLists.{AccessList};
 ghost use Rattle.detector.specs.Standing.{StandsFor};
 ghost use Rattle.report.specs.OfLists.{report_of};
-ghost use Rattle.trace_grammar.specs.Rules.{touches_in};
-ghost use Rattle.trace_grammar.specs.declared.record.TraceRecord.{TraceRecord as Record};
-ghost use Rattle.trace_grammar.specs.declared.record.TraceRecord.TheVariants as records;
+ghost use Rattle.trace_format.specs.Rules.{touches_in};
+ghost use Rattle.trace_format.specs.declared.record.TraceRecord.{TraceRecord as Record};
+ghost use Rattle.trace_format.specs.declared.record.TraceRecord.TheVariants as records;
 ghost use Rattle.sightings.specs.Lives.{objects_after, objects_of};
 ghost use Rattle.sightings.specs.Origins.{IsBlockOf, IsSymbolOf};
 ghost use Rattle.sightings.specs.Seen.{HasSeen, IsNotable, report_of_records};

@@ -2,24 +2,24 @@
 ghost use Rattle.std.specs.Prelude.{◌≡◌, ◌<◌, ◌≤◌, ◌^◌, [], List};
 ghost use Rattle.std.specs.Prelude.{IsTrue, IsFalse, IsOk, OnOk, OnErr, IfOk};
 ghost use Rattle.detector.specs.Standing.{StandsFor};
-ghost use Rattle.predator_base.specs.Levels.{Levels};
-ghost use Rattle.predator_base.specs.Lines.{Grid};
+ghost use Rattle.base.specs.Levels.{Levels};
+ghost use Rattle.base.specs.Lines.{Grid};
 ghost use Rattle.report.specs.OfLists.{report_of};
 ghost use Rattle.sharing_rules.specs.AccessLists.{AccessList};
 ghost use Rattle.sharing_rules.specs.Listed.{may_predict};
-ghost use Rattle.trace_grammar.specs.Reading.{counted_after};
-ghost use Rattle.trace_grammar.specs.Rules.{last_position, touches_in};
-ghost use Rattle.trace_grammar.specs.declared.record.TraceRecord.{TraceRecord as Record};
+ghost use Rattle.trace_format.specs.Reading.{counted_after};
+ghost use Rattle.trace_format.specs.Rules.{last_position, touches_in};
+ghost use Rattle.trace_format.specs.declared.record.TraceRecord.{TraceRecord as Record};
 ghost use Rattle.sightings.specs.Sights.{noted, nothing_sighted, report_of_sighted, wants_memory};
 ghost use Rattle.sightings.specs.Seen.{HasSeen, SeesNext, report_of_records};
 
+use base::{Access, Ending, Layout, NoMemory, Thresholds};
 use detector::{Detector, PagedIndex, see};
-use heap_objects::{ObjectTable, SymbolKind};
-use predator_base::{Access, Ending, Layout, NoMemory, Thresholds};
+use objects::{ObjectTable, SymbolKind};
 use report::{Findings, write_report};
 use std::alloc::Global;
 use std::marker::Model;
-use trace_grammar::TraceRecord;
+use trace_format::TraceRecord;
 use trace_passes::Observer;
 
 /// What the records of a trace have shown so far, under a layout and thresholds: a detector that

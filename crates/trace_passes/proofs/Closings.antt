@@ -1,35 +1,42 @@
 -- What is said once no more bytes are there.
 use Rattle.std.proofs.Common.{◌≡◌, ℕ, List, Option, Some, None, Ok, sym, ap, subst, ◌∙◌}
 use Rattle.shelf.specs.Shelf.{Files, Told, content}
-use Rattle.trace_grammar.specs.declared.progress.Progress.{Progress}
-use Rattle.trace_grammar.specs.declared.record.TraceRecord.{TraceRecord}
-use Rattle.trace_grammar.specs.Reading.{Reading, ending_of, reading_of}
-use Rattle.trace_grammar.specs.Rules.{IsGoodHeader}
+use Rattle.shelf.specs.Laws.Told.{told_map}
+use Rattle.trace_format.specs.declared.read_so_far.ReadSoFar.{ReadSoFar}
+use Rattle.trace_format.specs.declared.record.TraceRecord.{TraceRecord}
+use Rattle.trace_format.specs.Reading.{Reading, ending_of, reading_of}
+use Rattle.trace_format.specs.Rules.{IsGoodHeader}
 use Rattle.trace_passes.specs.declared.passes.Passed.{Passed}
-use Rattle.trace_passes.specs.declared.wanted.Refusal.{Refusal}
 use Rattle.trace_passes.specs.declared.wanted.Wanted.{Wanted}
-use Rattle.trace_passes.specs.Passes.{HasPassed, IsWanted, before_last, head_of, header_refusal, refusal_of, trace_refusal}
+use Rattle.trace_passes.specs.Passes.{HasPassed, IsWanted, before_last, head_of, header_refusal}
+use Rattle.trace_passes.specs.Passes.{refusal_of}
 use Rattle.trace_passes.specs.Passes.{trace_with}
-use Rattle.trace_passes.specs.CountLaws.{counted_so_far}
-use Rattle.trace_passes.specs.PassLaws.{accepted_at_end, is_wanted, refusal_at_end, trace-records, trace_there}
+use Rattle.trace_format.specs.Laws.Counts.{counted_so_far}
+use Rattle.trace_passes.specs.Laws.Passes.{accepted_at_end, is_wanted}
+use Rattle.trace_passes.specs.Laws.Passes.{trace-records, trace_there}
 use Rattle.trace_passes.specs.Cursors.{HasEnded, IsHeadOf, IsRead}
-use Rattle.trace_passes.proofs.Fronts.{told_one}
 
-module _ (held : Option Files) (name : List ℕ) (w : Wanted) (now : Reading) (bytes : List ℕ) (read : IsRead w bytes now)
+module _ (held : Option Files) (name : List ℕ) (w : Wanted) (now : Reading) (bytes : List ℕ)
+    (read : IsRead w bytes now)
     (whole : Told held (λ files. bytes ≡ content files name))
   where
     unrefused : header_refusal w (head_of (reading_of bytes).1.progress) ≡ None
-    unrefused = ap (λ (r : Reading). header_refusal w (head_of r.progress)) (sym read.reading) ∙ read.unrefused
+    unrefused = ap (λ (r : Reading). header_refusal w (head_of r.progress)) (sym read.reading)
+        ∙ read.unrefused
 
-    known_head : (passed : Passed) (head : IsHeadOf now.progress passed) → (reading_of bytes).1.progress ≡ Some head.now
+    known_head : (passed : Passed) (head : IsHeadOf now.progress passed)
+        → (reading_of bytes).1.progress ≡ Some head.now
     known_head passed head = ap (λ (r : Reading). r.progress) (sym read.reading) ∙ head.known
 
-    pub ended : (passed : Passed) → ending_of now ≡ Ok passed.ending → IsHeadOf now.progress passed → HasEnded held name w bytes passed
+    pub ended : (passed : Passed) → ending_of now ≡ Ok passed.ending → IsHeadOf now.progress passed
+        → HasEnded held name w bytes passed
     ended passed end head =
         let known = known_head passed head in
-        let there = trace_there bytes head.now passed.ending known (ap ending_of (sym read.reading) ∙ end) in
+        let there = trace_there bytes head.now passed.ending known
+        (ap ending_of (sym read.reading) ∙ end) in
         let good = (counted_so_far bytes head.now known).header in
-        let wanted = is_wanted w head.now.header (ap (λ (p : Option Progress). header_refusal w (head_of p)) (sym known) ∙ unrefused) in
+        let wanted = is_wanted w head.now.header
+        (ap (λ (p : Option ReadSoFar). header_refusal w (head_of p)) (sym known) ∙ unrefused) in
         record {
           whole = whole;
           items = before_last (reading_of bytes).0;
@@ -42,18 +49,15 @@ module _ (held : Option Files) (name : List ℕ) (w : Wanted) (now : Reading) (b
               }));
           header = subst IsGoodHeader (sym head.header) good;
           wanted = subst (IsWanted w) (sym head.header) wanted;
-          accepted = accepted_at_end w bytes passed.ending unrefused (ap ending_of (sym read.reading) ∙ end);
+          accepted = accepted_at_end w bytes passed.ending unrefused
+              (ap ending_of (sym read.reading) ∙ end);
         }
 
-    pub refused_then : (refusal : Refusal) → trace_refusal (ending_of now) ≡ Some refusal
-        → Told held (λ files. refusal_of w (content files name) ≡ Some refusal)
-    refused_then refusal is =
-        told_one held (λ files same. ap (refusal_of w) (sym same)
-        ∙ refusal_at_end w bytes unrefused ∙ ap (λ (r : Reading). trace_refusal (ending_of r)) (sym read.reading) ∙ is) whole
-
 -- the observer was given all records of the trace
-pub has_passed : (held : Option Files) (name : List ℕ) (w : Wanted) (bytes : List ℕ) (passed : Passed)
-    (given : List TraceRecord → Type 0) → HasEnded held name w bytes passed → given (reading_of bytes).0
+pub has_passed : (held : Option Files) (name : List ℕ) (w : Wanted) (bytes : List ℕ)
+    (passed : Passed)
+    (given : List TraceRecord → Type 0) → HasEnded held name w bytes passed
+    → given (reading_of bytes).0
     → HasPassed held name passed given
 has_passed held name w bytes passed given ended saw =
     record {
@@ -64,7 +68,9 @@ has_passed held name w bytes passed given ended saw =
       saw = subst given (trace-records bytes (trace_with passed ended.items) ended.is) saw;
     }
 
-pub accepted_then : (held : Option Files) (name : List ℕ) (w : Wanted) (bytes : List ℕ) (passed : Passed)
-    → HasEnded held name w bytes passed → Told held (λ files. refusal_of w (content files name) ≡ None)
+pub accepted_then : (held : Option Files) (name : List ℕ) (w : Wanted) (bytes : List ℕ)
+    (passed : Passed)
+    → HasEnded held name w bytes passed → Told held (λ files. refusal_of w (content files name)
+    ≡ None)
 accepted_then held name w bytes passed ended =
-    told_one held (λ files same. ap (refusal_of w) (sym same) ∙ ended.accepted) ended.whole
+    told_map held (λ files same. ap (refusal_of w) (sym same) ∙ ended.accepted) ended.whole

@@ -1,27 +1,23 @@
 -- What a reading gives that ended well: its version, its header and its end.
 use Rattle.std.proofs.Common.{◌≡◌, ℕ, List, Option, Some, None, Ok, sym, ap, ◌∙◌, option_map}
-use Rattle.predator_base.specs.declared.ending.Ending.{Ending}
-use Rattle.trace_grammar.specs.declared.progress.Progress.{Progress}
-use Rattle.trace_grammar.specs.Reading.{Reading, ending_of, reading_of}
-use Rattle.trace_passes.specs.PassLaws.{whole_at_end}
+use Rattle.base.specs.declared.ending.Ending.{Ending}
+use Rattle.trace_format.specs.declared.read_so_far.ReadSoFar.{ReadSoFar}
+use Rattle.trace_format.specs.Reading.{Reading, ending_of, reading_of}
+use Rattle.trace_passes.specs.Laws.Passes.{whole_at_end}
 
 -- it has a header
 pub record HasHead (r : Reading) : Type 0 where
-  pub now : Progress
+  pub now : ReadSoFar
   pub known : r.progress ≡ Some now
 
-pub head_there : (r : Reading) (bytes : List ℕ) (e : Ending) → r ≡ (reading_of bytes).1 → ending_of r ≡ Ok e → HasHead r
+pub head_there : (r : Reading) (bytes : List ℕ) (e : Ending) → r ≡ (reading_of bytes).1
+    → ending_of r ≡ Ok e → HasHead r
 head_there r bytes e is end =
     let whole = whole_at_end bytes e (sym (ap ending_of is) ∙ end) in
     record { now = whole.now; known = ap (λ (x : Reading). x.progress) is ∙ whole.known }
 
-pub no_head : {A : Type 0} (f : Progress → A) (r : Reading) (told : Option A) → HasHead r → told ≡ option_map f r.progress → told ≡ None → ⊥
+pub no_head : {A : Type 0} (f : ReadSoFar → A) (r : Reading) (told : Option A) → HasHead r → told
+    ≡ option_map f r.progress → told ≡ None → ⊥
 no_head f r told head is none =
     let some : option_map f r.progress ≡ Some (f head.now) = ap (option_map f) head.known in
-    cc
-
-pub same_told : {A : Type 0} (f : Progress → A) (r : Reading) (told : Option A) (x : A) (head : HasHead r) → told ≡ option_map f r.progress
-    → told ≡ Some x → x ≡ f head.now
-same_told f r told x head is some =
-    let known : option_map f r.progress ≡ Some (f head.now) = ap (option_map f) head.known in
     cc

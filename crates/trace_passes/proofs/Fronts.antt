@@ -1,51 +1,46 @@
 -- The front of a file that a pass has read, and its end.
-use Rattle.std.proofs.Common.{◌≡◌, ◌≢◌, ℕ, ◌+◌, ◌-◌, ◌≤◌, ◌<◌, List, [], ◌++◌, length, take, drop, Option, Some, None, refl, sym, ap}
+use Rattle.std.proofs.Common.{◌≡◌, ◌≢◌, ℕ, ◌+◌, ◌-◌, ◌≤◌, ◌<◌, List, [], ◌++◌, length, take, drop}
+use Rattle.std.proofs.Common.{Option, Some, refl, sym, ap}
 use Rattle.std.proofs.Common.{◌∙◌, arith}
 use Rattle.std.proofs.Math.Seq.{take-add}
-use Rattle.std.proofs.lemmas.List.{append-nil, drop_all, length-append, length-take-le, take-append-drop, take_all}
+use Rattle.std.proofs.lemmas.List.{append-nil, drop_all, length-append, length-take-le}
+use Rattle.std.proofs.lemmas.List.{take-append-drop, take_all}
 use Rattle.shelf.specs.Shelf.{Files, OnlyReads, Outside, Reads, Told, content}
 use Rattle.shelf.specs.Fetch.{IsFront}
-use Rattle.trace_grammar.specs.declared.record.TraceRecord.{TraceRecord}
-use Rattle.trace_grammar.specs.Reading.{Reading, begin, read_on, reading_of}
-use Rattle.trace_grammar.specs.Rules.{longest_trace}
+use Rattle.shelf.specs.Laws.Told.{told, told_both, told_map}
+use Rattle.trace_format.specs.declared.record.TraceRecord.{TraceRecord}
+use Rattle.trace_format.specs.Reading.{Reading, begin, read_on, reading_of}
+use Rattle.trace_format.specs.Rules.{longest_trace}
 use Rattle.trace_passes.specs.Passes.{head_of, header_refusal, refusal_of}
-use Rattle.trace_passes.specs.CountLaws.{few_bytes}
+use Rattle.trace_format.specs.Laws.Counts.{few_bytes}
 use Rattle.trace_passes.specs.declared.wanted.Refusal.{Refusal}
 use Rattle.trace_passes.specs.declared.wanted.Wanted.{Wanted}
 use Rattle.trace_passes.specs.Cursors.{HasCome, IsRead, Reached}
 
 -- no more bytes are read than a trace may have
-pub at_most : (held : Option Files) (name : List ℕ) (w : Wanted) (bytes : List ℕ) (now : Reached) → HasCome held name w bytes now
+pub at_most : (held : Option Files) (name : List ℕ) (w : Wanted) (bytes : List ℕ) (now : Reached)
+    → HasCome held name w bytes now
     → now.count ≤ longest_trace
 at_most held name w bytes now come =
-    let few = few_bytes bytes (ap (λ (r : Reading). r.fault) (sym come.read.reading) ∙ come.read.clean) in
+    let few = few_bytes bytes (ap (λ (r : Reading). r.fault) (sym come.read.reading)
+    ∙ come.read.clean) in
     omega (arith, few, come.size)
-
-pub told_both : {A : Type 0} {P Q R : A → Type 0} (o : Option A) → ((x : A) → P x → Q x → R x) → Told o P → Told o Q → Told o R
-told_both None f p q = tt
-told_both (Some x) f p q = f x p q
-
-pub told_one : {A : Type 0} {P Q : A → Type 0} (o : Option A) → ((x : A) → P x → Q x) → Told o P → Told o Q
-told_one None f p = tt
-told_one (Some x) f p = f x p
-
-told_any : {A : Type 0} {P : A → Type 0} (o : Option A) → ((x : A) → P x) → Told o P
-told_any None f = tt
-told_any (Some x) f = f x
 
 pub nothing_read : reading_of [] ≡ ([], begin)
 unfolding read_on
 nothing_read = refl
 
 -- before the first byte
-pub first_come : (held : Option Files) (name : List ℕ) (w : Wanted) (now : Reached) → now.reading ≡ begin → now.count ≡ 0
+pub first_come : (held : Option Files) (name : List ℕ) (w : Wanted) (now : Reached) → now.reading
+    ≡ begin → now.count ≡ 0
     → 0 < now.piece → HasCome held name w [] now
 first_come held name w now is at room =
-    let reading : now.reading ≡ (reading_of []).1 = is ∙ sym (ap (λ (x : List TraceRecord × Reading). x.1) nothing_read) in
+    let reading : now.reading ≡ (reading_of []).1 = is
+    ∙ sym (ap (λ (x : List TraceRecord × Reading). x.1) nothing_read) in
     record {
       size = sym at;
       room = room;
-      front = told_any held (λ files. record { within = omega arith; same = refl });
+      front = told held (λ files. record { within = omega arith; same = refl });
       read = record {
         reading = reading;
         clean = ap (λ (r : Reading). r.fault) is;
@@ -54,38 +49,47 @@ first_come held name w now is at room =
     }
 
 -- the front of a file, and the piece that was read behind it
-pub longer_front : (file bytes buffer : List ℕ) (at n : ℕ) → length bytes ≡ at → n ≤ length buffer → IsFront file bytes
+pub longer_front : (file bytes buffer : List ℕ) (at n : ℕ) → length bytes ≡ at → n ≤ length buffer
+    → IsFront file bytes
     → Reads file at n buffer → IsFront file (bytes ++ take n buffer)
 longer_front file bytes buffer at n size fits front reads =
     let more = bytes ++ take n buffer in
     let len : length more ≡ length bytes + n =
-    length-append bytes (take n buffer) ∙ ap (λ k. length bytes + k) (length-take-le n buffer fits) in
-    let taken : take (length more) file ≡ take (length bytes + n) file = ap (λ k. take k file) len in
+    length-append bytes (take n buffer) ∙ ap (λ k. length bytes + k) (length-take-le n buffer fits)
+    in
+    let taken : take (length more) file ≡ take (length bytes + n) file =
+    ap (λ k. take k file) len in
     record {
       within = omega (arith, front.within, reads.within, size, len);
       same = cc (size, front.same, reads.bytes, take-add (length bytes) n file, taken);
     }
 
 -- a front behind which nothing is read is all
-pub whole_front : (file bytes buffer : List ℕ) (at n : ℕ) → length bytes ≡ at → n ≡ 0 → 0 < length buffer → IsFront file bytes
+pub whole_front : (file bytes buffer : List ℕ) (at n : ℕ) → length bytes ≡ at → n ≡ 0
+    → 0 < length buffer → IsFront file bytes
     → Reads file at n buffer → bytes ≡ file
 whole_front file bytes buffer at n size none some front reads =
     let ends = reads.ends none some in
     front.same ∙ take_all (length bytes) file (omega arith)
 
 -- what is behind a front
-pub behind_front : (file bytes : List ℕ) → IsFront file bytes → bytes ++ drop (length bytes) file ≡ file
+pub behind_front : (file bytes : List ℕ) → IsFront file bytes → bytes ++ drop (length bytes) file
+    ≡ file
 behind_front file bytes front =
-    ap (λ (xs : List ℕ). xs ++ drop (length bytes) file) front.same ∙ take-append-drop (length bytes) file
+    ap (λ (xs : List ℕ). xs ++ drop (length bytes) file) front.same
+    ∙ take-append-drop (length bytes) file
 
 -- what a buffer holds once all of it was lent and given back
-pub given_back : (n : ℕ) (buffer was : List ℕ) → length buffer ≡ n → length was ≡ n → take n (buffer ++ drop (length buffer) was) ≡ buffer
+pub given_back : (n : ℕ) (buffer was : List ℕ) → length buffer ≡ n → length was ≡ n
+    → take n (buffer ++ drop (length buffer) was) ≡ buffer
 given_back n buffer was size same =
     let none : drop (length buffer) was ≡ [] = drop_all (length buffer) was (omega arith) in
-    ap (λ (xs : List ℕ). take n (buffer ++ xs)) none ∙ ap (take n) (append-nil buffer) ∙ take_all n buffer (omega arith)
+    ap (λ (xs : List ℕ). take n (buffer ++ xs)) none ∙ ap (take n) (append-nil buffer)
+    ∙ take_all n buffer (omega arith)
 
 -- the buffer's front behind the bytes before it
-pub longer : (bytes buffer : List ℕ) (at n : ℕ) → length bytes ≡ at → n ≤ length buffer → length (bytes ++ take n buffer) ≡ at + n
+pub longer : (bytes buffer : List ℕ) (at n : ℕ) → length bytes ≡ at → n ≤ length buffer
+    → length (bytes ++ take n buffer) ≡ at + n
 longer bytes buffer at n size fits =
     omega (arith, size, length-append bytes (take n buffer), length-take-le n buffer fits)
 
@@ -100,25 +104,32 @@ only_both a b c first then =
     }
 
 -- one piece more is read
-pub next_come : (held : Option Files) (name : List ℕ) (w : Wanted) (bytes buffer : List ℕ) (at n : ℕ) (now : Reached)
-    → length bytes ≡ at → n ≤ length buffer → Told held (λ files. IsFront (content files name) bytes)
-    → Told held (λ files. Reads (content files name) at n buffer) → IsRead w (bytes ++ take n buffer) now.reading
+pub next_come : (held : Option Files) (name : List ℕ) (w : Wanted) (bytes buffer : List ℕ)
+    (at n : ℕ) (now : Reached)
+    → length bytes ≡ at → n ≤ length buffer
+    → Told held (λ files. IsFront (content files name) bytes)
+    → Told held (λ files. Reads (content files name) at n buffer)
+    → IsRead w (bytes ++ take n buffer) now.reading
     → now.count ≡ at + n → 0 < now.piece → HasCome held name w (bytes ++ take n buffer) now
 next_come held name w bytes buffer at n now size fits front reads read is room =
     record {
       size = longer bytes buffer at n size fits ∙ sym is;
       room = room;
-      front = told_both held (λ files. longer_front (content files name) bytes buffer at n size fits) front reads;
+      front = told_both held (λ files. longer_front (content files name) bytes buffer at n size
+          fits) front reads;
       read = read;
     }
 
 -- a front that is refused, with what is behind it
 pub refused_file : (held : Option Files) (name bytes : List ℕ) (w : Wanted) (refusal : Refusal)
-    → Told held (λ files. IsFront (content files name) bytes) → ((more : List ℕ) → refusal_of w (bytes ++ more) ≡ Some refusal)
+    → Told held (λ files. IsFront (content files name) bytes)
+    → ((more : List ℕ) → refusal_of w (bytes ++ more) ≡ Some refusal)
     → Told held (λ files. refusal_of w (content files name) ≡ Some refusal)
 refused_file held name bytes w refusal front refused =
-    told_one held (λ files is. ap (refusal_of w) (sym (behind_front (content files name) bytes is)) ∙ refused _) front
+    told_map held (λ files is. ap (refusal_of w) (sym (behind_front (content files name) bytes is))
+    ∙ refused _) front
 
 -- how many bytes a trace may have more falls with each piece
-pub falls : (at n : ℕ) → n ≢ 0 → at + n ≤ longest_trace → longest_trace - (at + n) < longest_trace - at
+pub falls : (at n : ℕ) → n ≢ 0 → at + n ≤ longest_trace
+    → longest_trace - (at + n) < longest_trace - at
 falls at n some low = omega arith

@@ -1,7 +1,7 @@
-pub mod Notes
-pub mod Ends
-pub mod Pieces
-pub mod Fronts
 pub mod Closings
-pub mod Spelled
+pub mod Ends
+pub mod Fronts
 pub mod Going
+pub mod Notes
+pub mod Pieces
+pub mod Spelled

@@ -1,25 +1,27 @@
 -- What a piece says, once it is read behind the bytes before it.
-use Rattle.std.proofs.Common.{◌≡◌, ◌≢◌, ◌⊎◌, inl, inr, ℕ, ◌<◌, Bool, true, false, cond, eqb, List, [], ◌∷◌, ◌++◌, length, All, Option, Some}
+use Rattle.std.proofs.Common.{◌≡◌, ◌≢◌, ◌⊎◌, inl, inr, ℕ, ◌<◌, Bool, true, false, cond, eqb, List}
+use Rattle.std.proofs.Common.{[], ◌∷◌, ◌++◌, length, All, Option, Some}
 use Rattle.std.proofs.Common.{None, Ok, Err, refl, sym, ap, subst, ◌∙◌, unwrap_or, arith}
 use Rattle.std.proofs.lemmas.List.{length-append}
 use Rattle.std.proofs.lemmas.List.Elements.{All-nil, All-tail}
-use Rattle.trace_grammar.specs.declared.fault.TraceFault.{TraceFault}
-use Rattle.trace_grammar.specs.declared.fault.TraceFault.TheVariants as faults
-use Rattle.trace_grammar.specs.declared.progress.Progress.{Progress}
-use Rattle.trace_grammar.specs.declared.record.Header.{Header}
-use Rattle.trace_grammar.specs.declared.record.TraceRecord.{TraceRecord}
+use Rattle.trace_format.specs.declared.fault.TraceFault.{TraceFault}
+use Rattle.trace_format.specs.declared.fault.TraceFault.TheVariants as faults
+use Rattle.trace_format.specs.declared.read_so_far.ReadSoFar.{ReadSoFar}
+use Rattle.trace_format.specs.declared.record.Header.{Header}
+use Rattle.trace_format.specs.declared.record.TraceRecord.{TraceRecord}
 use Rattle.std.specs.Option.{option_or}
-use Rattle.predator_base.specs.declared.ending.Ending.{Ending}
-use Rattle.trace_grammar.specs.Reading.{Reading, read_on, reading_of}
-use Rattle.trace_grammar.specs.ReadingLaws.{read_on-pieces, then_read}
-use Rattle.trace_grammar.specs.Rules.{IsGoodHeader, IsWritable, touches_in}
-use Rattle.trace_reader.specs.States.{ReadsOn, answer_at}
+use Rattle.base.specs.declared.ending.Ending.{Ending}
+use Rattle.trace_format.specs.Reading.{Reading, read_on, reading_of}
+use Rattle.trace_format.specs.Laws.Reading.{read_on-pieces, then_read}
+use Rattle.trace_format.specs.Rules.{IsGoodHeader, IsWritable, touches_in}
+use Rattle.trace_format.specs.ReaderStates.{ReadsOn, answer_at}
 use Rattle.trace_passes.specs.declared.wanted.Refusal.{Refusal}
 use Rattle.trace_passes.specs.declared.wanted.Refusal.TheVariants as refusals
 use Rattle.trace_passes.specs.declared.wanted.Wanted.{Wanted}
-use Rattle.trace_passes.specs.Passes.{IsWanted, first_refusal, harts_refusal, head_of, header_refusal, refusal_of}
-use Rattle.trace_passes.specs.CountLaws.{IsSoFar, counted_so_far, few_accesses, so_far}
-use Rattle.trace_passes.specs.PassLaws.{is_wanted, refused_for_fault, refused_for_header}
+use Rattle.trace_passes.specs.Passes.{IsWanted, first_refusal, harts_refusal, head_of}
+use Rattle.trace_passes.specs.Passes.{header_refusal, refusal_of}
+use Rattle.trace_format.specs.Laws.Counts.{IsSoFar, counted_so_far, few_accesses, so_far}
+use Rattle.trace_passes.specs.Laws.Passes.{is_wanted, refused_for_fault, refused_for_header}
 use Rattle.trace_passes.specs.Rooms.{HasRoom}
 use Rattle.trace_passes.specs.Cursors.{IsRead}
 
@@ -31,7 +33,8 @@ pub no_fault : (f : Option TraceFault) (u : Unit {0}) → Ok u ≡ answer_at f �
 no_fault None u e = refl
 no_fault (Some fault) u e = absurd cc
 
-pub that_fault : (f : Option TraceFault) (fault : TraceFault) → Err fault ≡ answer_at f → f ≡ Some fault
+pub that_fault : (f : Option TraceFault) (fault : TraceFault) → Err fault ≡ answer_at f → f
+    ≡ Some fault
 that_fault None fault e = absurd cc
 that_fault (Some g) fault e = cc
 
@@ -52,32 +55,42 @@ chosen_not : (b : Bool) (x : Refusal) (fault : TraceFault) → x ≢ refusals.Tr
 chosen_not true x fault other e = cc
 chosen_not false x fault other e = other cc
 
-harts_not : (w : Option ℕ) (harts : ℕ) (fault : TraceFault) → harts_refusal w harts ≡ Some (refusals.Trace fault) → ⊥
+harts_not : (w : Option ℕ) (harts : ℕ) (fault : TraceFault) → harts_refusal w harts
+    ≡ Some (refusals.Trace fault) → ⊥
 harts_not None harts fault e = cc
 harts_not (Some n) harts fault e = chosen_not (eqb harts n) refusals.Harts fault (λ e. cc) e
 
-first_not : (w : Option ℕ) (first : ℕ) (fault : TraceFault) → first_refusal w first ≡ Some (refusals.Trace fault) → ⊥
+first_not : (w : Option ℕ) (first : ℕ) (fault : TraceFault) → first_refusal w first
+    ≡ Some (refusals.Trace fault) → ⊥
 first_not None first fault e = cc
-first_not (Some n) first fault e = chosen_not (eqb first n) (refusals.Position n first) fault (λ e. cc) e
+first_not (Some n) first fault e = chosen_not (eqb first n) (refusals.Position n first) fault
+    (λ e. cc) e
 
-either_not : (a b : Option Refusal) (x : Refusal) → (a ≡ Some x → ⊥) → (b ≡ Some x → ⊥) → option_or a b ≡ Some x → ⊥
+either_not : (a b : Option Refusal) (x : Refusal) → (a ≡ Some x → ⊥) → (b ≡ Some x → ⊥)
+    → option_or a b ≡ Some x → ⊥
 either_not None b x first second e = second e
 either_not (Some a) b x first second e = first e
 
-pub header_not : (w : Wanted) (h : Option Header) (fault : TraceFault) → header_refusal w h ≡ Some (refusals.Trace fault) → ⊥
+pub header_not : (w : Wanted) (h : Option Header) (fault : TraceFault) → header_refusal w h
+    ≡ Some (refusals.Trace fault) → ⊥
 header_not w None fault e = cc
 header_not w (Some h) fault e =
-    either_not (harts_refusal w.harts h.harts) (first_refusal w.first h.first) (refusals.Trace fault) (harts_not w.harts h.harts fault)
+    either_not (harts_refusal w.harts h.harts) (first_refusal w.first h.first)
+    (refusals.Trace fault) (harts_not w.harts h.harts fault)
     (first_not w.first h.first fault) e
 
-pub first_not_memory : (w : Wanted) (h : Option Header) (told : Option Refusal) (fault : TraceFault) → told ≡ header_refusal w h
-    → fault ≢ faults.NoMemory → unwrap_or told (refusals.Trace fault) ≢ refusals.Trace faults.NoMemory
+pub first_not_memory : (w : Wanted) (h : Option Header) (told : Option Refusal) (fault : TraceFault)
+    → told ≡ header_refusal w h
+    → fault ≢ faults.NoMemory → unwrap_or told (refusals.Trace fault) ≢ refusals.Trace
+    faults.NoMemory
 first_not_memory w h None fault is other = λ e. other cc
-first_not_memory w h (Some x) fault is other = λ e. header_not w h faults.NoMemory (sym is ∙ ap (λ (y : Refusal). Some y) e)
+first_not_memory w h (Some x) fault is other = λ e. header_not w h faults.NoMemory
+    (sym is ∙ ap (λ (y : Refusal). Some y) e)
 
 -- records come after a header
-head_in : (p : Option Progress) (e : Option Ending) (items : List TraceRecord) → IsSoFar p e items → 0 < length items
-    → (now : Progress) × (p ≡ Some now)
+head_in : (p : Option ReadSoFar) (e : Option Ending) (items : List TraceRecord) → IsSoFar p e items
+    → 0 < length items
+    → (now : ReadSoFar) × (p ≡ Some now)
 head_in None e items is some = let none = ap length is.0 in absurd (omega arith)
 head_in (Some p) e items is some = (p, refl)
 
@@ -85,18 +98,21 @@ all_behind : {A : Type 0} (P : A → Type 0) (xs ys : List A) → All P (xs ++ y
 all_behind P [] ys is = is
 all_behind P (x ∷ xs) ys is = all_behind P xs ys (All-tail P x (xs ++ ys) is)
 
-writable_in : (p : Option Progress) (e : Option Ending) (items : List TraceRecord) → IsSoFar p e items → All IsWritable items
+writable_in : (p : Option ReadSoFar) (e : Option Ending) (items : List TraceRecord)
+    → IsSoFar p e items → All IsWritable items
 writable_in None e items is = subst (All IsWritable) (sym is.0) (All-nil IsWritable)
 writable_in (Some p) None items is = is.0.writable
 writable_in (Some p) (Some e) items is = is.0.writable
 
-module _ (old new : Reading) (piece : List ℕ) (after : List TraceRecord) (on : ReadsOn old piece new [] after) where
+module _ (old new : Reading) (piece : List ℕ) (after : List TraceRecord)
+    (on : ReadsOn old piece new [] after) where
   module _ (bytes : List ℕ) (from : old ≡ (reading_of bytes).1) where
     both : reading_of (bytes ++ piece) ≡ then_read (reading_of bytes) piece
     both = read_on-pieces bytes piece
 
     pub now_read : new ≡ (reading_of (bytes ++ piece)).1
-    now_read = on.reading ∙ ap (λ (r : Reading). (read_on r piece).1) from ∙ sym (ap (λ (x : List TraceRecord × Reading). x.1) both)
+    now_read = on.reading ∙ ap (λ (r : Reading). (read_on r piece).1) from
+        ∙ sym (ap (λ (x : List TraceRecord × Reading). x.1) both)
 
     pub now_seen : (reading_of bytes).0 ++ after ≡ (reading_of (bytes ++ piece)).0
     now_seen =
@@ -104,10 +120,12 @@ module _ (old new : Reading) (piece : List ℕ) (after : List TraceRecord) (on :
         (on.records ∙ ap (λ (r : Reading). (read_on r piece).0) from)
         ∙ sym (ap (λ (x : List TraceRecord × Reading). x.0) both)
 
-    pub refused_now : (w : Wanted) (more : List ℕ) (x : Refusal) → header_refusal w (head_of new.progress) ≡ Some x
+    pub refused_now : (w : Wanted) (more : List ℕ) (x : Refusal)
+        → header_refusal w (head_of new.progress) ≡ Some x
         → refusal_of w ((bytes ++ piece) ++ more) ≡ Some x
     refused_now w more x e =
-        refused_for_header w (bytes ++ piece) more x (ap (λ (r : Reading). header_refusal w (head_of r.progress)) (sym now_read) ∙ e)
+        refused_for_header w (bytes ++ piece) more x
+        (ap (λ (r : Reading). header_refusal w (head_of r.progress)) (sym now_read) ∙ e)
 
     -- for the header before any fault
     pub refused_first : (w : Wanted) (more : List ℕ) (fault : TraceFault) (told : Option Refusal)
@@ -119,39 +137,47 @@ module _ (old new : Reading) (piece : List ℕ) (after : List TraceRecord) (on :
         (ap (λ (r : Reading). r.fault) (sym now_read) ∙ e)
     refused_first w more fault (Some x) is e = refused_now w more x (sym is)
 
-    pub read_now : (w : Wanted) → new.fault ≡ None → header_refusal w (head_of new.progress) ≡ None → IsRead w (bytes ++ piece) new
+    pub read_now : (w : Wanted) → new.fault ≡ None → header_refusal w (head_of new.progress) ≡ None
+        → IsRead w (bytes ++ piece) new
     read_now w clean unrefused = record { reading = now_read; clean = clean; unrefused = unrefused }
 
 -- what came behind other bytes
-module _ (bytes more : List ℕ) (after : List TraceRecord) (records : (reading_of (bytes ++ more)).0 ≡ (reading_of bytes).0 ++ after)
+module _ (bytes more : List ℕ) (after : List TraceRecord) (records : (reading_of (bytes ++ more)).0
+    ≡ (reading_of bytes).0 ++ after)
   where
     -- the records that became whole may be written
     pub all_writable : All IsWritable after
     all_writable =
         let whole = reading_of (bytes ++ more) in
         all_behind IsWritable (reading_of bytes).0 after
-        (subst (All IsWritable) records (writable_in whole.1.progress whole.1.ending whole.0 (so_far (bytes ++ more))))
+        (subst (All IsWritable) records (writable_in whole.1.progress whole.1.ending whole.0
+        (so_far (bytes ++ more))))
 
     -- there is room for the records that became whole
-    pub room_for_all : {A : Type 0} (begins : A → ℕ → Type 0) (given : A → A → List TraceRecord → Type 0) (w : Wanted) (begun now : A)
+    pub room_for_all : {A : Type 0} (begins : A → ℕ → Type 0)
+        (given : A → A → List TraceRecord → Type 0) (w : Wanted) (begun now : A)
         (reader : Reading) → ((h : Header) → IsGoodHeader h → IsWanted w h → begins begun h.first)
-        → given begun now (reading_of bytes).0 → IsRead w (bytes ++ more) reader → 0 < length after → HasRoom begins given now after
+        → given begun now (reading_of bytes).0 → IsRead w (bytes ++ more) reader → 0 < length after
+        → HasRoom begins given now after
     room_for_all begins given w begun now reader may_begin saw read some =
         let whole = reading_of (bytes ++ more) in
         let size = ap length records in
         let longer = length-append (reading_of bytes).0 after in
-        let head = head_in whole.1.progress whole.1.ending whole.0 (so_far (bytes ++ more)) (omega arith) in
+        let head = head_in whole.1.progress whole.1.ending whole.0 (so_far (bytes ++ more))
+        (omega arith) in
         let p = head.0 in
         let wanted : header_refusal w (Some p.header) ≡ None =
-        ap (λ (x : Option Progress). header_refusal w (head_of x)) (sym head.1)
-        ∙ ap (λ (r : Reading). header_refusal w (head_of r.progress)) (sym read.reading) ∙ read.unrefused in
+        ap (λ (x : Option ReadSoFar). header_refusal w (head_of x)) (sym head.1)
+        ∙ ap (λ (r : Reading). header_refusal w (head_of r.progress)) (sym read.reading)
+        ∙ read.unrefused in
         let few = few_accesses (bytes ++ more) p head.1 in
         let counted = ap (λ (xs : List TraceRecord). length (touches_in xs)) records in
         record {
           begun = begun;
           first = p.header.first;
           seen = (reading_of bytes).0;
-          begins_there = may_begin p.header (counted_so_far (bytes ++ more) p head.1).header (is_wanted w p.header wanted);
+          begins_there = may_begin p.header (counted_so_far (bytes ++ more) p head.1).header
+              (is_wanted w p.header wanted);
           given_so_far = saw;
           room = omega arith;
         }

@@ -2,10 +2,10 @@
 use Rattle.std.specs.Prelude.{◌≡◌, ℕ, ◌-◌, ◌<◌, List, ◌++◌, length, Option, Some, None}
 use Rattle.shelf.specs.Shelf.{Files, Told, content}
 use Rattle.shelf.specs.Fetch.{IsFront}
-use Rattle.trace_grammar.specs.declared.progress.Progress.{Progress}
-use Rattle.trace_grammar.specs.declared.record.TraceRecord.{TraceRecord}
-use Rattle.trace_grammar.specs.Reading.{Reading, reading_of}
-use Rattle.trace_grammar.specs.Rules.{IsGoodHeader, longest_trace}
+use Rattle.trace_format.specs.declared.read_so_far.ReadSoFar.{ReadSoFar}
+use Rattle.trace_format.specs.declared.record.TraceRecord.{TraceRecord}
+use Rattle.trace_format.specs.Reading.{Reading, reading_of}
+use Rattle.trace_format.specs.Rules.{IsGoodHeader, longest_trace}
 use Rattle.trace_passes.specs.declared.passes.Passed.{Passed}
 use Rattle.trace_passes.specs.declared.wanted.Wanted.{Wanted}
 use Rattle.trace_passes.specs.Passes.{IsWanted, head_of, header_refusal, refusal_of, trace_of}
@@ -18,8 +18,8 @@ pub record IsRead (w : Wanted) (bytes : List ℕ) (now : Reading) : Type 0 where
   pub unrefused : header_refusal w (head_of now.progress) ≡ None
 
 -- what is given of a header that was accepted
-pub record IsHeadOf (progress : Option Progress) (passed : Passed) : Type 0 where
-  pub now : Progress
+pub record IsHeadOf (progress : Option ReadSoFar) (passed : Passed) : Type 0 where
+  pub now : ReadSoFar
   pub known : progress ≡ Some now
   pub version : passed.version ≡ now.version
   pub header : passed.header ≡ now.header

@@ -1,8 +1,5 @@
-pub mod Rooms
-pub mod Passes
-pub mod RecordLaws
-pub mod CountLaws
-pub mod PassLaws
 pub mod Cursors
+pub mod Laws
+pub mod Passes
+pub mod Rooms
 pub mod Ways
-pub mod SpelledLaws

@@ -2,15 +2,16 @@
 use Rattle.std.specs.Prelude.{◌≡◌, ℕ, ◌-◌, ◌≤◌, ◌==◌, List, [], ◌∷◌, ◌++◌, length, take, Option}
 use Rattle.std.specs.Prelude.{Some, None, Result, Ok, Err, IsErrOf, if◌then◌else◌, option_map}
 use Rattle.std.specs.Option.{ForSome, option_or}
-use Rattle.predator_base.specs.declared.ending.Ending.{Ending}
+use Rattle.base.specs.declared.ending.Ending.{Ending}
 use Rattle.shelf.specs.Shelf.{Files, Outside, Rose, Told, content}
-use Rattle.trace_grammar.specs.declared.fault.TraceFault.{TraceFault}
-use Rattle.trace_grammar.specs.declared.record.Header.{Header}
-use Rattle.trace_grammar.specs.declared.record.Version.{Version}
-use Rattle.trace_grammar.specs.declared.record.TraceRecord.{TraceRecord}
-use Rattle.trace_grammar.specs.declared.record.TraceRecord.TheVariants as records
-use Rattle.trace_grammar.specs.declared.progress.Progress.{Progress}
-use Rattle.trace_grammar.specs.Reading.{ending_of, reading_of}
+use Rattle.trace_format.specs.declared.fault.TraceFault.{TraceFault}
+use Rattle.trace_format.specs.declared.record.Header.{Header}
+use Rattle.trace_format.specs.declared.record.Version.{Version}
+use Rattle.trace_format.specs.declared.record.TraceRecord.{TraceRecord}
+use Rattle.trace_format.specs.declared.record.TraceRecord.TheVariants as records
+use Rattle.trace_format.specs.declared.read_so_far.ReadSoFar.{ReadSoFar}
+use Rattle.trace_format.specs.Reading.{ending_of, reading_of}
+use Rattle.trace_format.specs.Spelling.{spell}
 use Rattle.trace_passes.specs.declared.passes.PassFault.{PassFault}
 use Rattle.trace_passes.specs.declared.passes.PassFault.TheVariants as faults
 use Rattle.trace_passes.specs.declared.passes.Passed.{Passed}
@@ -31,11 +32,15 @@ pub record Trace : Type 0 where
 abbrev pub all_records : Trace → List TraceRecord
 all_records t = t.items ++ records.End t.ending ∷ []
 
+-- the spelling of a trace
+abbrev pub spell_trace : Trace → List ℕ
+spell_trace t = spell t.version t.header t.items t.ending
+
 -- the records before the last one
 abbrev pub before_last : List TraceRecord → List TraceRecord
 before_last all = take (length all - 1) all
 
-abbrev pub trace_at : List TraceRecord → Option Progress → Result Ending TraceFault → Option Trace
+abbrev pub trace_at : List TraceRecord → Option ReadSoFar → Result Ending TraceFault → Option Trace
 trace_at all (Some p) (Ok e) =
     Some (record { version = p.version; header = p.header; items = before_last all; ending = e })
 trace_at all None (Ok e) = None
@@ -64,7 +69,7 @@ first_refusal (Some wanted) first = if first == wanted then None
     else Some (refusals.Position wanted first)
 
 -- the header, once it is accepted
-abbrev pub head_of : Option Progress → Option Header
+abbrev pub head_of : Option ReadSoFar → Option Header
 head_of progress = option_map (λ p. p.header) progress
 
 -- how an accepted header is refused: for its harts, then for its first position

@@ -1,7 +1,7 @@
 -- When an observer may be given more records.
 use Rattle.std.specs.Prelude.{ℕ, ◌+◌, ◌≤◌, List, ◌++◌, length}
-use Rattle.trace_grammar.specs.declared.record.TraceRecord.{TraceRecord}
-use Rattle.trace_grammar.specs.Rules.{last_position, touches_in}
+use Rattle.trace_format.specs.declared.record.TraceRecord.{TraceRecord}
+use Rattle.trace_format.specs.Rules.{last_position, touches_in}
 
 -- It was given some records since it began, and may begin at a position from which on the accesses
 -- among them and these are no more than a trace may have.

@@ -1,10 +1,9 @@
 // A named trace, piece after piece.
 ghost use Rattle.std.specs.Prelude.{◌≡◌, ◌≢◌, ◌++◌, ◌<◌, ℕ, List, [], length};
-ghost use Rattle.std.specs.Prelude.{None, Some, unwrap_or, true, Ok, Err, IfOk, OnOk};
+ghost use Rattle.std.specs.Prelude.{None, Some, unwrap_or, Ok, Err, IfOk, OnOk};
 ghost use Rattle.shelf.specs.Shelf.{content, OnlyReads, Told};
-ghost use Rattle.trace_grammar.specs.declared.fault.TraceFault.TheVariants as trace_faults;
-ghost use Rattle.trace_grammar.specs.declared.record.TraceRecord.{TraceRecord as Record};
-ghost use Rattle.trace_grammar.specs.Reading.{ending_of, reading_of};
+ghost use Rattle.trace_format.specs.declared.fault.TraceFault.TheVariants as trace_faults;
+ghost use Rattle.trace_format.specs.Reading.{ending_of, reading_of};
 ghost use Rattle.trace_passes.specs.Cursors.{GoesOn, HasCome, HasEnded, IsHeadOf, IsRead};
 ghost use Rattle.trace_passes.specs.Cursors.{bytes_left};
 ghost use Rattle.trace_passes.specs.Passes.{HasPassCause, refusal_of, trace_refusal};
@@ -16,8 +15,7 @@ use crate::{PassFault, Passed, Refusal, Wanted};
 use shelf::Shelf;
 use std::alloc::{AllocError, Global};
 use std::marker::Model;
-use trace_grammar::{TraceFault, TraceRecord};
-use trace_reader::TraceReader;
+use trace_format::{TraceFault, TraceReader, TraceRecord};
 
 // The most bytes that are asked for at once. The records of a piece are held together, so that a
 // small piece keeps them few.

@@ -1,10 +1,10 @@
 // A law of traces, for callers whose own clauses speak of what is written.
 ghost use Rattle.std.specs.Prelude.{◌≡◌, ◌<◌, ℕ, List, Some};
 ghost use Rattle.std.specs.List.{All};
-ghost use Rattle.trace_grammar.specs.Rules.{IsTrace};
+ghost use Rattle.trace_format.specs.Rules.{IsTrace};
 ghost use Rattle.trace_passes.specs.Passes.{Trace, trace_of};
 
-use trace_grammar::what_is_read_was_spelled;
+use trace_format::what_is_read_was_spelled;
 
 /// What is a trace is the spelling of its parts, which are good. Nothing is done.
 pub fn a_trace_is_its_spelling()

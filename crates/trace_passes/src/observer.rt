@@ -1,11 +1,11 @@
 // Who sees the records of a trace.
 ghost use Rattle.std.specs.Prelude.{ℕ, List, [], ◌∷◌, ◌++◌, OnOk};
-ghost use Rattle.trace_grammar.specs.declared.record.TraceRecord.{TraceRecord as Record};
-ghost use Rattle.trace_grammar.specs.Rules.{IsWritable};
+ghost use Rattle.trace_format.specs.declared.record.TraceRecord.{TraceRecord as Record};
+ghost use Rattle.trace_format.specs.Rules.{IsWritable};
 ghost use Rattle.trace_passes.specs.Rooms.{HasRoom};
 
-use predator_base::NoMemory;
-use trace_grammar::TraceRecord;
+use base::NoMemory;
+use trace_format::TraceRecord;
 
 /// Sees the records of a trace, one after the other.
 pub trait Observer {

@@ -1,22 +1,22 @@
 // One pass over a named trace.
-ghost use Rattle.std.specs.Prelude.{◌≡◌, ◌≢◌, ◌++◌, ◌<◌, ℕ, List, [], length};
+ghost use Rattle.std.specs.Prelude.{◌≡◌, ◌≢◌, ◌++◌, ◌<◌, List, [], length};
 ghost use Rattle.std.specs.Prelude.{None, Some, Err, IfOk, OnOk};
 ghost use Rattle.std.specs.List.{All};
 ghost use Rattle.shelf.specs.Shelf.{content, OnlyReads, Told};
-ghost use Rattle.trace_grammar.specs.declared.record.Header.{Header as Head};
-ghost use Rattle.trace_grammar.specs.declared.record.TraceRecord.{TraceRecord as Record};
-ghost use Rattle.trace_grammar.specs.declared.fault.TraceFault.TheVariants as trace_faults;
-ghost use Rattle.trace_grammar.specs.Rules.{IsGoodHeader, IsWritable};
+ghost use Rattle.trace_format.specs.declared.record.Header.{Header as Head};
+ghost use Rattle.trace_format.specs.declared.record.TraceRecord.{TraceRecord as Record};
+ghost use Rattle.trace_format.specs.declared.fault.TraceFault.TheVariants as trace_faults;
+ghost use Rattle.trace_format.specs.Rules.{IsGoodHeader, IsWritable};
 ghost use Rattle.trace_passes.specs.declared.wanted.Refusal.{Refusal as Refused};
 ghost use Rattle.trace_passes.specs.declared.wanted.Refusal.TheVariants as refusals;
 ghost use Rattle.trace_passes.specs.Passes.{HasPassCause, HasPassed, IsWanted, refusal_of};
 ghost use Rattle.trace_passes.specs.Rooms.{HasRoom};
 
 use crate::{Cursor, Observer, Refusal, Wanted};
-use predator_base::{Ending, NoMemory as WantOfMemory};
+use base::{Ending, NoMemory as WantOfMemory};
 use shelf::{Shelf, ShelfError};
 use std::alloc::{AllocError, Global};
-use trace_grammar::{Header, TraceRecord, Version};
+use trace_format::{Header, TraceRecord, Version};
 
 /// What a trace is whose records an observer saw.
 #[derive(Clone, Copy, PartialEq, Eq, Debug)]

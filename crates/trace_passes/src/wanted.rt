@@ -2,7 +2,7 @@
 ghost use Rattle.std.specs.Prelude.{◌≡◌};
 ghost use Rattle.trace_passes.specs.Passes.{first_refusal, header_refusal};
 
-use trace_grammar::{Header, TraceFault};
+use trace_format::{Header, TraceFault};
 
 /// What a caller wants of a trace's header; None where it takes any.
 #[derive(Clone, Copy, PartialEq, Eq, Debug)]

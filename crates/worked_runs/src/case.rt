@@ -8,6 +8,7 @@
 //     resize NAME LENGTH      the file, cut to this length or with zeros behind it
 //     patch NAME PLACE BYTES  the file, with other bytes from a place on
 //     $ WORDS                 a call of the program; the text that it is to print follows
+//     usage                   of that text the usage lines, which stand in the file `usage.txt`
 //     status N                the status that it is to end with, if not 0
 //     writes text NAME ..     a file that it is to write, in any of the four forms
 //                             (later calls can read it)
@@ -24,6 +25,8 @@ use std::alloc::{AllocError, Global};
 use std::fs;
 use std::rt::Files;
 use std::str::SplitWhitespace;
+
+const USAGE: &str = "usage.txt";
 
 // A file whose lines follow: its name, whether the call is to write it, and the steps of a trace.
 #[derive(Drop)]
@@ -147,6 +150,7 @@ impl Case {
     ) -> Result<(), Trouble> {
         match word {
             "status" | "absent" | "keeps" | "front" | "fails" => self.want(line),
+            "usage" => self.spell_usage(rt),
             "writes" => match words.next() {
                 Some(form) => self.begin_file(rt, form, words, true),
                 None => Err(Trouble::BadLine),
@@ -194,6 +198,15 @@ impl Case {
             Some(call) => Ok(call.wants(text)?),
             None => Err(Trouble::BadLine),
         }
+    }
+
+    // Adds the usage lines to the text that the call is to print.
+    fn spell_usage<R: Files + AllocGlobal>(&mut self, rt: &R) -> Result<(), Trouble> {
+        let usage = fs::read_to_string(rt, USAGE)?;
+        for line in usage.lines() {
+            self.spell(line)?;
+        }
+        Ok(())
     }
 
     fn want(&mut self, line: &str) -> Result<(), Trouble> {

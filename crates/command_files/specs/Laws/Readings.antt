@@ -12,12 +12,9 @@ use Rattle.command_files.specs.Readings.{Reading, RoseAt, StopsBy}
 use Rattle.command_files.specs.Readings.{first_refusal, names_of, reading}
 use Rattle.command_files.specs.declared.status.Status.{Status}
 use Rattle.command_files.specs.declared.status.Status.TheVariants as status
-use Rattle.command_files.specs.Laws.Told.{told, told_map, told_both}
+use Rattle.shelf.specs.Laws.Told.{told, told_map, told_both}
 
 -- ---- two lists of files
-
-or_some : (x y : Option Status) (s : Status) → y ≡ Some s → x ≡ None → option_or x y ≡ Some s
-or_some x y s is none = rw none is
 
 some_kept : (x y z : Option Status) (s : Status) → (y ≡ Some s → z ≡ Some s)
     → option_or x y ≡ Some s → option_or x z ≡ Some s

@@ -2,7 +2,7 @@
 use Rattle.std.proofs.Common.{◌≡◌, ℕ, List, Option, Some, None, Ok, refl, ap}
 use Rattle.shelf.specs.Shelf.{Files, Told, content}
 use Rattle.settings.specs.declared.values.Settings.{Settings}
-use Rattle.command_files.specs.Laws.Told.{told_map}
+use Rattle.shelf.specs.Laws.Told.{told_map}
 use Rattle.command_files.specs.ProgramFiles.{program_refusal}
 use Rattle.command_files.specs.Readings.{first_refusal}
 use Rattle.command_files.specs.SettingsFiles.{chosen_settings, settings_in, settings_readings}

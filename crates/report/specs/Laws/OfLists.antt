@@ -1,36 +1,34 @@
 -- The tracks that a list keeps have the report of the list.
 use Rattle.std.proofs.Common.{◌≡◌, ℕ, Bool, true, false, not, eqb, ltb, leb, ◌&&◌, ◌||◌, ℤ, List}
-use Rattle.std.proofs.Common.{[], ◌∷◌, None, Some, map, filter, IsTrue, refl, sym, ap}
-use Rattle.std.proofs.Common.{◌∙◌, inl, inr, arith}
+use Rattle.std.proofs.Common.{[], ◌∷◌, None, Some, map, filter, IsTrue, refl, sym, ap, ◌∙◌, inl}
+use Rattle.std.proofs.Common.{inr, arith}
 use Rattle.std.proofs.lemmas.Bool.{cases_Bool, false≢true}
 use Rattle.std.proofs.lemmas.Bool.Decides.{nat_tests}
 use Rattle.std.proofs.lemmas.Int.{ints}
 use Rattle.std.proofs.lemmas.List.Sorted.{IsPermutation-sym}
 use Rattle.std.proofs.lemmas.Map.Keys.{IsDistinct-IsPermutation}
 use Rattle.std.proofs.lemmas.Option.{same_Some}
-use Rattle.std.proofs.Math.Bool.{or_comm}
 use Rattle.std.specs.Prelude.{filter_map, option_map}
 use Rattle.std.specs.List.{IsDistinct}
 use Rattle.std.specs.List.Sorted.{IsPermutation}
-use Rattle.predator_base.specs.Levels.{Levels}
-use Rattle.predator_base.specs.Lines.{Grid, is_layout}
+use Rattle.base.specs.Levels.{Levels}
+use Rattle.base.specs.Lines.{Grid, is_layout}
 use Rattle.sharing_rules.specs.AccessLists.{AccessList}
 use Rattle.sharing_rules.specs.Lines.{is_inside}
 use Rattle.sharing_rules.specs.Listed.{in_order, listed, may_predict, rank, tracked}
 use Rattle.sharing_rules.specs.Members.{Member, ties}
 use Rattle.sharing_rules.specs.Observed.{first_write_from}
-use Rattle.sharing_rules.specs.Opened.{Opened, finding_of}
-use Rattle.sharing_rules.specs.Opened.{opened}
+use Rattle.sharing_rules.specs.Opened.{Opened, finding_of, opened}
 use Rattle.sharing_rules.specs.Laws.Kept.{tracked-opened}
 use Rattle.sharing_rules.specs.Laws.Lists.{slice_cases, Member-filter, Member-filter_map}
 use Rattle.sharing_rules.specs.Laws.Lists.{Member-permutation, all_at, all_from_members}
 use Rattle.sharing_rules.specs.Laws.Lists.{filter-Member, filter-distinct, filter_map-Member}
 use Rattle.sharing_rules.specs.Laws.Orders.{in_order-from_members, in_order-permutes}
-use Rattle.sharing_rules.specs.Laws.Orders.{in_order-rises}
-use Rattle.virtual_lines.specs.Kept.{Kept}
-use Rattle.virtual_lines.specs.KeptIn.{kept_in}
-use Rattle.virtual_lines.specs.Placed.{is_placed_before}
-use Rattle.virtual_lines.specs.PlacedLaws.{kept-apart, placed}
+use Rattle.sharing_rules.specs.Laws.Orders.{in_order-rises, ties_flip}
+use Rattle.line_tracks.specs.Kept.{Kept}
+use Rattle.line_tracks.specs.KeptIn.{kept_in}
+use Rattle.line_tracks.specs.Placed.{is_placed_before}
+use Rattle.line_tracks.specs.Laws.Placed.{kept-apart, placed}
 use Rattle.report.specs.Shown.{ShownLine, is_shown_before, listed_of, listed_tracks, shown_of}
 use Rattle.report.specs.OfLists.{shown_in}
 use Rattle.report.specs.Laws.Shown.{in_order-map, is_shown_before-ranks}
@@ -108,9 +106,6 @@ shown-members : (xs ys : List Kept) → IsPermutation xs ys → (l : ShownLine)
     → Member l (filter_map shown_of ys) → Member l (filter_map shown_of xs)
 shown-members xs ys perm l m = let w = Member-filter_map shown_of ys l m
     in filter_map-Member shown_of xs w.0 l (Member-permutation xs ys w.0 perm w.1) w.2
-
-ties_flip : {X : Type 0} (lt : X → X → Bool) (x y : X) → ties lt x y ≡ ties lt y x
-ties_flip lt x y = ap not (or_comm (lt x y) (lt y x))
 
 -- tracks in any order show one list
 listed-permutation : (r : ℕ) (xs ys : List Kept) → IsPermutation xs ys

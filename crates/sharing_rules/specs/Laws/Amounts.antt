@@ -9,7 +9,7 @@ use Rattle.std.proofs.lemmas.Map.Made.{length-le_from_is_member}
 use Rattle.std.specs.Prelude.{filter, filter_map, is_some}
 use Rattle.std.specs.List.{AllByRecursion, IsDistinct, list_any}
 use Rattle.std.specs.Cmp.{nat_eq_equiv}
-use Rattle.predator_base.specs.Touch.{Touch}
+use Rattle.base.specs.Touch.{Touch}
 use Rattle.sharing_rules.specs.Lines.{is_inside, native_grid, native_line}
 use Rattle.sharing_rules.specs.Observed.{observed_start, written_lines}
 use Rattle.sharing_rules.specs.Opened.{Opened, doubled_ones, observed_ones, opened_doubled}

@@ -11,7 +11,7 @@ use Rattle.std.specs.Prelude.{if◌then◌else◌, filter}
 use Rattle.std.specs.List.{list_any, IsDistinct}
 use Rattle.std.specs.Cmp.{nat_eq_equiv}
 use Rattle.std.proofs.lemmas.Map.Keys.{IsDistinct-push}
-use Rattle.predator_base.specs.Touch.{Touch, is_write}
+use Rattle.base.specs.Touch.{Touch, is_write}
 use Rattle.sharing_rules.specs.AccessLists.{touches, writes_to}
 use Rattle.sharing_rules.specs.Arrivals.{note_arrival, each_once, since_last_write, arrivals}
 use Rattle.sharing_rules.specs.Arrivals.{arrivals_after}
@@ -104,11 +104,6 @@ arrivals-some inside t e =
     let s = since-some inside t e in
     let inside_b = (and_parts (is_write s.0.kind) (inside s.0.addr) s.3).1 in
     rw (s.2, inside_b) (s.0.hart, _, refl)
-
-pub arrivals-none : (inside : ℕ → Bool) (t : List Touch) → list_any (writes_to inside) t ≡ false
-    → arrivals inside t ≡ []
-unfolding arrivals
-arrivals-none inside t e = rw (since-none inside t e)
 
 -- one access more
 pub arrivals-push : (inside : ℕ → Bool) (t : List Touch) (a : Touch)

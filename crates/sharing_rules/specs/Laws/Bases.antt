@@ -8,10 +8,10 @@ use Rattle.std.proofs.lemmas.Int.{ints}
 use Rattle.std.proofs.lemmas.Nat.{div-add-mod', div-mul-add}
 use Rattle.std.proofs.lemmas.Option.{none-some, same_Some}
 use Rattle.std.proofs.Math.Nat.{mod-lt, mul-mod_left}
-use Rattle.std.specs.Prelude.{slice_get}
+use Rattle.std.specs.Prelude.{slice_get, nat_abs, ◌+ℤ◌}
 use Rattle.std.specs.List.{list_any}
-use Rattle.predator_base.specs.Touch.{Touch}
-use Rattle.predator_base.specs.Lines.{is_layout, is_line_size}
+use Rattle.base.specs.Touch.{Touch}
+use Rattle.base.specs.Lines.{is_layout, is_line_size}
 use Rattle.sharing_rules.specs.Lines.{is_inside, native_line, line_from, range_of}
 use Rattle.sharing_rules.specs.Members.{Member}
 use Rattle.sharing_rules.specs.Observed.{observed_start}
@@ -74,7 +74,7 @@ within_list [] i w e = absurd (none-some w e)
 within_list (x ∷ ws) zero w e = omega arith
 within_list (x ∷ ws) (suc i) w e = let k = within_list ws i w e in omega (arith, k)
 
-hot_within : (lower upper : List Word) (p : ℕ × ℕ) → is_hot_at lower upper p ≡ true
+pub hot_within : (lower upper : List Word) (p : ℕ × ℕ) → is_hot_at lower upper p ≡ true
     → (p.0 < length lower) × (p.1 < length upper)
 hot_within lower upper p e =
     elim (slice_cases (slice_get lower p.0)) [
@@ -130,10 +130,10 @@ base_between : (m n p q : ℕ) → n % 4 ≡ 0 → 4 * (n / 4 + q) + 4 ≤ n + 4
 base_between m n p q even near less =
     (omega (arith, even, near, less), omega (arith, even, near, less))
 
-one_more : (n m : ℕ) → n * (m + 1) ≡ n * m + n
+pub one_more : (n m : ℕ) → n * (m + 1) ≡ n * m + n
 one_more n m = omega arith
 
-next_line : (n k : ℕ) → 0 < k → n * (k + 1 - 1) ≡ n * (k - 1) + n
+pub next_line : (n k : ℕ) → 0 < k → n * (k + 1 - 1) ≡ n * (k - 1) + n
 next_line n k some = let e : k + 1 - 1 ≡ k - 1 + 1 = omega (arith, some) in ap (λ z. n * z) e
     ∙ one_more n (k - 1)
 
@@ -169,7 +169,7 @@ pub record IsGoodSize (n : ℕ) : Type 0 where
   pub begins : (k : ℕ) → n * k % 4 ≡ 0
   pub lower : (k : ℕ) → k % 2 ≡ 1 → n * (k - 1) % (2 * n) ≡ 0
 
-quarter : (n : ℕ) → n % 4 ≡ 0 → n ≡ 4 * (n / 4)
+pub quarter : (n : ℕ) → n % 4 ≡ 0 → n ≡ 4 * (n / 4)
 quarter n even = omega (arith, even)
 
 words_cut : (q m r b : ℕ) → q * (4 * m) + r ≡ b → b % 4 ≡ 0 → r % 4 ≡ 0
@@ -242,10 +242,21 @@ any_some p (b ∷ t) e = elim (or_cases (p b) (list_any p t) e) [
 ]
 
 -- A base tells the line in which it lies.
-split_base : (n k b : ℕ) → 0 < k → n * (k - 1) ≤ b → b + n ≡ k * n + (b - n * (k - 1))
+pub split_base : (n k b : ℕ) → 0 < k → n * (k - 1) ≤ b → b + n ≡ k * n + (b - n * (k - 1))
 split_base n k b some above = let e : k ≡ k - 1 + 1 = omega (arith, some) in let m : (k - 1 + 1) * n
     ≡ n * (k - 1) + n = omega arith in omega (arith, ap (λ z. z * n) e, m, above)
 
 pub base_number : (n k b : ℕ) → 0 < k → n * (k - 1) ≤ b → b < n * (k - 1) + n → (b + n) / n ≡ k
 base_number n k b some above below = ap (λ z. z / n) (split_base n k b some above)
     ∙ div-mul-add k n (b - n * (k - 1)) (omega (arith, above, below))
+
+-- where the base of a line lies, less the offset and by one line more
+pub base_is : (m n o d : ℕ) → nat_abs (pos (m + o + d) -ℤ pos n +ℤ pos n -ℤ pos o) ≡ m + d
+base_is m n o d = omega (arith, ints)
+
+-- lines of one base have one number
+pub same_number : (n o j k : ℕ) → 0 < n → (pos (j * n + o) -ℤ pos n) ≡ (pos (k * n + o) -ℤ pos n)
+    → j ≡ k
+same_number n o j k some e =
+    let same : j * n ≡ k * n = omega (arith, ints) in
+    sym (div-mul-add j n 0 some) ∙ ap (λ x. (x + 0) / n) same ∙ div-mul-add k n 0 some

@@ -14,7 +14,7 @@ use Rattle.std.specs.List.Sorted.{IsPermutation}
 use Rattle.sharing_rules.specs.Arrivals.{note_arrival}
 use Rattle.sharing_rules.specs.Laws.Lists.{slice_cases}
 
-eqb-same : (i : ℕ) → eqb i i ≡ true
+pub eqb-same : (i : ℕ) → eqb i i ≡ true
 eqb-same i = eq-eqb i i refl
 
 -- what a key gives now, and gave nothing before

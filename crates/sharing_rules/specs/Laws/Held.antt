@@ -7,7 +7,7 @@ use Rattle.std.proofs.lemmas.Bool.{cases_Bool, false≢true, or_cases, and_parts
 use Rattle.std.proofs.lemmas.Bool.{or_left, or_right, eqb-true, eq-eqb}
 use Rattle.std.proofs.Math.Bool.{or-false, or_comm}
 use Rattle.std.specs.List.{list_any}
-use Rattle.predator_base.specs.Touch.{Touch, is_write}
+use Rattle.base.specs.Touch.{Touch, is_write}
 use Rattle.sharing_rules.specs.AccessLists.{writes_to}
 use Rattle.sharing_rules.specs.Arrivals.{note_arrival, arrivals}
 use Rattle.sharing_rules.specs.Holders.{holders, is_held_by_another}

@@ -3,7 +3,7 @@ use Rattle.std.proofs.Common.{◌≡◌, ℕ, Bool, false, eqb, not, ◌&&◌, �
 use Rattle.std.proofs.Common.{ap}
 use Rattle.std.proofs.lemmas.List.Sums.{fold-append}
 use Rattle.std.specs.Prelude.{if◌then◌else◌, fold}
-use Rattle.predator_base.specs.Touch.{Touch, is_write}
+use Rattle.base.specs.Touch.{Touch, is_write}
 use Rattle.sharing_rules.specs.Holders.{holders, after_access}
 
 -- holders of one line, by a test of its addresses

@@ -9,9 +9,9 @@ use Rattle.std.proofs.lemmas.List.Elements.{filter_map-append}
 use Rattle.std.specs.Prelude.{int_lt, filter_map, option_map, option_and_then, IsTrue}
 use Rattle.std.specs.Option.{option_map_or}
 use Rattle.std.specs.List.{AllByRecursion, IsDistinct}
-use Rattle.predator_base.specs.Touch.{Touch}
-use Rattle.predator_base.specs.Lines.{Grid}
-use Rattle.predator_base.specs.Levels.{Levels}
+use Rattle.base.specs.Touch.{Touch}
+use Rattle.base.specs.Lines.{Grid}
+use Rattle.base.specs.Levels.{Levels}
 use Rattle.sharing_rules.specs.Lines.{Line, is_inside, grid_line, native_grid, range_of}
 use Rattle.sharing_rules.specs.Listed.{found, opened_line, may_predict, observed_line}
 use Rattle.sharing_rules.specs.Listed.{observed_lines, predicted_lines, rank, shifted_lines}
@@ -26,8 +26,7 @@ use Rattle.sharing_rules.specs.Predicted.{doubled_opening, is_native_size, shift
 use Rattle.sharing_rules.specs.Predicted.{shifted_opening}
 use Rattle.sharing_rules.specs.declared.line_kind.LineKind.TheVariants.{Shifted}
 use Rattle.sharing_rules.specs.Laws.Arrivals.{each_once-distinct}
-use Rattle.sharing_rules.specs.Laws.Bases.{base_number, native-good}
-use Rattle.sharing_rules.specs.Laws.Findings.{same_number}
+use Rattle.sharing_rules.specs.Laws.Bases.{base_number, native-good, same_number}
 use Rattle.sharing_rules.specs.Laws.Kinds.{observed_ones-member, opened_doubled-is}
 use Rattle.sharing_rules.specs.Laws.Kinds.{opened_observed-is, opened_shifted-is}
 use Rattle.sharing_rules.specs.Laws.Kinds.{predicted_ones-member, shifted_ones-member}
@@ -174,7 +173,7 @@ both_distinct (x ∷ xs) ys d e apart = (
   both_distinct xs ys d.1 e (λ z y m n. apart z y (inr m) n),
 )
 
-two_ranks : (m i j : ℕ) → m ≡ i → m ≡ j → (i ≡ j → ⊥) → ⊥
+pub two_ranks : (m i j : ℕ) → m ≡ i → m ≡ j → (i ≡ j → ⊥) → ⊥
 two_ranks m i j e f apart = apart (sym e ∙ f)
 
 rank_apart : (x y : Opened) (i j : ℕ) → rank x.kind ≡ i → rank y.kind ≡ j → (i ≡ j → ⊥)

@@ -6,9 +6,9 @@ use Rattle.std.proofs.lemmas.Bool.{cases_Bool, false≢true, eqb-true, and_parts
 use Rattle.std.proofs.lemmas.Option.{none-some, same_Some}
 use Rattle.std.specs.Prelude.{◌⊎◌, is_some, option_map}
 use Rattle.std.specs.Option.{option_map_or}
-use Rattle.predator_base.specs.Touch.{Touch}
-use Rattle.predator_base.specs.Lines.{Grid, is_layout, line_number}
-use Rattle.predator_base.specs.Levels.{Levels}
+use Rattle.base.specs.Touch.{Touch}
+use Rattle.base.specs.Lines.{Grid, is_layout, line_number}
+use Rattle.base.specs.Levels.{Levels}
 use Rattle.sharing_rules.specs.AccessLists.{writes_to}
 use Rattle.sharing_rules.specs.Lines.{Line, is_inside, grid_line, native_grid, native_line}
 use Rattle.sharing_rules.specs.Lines.{range_of}
@@ -242,24 +242,3 @@ pub member-opened_observed : (g : Grid) (v : Levels) (t : List Touch) (k : ℕ) 
     → opened_observed g v.tracking t k ≡ Some o → Member o (opened g v t)
 member-opened_observed g v t k o e = append-Member_left (observed_ones g v.tracking t) _ o
     (member-observed_ones g v.tracking t k o e)
-
-member-predicted : (g : Grid) (v : Levels) (t : List Touch) (P : ℕ) (o : Opened)
-    → v.prediction ≡ Some P → Member o (predicted_ones g.size v.tracking P t)
-    → Member o (opened g v t)
-member-predicted g v t P o e m = append-Member_right (observed_ones g v.tracking t) _ o
-    (subst (λ z. Member o (option_map_or (λ Q. predicted_ones g.size v.tracking Q t) z []))
-    (sym e) m)
-
-pub member-opened_shifted : (g : Grid) (v : Levels) (t : List Touch) (P k : ℕ) (o : Opened)
-    → v.prediction ≡ Some P → opened_shifted g.size v.tracking P t k ≡ Some o
-    → Member o (opened g v t)
-member-opened_shifted g v t P k o e s = member-predicted g v t P o e
-    (append-Member_left (shifted_ones g.size v.tracking P t) _ o
-    (member-shifted_ones g.size v.tracking P t k o s))
-
-pub member-opened_doubled : (g : Grid) (v : Levels) (t : List Touch) (P k : ℕ) (o : Opened)
-    → v.prediction ≡ Some P → opened_doubled g.size v.tracking P t k ≡ Some o
-    → Member o (opened g v t)
-member-opened_doubled g v t P k o e s = member-predicted g v t P o e
-    (append-Member_right (shifted_ones g.size v.tracking P t) _ o
-    (member-doubled_ones g.size v.tracking P t k o s))

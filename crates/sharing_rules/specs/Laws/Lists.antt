@@ -1,20 +1,21 @@
 -- Facts of lists and options that the laws rest on.
-use Rattle.predator_base.specs.Touch.{Touch}
+use Rattle.base.specs.Touch.{Touch}
 use Rattle.sharing_rules.specs.Members.{Member}
 use Rattle.sharing_rules.specs.Places.{below}
 use Rattle.std.proofs.Common.{Bool, List, None, Option, Some, [], ap, arith, eqb, false, get_or}
 use Rattle.std.proofs.Common.{inl, inr, length, length-append, map, refl, subst, suc, sym, take}
-use Rattle.std.proofs.Common.{true, zero, ℕ, ◌++◌, ◌+◌, ◌<◌, ◌∙◌, ◌∷◌, ◌≡◌, ◌≢◌}
+use Rattle.std.proofs.Common.{true, zero, ℕ, ◌++◌, ◌+◌, ◌<◌, ◌∙◌, ◌∷◌, ◌≡◌, ◌≢◌, option_to_list}
 use Rattle.std.proofs.lemmas.Bool.{cases_Bool, cases_eq, eqb-true, false≢true, or_cases, or_left}
-use Rattle.std.proofs.lemmas.Bool.{or_right}
+use Rattle.std.proofs.lemmas.Bool.{or_right, and_parts}
 use Rattle.std.proofs.lemmas.List.{append-nil, append_assoc, length-append, length-map, map-append}
 use Rattle.std.proofs.lemmas.List.{take_more}
 use Rattle.std.proofs.lemmas.List.Elements.{All-from_recursion, recursion_from_All}
 use Rattle.std.proofs.lemmas.List.Sorted.{All-permutation}
-use Rattle.std.proofs.lemmas.Option.{none-some, same_Some}
-use Rattle.std.specs.List.{AllByRecursion, IsDistinct, list_any}
+use Rattle.std.proofs.lemmas.Option.{none-some, same_Some, slice_get_read}
+use Rattle.std.specs.List.{AllByRecursion, IsDistinct, list_any, list_all, cons_option}
 use Rattle.std.specs.List.Sorted.{IsPermutation}
-use Rattle.std.specs.Prelude.{filter, filter_map, get_or, slice_get, slice_set, take, ◌⊎◌}
+use Rattle.std.specs.Prelude.{filter, filter_map, get_or, slice_get, slice_set, take, ◌⊎◌, is_some}
+use Rattle.std.specs.Prelude.{option_map}
 
 pub slice_cases : {X : Type 0} (o : Option X) → (o ≡ None) ⊎ ((x : X) × (o ≡ Some x))
 slice_cases None = inl refl
@@ -214,3 +215,30 @@ pub Member-from_any : (k : ℕ) (ks : List ℕ) → list_any (eqb k) ks ≡ true
 Member-from_any k [] e = absurd (false≢true e)
 Member-from_any k (x ∷ ks) e = elim (or_cases (eqb k x) (list_any (eqb k) ks) e)
     [ inl here ↦ inl (eqb-true k x here) | inr later ↦ inr (Member-from_any k ks later) ]
+
+-- what holds of each number of a list holds of one that is in it
+pub all_any : (p : ℕ → Bool) (n : ℕ) (xs : List ℕ) → list_all p xs ≡ true
+    → list_any (eqb n) xs ≡ true → p n ≡ true
+all_any p n [] all any = absurd (false≢true any)
+all_any p n (x ∷ xs) all any =
+    let parts = and_parts (p x) (list_all p xs) all in
+    elim (or_cases (eqb n x) (list_any (eqb n) xs) any) [
+      | inl here ↦ subst (λ k. p k ≡ true) (sym (eqb-true n x here)) parts.0
+      | inr later ↦ all_any p n xs parts.1 later
+    ]
+
+-- what was read at a place of a list that is another one stands there in that one
+pub slice_get-seen : {X : Type 0} (xs ys : List X) (i : ℕ) (x : X) → ys ≡ xs → i < length xs
+    → x ≡ get_or ys i x → slice_get xs i ≡ Some x
+slice_get-seen xs ys i x same within read =
+    rw (← same) (slice_get_read ys (length ys) i x refl (rw same within) read)
+
+pub is_some-mapped : {X Y : Type 0} (f : X → Y) (o : Option X)
+    → is_some (option_map f o) ≡ is_some o
+is_some-mapped f None = refl
+is_some-mapped f (Some x) = refl
+
+-- none in front of nothing, or one alone
+pub cons_option-nil : {X : Type 0} (o : Option X) → cons_option o [] ≡ option_to_list o
+cons_option-nil None = refl
+cons_option-nil (Some x) = refl

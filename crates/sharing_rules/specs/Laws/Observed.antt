@@ -1,29 +1,28 @@
 -- The written lines and the observed lines: which they are, one access more, and that no two
 -- observed lines tie.
 use Rattle.std.proofs.Common.{◌≡◌, ℕ, ◌+◌, Bool, true, false, eqb, ◌&&◌, ◌||◌, List, [], ◌∷◌, ◌++◌}
-use Rattle.std.proofs.Common.{Some, None, refl, sym, ap, ◌∙◌, subst, inl, inr}
+use Rattle.std.proofs.Common.{Some, refl, sym, ap, ◌∙◌, subst, inl, inr}
 use Rattle.std.proofs.lemmas.List.{append-nil, map-append}
 use Rattle.std.proofs.lemmas.List.Folds.{list_any-append}
 use Rattle.std.proofs.lemmas.List.Elements.{filter-append}
-use Rattle.std.proofs.lemmas.Option.{none-some, same_Some}
 use Rattle.std.proofs.lemmas.Bool.{cases_Bool, false≢true, and_parts, eqb-true}
 use Rattle.std.proofs.Math.Bool.{or-false, or-true}
 use Rattle.std.specs.Prelude.{if◌then◌else◌, filter, option_map, slice_get, take}
 use Rattle.std.specs.Cmp.{nat_eq_equiv}
 use Rattle.std.specs.List.{list_any}
-use Rattle.predator_base.specs.Touch.{Touch, is_write}
-use Rattle.predator_base.specs.Lines.{Grid, line_number}
+use Rattle.base.specs.Touch.{Touch, is_write}
+use Rattle.base.specs.Lines.{Grid, line_number}
 use Rattle.sharing_rules.specs.AccessLists.{writes_to}
 use Rattle.sharing_rules.specs.Arrivals.{note_arrival}
 use Rattle.sharing_rules.specs.Lines.{is_inside}
 use Rattle.sharing_rules.specs.Observed.{write_count, observed_start, written_lines}
-use Rattle.sharing_rules.specs.Listed.{Finding, found, observed_lines}
+use Rattle.sharing_rules.specs.Listed.{found, observed_lines}
 use Rattle.sharing_rules.specs.declared.line_kind.LineKind.TheVariants.{Observed}
 use Rattle.sharing_rules.specs.Laws.Places.{first_place-passes}
 use Rattle.sharing_rules.specs.Laws.Arrivals.{each_once-push}
 use Rattle.sharing_rules.specs.Lines.{grid_line}
 use Rattle.sharing_rules.specs.Members.{Member}
-use Rattle.sharing_rules.specs.Laws.Lists.{Member-filter_map, Member-from_any, any_get, by_push}
+use Rattle.sharing_rules.specs.Laws.Lists.{Member-from_any, any_get, by_push}
 use Rattle.sharing_rules.specs.Laws.Lists.{filter_map-Member, slice_cases}
 
 -- one access more
@@ -93,22 +92,6 @@ observed_written T inside t s e =
           let z : (writes_to inside some.0 && eqb (write_count inside (take s t) + 1) T) ≡ true =
           rw some.1 at k in
           any_get (writes_to inside) t s some.0 some.1 (and_parts _ _ z).0
-    ]
-
--- An observed line of a list: a line that has a start. Each such line is among the observed lines,
--- and no other.
-pub observed_lines-member : (g : Grid) (T : ℕ) (t : List Touch) (f : Finding)
-    → Member f (observed_lines g T t)
-    → (k : ℕ) × (s : ℕ) × (observed_start T (is_inside (grid_line g k)) t ≡ Some s)
-    × (f ≡ found t Observed (grid_line g k) s)
-observed_lines-member g T t f m =
-    let w = Member-filter_map
-    (λ k. option_map (found t Observed (grid_line g k))
-    (observed_start T (is_inside (grid_line g k)) t)) (written_lines g t) f m in
-    elim (slice_cases (observed_start T (is_inside (grid_line g w.0)) t)) [
-      | inl none ↦ let z : None ≡ Some f = rw none at w.2 in absurd (none-some f z)
-      | inr some ↦ let z : Some (found t Observed (grid_line g w.0) some.0) ≡ Some f =
-          rw some.1 at w.2 in (w.0, some.0, some.1, sym (same_Some _ f z))
     ]
 
 pub member-observed_lines : (g : Grid) (T : ℕ) (t : List Touch) (k s : ℕ)

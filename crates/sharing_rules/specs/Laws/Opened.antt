@@ -16,9 +16,9 @@ use Rattle.std.specs.Prelude.{option_to_list}
 use Rattle.std.specs.Option.{option_map_or, option_or}
 use Rattle.std.specs.List.{list_any}
 use Rattle.std.specs.List.Sorted.{IsPermutation}
-use Rattle.predator_base.specs.Touch.{Touch, is_write}
-use Rattle.predator_base.specs.Lines.{Grid, line_number}
-use Rattle.predator_base.specs.Levels.{Levels}
+use Rattle.base.specs.Touch.{Touch, is_write}
+use Rattle.base.specs.Lines.{Grid, line_number}
+use Rattle.base.specs.Levels.{Levels}
 use Rattle.sharing_rules.specs.AccessLists.{writes_to}
 use Rattle.sharing_rules.specs.Arrivals.{note_arrival}
 use Rattle.sharing_rules.specs.Lines.{Line, is_inside, grid_line, native_grid, native_line}

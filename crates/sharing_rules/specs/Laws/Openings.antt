@@ -1,15 +1,14 @@
 -- A longer list moves no start and no opening; where predicted lines open.
 use Rattle.std.proofs.Common.{◌≡◌, ℕ, suc, take, ◌+◌, ◌*◌, ◌%◌, Bool, true, false, eqb, ◌&&◌, List}
-use Rattle.std.proofs.Common.{[], ◌∷◌, ◌++◌, Some, None, length, sym, ◌∙◌, arith, length-append}
+use Rattle.std.proofs.Common.{[], ◌∷◌, ◌++◌, Some, None, length, arith, length-append}
 use Rattle.std.proofs.lemmas.List.{take-append-le, take_all}
 use Rattle.std.specs.Prelude.{option_map}
-use Rattle.predator_base.specs.Touch.{Touch}
+use Rattle.base.specs.Touch.{Touch}
 use Rattle.sharing_rules.specs.Lines.{line_from}
-use Rattle.sharing_rules.specs.Places.{first_place}
 use Rattle.sharing_rules.specs.Observed.{observed_start, first_write_from}
-use Rattle.sharing_rules.specs.Predicted.{is_candidate, is_opening, best_between, shifted_opening}
+use Rattle.sharing_rules.specs.Predicted.{is_opening, best_between, shifted_opening}
 use Rattle.sharing_rules.specs.Predicted.{shifted_line, shifted_base, word_address, doubled_opening}
-use Rattle.sharing_rules.specs.Laws.Places.{first_place-empty, first_place-push, first_place-append}
+use Rattle.sharing_rules.specs.Laws.Places.{first_place-empty, first_place-append}
 use Rattle.sharing_rules.specs.Laws.Places.{first_place-within}
 use Rattle.sharing_rules.specs.Laws.Starts.{shifted_opening-push, doubled_opening-push}
 use Rattle.sharing_rules.specs.Laws.Lists.{by_push}
@@ -51,11 +50,6 @@ shifted_line-opens n T P k t a none opens =
     (t ++ a ∷ []) (omega (arith, length-append t (a ∷ []))) in
     rw (here, whole)
 
--- an access that is no candidate of either line opens nothing
-pub is_opening-quiet : (n T P within k : ℕ) (t : List Touch) (a : Touch) → is_candidate n P k t a
-    ≡ false → is_candidate n P (k + 1) t a ≡ false → is_opening n T P within k t a ≡ false
-is_opening-quiet n T P within k t a lower upper = rw (lower, upper)
-
 -- an even lower line opens no doubled line
 pub doubled_opening-even : (n T P k : ℕ) (t : List Touch) → eqb (k % 2) 1 ≡ false
     → doubled_opening n T P k t ≡ None
@@ -63,20 +57,4 @@ doubled_opening-even n T P k t even =
     by_push (λ (t : List Touch). doubled_opening n T P k t ≡ None)
     (first_place-empty (λ before a. eqb (k % 2) 1 && is_opening n T P (2 * n) k before a))
     (λ t a ih. rw (doubled_opening-push n T P k t a, ih, even))
-    t
-
--- at an odd one the pair opens as its words say
-pub doubled_opening-odd : (n T P k : ℕ) (t : List Touch) → eqb (k % 2) 1 ≡ true
-    → doubled_opening n T P k t ≡ first_place (is_opening n T P (2 * n) k) t
-doubled_opening-odd n T P k t odd =
-    by_push (λ (t : List Touch). doubled_opening n T P k t ≡ first_place
-    (is_opening n T P (2 * n) k) t)
-    (first_place-empty (λ before a. eqb (k % 2) 1 && is_opening n T P (2 * n) k before a)
-    ∙ sym (first_place-empty (is_opening n T P (2 * n) k)))
-    (λ t a ih. rw (
-      doubled_opening-push n T P k t a,
-      ih,
-      odd,
-      first_place-push (is_opening n T P (2 * n) k) t a,
-    ))
     t

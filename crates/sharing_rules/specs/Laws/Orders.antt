@@ -13,9 +13,7 @@ use Rattle.std.specs.Cmp.{IsStrictWeakOrder}
 use Rattle.std.specs.List.{AllByRecursion, IsDistinct}
 use Rattle.std.specs.List.Sorted.{IsPermutation, IsSortedBy}
 use Rattle.sharing_rules.specs.Listed.{put_in_order, in_order}
-use Rattle.sharing_rules.specs.Members.{ties}
-use Rattle.sharing_rules.specs.Members.{IsRising}
-use Rattle.sharing_rules.specs.Members.{Member}
+use Rattle.sharing_rules.specs.Members.{ties, IsRising, Member}
 use Rattle.sharing_rules.specs.Laws.Lists.{Member-permutation, all_at, all_permuted, weaker}
 
 put_in_order-permutes : {X : Type 0} (lt : X → X → Bool) (x : X) (ys : List X)
@@ -51,7 +49,7 @@ lt_transitive lt o x y z e f =
       | inr no_xz ↦ absurd (false≢true (sym (o.chain x z y no_xz (o.one_way y z f)) ∙ e))
     ]
 
-put_in_order-all : {X : Type 0} (P : X → Type 0) (lt : X → X → Bool) (x : X) (ys : List X) → P x
+pub put_in_order-all : {X : Type 0} (P : X → Type 0) (lt : X → X → Bool) (x : X) (ys : List X) → P x
     → AllByRecursion P ys → AllByRecursion P (put_in_order lt x ys)
 put_in_order-all P lt x ys one all = all_permuted P (x ∷ ys) (put_in_order lt x ys)
     (put_in_order-permutes lt x ys) (one, all)
@@ -140,7 +138,7 @@ in_order-from_rising lt o xs ys d perm rises =
     (λ z m. Member-permutation ys xs z (IsPermutation-sym xs ys perm)
     (Member-permutation xs (in_order lt xs) z (in_order-permutes lt xs) m))
 
-ties_flip : {X : Type 0} (lt : X → X → Bool) (x y : X) → ties lt x y ≡ ties lt y x
+pub ties_flip : {X : Type 0} (lt : X → X → Bool) (x y : X) → ties lt x y ≡ ties lt y x
 ties_flip lt x y = ap not (or_comm (lt x y) (lt y x))
 
 -- permutations of a list of which no two elements tie have one order
@@ -163,7 +161,7 @@ rises_after lt o x xs d up =
     (All-from_recursion (λ y. ties lt x y ≡ false) xs (IsDistinct-head (ties lt) x xs d)))
     (sorted_far lt o (x ∷ xs) up 0 (suc i) x (omega arith) (omega arith))))
 
-sorted_tail : {X : Type 0} (lt : X → X → Bool) (x : X) (xs : List X) → IsSortedBy lt (x ∷ xs)
+pub sorted_tail : {X : Type 0} (lt : X → X → Bool) (x : X) (xs : List X) → IsSortedBy lt (x ∷ xs)
     → IsSortedBy lt xs
 sorted_tail lt x xs up = λ k d low high.
     subst (λ i. lt (get_or (x ∷ xs) i d) (get_or (x ∷ xs) (suc k) d) ≡ false) (add-one (k + 1))

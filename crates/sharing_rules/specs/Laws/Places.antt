@@ -8,7 +8,7 @@ use Rattle.std.proofs.lemmas.Option.{none-some, same_Some}
 use Rattle.std.proofs.lemmas.Bool.{cases_Bool, cases_eq}
 use Rattle.std.specs.Prelude.{slice_get, if◌then◌else◌}
 use Rattle.std.specs.Option.{option_or}
-use Rattle.predator_base.specs.Touch.{Touch}
+use Rattle.base.specs.Touch.{Touch}
 use Rattle.sharing_rules.specs.Places.{passes_at, least_below, count_below, first_place}
 use Rattle.sharing_rules.specs.Places.{count_places}
 use Rattle.sharing_rules.specs.Laws.Lists.{slice_cases, slice_get-append_left, slice_get-push}

@@ -6,16 +6,15 @@ use Rattle.std.proofs.Math.Seq.{take-add}
 use Rattle.std.proofs.lemmas.List.{length-take-le, take-append-drop}
 use Rattle.std.proofs.lemmas.List.Elements.{All-from_recursion}
 use Rattle.std.proofs.lemmas.List.Sorted.{IsPermutation-sym}
-use Rattle.std.proofs.lemmas.Bool.{false≢true, and_parts, le-leb, leb-true, lt-ltb}
-use Rattle.std.proofs.lemmas.Bool.Decides.{nat_tests}
+use Rattle.std.proofs.lemmas.Bool.{false≢true, and_parts, le-leb, leb-true, lt-ltb, le-ltb}
 use Rattle.std.proofs.lemmas.Option.{get_or_from_slice_get, none-some, same_Some}
 use Rattle.std.specs.Prelude.{drop, filter, slice_get}
 use Rattle.std.specs.Option.{option_or}
 use Rattle.std.specs.List.{All}
 use Rattle.std.specs.List.Sorted.{IsPermutation}
-use Rattle.predator_base.specs.Touch.{Touch}
-use Rattle.predator_base.specs.Lines.{Grid, line_number}
-use Rattle.predator_base.specs.Levels.{Levels}
+use Rattle.base.specs.Touch.{Touch}
+use Rattle.base.specs.Lines.{Grid, line_number}
+use Rattle.base.specs.Levels.{Levels}
 use Rattle.sharing_rules.specs.AccessLists.{writes_to}
 use Rattle.sharing_rules.specs.Holders.{count_since, is_invalidation, line_count_since}
 use Rattle.sharing_rules.specs.Lines.{Line, is_inside}
@@ -40,15 +39,12 @@ use Rattle.sharing_rules.specs.Laws.Places.{count_places-none, first_place-passe
 use Rattle.sharing_rules.specs.Laws.Places.{first_place-within}
 use Rattle.sharing_rules.specs.Laws.Starts.{first_write_from-push, observed_start-one}
 
-ltb_false : (s n : ℕ) → n ≤ s → ltb s n ≡ false
-ltb_false s n h = grind (arith, nat_tests)
-
 -- nothing is counted above a list's last position
 pub count_since-end : (line_of : ℕ → ℕ) (r s : ℕ) (t : List Touch) → length t ≤ suc s
     → count_since line_of r s t ≡ 0
 count_since-end line_of r s t short =
     count_places-none (λ before a. ltb s (length before) && is_invalidation line_of r before a) t
-    (λ before a l. rw (ltb_false s (length before) (omega (arith, short, l))) refl)
+    (λ before a l. rw (le-ltb s (length before) (omega (arith, short, l))) refl)
 
 -- a later start counts alike from there on
 pub count_since-grows : (line_of : ℕ → ℕ) (r x s : ℕ) (p u : List Touch) → x ≤ s → length p ≡ suc s

@@ -4,13 +4,13 @@ use Rattle.std.proofs.Common.{◌&&◌, ◌||◌, List, [], ◌∷◌, ◌++◌,
 use Rattle.std.proofs.Common.{refl, sym, ap, ◌∙◌, arith, inl, inr}
 use Rattle.std.proofs.lemmas.List.{length-take-le}
 use Rattle.std.proofs.lemmas.List.Sums.{sum_by_push}
-use Rattle.std.proofs.lemmas.Bool.{false≢true, and_parts, and_from, and_left, le-leb}
+use Rattle.std.proofs.lemmas.Bool.{false≢true, and_parts, and_from, and_left, le-leb, lt-leb}
 use Rattle.std.proofs.lemmas.Bool.Decides.{nat_tests}
 use Rattle.std.proofs.Math.Nat.{add-zero}
 use Rattle.std.proofs.Math.Bool.{or-false}
 use Rattle.std.specs.Prelude.{if◌then◌else◌, is_some, slice_get}
 use Rattle.std.specs.Option.{option_or}
-use Rattle.predator_base.specs.Touch.{Touch}
+use Rattle.base.specs.Touch.{Touch}
 use Rattle.sharing_rules.specs.AccessLists.{writes_to}
 use Rattle.sharing_rules.specs.Places.{passes_at}
 use Rattle.sharing_rules.specs.Observed.{write_count, observed_start, first_write_from}
@@ -70,9 +70,6 @@ observed_start-is_some T inside t some =
     (reaches T (write_count inside t) (writes_to inside a)))
     t
 
-lt-leb_false : (s j : ℕ) → j < s → leb s j ≡ false
-lt-leb_false s j h = grind (arith, nat_tests)
-
 passes_from : (s : ℕ) (inside : ℕ → Bool) (t : List Touch) (i : ℕ) (a : Touch)
     → slice_get t i ≡ Some a → i ≤ length t
     → passes_at (λ before b. leb s (length before) && writes_to inside b) t i ≡
@@ -99,7 +96,7 @@ observed_start-first_write T inside t s e =
           (λ j below. elim (slice_cases (slice_get t j)) [
             | inl past ↦ rw past
             | inr there ↦ passes_from s inside t j there.0 there.1 (omega arith)
-                ∙ and_left _ _ (lt-leb_false s j below)
+                ∙ and_left _ _ (lt-leb s j below)
           ])
     ]
 

@@ -9,8 +9,8 @@ use Rattle.std.proofs.lemmas.Option.{get_or_from_slice_get}
 use Rattle.std.proofs.Math.Nat.{add-zero, mod-lt}
 use Rattle.std.specs.Prelude.{if◌then◌else◌, slice_get, slice_set}
 use Rattle.std.specs.List.{list_any, IsDistinct}
-use Rattle.predator_base.specs.Lines.{line_number}
-use Rattle.predator_base.specs.Touch.{Touch, is_write}
+use Rattle.base.specs.Lines.{line_number}
+use Rattle.base.specs.Touch.{Touch, is_write}
 use Rattle.sharing_rules.specs.AccessLists.{writes_to}
 use Rattle.sharing_rules.specs.Arrivals.{arrivals, note_arrival}
 use Rattle.sharing_rules.specs.Holders.{is_held_by_another, is_invalidation, line_count_since}

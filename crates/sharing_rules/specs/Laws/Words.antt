@@ -9,7 +9,7 @@ use Rattle.std.proofs.lemmas.Bool.{cases_Bool, cases_eq, cases_lt, eq-eqb, ne_eq
 use Rattle.std.proofs.Math.Nat.{add-zero}
 use Rattle.std.specs.Prelude.{if◌then◌else◌, filter, drop, slice_get, slice_set, count_by}
 use Rattle.std.specs.List.{list_any}
-use Rattle.predator_base.specs.Touch.{Touch, is_write}
+use Rattle.base.specs.Touch.{Touch, is_write}
 use Rattle.sharing_rules.specs.Arrivals.{each_once, note_arrival}
 use Rattle.sharing_rules.specs.Lines.{Line, is_inside, word_place}
 use Rattle.sharing_rules.specs.Places.{below}

@@ -7,4 +7,5 @@ first_true true b both = refl
 first_true false b both = both
 
 pub returns-in-Ok-clause-rows : goal.returns-in-Ok-clause-rows
-returns-in-Ok-clause-rows c = (c.in-Ok.ensures.matches (first_true (is_simple (app_of c.args.command)) _ c.requires)).0
+returns-in-Ok-clause-rows c = (c.in-Ok.ensures.matches
+    (first_true (is_simple (app_of c.args.command)) _ c.requires)).0

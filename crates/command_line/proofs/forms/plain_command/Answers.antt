@@ -4,4 +4,5 @@ use Rattle.command_line.proofs.forms.plain_command.Goals as goal
 
 pub returns : goal.returns
 returns c =
-    ap app_of_fields c.disable_help_flag.ensures ∙ ap (on_top (λ top. record top { disable_help_flag = true })) c.new.ensures.app
+    ap app_of_fields c.disable_help_flag.ensures
+    ∙ ap (on_top (λ top. record top { disable_help_flag = true })) c.new.ensures.app

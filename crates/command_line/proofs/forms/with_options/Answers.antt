@@ -8,9 +8,11 @@ loop-name-init c = refl
 
 pub loop-name-preserved : goal.loop-name-preserved
 loop-name-preserved c =
-    options_step (app_of c.loop-name.added) (app_of c.in_ok-added.added) _ c.args.names.now c.loop-name.name-index _ c.loop-name-test.true
+    options_step (app_of c.loop-name.added) (app_of c.in_ok-added.added) _ c.args.names.now
+    c.loop-name.name-index _ c.loop-name-test.true
     c.in_ok-added.ensures c.loop-name.invariant
 
 pub returns : goal.returns
 returns c =
-    options_end (app_of c.loop-name.added) _ c.args.names.now c.loop-name.name-index c.loop-name-test.false c.loop-name.invariant
+    options_end (app_of c.loop-name.added) _ c.args.names.now c.loop-name.name-index
+    c.loop-name-test.false c.loop-name.invariant

@@ -7,4 +7,5 @@ use Rattle.command_line.proofs.forms.with_options.Given as goal
 
 abbrev pub invariant-loop-name : goal.invariant-loop-name
 invariant-loop-name l =
-    with_options (app_of l.added) (names_of (drop l.name-index l.names)) ≡ with_options (app_of l.initial.added) (names_of l.names)
+    with_options (app_of l.added) (names_of (drop l.name-index l.names))
+    ≡ with_options (app_of l.initial.added) (names_of l.names)

@@ -12,4 +12,5 @@ pub returns-clause-none_added : goal.returns-clause-none_added
 returns-clause-none_added c = none_added
 
 pub returns-clause-stands : goal.returns-clause-stands
-returns-clause-stands c = λ w t a layout native some stands. stands_watched t a w layout native some stands
+returns-clause-stands c = λ w t a layout native some stands. stands_watched t a w layout native some
+    stands

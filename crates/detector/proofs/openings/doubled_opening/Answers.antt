@@ -12,14 +12,17 @@ doubled_range-requires g c = c.requires.2.native
 pub returns-clause-value : goal.returns-clause-value
 returns-clause-value g c = λ k odd pair.
     let found = c.in_ok-pair.ensures.found c.args.size k pair in
-    doubled-value c.args.size k c.args.tracks.now c.args.lower.now c.args.upper.now c.in_ok-pair.pair c.doubled_range.result
+    doubled-value c.args.size k c.args.tracks.now c.args.lower.now c.args.upper.now
+    c.in_ok-pair.pair c.doubled_range.result
     (sym c.is_some.ensures ∙ c.if-is_some.false) found
     (c.doubled_range.ensures.pair k odd
-    (pair-inside c.args.size k c.args.tracks.now c.args.lower.now.track c.args.upper.now.track _ c.in_ok-pair.pair found))
+    (pair-inside c.args.size k c.args.tracks.now c.args.lower.now.track c.args.upper.now.track _
+    c.in_ok-pair.pair found))
 
 pub returns-clause-shaped : goal.returns-clause-shaped
 returns-clause-shaped g c = λ k odd pair r e.
     let found = c.in_ok-pair.ensures.found c.args.size k pair in
     doubled-shaped c.args.size k r pair.native found.some odd
     (sym (same_Some c.doubled_range.result r e) ∙ c.doubled_range.ensures.pair k odd
-    (pair-inside c.args.size k c.args.tracks.now c.args.lower.now.track c.args.upper.now.track _ c.in_ok-pair.pair found))
+    (pair-inside c.args.size k c.args.tracks.now c.args.lower.now.track c.args.upper.now.track _
+    c.in_ok-pair.pair found))

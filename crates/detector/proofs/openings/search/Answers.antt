@@ -1,17 +1,19 @@
 use Rattle.std.proofs.Common.{◌≡◌, ◌-◌, Option, ◌∙◌}
-use Rattle.predator_base.specs.declared.layout.Range.{Range}
+use Rattle.base.specs.declared.layout.Range.{Range}
 use Rattle.detector.specs.declared.openings.Openings.{Openings}
 use Rattle.detector.proofs.OpenLaws.{shifted-is, shifted-is-below}
 use Rattle.detector.proofs.openings.search.Goals as goal
 
-three : (a b c d e f : Option Range) → a ≡ d → b ≡ e → c ≡ f → ◌≡◌ {A = Openings} (record { below = a; here = b; doubled = c })
+three : (a b c d e f : Option Range) → a ≡ d → b ≡ e → c ≡ f
+    → ◌≡◌ {A = Openings} (record { below = a; here = b; doubled = c })
     (record { below = d; here = e; doubled = f })
 three a b c d e f p q r = λ i. record { below = p i; here = q i; doubled = r i }
 
 pub returns-clause-value : goal.returns-clause-value
 returns-clause-value g c =
     three _ _ _ _ _ _
-    (c.shifted_opening-below.ensures.value (c.args.line - 1) c.requires.lower ∙ shifted-is-below c.args.size c.args.line c.args.tracks.now
+    (c.shifted_opening-below.ensures.value (c.args.line - 1) c.requires.lower
+    ∙ shifted-is-below c.args.size c.args.line c.args.tracks.now
     c.args.around.now c.requires)
     (c.shifted_opening-here.ensures.value c.args.line c.requires.upper
     ∙ shifted-is c.args.size c.args.line c.args.tracks.now c.args.around.now c.requires)

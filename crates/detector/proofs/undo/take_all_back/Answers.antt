@@ -1,5 +1,5 @@
 use Rattle.std.proofs.Common.{List, sym, subst}
-use Rattle.virtual_lines.specs.Kept.{Kept}
+use Rattle.line_tracks.specs.Kept.{Kept}
 use Rattle.detector.specs.Noting.{CanTakeBack}
 use Rattle.detector.proofs.undo.take_all_back.Goals as goal
 

@@ -5,9 +5,11 @@ use Rattle.hart_scheduler.specs.Texts.{is_byte}
 use Rattle.hart_scheduler.proofs.entry.place_of.Goals as goal
 
 pub returns-then-byte-code : goal.returns-then-byte-code
-returns-then-byte-code c = sym (position_or_len_is (is_byte c.args.code) c.args.text.now c.loop-place.place 0
+returns-then-byte-code c =
+    sym (position_or_len_is (is_byte c.args.code) c.args.text.now c.loop-place.place 0
     (omega arith) c.loop-place.invariant (λ _. grind (arith, nat_tests)))
 
 pub returns : goal.returns
-returns c = sym (position_or_len_is (is_byte c.args.code) c.args.text.now (length c.args.text.now) 0 (omega arith)
+returns c = sym (position_or_len_is (is_byte c.args.code) c.args.text.now (length c.args.text.now) 0
+    (omega arith)
     (λ k below. c.loop-place.invariant k (omega arith)) (λ inside. absurd (omega arith)))

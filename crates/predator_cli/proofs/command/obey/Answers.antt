@@ -9,7 +9,7 @@ pub run-requires : goal.run-requires
 run-requires g c = demanded_apart (texts c.args.words.now) (run_meaning c.in-Ok-Run.options)
     (rw (c.in-Ok-Run.field-0-is) at c.in-Ok-Run.ensures.accepted)
 
-pub returns-in-Err-NoMemory : goal.returns-in-Err-NoMemory
-returns-in-Err-NoMemory g c =
+pub returns : goal.returns
+returns g c =
     c.refuse.ensures (demand_of (texts c.args.words.now)) (g.S.Shelf.outside c.args.shelf.now)
     (words_unread (demand_of (texts c.args.words.now)) (g.S.Shelf.outside c.args.shelf.now))

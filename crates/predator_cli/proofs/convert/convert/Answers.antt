@@ -1,7 +1,7 @@
 use Rattle.std.proofs.Common.{◌∙◌, Err, Some, ap, codes}
 use Rattle.command_line.specs.Convert.{convert_meaning}
 use Rattle.command_line.specs.Words.{convert}
-use Rattle.trace_copies.specs.Copies.{conversion, other_version}
+use Rattle.trace_files.specs.Copies.{conversion, other_version}
 use Rattle.predator_cli.specs.Convert.{convert_text, version_number}
 use Rattle.predator_cli.specs.Copies.{copy_text}
 use Rattle.predator_cli.proofs.CopyEnds.{copy_faulty, copy_worked, is_convert}
@@ -17,7 +17,8 @@ returns-in-Ok g c =
     c.tell.ensures (convert d) a
     (copy_worked (convert d) d.trace convert_text (conversion d.file) (is_convert d) a b _ copied
     (ap (λ v. copy_text (codes "convert") v c.in-Ok.made.accesses) version
-    ∙ ap (copy_text (codes "convert") (version_number (other_version copied.trace.version))) copied.told.1))
+    ∙ ap (copy_text (codes "convert") (version_number (other_version copied.trace.version)))
+    copied.told.1))
 
 pub returns-in-Err : goal.returns-in-Err
 returns-in-Err g c =
@@ -27,7 +28,8 @@ returns-in-Err g c =
     let failed = c.in-Err.ensures in
     c.refuse.ensures (Some (convert d)) a
     (rw c.status_of_copy.ensures
-    (copy_faulty (convert d) d.trace convert_text (conversion d.file) (is_convert d) a b c.in-Err.fault (record {
+    (copy_faulty (convert d) d.trace convert_text (conversion d.file)
+    (is_convert d) a b c.in-Err.fault (record {
       refused = λ r is. failed.refused r (ap Err is);
       stays = λ r is. failed.stays r (ap Err is);
       memory = λ is. failed.memory (ap Err is);

@@ -17,4 +17,5 @@ returns-in-Err g c =
     let d = gen_meaning c.args.options.now in
     let a = g.S.Shelf.outside c.args.shelf.now in
     let b = g.S.Shelf.outside c.make.new.shelf in
-    c.refuse.ensures (Some (gen d)) a (rw c.from.ensures (made_cut d a b c.in-Err.error c.in-Err.ensures.cut))
+    c.refuse.ensures (Some (gen d)) a (rw c.from.ensures
+    (made_cut d a b c.in-Err.error c.in-Err.ensures.cut))

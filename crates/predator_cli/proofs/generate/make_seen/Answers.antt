@@ -1,8 +1,8 @@
 use Rattle.std.proofs.Common.{◌∙◌, [], ap}
-use Rattle.predator_base.specs.Levels.{Levels}
-use Rattle.predator_base.specs.Lines.{Grid}
-use Rattle.trace_maker.specs.Made.{made_file}
-use Rattle.track_totals.specs.TotalsOf.{totals_of}
+use Rattle.base.specs.Levels.{Levels}
+use Rattle.base.specs.Lines.{Grid}
+use Rattle.trace_files.specs.Made.{made_file}
+use Rattle.detector.specs.TotalsOf.{totals_of}
 use Rattle.predator_cli.specs.Gen.{made_accesses, summary_text}
 use Rattle.predator_cli.proofs.WriteEnds.{written_cut}
 use Rattle.predator_cli.proofs.generate.make_seen.Goals as goal
@@ -14,8 +14,10 @@ returns-in-Ok-summary_of_seen-clause-text g c =
     let begun = c.args.sightings.now.watch in
     let watch = c.make_trace.new.observer.watch in
     c.in-Ok-summary_of_seen.ensures (made_accesses count) (seen.stands [] c.requires.stands)
-    ∙ ap (λ (x : Grid). summary_text count (totals_of x watch.levels (made_accesses count))) seen.grid
-    ∙ ap (λ (v : Levels). summary_text count (totals_of begun.grid v (made_accesses count))) seen.levels
+    ∙ ap (λ (x : Grid). summary_text count (totals_of x watch.levels (made_accesses count)))
+    seen.grid
+    ∙ ap (λ (v : Levels). summary_text count (totals_of begun.grid v (made_accesses count)))
+    seen.levels
 
 pub returns-in-Err-summary_of_seen-clause-cut : goal.returns-in-Err-summary_of_seen-clause-cut
 returns-in-Err-summary_of_seen-clause-cut g c =

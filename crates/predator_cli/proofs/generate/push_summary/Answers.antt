@@ -4,5 +4,6 @@ use Rattle.predator_cli.proofs.generate.push_summary.Goals as goal
 
 pub returns : goal.returns
 returns c =
-    subst (λ (x : List ℕ). OnOk c.writeln.result (string_bytes c.writeln.new.self ≡ string_bytes c.args.text.now ++ x))
+    subst (λ (x : List ℕ). OnOk c.writeln.result
+    (string_bytes c.writeln.new.self ≡ string_bytes c.args.text.now ++ x))
     (sym (summary_spelled c.args.count c.args.totals)) c.writeln.ensures.bytes

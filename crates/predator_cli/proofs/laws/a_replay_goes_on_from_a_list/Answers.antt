@@ -1,6 +1,6 @@
 use Rattle.std.proofs.Common.{length}
 use Rattle.sightings.specs.Lives.{objects_of}
-use Rattle.trace_grammar.specs.Rules.{touches_in}
+use Rattle.trace_format.specs.Rules.{touches_in}
 use Rattle.predator_cli.specs.Replay.{grid_in, levels_in}
 use Rattle.predator_cli.specs.GoesOn.{work_of_both}
 use Rattle.predator_cli.proofs.CutLaws.{carried_on, halves_cut}

@@ -10,7 +10,9 @@ returns-in-Err-clause-stopped g c =
     let a = g.S.Shelf.outside c.args.shelf.now in
     let b = g.S.Shelf.outside c.pass.new.shelf in
     let w = c.args.wanted.now in
-    subst (λ (s : Status). IsStopped (trace_reading (λ x. w) c.args.name.now ∷ []) a b s) (sym c.status_of_pass.ensures)
-    (pass_stopped w c.args.name.now a b c.in-Err.fault (λ r is. c.in-Err.ensures.refused r (ap Err is))
+    subst (λ (s : Status). IsStopped (trace_reading (λ x. w) c.args.name.now ∷ []) a b s)
+    (sym c.status_of_pass.ensures)
+    (pass_stopped w c.args.name.now a b c.in-Err.fault
+    (λ r is. c.in-Err.ensures.refused r (ap Err is))
     (λ is. c.in-Err.ensures.memory (ap Err is))
     c.in-Err.ensures.cause c.in-Err.ensures.only)

@@ -5,7 +5,8 @@ use Rattle.command_files.specs.ProgramFiles.{program_reading, program_refusal}
 use Rattle.command_files.specs.Readings.{IsAccepted, IsStopped}
 use Rattle.command_files.specs.SettingsFiles.{chosen_settings, settings_in, settings_readings}
 use Rattle.command_files.specs.Laws.Settings.{program_alike}
-use Rattle.command_files.specs.Laws.Readings.{accepted_behind, alike_accepted, alike_stopped, memory_stopped, only_same, stopped_behind}
+use Rattle.command_files.specs.Laws.Readings.{accepted_behind, alike_accepted, alike_stopped}
+use Rattle.command_files.specs.Laws.Readings.{memory_stopped, only_same, stopped_behind}
 use Rattle.command_files.specs.Laws.Readings.{stopped_first, told_again}
 use Rattle.predator_cli.specs.Run.{run_readings, schedule_readings}
 use Rattle.predator_cli.proofs.run.load_guest.Given.{Over}
@@ -15,7 +16,8 @@ use Rattle.predator_cli.proofs.run.load_guest.Goals.{After-make_guest}
 pub returns-in-Err-clause-stopped : goal.returns-in-Err-clause-stopped
 returns-in-Err-clause-stopped g c =
     let d = run_meaning c.args.options.now in
-    stopped_first (settings_readings d.settings) (program_reading d.settings d.program ∷ schedule_readings d.settings d.schedule)
+    stopped_first (settings_readings d.settings)
+    (program_reading d.settings d.program ∷ schedule_readings d.settings d.schedule)
     (g.S.Shelf.outside c.args.shelf.now) (g.S.Shelf.outside c.read_settings.new.shelf)
     c.in-Err.status c.in-Err.ensures.stopped
 
@@ -28,13 +30,15 @@ returns-in-Err-read_judged-clause-stopped g c =
     let p = g.S.Shelf.outside c.read_judged.new.shelf in
     let s = c.in-Ok.settings in
     let st = c.in-Err-read_judged.status in
-    let read : Told m.held (λ files. settings_in d.settings files ≡ Ok s) = told_again (λ files. settings_in d.settings files ≡ Ok s) a m
+    let read : Told m.held (λ files. settings_in d.settings files ≡ Ok s) = told_again
+    (λ files. settings_in d.settings files ≡ Ok s) a m
     c.in-Ok.ensures.accepted.same c.in-Ok.ensures.read in
     let stopped : IsStopped (program_reading d.settings d.program ∷ []) m p st =
     alike_stopped d.program (λ files. program_refusal s (content files d.program))
     (λ files. program_refusal (chosen_settings d.settings files) (content files d.program)) m p st
     (program_alike d.settings d.program m.held s read) c.in-Err-read_judged.ensures.stopped in
-    stopped_behind (settings_readings d.settings) (program_reading d.settings d.program ∷ later) a m p st c.in-Ok.ensures.accepted
+    stopped_behind (settings_readings d.settings) (program_reading d.settings d.program ∷ later) a m
+    p st c.in-Ok.ensures.accepted
     (stopped_first (program_reading d.settings d.program ∷ []) later m p st stopped)
 
 pub returns-in-Err-read_schedule-clause-stopped : goal.returns-in-Err-read_schedule-clause-stopped
@@ -47,7 +51,8 @@ returns-in-Err-read_schedule-clause-stopped g c =
     let b = g.S.Shelf.outside c.read_schedule.new.shelf in
     let s = c.in-Ok.settings in
     let st = c.in-Err-read_schedule.status in
-    let read : Told m.held (λ files. settings_in d.settings files ≡ Ok s) = told_again (λ files. settings_in d.settings files ≡ Ok s) a m
+    let read : Told m.held (λ files. settings_in d.settings files ≡ Ok s) = told_again
+    (λ files. settings_in d.settings files ≡ Ok s) a m
     c.in-Ok.ensures.accepted.same c.in-Ok.ensures.read in
     let placed : IsAccepted (program_reading d.settings d.program ∷ []) m p =
     alike_accepted d.program (λ files. program_refusal s (content files d.program))
@@ -55,12 +60,14 @@ returns-in-Err-read_schedule-clause-stopped g c =
     (program_alike d.settings d.program m.held s read) c.in-Ok-read_judged.ensures.accepted in
     let stopped : IsStopped later p b st = c.in-Err-read_schedule.ensures.stopped d.settings
     (told_again (λ files. settings_in d.settings files ≡ Ok s) m p placed.same read) in
-    stopped_behind (settings_readings d.settings) (program_reading d.settings d.program ∷ later) a m b st c.in-Ok.ensures.accepted
+    stopped_behind (settings_readings d.settings) (program_reading d.settings d.program ∷ later) a m
+    b st c.in-Ok.ensures.accepted
     (stopped_behind (program_reading d.settings d.program ∷ []) later m p b st placed stopped)
 
 -- where all three are read, each is accepted
 all_accepted : (g : Over) (c : After-make_guest g)
-    → IsAccepted (run_readings (run_meaning c.args.options.now)) (g.S.Shelf.outside c.args.shelf.now)
+    → IsAccepted (run_readings (run_meaning c.args.options.now))
+    (g.S.Shelf.outside c.args.shelf.now)
     (g.S.Shelf.outside c.read_schedule.new.shelf)
 all_accepted g c =
     let d = run_meaning c.args.options.now in
@@ -70,15 +77,18 @@ all_accepted g c =
     let p = g.S.Shelf.outside c.read_judged.new.shelf in
     let b = g.S.Shelf.outside c.read_schedule.new.shelf in
     let s = c.in-Ok.settings in
-    let read : Told m.held (λ files. settings_in d.settings files ≡ Ok s) = told_again (λ files. settings_in d.settings files ≡ Ok s) a m
+    let read : Told m.held (λ files. settings_in d.settings files ≡ Ok s) = told_again
+    (λ files. settings_in d.settings files ≡ Ok s) a m
     c.in-Ok.ensures.accepted.same c.in-Ok.ensures.read in
     let placed : IsAccepted (program_reading d.settings d.program ∷ []) m p =
     alike_accepted d.program (λ files. program_refusal s (content files d.program))
     (λ files. program_refusal (chosen_settings d.settings files) (content files d.program)) m p
     (program_alike d.settings d.program m.held s read) c.in-Ok-read_judged.ensures.accepted in
-    accepted_behind (settings_readings d.settings) (program_reading d.settings d.program ∷ later) a m b c.in-Ok.ensures.accepted
+    accepted_behind (settings_readings d.settings) (program_reading d.settings d.program ∷ later) a
+    m b c.in-Ok.ensures.accepted
     (accepted_behind (program_reading d.settings d.program ∷ []) later m p b placed
-    (c.in-Ok-read_schedule.ensures.accepted d.settings (told_again (λ files. settings_in d.settings files ≡ Ok s) m p placed.same read)))
+    (c.in-Ok-read_schedule.ensures.accepted d.settings
+    (told_again (λ files. settings_in d.settings files ≡ Ok s) m p placed.same read)))
 
 pub returns-in-Ok-make_guest-clause-accepted : goal.returns-in-Ok-make_guest-clause-accepted
 returns-in-Ok-make_guest-clause-accepted g c =
@@ -86,7 +96,8 @@ returns-in-Ok-make_guest-clause-accepted g c =
 
 pub returns-in-Err-make_guest-clause-stopped : goal.returns-in-Err-make_guest-clause-stopped
 returns-in-Err-make_guest-clause-stopped g c =
-    let all = all_accepted g (goal.at.returns-in-Err-make_guest-clause-stopped g c).After-make_guest in
+    let all = all_accepted g (goal.at.returns-in-Err-make_guest-clause-stopped g c).After-make_guest
+    in
     let a = g.S.Shelf.outside c.args.shelf.now in
     let b = g.S.Shelf.outside c.read_schedule.new.shelf in
     memory_stopped (run_readings (run_meaning c.args.options.now)) a b (only_same a b all.same)

@@ -1,8 +1,8 @@
 use Rattle.std.proofs.Common.{◌∙◌, ◌-◌, ℕ, Err, Some, ap, codes, length, sym}
 use Rattle.command_line.specs.Split.{split_meaning}
 use Rattle.command_line.specs.Words.{split}
-use Rattle.trace_copies.specs.Copies.{halves}
-use Rattle.trace_grammar.specs.Rules.{touches_in}
+use Rattle.trace_files.specs.Copies.{halves}
+use Rattle.trace_format.specs.Rules.{touches_in}
 use Rattle.predator_cli.specs.Copies.{copy_text}
 use Rattle.predator_cli.specs.Split.{split_text}
 use Rattle.predator_cli.proofs.CopyEnds.{copy_faulty, copy_worked, is_split}
@@ -19,7 +19,8 @@ returns-in-Ok g c =
     let copied = c.in-Ok.ensures.copied in
     let all = length (touches_in copied.trace.items) in
     c.tell.ensures (split d) a
-    (copy_worked (split d) d.trace (split_text d.at) (halves d.at d.first d.second) (is_split d) a b _ copied
+    (copy_worked (split d) d.trace (split_text d.at) (halves d.at d.first d.second)
+    (is_split d) a b _ copied
     (ap (copy_text (codes "split") c.in-Ok.made.cut) copied.told.1
     ∙ ap (λ (cut : ℕ). copy_text (codes "split") cut (all - cut)) copied.told.0))
 
@@ -31,7 +32,8 @@ returns-in-Err g c =
     let failed = c.in-Err.ensures in
     c.refuse.ensures (Some (split d)) a
     (rw c.status_of_copy.ensures
-    (copy_faulty (split d) d.trace (split_text d.at) (halves d.at d.first d.second) (is_split d) a b c.in-Err.fault (record {
+    (copy_faulty (split d) d.trace (split_text d.at) (halves d.at d.first d.second)
+    (is_split d) a b c.in-Err.fault (record {
       refused = λ r is. failed.refused r (ap Err is);
       stays = λ r is. failed.stays r (ap Err is);
       memory = λ is. failed.memory (ap Err is);

@@ -10,14 +10,16 @@ returns-clause-read c =
     let demand = demand_of (texts c.args.words.now) in
     let old = never_fails_outside c.args.shelf.now in
     let new = never_fails_outside c.predator.new.shelf in
-    no_read_fault demand old new c.predator.result (no_faults demand old new (λ n. refl) (λ n. refl) refl) c.predator.ensures.caused
+    no_read_fault demand old new c.predator.result
+    (no_faults demand old new (λ n. refl) (λ n. refl) refl) c.predator.ensures.caused
 
 pub returns-clause-write : goal.returns-clause-write
 returns-clause-write c =
     let demand = demand_of (texts c.args.words.now) in
     let old = never_fails_outside c.args.shelf.now in
     let new = never_fails_outside c.predator.new.shelf in
-    no_write_fault demand old new c.predator.result (no_faults demand old new (λ n. refl) (λ n. refl) refl) c.predator.ensures.caused
+    no_write_fault demand old new c.predator.result
+    (no_faults demand old new (λ n. refl) (λ n. refl) refl) c.predator.ensures.caused
 
 pub returns-clause-ends : goal.returns-clause-ends
 returns-clause-ends c =

@@ -8,7 +8,8 @@ pub returns-clause-good : goal.returns-clause-good
 returns-clause-good c =
     let name = c.args.name.now in
     let bytes : All (λ b. b < 256) name =
-    λ k d below. subst (λ (b : ℕ). b < 256) (sym (get_or_default_zero name k d below)) (omega (arith, c.type_inv.name k)) in
+    λ k d below. subst (λ (b : ℕ). b < 256) (sym (get_or_default_zero name k d below))
+    (omega (arith, c.type_inv.name k)) in
     rw c.in_ok-kept.ensures (record {
       addr_in_range = omega arith;
       size_in_range = omega arith;

@@ -1,10 +1,10 @@
 use Rattle.std.proofs.Common.{subst, sym}
 use Rattle.std.specs.List.{All}
 use Rattle.std.proofs.lemmas.List.Elements.{All-append, All-cons, All-nil, All-tail}
-use Rattle.elf_loader.specs.SymbolViews.{symbol_shown}
-use Rattle.heap_objects.specs.Symbols.{Symbol}
+use Rattle.program_files.specs.SymbolViews.{symbol_shown}
+use Rattle.objects.specs.Symbols.{Symbol}
 use Rattle.run_recorder.specs.Recorded.{IsSymbolRecord}
-use Rattle.trace_grammar.specs.declared.record.TraceRecord.{TraceRecord}
+use Rattle.trace_format.specs.declared.record.TraceRecord.{TraceRecord}
 use Rattle.std.proofs.Common.{List, [], ◌∷◌}
 use Rattle.predator_cli.specs.Run.{HasNameAndSize}
 use Rattle.predator_cli.proofs.SymbolLaws.{told_more}
@@ -16,10 +16,12 @@ loop-symbol-preserved c =
     let s : Symbol = symbol_shown c.in-Some.symbol in
     let told : TraceRecord = c.in_ok-record.record in
     let before = c.loop-symbol.records.items in (
-      told_more before c.push.new.self.items told c.loop-symbol.symbols c.next.new.self s _ c.in_ok-push.ensures.items
+      told_more before c.push.new.self.items told c.loop-symbol.symbols c.next.new.self s _
+          c.in_ok-push.ensures.items
           c.in_ok-record.ensures.value
           c.in-Some.ensures.steps known.0,
-      All-tail HasNameAndSize s c.next.new.self (subst (λ (l : List Symbol). All HasNameAndSize l) c.in-Some.ensures.steps known.1),
+      All-tail HasNameAndSize s c.next.new.self
+          (subst (λ (l : List Symbol). All HasNameAndSize l) c.in-Some.ensures.steps known.1),
       subst (λ (l : List TraceRecord). All IsSymbolRecord l) (sym c.in_ok-push.ensures.items)
           (All-append IsSymbolRecord before (told ∷ []) known.2
           (All-cons IsSymbolRecord told [] c.in_ok-record.ensures.good (All-nil IsSymbolRecord))),

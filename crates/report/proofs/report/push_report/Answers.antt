@@ -1,6 +1,6 @@
 use Rattle.std.proofs.Common.{string_bytes, map, length, sym, refl}
 use Rattle.std.proofs.lemmas.List.{length-map}
-use Rattle.report.specs.Rows.{row_shown}
+use Rattle.report.specs.ListedTracks.{track_shown}
 use Rattle.report.proofs.TextLaws.{report_pieces}
 use Rattle.report.proofs.report.push_report.Goals as goal
 
@@ -8,6 +8,8 @@ pub returns : goal.returns
 returns c =
     let f = c.args.findings.now in
     let rows = c.args.rows.now in
-    rw (← report_pieces (length rows) f.ending.accesses (string_bytes c.args.text.now) f.ending f.layout f.thresholds f.objects.now
-    (map row_shown rows) (sym (length-map rows row_shown)) refl)
-    (rw (c.in_ok-push_rows.ensures, c.in_ok-push_settings.ensures, c.in_ok-push_ending.ensures) at c.push_end.ensures)
+    rw (← report_pieces (length rows) f.ending.accesses
+    (string_bytes c.args.text.now) f.ending f.layout f.thresholds f.objects.now
+    (map track_shown rows) (sym (length-map rows track_shown)) refl)
+    (rw (c.in_ok-push_tracks.ensures, c.in_ok-push_settings.ensures, c.in_ok-push_ending.ensures) at
+    c.push_end.ensures)

@@ -5,4 +5,5 @@ use Rattle.sharing_rules.specs.Lines.{is_inside}
 use Rattle.sharing_oracle.proofs.arrivals.arrivals_of.Given as goal
 
 abbrev pub invariant-loop-access : goal.invariant-loop-access
-invariant-loop-access l = l.harts.items ≡ arrivals.arrivals (is_inside l.line) (take l.access-index l.accesses)
+invariant-loop-access l = l.harts.items ≡ arrivals.arrivals (is_inside l.line)
+    (take l.access-index l.accesses)

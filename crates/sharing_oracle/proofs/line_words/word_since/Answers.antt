@@ -10,15 +10,20 @@ loop-i-preserved c =
     let few = c.loop-i.invariant.few in
     elim c.if-is_of_word.branch [
       | then-is_of_word w ↦ record {
-        value = w.word-is ∙ w.note.ensures.value ∙ ap (λ x. words.note_word x c.index-accesses-i.result) c.loop-i.invariant.value
-            ∙ sym (word_since-more c.args.line.now c.args.start c.args.accesses.now c.args.place c.loop-i.i c.index-accesses-i.result
-            c.loop-i-test.true c.index-accesses-i.is (omega arith) (sym c.is_of_word.ensures ∙ w.if-is_of_word.true));
+        value = w.word-is ∙ w.note.ensures.value ∙ ap
+            (λ x. words.note_word x c.index-accesses-i.result) c.loop-i.invariant.value
+            ∙ sym (word_since-more c.args.line.now c.args.start c.args.accesses.now c.args.place
+            c.loop-i.i c.index-accesses-i.result
+            c.loop-i-test.true c.index-accesses-i.is (omega arith)
+            (sym c.is_of_word.ensures ∙ w.if-is_of_word.true));
         few = let more = w.note.ensures.more in omega (arith, ap words.accesses w.word-is);
       }
       | else-is_of_word w ↦ record {
         value = w.word-is ∙ c.loop-i.invariant.value
-            ∙ sym (word_since-other c.args.line.now c.args.start c.args.accesses.now c.args.place c.loop-i.i c.index-accesses-i.result
-            c.loop-i-test.true c.index-accesses-i.is (omega arith) (sym c.is_of_word.ensures ∙ w.if-is_of_word.false));
+            ∙ sym (word_since-other c.args.line.now c.args.start c.args.accesses.now c.args.place
+            c.loop-i.i c.index-accesses-i.result
+            c.loop-i-test.true c.index-accesses-i.is (omega arith)
+            (sym c.is_of_word.ensures ∙ w.if-is_of_word.false));
         few = omega (arith, ap words.accesses w.word-is);
       }
     ]

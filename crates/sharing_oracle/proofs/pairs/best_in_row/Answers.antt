@@ -12,7 +12,11 @@ loop-j-preserved c =
     let t = is_passing c.args.lines.lower.now c.args.lines.upper.now c.args.lines.within in
     let choice : IsChosen f t (c.args.i, c.loop-j.j) c.loop-j.best c.if-is_passing.best =
     elim c.if-is_passing.branch [
-      | then-is_passing w ↦ inl (sym c.is_passing.ensures ∙ w.if-is_passing.true, w.best-is ∙ w.better.ensures.keeps)
+      | then-is_passing w ↦ inl (
+        sym c.is_passing.ensures ∙ w.if-is_passing.true,
+        w.best-is
+            ∙ w.better.ensures.keeps,
+      )
       | else-is_passing w ↦ inr (sym c.is_passing.ensures ∙ w.if-is_passing.false, w.best-is)
     ] in
     record {
@@ -20,5 +24,6 @@ loop-j-preserved c =
         | then-is_passing w ↦ rw w.best-is w.better.ensures.is_in
         | else-is_passing w ↦ rw w.best-is c.loop-j.invariant.is_in
       ];
-      best = best_more f t c.args.i c.loop-j.j c.args.best c.loop-j.best c.if-is_passing.best choice c.loop-j.invariant.best;
+      best = best_more f t c.args.i c.loop-j.j c.args.best c.loop-j.best c.if-is_passing.best choice
+          c.loop-j.invariant.best;
     }

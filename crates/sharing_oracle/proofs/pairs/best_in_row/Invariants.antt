@@ -11,5 +11,6 @@ invariant-loop-j l = record {
   best : (ps : List (ℕ × ℕ)) → l.fn.best ≡ first_best (score l.lines.lower.now l.lines.upper.now)
       (filter (is_passing l.lines.lower.now l.lines.upper.now l.lines.within) ps)
       → l.best ≡ first_best (score l.lines.lower.now l.lines.upper.now)
-      (filter (is_passing l.lines.lower.now l.lines.upper.now l.lines.within) (ps ++ row_pairs l.i l.j));
+      (filter (is_passing l.lines.lower.now l.lines.upper.now l.lines.within)
+      (ps ++ row_pairs l.i l.j));
 }

@@ -9,5 +9,6 @@ unfolding best_pair_of
 returns-clause-value c = search rules
 
 pub returns-clause-small : goal.returns-clause-small
-returns-clause-small c = is_in-small c.args.lines.lower.now c.args.lines.upper.now c.loop-i.best c.loop-i.invariant.is_in
+returns-clause-small c = is_in-small c.args.lines.lower.now c.args.lines.upper.now c.loop-i.best
+    c.loop-i.invariant.is_in
     c.requires.lower.short c.requires.upper.short

@@ -9,5 +9,6 @@ abbrev pub invariant-loop-i : goal.invariant-loop-i
 invariant-loop-i l = record {
   is_in : is_in l.lines.lower.now l.lines.upper.now l.best;
   best : l.best ≡ first_best (score l.lines.lower.now l.lines.upper.now)
-      (filter (is_passing l.lines.lower.now l.lines.upper.now l.lines.within) (all_pairs l.i (length l.lines.upper.now)));
+      (filter (is_passing l.lines.lower.now l.lines.upper.now l.lines.within)
+      (all_pairs l.i (length l.lines.upper.now)));
 }

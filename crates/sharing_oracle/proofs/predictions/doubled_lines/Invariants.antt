@@ -5,5 +5,6 @@ use Rattle.sharing_rules.specs.Listed.{tracked_doubled}
 use Rattle.sharing_oracle.proofs.predictions.doubled_lines.Given as goal
 
 abbrev pub invariant-loop-i : goal.invariant-loop-i
-invariant-loop-i l = l.lines.items ≡ filter_map (tracked_doubled l.layout.size l.tracking l.prediction l.accesses)
+invariant-loop-i l = l.lines.items ≡ filter_map
+    (tracked_doubled l.layout.size l.tracking l.prediction l.accesses)
     (take l.i l.numbers.items)

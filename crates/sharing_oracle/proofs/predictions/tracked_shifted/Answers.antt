@@ -7,5 +7,6 @@ use Rattle.sharing_oracle.proofs.predictions.tracked_shifted.Goals as goal
 pub opened_line-requires : goal.opened_line-requires
 opened_line-requires c =
     let p = c.args.pair.now in
-    first_place-within (is_opening p.layout.size p.tracking p.prediction p.layout.size p.number) c.args.accesses.now c.in-Some.opening
+    first_place-within (is_opening p.layout.size p.tracking p.prediction p.layout.size p.number)
+    c.args.accesses.now c.in-Some.opening
     (sym c.in_ok-opening.ensures ∙ c.in-Some.is)

@@ -1,5 +1,6 @@
 -- The laws of openings.
-use Rattle.sharing_rules.specs.Laws.Openings.{observed_start-append, first_write_from-append, shifted_opening-append, shifted_line-append}
+use Rattle.sharing_rules.specs.Laws.Openings.{observed_start-append, first_write_from-append}
+use Rattle.sharing_rules.specs.Laws.Openings.{shifted_opening-append, shifted_line-append}
 use Rattle.sharing_rules.specs.Laws.Openings.{doubled_opening-append}
 use Rattle.sharing_rules.proofs.laws.a_longer_list_moves_no_start.Goals as goal
 

@@ -1,5 +1,6 @@
 -- The laws of recounts.
-use Rattle.sharing_rules.specs.Laws.Recounts.{found_is_recounted, tracked_are_recounted, listed_are_recounted, listed_are_listed_plainly}
+use Rattle.sharing_rules.specs.Laws.Recounts.{found_is_recounted, tracked_are_recounted}
+use Rattle.sharing_rules.specs.Laws.Recounts.{listed_are_recounted, listed_are_listed_plainly}
 use Rattle.sharing_rules.proofs.laws.findings_are_recounted.Goals as goal
 
 pub returns-clause-kept : goal.returns-clause-kept

@@ -15,6 +15,8 @@ returns-clause-ok c =
     let file : HeldFile = record { name = c.in_ok-name.name; content = c.new.result } in
     let e : c.push.new.self.items ≡ c.args.files.now.items ++ file ∷ [] = search rules in
     let P : List HeldFile → Type 0 = λ items.
-    ChangesAt c.args.name.now (λ old new. new ≡ Some []) (file_of c.args.files.now.items) (file_of items) in
+    ChangesAt c.args.name.now (λ old new. new ≡ Some []) (file_of c.args.files.now.items)
+    (file_of items) in
     subst P (sym e) (pushed c.args.name.now c.args.files.now.items file
-    (λ i e. c.in_default.not-Some i (cc (c.place_of.ensures, c.deref.ensures.value, e))) c.in_ok-name.ensures.ok c.new.ensures.items)
+    (λ i e. c.in_default.not-Some i (cc (c.place_of.ensures, c.deref.ensures.value, e)))
+    c.in_ok-name.ensures.ok c.new.ensures.items)

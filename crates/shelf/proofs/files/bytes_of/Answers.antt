@@ -5,10 +5,12 @@ use Rattle.shelf.proofs.files.bytes_of.Goals as goal
 
 pub returns-in-Some : goal.returns-in-Some
 returns-in-Some c =
-    let here : file_of c.args.files.now c.args.name.now ≡ Some c.index-files-place.result.content.items =
+    let here : file_of c.args.files.now c.args.name.now
+    ≡ Some c.index-files-place.result.content.items =
     was_here c.args.name.now c.args.files.now c.in-Some.place c.index-files-place.result
     (record { place = search rules; at = sym c.index-files-place.is }) in
     cc (here, c.deref.ensures.value, c.index-files-place.is)
 
 pub returns-in-None : goal.returns-in-None
-returns-in-None c = sym (none_file c.args.name.now c.args.files.now (λ i e. cc (c.place_of.ensures, c.in-None.is, e)))
+returns-in-None c = sym (none_file c.args.name.now c.args.files.now
+    (λ i e. cc (c.place_of.ensures, c.in-None.is, e)))

@@ -1,4 +1,4 @@
-use Rattle.sightings.specs.SeenLaws.{HasSeen-end, report_of_records-end}
+use Rattle.sightings.specs.Laws.Seen.{HasSeen-end, report_of_records-end}
 use Rattle.sightings.proofs.laws.an_end_shows_nothing.Goals as goal
 
 pub returns-clause-seen : goal.returns-clause-seen

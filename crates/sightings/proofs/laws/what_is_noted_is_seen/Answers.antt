@@ -1,11 +1,12 @@
-use Rattle.heap_objects.specs.SymbolLaws.{symbols_of-alone}
+use Rattle.objects.specs.Laws.Symbols.{symbols_of-alone}
 use Rattle.sightings.specs.Lives.{symbols_in}
 use Rattle.sightings.proofs.NotedLaws.{reported_as_list, seen_noted}
 use Rattle.sightings.proofs.ObjectLaws.{objects_on}
 use Rattle.sightings.proofs.laws.what_is_noted_is_seen.Goals as goal
 
 pub returns-clause-seen : goal.returns-clause-seen
-returns-clause-seen c = λ begun items good. seen_noted c.an_access_changes_what_it_meets.ensures.stands begun items good
+returns-clause-seen c = λ begun items good. seen_noted
+    c.an_access_changes_what_it_meets.ensures.stands begun items good
 
 pub returns-clause-report : goal.returns-clause-report
 returns-clause-report c = λ ending s t good stood. reported_as_list ending s t good stood

@@ -1,4 +1,5 @@
-use Rattle.sightings.proofs.OriginLaws.{blocks_of_list, few_blocks, few_symbols, lone_list, symbols_of_list}
+use Rattle.sightings.proofs.OriginLaws.{blocks_of_list, few_blocks, few_symbols, lone_list}
+use Rattle.sightings.proofs.OriginLaws.{symbols_of_list}
 use Rattle.sightings.proofs.laws.what_stands_was_noted.Goals as goal
 
 pub returns-clause-lone : goal.returns-clause-lone

@@ -1,9 +1,11 @@
 use Rattle.std.proofs.Common.{◌≡◌, List, [], None, Some, inl, inr, sym, ap, subst, ◌∙◌}
-use Rattle.trace_grammar.specs.declared.record.TraceRecord.{TraceRecord}
-use Rattle.trace_reader.specs.States.{ReadsOn}
+use Rattle.trace_format.specs.declared.record.TraceRecord.{TraceRecord}
+use Rattle.trace_format.specs.ReaderStates.{ReadsOn}
 use Rattle.trace_passes.specs.declared.wanted.Refusal.{Refusal}
 use Rattle.trace_passes.specs.Passes.{head_of, header_refusal}
-use Rattle.trace_passes.proofs.Pieces.{first_not_memory, is_memory, no_fault, now_seen, ok_is_no_err, read_now, refused_first, refused_now, that_fault}
+use Rattle.trace_passes.proofs.Pieces.{first_not_memory, is_memory, no_fault, now_seen}
+use Rattle.trace_passes.proofs.Pieces.{ok_is_no_err, read_now, refused_first, refused_now}
+use Rattle.trace_passes.proofs.Pieces.{that_fault}
 use Rattle.trace_passes.proofs.cursor.take_piece.Goals as goal
 
 pub returns-in-Some-clause-refused : goal.returns-in-Some-clause-refused
@@ -13,11 +15,14 @@ returns-in-Some-clause-refused c = λ refusal same bytes more from.
     let new = c.feed.new.self in
     let after = c.feed.new.into.items in
     let on : ReadsOn old piece new [] after =
-    subst (λ (xs : List TraceRecord). ReadsOn old piece new xs after) c.requires.empty (c.in-Ok.ensures.read (ok_is_no_err _ _)) in
+    subst (λ (xs : List TraceRecord). ReadsOn old piece new xs after) c.requires.empty
+    (c.in-Ok.ensures.read (ok_is_no_err _ _)) in
     let told : header_refusal c.args.wanted.now (head_of new.progress) ≡ Some c.in-Some.refusal =
-    ap (header_refusal c.args.wanted.now) (sym c.header.ensures) ∙ sym c.refusal.ensures ∙ c.in-Some.is in
+    ap (header_refusal c.args.wanted.now) (sym c.header.ensures) ∙ sym c.refusal.ensures
+    ∙ c.in-Some.is in
     let is : c.in-Some.refusal ≡ refusal = cc in
-    refused_now old new piece after on bytes from c.args.wanted.now more c.in-Some.refusal told ∙ ap (λ (x : Refusal). Some x) is
+    refused_now old new piece after on bytes from c.args.wanted.now more c.in-Some.refusal told
+    ∙ ap (λ (x : Refusal). Some x) is
 
 pub returns-in-None-clause-read : goal.returns-in-None-clause-read
 returns-in-None-clause-read c = λ bytes from.
@@ -26,9 +31,11 @@ returns-in-None-clause-read c = λ bytes from.
     let new = c.feed.new.self in
     let after = c.feed.new.into.items in
     let on : ReadsOn old piece new [] after =
-    subst (λ (xs : List TraceRecord). ReadsOn old piece new xs after) c.requires.empty (c.in-Ok.ensures.read (ok_is_no_err _ _)) in
+    subst (λ (xs : List TraceRecord). ReadsOn old piece new xs after) c.requires.empty
+    (c.in-Ok.ensures.read (ok_is_no_err _ _)) in
     let unrefused : header_refusal c.args.wanted.now (head_of new.progress) ≡ None =
-    ap (header_refusal c.args.wanted.now) (sym c.header.ensures) ∙ sym c.refusal.ensures ∙ c.in-None.is in
+    ap (header_refusal c.args.wanted.now) (sym c.header.ensures) ∙ sym c.refusal.ensures
+    ∙ c.in-None.is in
     let clean : new.fault ≡ None = no_fault new.fault c.in-Ok.field-0 (c.in-Ok.ensures.answer) in
     read_now old new piece after on bytes from c.args.wanted.now clean unrefused
 
@@ -39,7 +46,8 @@ returns-in-None-clause-records c = λ bytes from.
     let new = c.feed.new.self in
     let after = c.feed.new.into.items in
     let on : ReadsOn old piece new [] after =
-    subst (λ (xs : List TraceRecord). ReadsOn old piece new xs after) c.requires.empty (c.in-Ok.ensures.read (ok_is_no_err _ _)) in
+    subst (λ (xs : List TraceRecord). ReadsOn old piece new xs after) c.requires.empty
+    (c.in-Ok.ensures.read (ok_is_no_err _ _)) in
     sym (now_seen old new piece after on bytes from)
 
 pub returns-in-Err-clause-refused : goal.returns-in-Err-clause-refused
@@ -58,10 +66,12 @@ returns-in-Err-clause-refused c = λ refusal same bytes more from.
           subst (λ (xs : List TraceRecord). ReadsOn old piece new xs after) c.requires.empty
           (c.in-Err.ensures.read (λ e. other cc)) in
           let is : told ≡ header_refusal c.args.wanted.now (head_of new.progress) =
-          c.refusal-in-Err.ensures ∙ ap (header_refusal c.args.wanted.now) c.header-in-Err.ensures in
+          c.refusal-in-Err.ensures ∙ ap (header_refusal c.args.wanted.now) c.header-in-Err.ensures
+          in
           let there = that_fault new.fault fault c.in-Err.ensures.answer in
           let out = known.refused other in
-          refused_first old new piece after on bytes from c.args.wanted.now more fault told is there ∙ cc
+          refused_first old new piece after on bytes from c.args.wanted.now more fault told is there
+          ∙ cc
     ]
 
 pub returns-in-Err-clause-memory : goal.returns-in-Err-clause-memory
@@ -72,7 +82,8 @@ returns-in-Err-clause-memory c = λ same.
       | inl memory ↦ let out = known.memory memory in cc
       | inr other ↦
           let out = known.refused other in
-          first_not_memory c.args.wanted.now c.header-in-Err.result c.refusal-in-Err.result fault c.refusal-in-Err.ensures other cc
+          first_not_memory c.args.wanted.now c.header-in-Err.result c.refusal-in-Err.result fault
+          c.refusal-in-Err.ensures other cc
     ]
 
 pub returns-in-Err-clause-quiet : goal.returns-in-Err-clause-quiet

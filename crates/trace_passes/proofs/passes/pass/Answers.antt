@@ -1,8 +1,9 @@
-use Rattle.std.proofs.Common.{◌≡◌, ◌≤◌, ◌++◌, ◌∙◌, ℕ, [], List, Ok, Option, Some, All, refl, sym, ap, subst, arith, length}
+use Rattle.std.proofs.Common.{◌≡◌, ◌≤◌, ◌++◌, ◌∙◌, ℕ, [], List, Ok, Option, Some, All, refl, sym}
+use Rattle.std.proofs.Common.{ap, subst, arith, length}
 use Rattle.shelf.specs.Shelf.{Files, Told, content}
-use Rattle.trace_grammar.specs.declared.record.TraceRecord.{TraceRecord}
-use Rattle.trace_grammar.specs.Reading.{Reading, reading_of}
-use Rattle.trace_grammar.specs.Rules.{IsWritable}
+use Rattle.trace_format.specs.declared.record.TraceRecord.{TraceRecord}
+use Rattle.trace_format.specs.Reading.{Reading, reading_of}
+use Rattle.trace_format.specs.Rules.{IsWritable}
 use Rattle.trace_passes.specs.Cursors.{GoesOn, HasCome, HasEnded}
 use Rattle.trace_passes.specs.Passes.{refusal_of}
 use Rattle.trace_passes.specs.Rooms.{HasRoom}
@@ -22,7 +23,14 @@ pieces-init g c = record {
     saw = subst (g.O.Observer.given c.args.observer.now c.args.observer.now)
         (sym (ap (λ (x : List TraceRecord × Reading). x.0) nothing_read)) c.requires.fresh;
   };
-  only = record { held = refl; written = refl; printed = refl; write_faults = refl; print_faults = refl };
+  only = record {
+    held = refl;
+    written = refl;
+    printed = refl;
+    write_faults = refl;
+    print_faults =
+        refl;
+  };
   quiet = refl;
 }
 
@@ -30,7 +38,8 @@ pub advance-requires : goal.advance-requires
 advance-requires g c =
     let x = c.pieces.invariant in (
       x.way.bytes,
-      subst (λ (h : Option Files). HasCome h c.args.name.now c.args.wanted.now x.way.bytes c.pieces.cursor)
+      subst (λ (h : Option Files). HasCome h c.args.name.now c.args.wanted.now x.way.bytes
+          c.pieces.cursor)
           (sym x.only.held) x.way.come,
     )
 
@@ -42,14 +51,20 @@ note_all-requires g c =
     let w = c.args.wanted.now in
     let next = c.advance.new.self in
     let none = c.in_default.is in
-    let come = subst (λ (h : Option Files). HasCome h name w bytes c.pieces.cursor) (sym x.only.held) x.way.come in
-    let on : GoesOn (g.S.Shelf.outside c.pieces.shelf).held name w bytes next = c.in_ok-passed.ensures.more (ap Ok none) bytes come in
+    let come = subst (λ (h : Option Files). HasCome h name w bytes c.pieces.cursor)
+    (sym x.only.held) x.way.come in
+    let on : GoesOn (g.S.Shelf.outside c.pieces.shelf).held name w bytes next =
+    c.in_ok-passed.ensures.more (ap Ok none) bytes come in
     let items = next.items in
     record {
-      good = subst (All IsWritable) (sym c.items.ensures) (all_writable bytes on.more items on.records);
-      room = λ some. subst (HasRoom g.O.Observer.begins g.O.Observer.given c.pieces.observer) (sym c.items.ensures)
-          (room_for_all bytes on.more items on.records g.O.Observer.begins g.O.Observer.given w c.args.observer.now c.pieces.observer
-          next.reading c.requires.begins x.way.saw on.come.read (omega (arith, some, ap length c.items.ensures)));
+      good = subst (All IsWritable) (sym c.items.ensures)
+          (all_writable bytes on.more items on.records);
+      room = λ some. subst (HasRoom g.O.Observer.begins g.O.Observer.given c.pieces.observer)
+          (sym c.items.ensures)
+          (room_for_all bytes on.more items on.records g.O.Observer.begins g.O.Observer.given w
+          c.args.observer.now c.pieces.observer
+          next.reading c.requires.begins x.way.saw on.come.read
+          (omega (arith, some, ap length c.items.ensures)));
     }
 
 pub pieces-preserved : goal.pieces-preserved
@@ -61,18 +76,22 @@ pieces-preserved g c =
     let next = c.advance.new.self in
     let none = c.in_default.is in
     let given = g.O.Observer.given c.args.observer.now c.note_all.new.observer in
-    let come = subst (λ (h : Option Files). HasCome h name w bytes c.pieces.cursor) (sym x.only.held) x.way.come in
-    let later : GoesOn (g.S.Shelf.outside c.pieces.shelf).held name w bytes next = c.in_ok-passed.ensures.more (ap Ok none) bytes come in
+    let come = subst (λ (h : Option Files). HasCome h name w bytes c.pieces.cursor)
+    (sym x.only.held) x.way.come in
+    let later : GoesOn (g.S.Shelf.outside c.pieces.shelf).held name w bytes next =
+    c.in_ok-passed.ensures.more (ap Ok none) bytes come in
     let on : GoesOn (g.S.Shelf.outside c.args.shelf.now).held name w bytes next =
     subst (λ (h : Option Files). GoesOn h name w bytes next) x.only.held later in
     record {
       way = record {
         bytes = bytes ++ on.more;
         come = on.come;
-        saw = subst given (ap (λ (xs : List TraceRecord). (reading_of bytes).0 ++ xs) c.items.ensures ∙ sym on.records)
+        saw = subst given (ap (λ (xs : List TraceRecord). (reading_of bytes).0 ++ xs)
+            c.items.ensures ∙ sym on.records)
             (c.in_ok-note_all.ensures.given c.args.observer.now _ x.way.saw);
       };
-      only = only_both (g.S.Shelf.outside c.args.shelf.now) (g.S.Shelf.outside c.pieces.shelf) (g.S.Shelf.outside c.advance.new.shelf)
+      only = only_both (g.S.Shelf.outside c.args.shelf.now) (g.S.Shelf.outside c.pieces.shelf)
+          (g.S.Shelf.outside c.advance.new.shelf)
           x.only c.in_ok-passed.ensures.only;
       quiet = c.in_ok-passed.ensures.cause.quiet (ok_is_no_err _ _) ∙ x.quiet;
     }
@@ -89,14 +108,16 @@ returns-in-Some g c =
     let passed = c.in-Some.passed in
     let some = c.in-Some.is in
     let held = (g.S.Shelf.outside c.args.shelf.now).held in
-    let come = subst (λ (h : Option Files). HasCome h name w bytes c.pieces.cursor) (sym x.only.held) x.way.come in
+    let come = subst (λ (h : Option Files). HasCome h name w bytes c.pieces.cursor)
+    (sym x.only.held) x.way.come in
     let later : HasEnded (g.S.Shelf.outside c.pieces.shelf).held name w bytes passed =
     c.in_ok-passed.ensures.ended passed (ap Ok some) bytes come in
     let ended : HasEnded held name w bytes passed =
     subst (λ (h : Option Files). HasEnded h name w bytes passed) x.only.held later in
     let quiet = c.in_ok-passed.ensures.cause.quiet (ok_is_no_err _ _) ∙ x.quiet in
     record {
-      passed = has_passed held name w bytes passed (g.O.Observer.given c.args.observer.now c.pieces.observer) ended x.way.saw;
+      passed = has_passed held name w bytes passed
+          (g.O.Observer.given c.args.observer.now c.pieces.observer) ended x.way.saw;
       head = (ended.header, ended.wanted);
       accepted = accepted_then held name w bytes passed ended;
       refused = λ refusal same. absurd (ok_is_no_err _ _ same);
@@ -106,7 +127,8 @@ returns-in-Some g c =
         failed = λ same. absurd (ok_is_no_err _ _ same);
         quiet = λ no. quiet;
       };
-      only = only_both (g.S.Shelf.outside c.args.shelf.now) (g.S.Shelf.outside c.pieces.shelf) (g.S.Shelf.outside c.advance.new.shelf)
+      only = only_both (g.S.Shelf.outside c.args.shelf.now) (g.S.Shelf.outside c.pieces.shelf)
+          (g.S.Shelf.outside c.advance.new.shelf)
           x.only c.in_ok-passed.ensures.only;
     }
 
@@ -114,6 +136,8 @@ pub returns-in_err-passed-clause-refused : goal.returns-in_err-passed-clause-ref
 returns-in_err-passed-clause-refused g c = λ refusal same.
     let was_err = c.in_err-passed.was in
     let handed_on = rw same at c.from_residual-in_err-passed.ensures.1 in
-    let P : Files → Type 0 = λ files. refusal_of c.args.wanted.now (content files c.args.name.now) ≡ Some refusal in
-    let told : Told (g.S.Shelf.outside c.pieces.shelf).held P = c.advance.ensures.refused refusal (cc) in
+    let P : Files → Type 0 = λ files. refusal_of c.args.wanted.now (content files c.args.name.now)
+    ≡ Some refusal in
+    let told : Told (g.S.Shelf.outside c.pieces.shelf).held P = c.advance.ensures.refused refusal
+    (cc) in
     subst (λ (h : Option Files). Told h P) c.pieces.invariant.only.held told

@@ -1,22 +1,23 @@
 use Rattle.std.proofs.Common.{List, ap, sym, subst, ◌∙◌}
-use Rattle.virtual_lines.specs.Kept.{Kept, saved}
+use Rattle.line_tracks.specs.Kept.{Kept, saved}
 use Rattle.detector.specs.Adding.{CanAddTrack, with_track}
 use Rattle.detector.specs.Counts.{Counts, counts_of}
 use Rattle.detector.specs.Watch.{Watch}
-use Rattle.detector.proofs.AddLaws.{on_ok}
 use Rattle.detector.proofs.detector.Detector.add_track.Goals as goal
+use Rattle.std.proofs.lemmas.Result.{on_ok_weaker}
 
 pub add_saved-requires : goal.add_saved-requires
 add_saved-requires g c = record {
   indexed = c.self.invariant.0;
-  can = subst (λ (w : Watch). CanAddTrack w (saved c.args.kind c.args.shadow c.args.start c.args.count)) (sym c.self.view_is) c.requires;
+  can = subst (λ (w : Watch). CanAddTrack w (saved c.args.kind c.args.shadow c.args.start
+      c.args.count)) (sym c.self.view_is) c.requires;
 }
 
 pub invariant_of-self : goal.invariant_of-self
 invariant_of-self g c = (c.add_saved.ensures.indexed, c.self.invariant.1, c.self.invariant.2)
 
 pub returns-clause-added : goal.returns-clause-added
-returns-clause-added g c = on_ok c.add_saved.result _ _
+returns-clause-added g c = on_ok_weaker c.add_saved.result
     (λ added.
     ap (λ (ws : Counts). record {
       position = c.self.inside.position;
@@ -32,5 +33,6 @@ returns-clause-added g c = on_ok c.add_saved.result _ _
       writes = counts_of (g.I.LineIndex.entries c.self.inside.index);
       tracks = xs;
     }) added
-    ∙ ap (λ (w : Watch). with_track w (saved c.args.kind c.args.shadow c.args.start c.args.count)) c.self.view_is)
+    ∙ ap (λ (w : Watch). with_track w (saved c.args.kind c.args.shadow c.args.start c.args.count))
+    c.self.view_is)
     c.add_saved.ensures.tracks

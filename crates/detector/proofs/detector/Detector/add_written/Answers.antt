@@ -2,9 +2,9 @@ use Rattle.std.proofs.Common.{◌≤◌, ap, sym, subst, ◌∙◌}
 use Rattle.detector.specs.Adding.{with_written}
 use Rattle.detector.specs.Counts.{Counts, count_at}
 use Rattle.detector.specs.Watch.{Watch}
-use Rattle.detector.proofs.AddLaws.{on_ok}
 use Rattle.detector.proofs.CountLaws.{count_at-counts_of}
 use Rattle.detector.proofs.detector.Detector.add_written.Goals as goal
+use Rattle.std.proofs.lemmas.Result.{on_ok_weaker}
 
 pub set_writes-requires-clause-fresh : goal.set_writes-requires-clause-fresh
 set_writes-requires-clause-fresh g c =
@@ -13,14 +13,16 @@ set_writes-requires-clause-fresh g c =
 
 pub invariant_of-self : goal.invariant_of-self
 invariant_of-self g c = (
-  c.set_writes.ensures.indexed c.self.inside.layout c.self.inside.tracks c.self.inside.thresholds.tracking c.self.inside.position
-      (subst (λ (w : Watch). c.args.writes ≤ w.position) (sym c.self.view_is) c.requires.few) c.self.invariant.0,
+  c.set_writes.ensures.indexed c.self.inside.layout c.self.inside.tracks
+      c.self.inside.thresholds.tracking c.self.inside.position
+      (subst (λ (w : Watch). c.args.writes ≤ w.position) (sym c.self.view_is) c.requires.few)
+      c.self.invariant.0,
   c.self.invariant.1,
   c.self.invariant.2,
 )
 
 pub returns-clause-added : goal.returns-clause-added
-returns-clause-added g c = on_ok c.set_writes.result _ _
+returns-clause-added g c = on_ok_weaker c.set_writes.result
     (λ counts.
     ap (λ (ws : Counts). record {
       position = c.self.inside.position;
@@ -29,4 +31,5 @@ returns-clause-added g c = on_ok c.set_writes.result _ _
       writes = ws;
       tracks = c.self.inside.tracks;
     }) counts
-    ∙ ap (λ (w : Watch). with_written w c.args.line c.args.writes) c.self.view_is) c.set_writes.ensures.counts
+    ∙ ap (λ (w : Watch). with_written w c.args.line c.args.writes) c.self.view_is)
+    c.set_writes.ensures.counts

@@ -1,6 +1,6 @@
 use Rattle.std.proofs.Common.{◌≡◌, List, sym, ap, ◌∙◌, subst}
-use Rattle.virtual_lines.specs.Kept.{Kept}
-use Rattle.line_counters.specs.Entries.{entry_at}
+use Rattle.line_tracks.specs.Kept.{Kept}
+use Rattle.detector.specs.Entries.{entry_at}
 use Rattle.detector.specs.Counts.{counts_of, no_writes}
 use Rattle.detector.specs.Index.{IsIndexed}
 use Rattle.detector.proofs.CountLaws.{counts-empty}
@@ -9,16 +9,19 @@ use Rattle.detector.proofs.detector.Detector.at.Goals as goal
 
 pub invariant_of-result : goal.invariant_of-result
 invariant_of-result g c = (
-  subst (λ (xs : List Kept). IsIndexed (entry_at (g.I.LineIndex.entries c.args.index)) c.args.layout xs c.args.thresholds.tracking
+  subst (λ (xs : List Kept). IsIndexed (entry_at (g.I.LineIndex.entries c.args.index)) c.args.layout
+      xs c.args.thresholds.tracking
       c.args.position) (sym c.new.ensures)
-      (indexed-empty (g.I.LineIndex.entries c.args.index) c.args.layout c.args.thresholds.tracking c.args.position c.requires.empty),
+      (indexed-empty (g.I.LineIndex.entries c.args.index) c.args.layout c.args.thresholds.tracking
+      c.args.position c.requires.empty),
   c.size-size.ensures.allowed,
   c.requires.native,
 )
 
 pub returns : goal.returns
 returns g c =
-    let none : counts_of (g.I.LineIndex.entries c.args.index) ≡ no_writes = ap counts_of c.requires.empty ∙ counts-empty in
+    let none : counts_of (g.I.LineIndex.entries c.args.index) ≡ no_writes =
+    ap counts_of c.requires.empty ∙ counts-empty in
     ap (λ ws. record {
       position = c.args.position;
       grid = c.args.layout;

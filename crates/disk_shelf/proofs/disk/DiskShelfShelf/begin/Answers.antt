@@ -3,5 +3,6 @@ use Rattle.disk_shelf.proofs.disk.DiskShelfShelf.begin.Goals as goal
 
 pub returns-in-Err-clause-cause : goal.returns-in-Err-clause-cause
 returns-in-Err-clause-cause g c =
-    rw (← c.self.view_is) (fault_cause_at c.args.name.now c.self.inside.writes c.tell_and_count.new.count c.tell_and_count.result
+    rw (← c.self.view_is) (fault_cause_at c.args.name.now c.self.inside.writes
+    c.tell_and_count.new.count c.tell_and_count.result
     c.tell_and_count.ensures.later c.tell_and_count.ensures.counted)

@@ -2,7 +2,7 @@ use Rattle.std.proofs.Common.{arith, ◌≡◌, ◌<◌, ℕ, List, Some, length
 use Rattle.std.specs.List.{find}
 use Rattle.hart_scheduler.specs.Choices.{is_runnable}
 use Rattle.hart_scheduler.specs.Listed.{is_able, harts_from}
-use Rattle.hart_scheduler.specs.Values.{ListEntry}
+use Rattle.hart_scheduler.specs.ScheduleParts.{ListEntry}
 use Rattle.hart_scheduler.proofs.ListedLaws.{found_at}
 use Rattle.hart_scheduler.proofs.listed.Listed.first.Goals as goal
 
@@ -15,8 +15,10 @@ returns-then-place-len c =
     let same : c.as_slice.result.now ≡ items = c.as_slice.ensures.value in
     let inside : place < length items = omega arith in
     let before : place < length c.as_slice.result.now = omega arith in
-    let able : is_able runnable (get_or items place d) ≡ true = rw same at (c.first_able-place.ensures.able d before) in
-    let found : find (is_runnable runnable) (harts_from items c.self.inside.place) ≡ find (is_runnable runnable) (harts_from items place) =
+    let able : is_able runnable (get_or items place d)
+    ≡ true = rw same at (c.first_able-place.ensures.able d before) in
+    let found : find (is_runnable runnable) (harts_from items c.self.inside.place)
+    ≡ find (is_runnable runnable) (harts_from items place) =
     rw same at c.first_able-place.ensures.found in
     ap (λ (entry : ListEntry). Some entry.hart) (c.behind-self.view_is ∙ c.index.ensures)
     ∙ sym (found_at runnable items place d inside able) ∙ sym found

@@ -10,5 +10,6 @@ returns-clause-none c = let law = choice_none c.args.runnable.now c.args.self.no
 
 pub returns-clause-able : goal.returns-clause-able
 returns-clause-able c =
-    let P : Option ℕ → Type 0 = λ o. IfSome o (λ hart. IsTrue (is_runnable c.args.runnable.now hart)) in
+    let P : Option ℕ → Type 0 = λ o.
+    IfSome o (λ hart. IsTrue (is_runnable c.args.runnable.now hart)) in
     subst P (sym c.choice.ensures) (choice_able c.args.runnable.now c.args.self.now)

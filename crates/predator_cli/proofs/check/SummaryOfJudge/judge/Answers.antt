@@ -1,7 +1,7 @@
 use Rattle.std.proofs.Common.{◌≡◌, ◌∙◌, ap}
-use Rattle.elf_loader.specs.PlacedImages.{IsImageOf}
-use Rattle.elf_loader.specs.Symbols.{symbols_of}
-use Rattle.program_summary.specs.Summaries.{placed_text}
+use Rattle.program_files.specs.PlacedImages.{IsImageOf}
+use Rattle.program_files.specs.Symbols.{symbols_of}
+use Rattle.program_files.specs.Summaries.{placed_text}
 use Rattle.command_files.specs.ProgramFiles.{space_of}
 use Rattle.predator_cli.proofs.check.SummaryOfJudge.judge.Goals as goal
 
@@ -9,6 +9,8 @@ pub returns-clause-given : goal.returns-clause-given
 returns-clause-given c =
     let is = c.in-Ok.ensures in
     let space = space_of c.args.self.now.settings in
-    let placed : IsImageOf c.in-Ok.program.view space c.in-Ok.program.image = rw is.view is.placed in
-    let symbols : c.in-Ok.program.symbols ≡ symbols_of c.in-Ok.program.view = rw is.view is.symbols in
+    let placed : IsImageOf c.in-Ok.program.view space c.in-Ok.program.image =
+    rw is.view is.placed in
+    let symbols : c.in-Ok.program.symbols ≡ symbols_of c.in-Ok.program.view =
+    rw is.view is.symbols in
     c.in_ok-program_text.ensures space placed symbols ∙ ap (placed_text space) is.view

@@ -1,15 +1,16 @@
 use Rattle.std.proofs.Common.{◌≡◌, ◌∙◌, List, length, map, ap, arith, sym, subst}
 use Rattle.std.proofs.lemmas.List.{length-map}
 use Rattle.std.specs.List.{All}
-use Rattle.elf_loader.specs.Symbols.{symbols_of}
-use Rattle.heap_objects.specs.Symbols.{Symbol}
+use Rattle.program_files.specs.Symbols.{symbols_of}
+use Rattle.objects.specs.Symbols.{Symbol}
 use Rattle.predator_cli.specs.Run.{HasNameAndSize, symbol_record, symbol_records}
 use Rattle.predator_cli.proofs.SymbolLaws.{symbols_few, symbols_good}
 use Rattle.predator_cli.proofs.run.ProgramUnderJudge.judge.Goals as goal
 
 pub records_of-requires : goal.records_of-requires
 records_of-requires c =
-    subst (λ (l : List Symbol). All HasNameAndSize l) (sym c.in-Ok.ensures.symbols) (symbols_good c.args.bytes.now)
+    subst (λ (l : List Symbol). All HasNameAndSize l) (sym c.in-Ok.ensures.symbols)
+    (symbols_good c.args.bytes.now)
 
 pub returns-in-Ok-records_of-clause-given : goal.returns-in-Ok-records_of-clause-given
 returns-in-Ok-records_of-clause-given c =

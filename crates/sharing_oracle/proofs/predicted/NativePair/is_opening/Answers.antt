@@ -15,7 +15,10 @@ returns-in-Ok c =
     let at = c.index-accesses-place.is in
     let step = take_step t c.args.place a within at in
     let found = c.in-Ok.ensures.value in
-    c.is_some.ensures ∙ ap is_some found ∙ ap (λ s. is_some (best_between p.layout.size p.tracking c.args.within p.number s)) step
-    ∙ sym (ap (λ b. b && is_some (best_between p.layout.size p.tracking c.args.within p.number (take c.args.place t ++ a ∷ [])))
+    c.is_some.ensures ∙ ap is_some found ∙ ap (λ s. is_some
+    (best_between p.layout.size p.tracking c.args.within p.number s)) step
+    ∙ sym (ap (λ b. b && is_some (best_between p.layout.size p.tracking c.args.within p.number
+    (take c.args.place t ++ a ∷ [])))
     (sym c.is_candidate.ensures ∙ c.if-not-is_candidate.false))
-    ∙ sym (passes_at-here (is_opening p.layout.size p.tracking p.prediction c.args.within p.number) t c.args.place a within at)
+    ∙ sym (passes_at-here (is_opening p.layout.size p.tracking p.prediction c.args.within p.number)
+    t c.args.place a within at)

@@ -14,7 +14,8 @@ pub returns-clause-seen : goal.returns-clause-seen
 returns-clause-seen c =
     rw (← c.self.view_is)
     (on_both c.see.result
-    (next_access c.self.inside.objects c.self.inside.detector c.see.new.detector c.args.access) c.see.ensures.watched
+    (next_access c.self.inside.objects c.self.inside.detector c.see.new.detector c.args.access)
+    c.see.ensures.watched
     c.see.ensures.stands)
 
 pub returns-clause-known : goal.returns-clause-known

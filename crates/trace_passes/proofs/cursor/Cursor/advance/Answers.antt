@@ -1,17 +1,21 @@
-use Rattle.std.proofs.Common.{◌≡◌, ◌+◌, ◌-◌, ◌≤◌, ◌<◌, ◌++◌, ℕ, List, Some, length, take, refl, sym, ap, subst, ◌∙◌, arith}
+use Rattle.std.proofs.Common.{◌≡◌, ◌+◌, ◌-◌, ◌≤◌, ◌<◌, ◌++◌, ℕ, List, Some, length, take, refl, sym}
+use Rattle.std.proofs.Common.{ap, subst, ◌∙◌, arith}
 use Rattle.shelf.specs.Shelf.{Told, content}
 use Rattle.shelf.specs.Fetch.{IsFront}
-use Rattle.trace_grammar.specs.Reading.{reading_of}
-use Rattle.trace_grammar.specs.Rules.{longest_trace}
+use Rattle.shelf.specs.Laws.Told.{told_both}
+use Rattle.trace_format.specs.Reading.{reading_of}
+use Rattle.trace_format.specs.Rules.{longest_trace}
 use Rattle.trace_passes.specs.Cursors.{HasCome, HasEnded, IsRead, Reached}
 use Rattle.trace_passes.specs.Passes.{refusal_of}
-use Rattle.trace_passes.proofs.Fronts.{at_most, falls, given_back, longer_front, next_come, refused_file, told_both, whole_front}
+use Rattle.trace_passes.proofs.Fronts.{at_most, falls, given_back, longer_front, next_come}
+use Rattle.trace_passes.proofs.Fronts.{refused_file, whole_front}
 use Rattle.trace_passes.proofs.Closings.{ended}
 use Rattle.trace_passes.proofs.cursor.Cursor.advance.Goals as goal
 
 pub returns-then-count-eq0-clause-ended : goal.returns-then-count-eq0-clause-ended
 returns-then-count-eq0-clause-ended g c = λ passed same bytes reached.
-    let come = subst (HasCome (g.S.Shelf.outside c.args.shelf.now).held c.args.name.now c.args.wanted.now bytes) (sym c.self.view_is)
+    let come = subst (HasCome (g.S.Shelf.outside c.args.shelf.now).held c.args.name.now
+    c.args.wanted.now bytes) (sym c.self.view_is)
     reached in
     let into = c.read_at.new.into in
     let size : length c.self.inside.piece.items ≡ c.self.inside.piece.len = omega arith in
@@ -23,11 +27,13 @@ returns-then-count-eq0-clause-ended g c = λ passed same bytes reached.
     let at = c.self.inside.at in
     let count = c.in_ok-count.count in
     let whole : Told held (λ files. bytes ≡ content files name) =
-    told_both held (λ files. whole_front (content files name) bytes into at count come.size none some) come.front
+    told_both held (λ files. whole_front (content files name) bytes into at count come.size none
+    some) come.front
     c.in_ok-count.ensures.bytes in
     let is : c.in_ok-end_of.field-0 ≡ passed = cc in
     subst (HasEnded held name w bytes) is
-    (ended held name w c.self.inside.reader bytes come.read whole c.in_ok-end_of.field-0 c.in_ok-end_of.ensures.ending
+    (ended held name w c.self.inside.reader bytes come.read whole c.in_ok-end_of.field-0
+    c.in_ok-end_of.ensures.ending
     c.in_ok-end_of.ensures.progress)
 
 pub returns-in_err-take_piece-clause-refused : goal.returns-in_err-take_piece-clause-refused
@@ -40,22 +46,28 @@ returns-in_err-take_piece-clause-refused g c = λ refusal same.
     let bytes = c.requires.0 in
     let held = (g.S.Shelf.outside c.args.shelf.now).held in
     let name = c.args.name.now in
-    let come = subst (HasCome held name c.args.wanted.now bytes) (sym c.self.view_is) c.requires.1 in
+    let come = subst (HasCome held name c.args.wanted.now bytes) (sym c.self.view_is) c.requires.1
+    in
     let at = c.self.inside.at in
     let count = c.in_ok-count.count in
     let fits : count ≤ length into = omega (arith, c.in_ok-count.ensures.bound) in
     let front : Told held (λ files. IsFront (content files name) (bytes ++ take count into)) =
-    told_both held (λ files. longer_front (content files name) bytes into at count come.size fits) come.front c.in_ok-count.ensures.bytes in
+    told_both held (λ files. longer_front (content files name) bytes into at count come.size fits)
+    come.front c.in_ok-count.ensures.bytes in
     let was_err = c.in_err-take_piece.was in
     let handed_on = rw same at c.from_residual-in_err-take_piece.ensures.1 in
-    let refused : (more : List ℕ) → refusal_of c.args.wanted.now ((bytes ++ take count into) ++ more) ≡ Some refusal =
-    λ more. subst (λ (xs : List ℕ). refusal_of c.args.wanted.now ((bytes ++ take count xs) ++ more) ≡ Some refusal)
-    (c.deref.ensures.value ∙ back) (c.take_piece.ensures.refused refusal (cc) bytes more come.read.reading) in
+    let refused : (more : List ℕ) → refusal_of c.args.wanted.now
+    ((bytes ++ take count into) ++ more) ≡ Some refusal =
+    λ more. subst (λ (xs : List ℕ). refusal_of c.args.wanted.now ((bytes ++ take count xs) ++ more)
+    ≡ Some refusal)
+    (c.deref.ensures.value ∙ back) (c.take_piece.ensures.refused refusal
+    (cc) bytes more come.read.reading) in
     refused_file held name (bytes ++ take count into) c.args.wanted.now refusal front refused
 
 pub returns-clause-more : goal.returns-clause-more
 returns-clause-more g c = λ same bytes reached.
-    let come = subst (HasCome (g.S.Shelf.outside c.args.shelf.now).held c.args.name.now c.args.wanted.now bytes) (sym c.self.view_is)
+    let come = subst (HasCome (g.S.Shelf.outside c.args.shelf.now).held c.args.name.now
+    c.args.wanted.now bytes) (sym c.self.view_is)
     reached in
     let into = c.read_at.new.into in
     let was = c.self.inside.piece.items in
@@ -71,12 +83,14 @@ returns-clause-more g c = λ same bytes reached.
     subst (λ (xs : List ℕ). IsRead w (bytes ++ take count xs) new) (c.deref.ensures.value ∙ back)
     (c.in_ok-take_piece.ensures.read bytes come.read.reading) in
     let records : (reading_of (bytes ++ take count into)).0 ≡ (reading_of bytes).0 ++ items =
-    subst (λ (xs : List ℕ). (reading_of (bytes ++ take count xs)).0 ≡ (reading_of bytes).0 ++ items) (c.deref.ensures.value ∙ back)
+    subst (λ (xs : List ℕ). (reading_of (bytes ++ take count xs)).0 ≡ (reading_of bytes).0 ++ items)
+    (c.deref.ensures.value ∙ back)
     (c.in_ok-take_piece.ensures.records bytes come.read.reading) in
     record {
       more = take count into;
       come = next_come held c.args.name.now w bytes into c.self.inside.at count _ come.size
-          (omega (arith, c.in_ok-count.ensures.bound)) come.front c.in_ok-count.ensures.bytes read refl
+          (omega (arith, c.in_ok-count.ensures.bound)) come.front c.in_ok-count.ensures.bytes read
+          refl
           (omega (arith, ap length back, lent, size, come.room));
       records = records;
     }
@@ -84,9 +98,11 @@ returns-clause-more g c = λ same bytes reached.
 pub overflow_add-self : goal.overflow_add-self
 overflow_add-self g c =
     let held = (g.S.Shelf.outside c.args.shelf.now).held in
-    let low = at_most held c.args.name.now c.args.wanted.now c.requires.0 c.args.self.now c.requires.1 in
+    let low = at_most held c.args.name.now c.args.wanted.now c.requires.0 c.args.self.now
+    c.requires.1 in
     let at = ap (λ (r : Reached). r.count) c.self.view_is in
-    let small : c.in_ok-count.count ≤ c.self.inside.piece.len = omega (arith, c.in_ok-count.ensures.bound, c.deref_mut.ensures.len) in
+    let small : c.in_ok-count.count ≤ c.self.inside.piece.len =
+    omega (arith, c.in_ok-count.ensures.bound, c.deref_mut.ensures.len) in
     omega arith
 
 pub returns-clause-fewer : goal.returns-clause-fewer
@@ -95,4 +111,5 @@ returns-clause-fewer g c = λ same.
     let on = returns-clause-more g c same c.requires.0 c.requires.1 in
     let low = at_most held c.args.name.now c.args.wanted.now _ _ on.come in
     subst (λ (n : ℕ). longest_trace - (c.self.inside.at + c.in_ok-count.count) < longest_trace - n)
-    (ap (λ (r : Reached). r.count) c.self.view_is) (falls c.self.inside.at c.in_ok-count.count c.if-count-eq0.false low)
+    (ap (λ (r : Reached). r.count) c.self.view_is)
+    (falls c.self.inside.at c.in_ok-count.count c.if-count-eq0.false low)

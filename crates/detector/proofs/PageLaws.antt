@@ -1,0 +1,163 @@
+-- How a write to one place of a page or directory changes what is read at all places.
+use Rattle.std.proofs.Common.{◌≡◌, ℕ, zero, suc, ◌+◌, ◌*◌, ◌/◌, ◌%◌, ◌<◌, ◌≤◌, ◌==◌, if◌then◌else◌}
+use Rattle.std.proofs.Common.{Bool, true, false, List, [], ◌∷◌}
+use Rattle.std.proofs.Common.{length, Option, Some, slice_get, unwrap_or, refl, sym, ◌∙◌, ap, subst}
+use Rattle.std.proofs.Common.{arith}
+use Rattle.std.specs.Prelude.{nat_lt, slice_index_or, slice_set}
+use Rattle.std.proofs.Math.Nat.{div-add-mod}
+use Rattle.std.proofs.lemmas.Bool.{ltb-true}
+use Rattle.std.proofs.lemmas.Bool.Decides.{nat_tests}
+use Rattle.std.proofs.lemmas.Option.{slice_get-get_or, slice_get_past}
+use Rattle.std.specs.declared.vec.Vec.{Vec}
+use Rattle.std.specs.Option.{option_map_or}
+use Rattle.detector.specs.declared.line_entry.LineEntry.{LineEntry}
+use Rattle.detector.specs.Entries.{blank_entry}
+use Rattle.detector.specs.Pages.{items_at, page_entry}
+
+next_test : (a b : ℕ) → (a == b) ≡ (suc a == suc b)
+next_test a b = grind (arith, nat_tests)
+
+otherwise : {X : Type 0} (t : Bool) (x y : X) → t ≡ false → y ≡ if t then x else y
+otherwise true x y e = cc
+otherwise false x y e = refl
+
+above_zero : (k : ℕ) → (suc k == 0) ≡ false
+above_zero k = grind (arith, nat_tests)
+
+below_suc : (k : ℕ) → (0 == suc k) ≡ false
+below_suc k = grind (arith, nat_tests)
+
+is_same : (a b : ℕ) → (a == b) ≡ true → a ≡ b
+is_same a b e = grind (arith, nat_tests)
+
+-- an element was replaced
+pub slice_get-set : {X : Type 0} (xs : List X) (i : ℕ) (x : X) (k : ℕ) → i < length xs
+    → slice_get (slice_set xs i x) k ≡ if k == i
+    then Some x else slice_get xs k
+slice_get-set [] i x k h = absurd (omega arith)
+slice_get-set (y ∷ ys) zero x zero h = refl
+slice_get-set (y ∷ ys) zero x (suc k) h = otherwise (suc k == 0) (Some x) (slice_get ys k)
+    (above_zero k)
+slice_get-set (y ∷ ys) (suc i) x zero h = otherwise (0 == suc i) (Some x) (Some y) (below_suc i)
+slice_get-set (y ∷ ys) (suc i) x (suc k) h =
+    slice_get-set ys i x k (omega arith) ∙ ap (λ t. if t then Some x else slice_get ys k)
+    (next_test k i)
+
+-- an entry of a page was replaced
+pub page_entry-set : (page : List LineEntry) (i : ℕ) (e : LineEntry) (k : ℕ) → i < length page
+    → page_entry (slice_set page i e) k ≡ if k ==
+    i then e else page_entry page k
+page_entry-set page i e k h = ap (λ o. unwrap_or o blank_entry) (slice_get-set page i e k h)
+    ∙ through (k == i) e (slice_get page k)
+  where
+    through : (t : Bool) (e : LineEntry) (o : Option LineEntry)
+        → unwrap_or (if t then Some e else o) blank_entry ≡ if t then e
+        else unwrap_or o blank_entry
+    through true e o = refl
+    through false e o = refl
+
+-- a vector was replaced
+pub items_at-set : {X Z : Type 0} (all : List (Vec X Z)) (i : ℕ) (v : Vec X Z) (k : ℕ)
+    → i < length all
+    → items_at (slice_set all i v) k ≡ if k == i then v.items else items_at all k
+items_at-set {X} {Z} all i v k h = ap (λ o. option_map_or (λ w. w.items) o [])
+    (slice_get-set all i v k h)
+    ∙ through (k == i) v (slice_get all k)
+  where
+    through : (t : Bool) (v : Vec X Z) (o : Option (Vec X Z))
+        → option_map_or (λ w. w.items) (if t then Some v else o) [] ≡ if t
+        then v.items else option_map_or (λ w. w.items) o []
+    through true v o = refl
+    through false v o = refl
+
+-- the vector that stands at a place
+pub items_at-held : {X Z : Type 0} (all : List (Vec X Z)) (i : ℕ) (v : Vec X Z) → i < length all → v
+    ≡ slice_index_or all i v
+    → items_at all i ≡ v.items
+items_at-held all i v h is = ap (λ o. option_map_or (λ w. w.items) o [])
+    (slice_get-get_or all i v h) ∙ ap (λ w. w.items) (sym is)
+
+-- the vector that was read at a place
+pub items_at-read : {X Z : Type 0} (all xs : List (Vec X Z)) (i : ℕ) (v : Vec X Z) → xs ≡ all → true
+    ≡ nat_lt i (length xs)
+    → v ≡ slice_index_or xs i v → items_at all i ≡ v.items
+items_at-read all xs i v same within is =
+    ap (λ ys. items_at ys i) (sym same) ∙ items_at-held xs i v
+    (ltb-true i (length xs) (sym within)) is
+
+-- the vector that was put at a place
+pub items_at-set_same : {X Z : Type 0} (all : List (Vec X Z)) (i : ℕ) (v : Vec X Z) → i < length all
+    → items_at (slice_set all i v) i ≡ v.items
+items_at-set_same all i v h = items_at-set all i v i h
+    ∙ ap (λ t. if t then v.items else items_at all i) (itself i)
+  where
+    itself : (a : ℕ) → (a == a) ≡ true
+    itself a = grind (arith, nat_tests)
+
+-- past the end there is no vector
+pub items_at-past : {X Z : Type 0} (all : List (Vec X Z)) (i : ℕ) → length all ≤ i → items_at all i
+    ≡ []
+items_at-past all i h = ap (λ o. option_map_or (λ w. w.items) o []) (slice_get_past all i h)
+
+-- a vector was replaced by a related one
+pub related-set : {X Z : Type 0} (R : List X → List X → Type 0) → ((xs : List X) → R xs xs)
+    → (all : List (Vec X Z)) (i : ℕ) (v : Vec X Z)
+    → i < length all
+    → R (items_at all i) v.items → (b : ℕ) → R (items_at all b) (items_at (slice_set all i v) b)
+related-set R alike all i v within h b = subst (R (items_at all b))
+    (sym (items_at-set all i v b within)) (picked (b == i) refl)
+  where
+    picked : (t : Bool) → (b == i) ≡ t → R (items_at all b) (if t then v.items else items_at all b)
+    picked true is = subst (λ j. R (items_at all j) v.items) (sym (is_same b i is)) h
+    picked false is = alike (items_at all b)
+
+-- two numbers of one block of n are equal where their places in it are
+same_rest : (n k p : ℕ) → k / n ≡ p / n → (k % n == p % n) ≡ (k == p)
+same_rest n k p e = by_parts k p (k % n) (p % n) (n * (k / n)) (n * (p / n)) (div-add-mod k n)
+    (div-add-mod p n) (ap (λ x. n * x) e)
+  where
+    by_parts : (k p r s a b : ℕ) → a + r ≡ k → b + s ≡ p → a ≡ b → (r == s) ≡ (k == p)
+    by_parts k p r s a b ek ep e = grind (arith, nat_tests)
+
+other_block : (n k p : ℕ) → (k / n == p / n) ≡ false → (k == p) ≡ false
+other_block n k p e = apart k p (k / n) (p / n) (λ is. ap (λ x. x / n) is) e
+  where
+    apart : (k p a b : ℕ) → (k ≡ p → a ≡ b) → (a == b) ≡ false → (k == p) ≡ false
+    apart k p a b h e = grind (arith, nat_tests)
+
+-- one entry of one of the blocks of n was replaced, where f reads the entries of a block
+pub block-set : {X Z : Type 0} (n : ℕ) (f : List X → ℕ → LineEntry) (all : List (Vec X Z))
+    (place : ℕ) (v : Vec X Z) (e : LineEntry)
+    → place / n < length all
+    → ((k : ℕ) → f v.items k ≡ if k == place % n then e else f (items_at all (place / n)) k)
+    → (k : ℕ) → f (items_at (slice_set all (place / n) v) (k / n)) (k % n)
+    ≡ if k == place then e else f (items_at all (k / n)) (k % n)
+block-set {X} n f all place v e within h k =
+    ap (λ xs. f xs (k % n)) (items_at-set all (place / n) v (k / n) within)
+    ∙ picked (k / n == place / n) refl
+  where
+    picked : (t : Bool) → (k / n == place / n) ≡ t
+        → f (if t then v.items else items_at all (k / n)) (k % n) ≡ if k == place then e
+        else f (items_at all (k / n)) (k % n)
+    picked true is =
+        h (k % n) ∙ ap (λ t. if t then e else f (items_at all (place / n)) (k % n))
+        (same_rest n k place (is_same _ _ is))
+        ∙ ap (λ b. if k == place then e else f (items_at all b) (k % n))
+        (sym (is_same (k / n) (place / n) is))
+    picked false is = otherwise (k == place) e (f (items_at all (k / n)) (k % n))
+        (other_block n k place is)
+
+-- the entry that stands at a place
+pub page_entry-held : (page : List LineEntry) (i : ℕ) (e : LineEntry) → i < length page → e
+    ≡ slice_index_or page i e
+    → page_entry page i ≡ e
+page_entry-held page i e h is = ap (λ o. unwrap_or o blank_entry) (slice_get-get_or page i e h)
+    ∙ sym is
+
+-- a place whose vector has an element is not past the end
+pub items_at-within : {X Z : Type 0} (all : List (Vec X Z)) (i k : ℕ) → k < length (items_at all i)
+    → i < length all
+items_at-within [] i k h = absurd (omega arith)
+items_at-within (v ∷ vs) zero k h = omega arith
+items_at-within (v ∷ vs) (suc i) k h = let rest : i < length vs = items_at-within vs i k h in
+    omega arith

@@ -1,0 +1,90 @@
+// Where the tracks stand that may hold an address of a line.
+ghost use Rattle.std.specs.Prelude.{◌≡◌, ◌+◌, ◌≤◌, ◌<◌, ◌^◌, is_some, if◌then◌else◌};
+ghost use Rattle.detector.specs.Entries.{entry_at};
+ghost use Rattle.detector.specs.Noting.{CanTouch, CanTouchAll, places, touched_at, touched_places};
+
+use crate::{LineEntry, LineIndex};
+use base::{Access, Steps};
+use line_tracks::Tracks;
+use std::sync::ledger::Ledger;
+
+/// The places of the tracks that may hold an address of a line: its own, the shifted ones of its
+/// pairs with the line above and with the line below, and the doubled one of its even pair.
+#[derive(Clone, Copy, Drop)]
+pub struct Places {
+    pub own: Option<u32>,
+    pub shifted: Option<u32>,
+    pub below: Option<u32>,
+    pub doubled: Option<u32>,
+}
+
+/// The places that the entries of a line and of the one below it name.
+#[inline(always)]
+pub fn places_of<I: LineIndex>(index: &I, line: u64) -> Places
+    requires { line ≤ 2 ^ 30 }
+    ensures { result ≡ places (entry_at (I.entries index.now)) line }
+{
+    places_beside(index, line, index.peek(line))
+}
+
+/// The same, where the line's own entry was looked up.
+#[inline(always)]
+pub fn places_beside<I: LineIndex>(index: &I, line: u64, here: LineEntry) -> Places
+    requires small { line ≤ 2 ^ 30 }
+    requires here { here ≡ entry_at (I.entries index.now) line }
+    ensures { result ≡ places (entry_at (I.entries index.now)) line }
+{
+    let below = index.peek(line.saturating_sub(1));
+    let doubled = if line % 2 == 1 {
+        here.doubled
+    } else {
+        below.doubled
+    };
+    Places {
+        own: here.track,
+        shifted: here.shifted,
+        below: below.shifted,
+        doubled,
+    }
+}
+
+// Notes the track at a place, if its range holds the address.
+#[inline(always)]
+fn note_at<L: Ledger>(
+    tracks: &mut Tracks,
+    place: Option<u32>,
+    position: u64,
+    access: Access,
+    steps: &mut Steps<L>,
+)
+    requires can { CanTouch tracks.old position place }
+    requires early { position < 2 ^ 40 }
+    ensures tracks { tracks.new ≡ touched_at position access place tracks.old }
+    ensures steps { steps.new ≤ steps.old + (if is_some place then 1 else 0) }
+{
+    if let Some(place) = place {
+        if tracks.all()[place as usize].contains(access.addr()) {
+            tracks.note(place, position, access, steps);
+        }
+    }
+}
+
+/// Notes the tracks at these places whose ranges hold the address, at most one step each.
+#[inline(always)]
+pub fn note_places<L: Ledger>(
+    tracks: &mut Tracks,
+    places: Places,
+    position: u64,
+    access: Access,
+    steps: &mut Steps<L>,
+)
+    requires can { CanTouchAll tracks.old position access places }
+    requires early { position < 2 ^ 40 }
+    ensures tracks { tracks.new ≡ touched_places position access places tracks.old }
+    ensures steps { steps.new ≤ steps.old + 4 }
+{
+    note_at(tracks, places.own, position, access, steps);
+    note_at(tracks, places.shifted, position, access, steps);
+    note_at(tracks, places.below, position, access, steps);
+    note_at(tracks, places.doubled, position, access, steps);
+}

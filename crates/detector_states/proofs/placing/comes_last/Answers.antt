@@ -1,9 +1,0 @@
-use Rattle.std.proofs.Common.{◌∙◌}
-use Rattle.state_grammar.specs.Parts.{kept_of}
-use Rattle.detector_states.proofs.AddLaws.{behind_last}
-use Rattle.detector_states.proofs.placing.comes_last.Goals as goal
-
-pub returns-in-Some : goal.returns-in-Some
-returns-in-Some c =
-    c.comes_before.ensures
-    ∙ behind_last (kept_of c.args.track.now) c.args.tracks.now c.in-Some.last.now c.requires c.in-Some.ensures.value

@@ -1,3 +1,0 @@
-pub mod Saving
-pub mod Resuming
-pub mod Ready

@@ -1,0 +1,40 @@
+//! Tests of the detector and its parts, of the plain slow program and of saved states, on lists
+//! worked by hand; and the detector against the plain slow program, over random short lists.
+#![tactic(auto)]
+
+#[cfg(test)]
+mod added;
+#[cfg(test)]
+mod agreement;
+#[cfg(test)]
+mod histories;
+#[cfg(test)]
+mod indexes;
+#[cfg(test)]
+mod lists;
+#[cfg(test)]
+mod pairs;
+#[cfg(test)]
+mod random_lists;
+#[cfg(test)]
+mod ranges;
+#[cfg(test)]
+mod resumed;
+#[cfg(test)]
+mod saved;
+#[cfg(test)]
+mod shadows;
+#[cfg(test)]
+mod sighted;
+#[cfg(test)]
+mod standing;
+#[cfg(test)]
+mod states;
+#[cfg(test)]
+mod told;
+#[cfg(test)]
+mod tracks;
+#[cfg(test)]
+mod verdicts;
+#[cfg(test)]
+mod written;

@@ -1,9 +1,0 @@
-pub mod Fields
-pub mod Programs
-pub mod Segments
-pub mod Symbols
-pub mod SymbolViews
-pub mod Faults
-pub mod Images
-pub mod Placing
-pub mod PlacedImages

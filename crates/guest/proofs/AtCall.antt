@@ -1,0 +1,63 @@
+-- At an ECALL the step leaves all, and the turn is that of the call.
+use Rattle.std.proofs.Common.{◌≡◌, ◌∙◌, ℕ, ◌<◌, List, length, Option, refl, sym, ap, set, get_or}
+use Rattle.std.proofs.lemmas.List.{set-get_or}
+use Rattle.std.proofs.lemmas.Option.{slice_get_read, get_or_from_slice_get}
+use Rattle.rv32_hart.specs.Space.{Space}
+use Rattle.rv32_hart.specs.Registers.{Registers}
+use Rattle.rv32_hart.specs.Effect.{Machine, machine, outcome, stepped}
+use Rattle.rv32_hart.specs.declared.step_end.StepEnd.TheVariants.{Call}
+use Rattle.guest.specs.declared.setup.Setup.{Setup}
+use Rattle.guest.specs.Configs.{Config, unused, state_of}
+use Rattle.guest.specs.GuestCalls.{RunTurn, call_turn}
+use Rattle.guest.specs.Turns.{machine_of, with_machine, hart_turn}
+
+put-back : (hart : ℕ) (c : Config) (x : Machine) → x ≡ machine_of hart c → with_machine hart x c ≡ c
+put-back hart c x h = ap (λ (y : Machine). with_machine hart y c) h
+    ∙ ap (λ (states : List Registers). record c { states = states })
+    (set-get_or c.states hart unused)
+
+turn-at-call : (s : Setup) (hart : ℕ) (c : Config) (x : Machine) → outcome Call x
+    ≡ stepped hart (machine_of hart c)
+    → hart_turn s hart c ≡ call_turn s hart c
+turn-at-call s hart c x h = rw (← h) refl
+
+-- what was read at a hart's place is its registers
+pub read_state : (c : Config) (hart place : ℕ) (old : Registers) → place ≡ hart
+    → hart < length c.states → old ≡ get_or c.states place old
+    → old ≡ state_of c hart
+read_state c hart place old same inside read =
+    let at : old ≡ get_or c.states hart old = rw same at read in
+    sym (get_or_from_slice_get c.states hart old unused
+    (slice_get_read c.states (length c.states) hart old refl inside at))
+
+-- a step that left all as it was leaves the whole configuration
+pub whole_left : (hart place : ℕ) (c : Config) (old new : Registers) (m : Space)
+    (held : List (Option ℕ))
+    → place ≡ hart → hart < length c.states → old ≡ get_or c.states place old → machine new m held
+    ≡ machine old c.memory c.held
+    → record c { states = set c.states place new; memory = m; held = held } ≡ c
+whole_left hart place c old new m held same inside read left =
+    let is_old : old ≡ state_of c hart = read_state c hart place old same inside read in
+    let before : machine old c.memory c.held ≡ machine_of hart c =
+    ap (λ (r : Registers). machine r c.memory c.held) is_old in
+    let moved : set c.states place new ≡ set c.states hart new = ap (λ (k : ℕ). set c.states k new)
+    same in
+    ap (λ (states : List Registers). record c { states = states; memory = m; held = held }) moved
+    ∙ put-back hart c (machine new m held)
+    (left ∙ before)
+
+pub called : (s : Setup) (hart place : ℕ) (c : Config) (old new : Registers) (m : Space)
+    (held : List (Option ℕ)) (t : RunTurn)
+    → place ≡ hart → hart < length c.states → old ≡ get_or c.states place old
+    → outcome Call (machine new m held) ≡ stepped hart (machine old c.memory c.held)
+    → machine new m held ≡ machine old c.memory c.held
+    → t ≡ call_turn s hart (record c { states = set c.states place new; memory = m; held = held })
+    → t ≡ hart_turn s hart c
+called s hart place c old new m held t same inside read effect left turn =
+    let is_old : old ≡ state_of c hart = read_state c hart place old same inside read in
+    let before : machine old c.memory c.held ≡ machine_of hart c =
+    ap (λ (r : Registers). machine r c.memory c.held) is_old in
+    turn ∙ ap (λ (d : Config). call_turn s hart d)
+    (whole_left hart place c old new m held same inside read left)
+    ∙ sym (turn-at-call s hart c (machine new m held)
+    (effect ∙ ap (λ (x : Machine). stepped hart x) before))

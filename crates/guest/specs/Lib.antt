@@ -1,0 +1,16 @@
+pub mod CallLists
+pub mod ConfigInside
+pub mod Configs
+pub mod GuestCalls
+pub mod GuestInside
+pub mod HeapLayout
+pub mod Heaps
+pub mod LeastPlaces
+pub mod Phases
+pub mod Runs
+pub mod SeenTurns
+pub mod ThreadCalls
+pub mod ThreadChanges
+pub mod ThreadsInside
+pub mod ThreadsSound
+pub mod Turns

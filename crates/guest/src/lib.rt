@@ -1,0 +1,37 @@
+//! A guest: the harts, their threads, the heap and a schedule together, from the entry of a program
+//! to the end of its run.
+//!
+//! `specs/Turns.antt` says what one turn does, `specs/GuestCalls.antt` what each call does, and
+//! `specs/Runs.antt` what a whole run is.
+//!
+//! Its parts, each with files of its own:
+//!
+//! - the run: `guest`, over a `configuration` that `one_turn` and the calls of the environment in
+//!   `guest_calls` change;
+//! - threads: each hart has one phase (`phase`), and `threads` has the calls by which harts start,
+//!   join, wait for, wake and end one another (`specs/ThreadCalls.antt`);
+//! - calls of functions: a [`CallList`] keeps the last 256 that a hart made and hasn't returned from
+//!   (`specs/CallLists.antt` says which instruction calls and which returns);
+//! - the heap: a [`GuestHeap`] gives each block the least free place (`specs/Heaps.antt`).
+#![tactic(auto)]
+
+mod call_list;
+mod configuration;
+mod guest;
+mod guest_calls;
+mod heap;
+mod one_turn;
+mod phase;
+mod setup;
+mod short_runs;
+mod threads;
+mod turn;
+
+pub use call_list::CallList;
+pub use guest::Guest;
+pub use heap::{GuestHeap, NotLive};
+pub use phase::JoinEnd;
+pub use setup::RunSettings;
+pub use short_runs::runs_are_short;
+pub use threads::Threads;
+pub use turn::{Event, Turn};

@@ -1,0 +1,138 @@
+// One turn of a configuration.
+ghost use Rattle.std.specs.Prelude.{◌≡◌, ℕ, ◌+◌, ◌<◌, ◌^◌, ◌≤◌, length};
+ghost use Rattle.std.specs.Prelude.{IfOk, IsOk, OnOk, OnErr, IsFalse};
+ghost use Rattle.std.specs.Option.{option_map_or};
+ghost use Rattle.guest.specs.ThreadCalls.{finished_code};
+ghost use Rattle.guest.specs.Configs.{CanStep, Fits, counted, noted};
+ghost use Rattle.guest.specs.Runs.{ending_with};
+ghost use Rattle.guest.specs.Turns.{IsNext, chosen, hart_turn, made, makes_block, turn_of};
+ghost use Rattle.guest.specs.ConfigInside.{config_of};
+ghost use Rattle.guest.specs.SeenTurns.{IsEndOf, IsSeen, turn_seen};
+
+use crate::configuration::Configuration;
+use crate::setup::Setup;
+use crate::turn::{Event, Turn};
+use base::{Access, Ending, Hart, NoMemory, Outcome};
+use rv32_decode::Instr;
+use rv32_hart::{StepEnd, step};
+
+impl Configuration {
+    /// The end of the run, with what was counted so far.
+    pub fn ending(&self, outcome: &Outcome) -> Ending
+        ensures { result ≡ ending_with outcome.now (config_of self.now) }
+    {
+        Ending {
+            outcome: *outcome,
+            steps: self.steps,
+            accesses: self.accesses,
+        }
+    }
+
+    // The hart that is next has its turn, and a step more is counted.
+    #[inline(always)]
+    fn count_step(&mut self, hart: Hart)
+        requires plan { self.old.schedule.harts ≡ length self.old.threads }
+        requires next { IsNext hart (config_of self.old) }
+        requires steps { self.old.steps + 1 < 2 ^ 64 }
+        ensures { config_of self.new ≡ counted (chosen (config_of self.old)) }
+    {
+        self.take_turn(hart);
+        self.steps += 1;
+    }
+
+    // A step that made an instruction, with its access. A step without one has code of its own, in
+    // which nothing is seen.
+    #[inline(always)]
+    fn go_on(&mut self, hart: Hart, instr: Instr, pc: u32, access: Option<Access>) -> Turn
+        requires ready { CanStep hart (config_of self.old) }
+        requires accesses { self.old.accesses ≤ self.old.steps }
+        requires plan { self.old.schedule.harts ≡ length self.old.threads }
+        requires next { IsNext hart (config_of self.old) }
+        ensures turn { turn_seen result (config_of self.new) ≡ made access
+            (noted hart instr pc (chosen (config_of self.old))) }
+        ensures fits { (harts : ℕ) → Fits harts (config_of self.old)
+            → Fits harts (config_of self.new) }
+        ensures seen { result ≡ Turn.Ran (option_map_or Event.Touch access Event.Quiet) }
+    {
+        self.note_call(hart, instr, pc);
+        match access {
+            None => {
+                self.count_step(hart);
+                Turn::Ran(Event::Quiet)
+            }
+            Some(access) => {
+                self.count_step(hart);
+                self.accesses += 1;
+                Turn::Ran(Event::Touch(access))
+            }
+        }
+    }
+
+    // A hart's instruction.
+    #[inline]
+    fn run(&mut self, setup: &Setup, hart: Hart) -> Result<Turn, NoMemory>
+        requires ready { CanStep hart (config_of self.old) }
+        requires accesses { self.old.accesses ≤ self.old.steps }
+        requires plan { self.old.schedule.harts ≡ length self.old.threads }
+        requires next { IsNext hart (config_of self.old) }
+        ensures turn { IfOk result
+            (λ turn. turn_seen turn (config_of self.new) ≡ hart_turn setup.now hart
+            (chosen (config_of self.old))) }
+        ensures fits { OnOk result ((harts : ℕ) → Fits harts (config_of self.old)
+            → Fits harts (config_of self.new)) }
+        ensures seen { IfOk result
+            (λ turn. IsSeen (length self.old.threads) turn (config_of self.new)) }
+        ensures refused { OnErr result (config_of self.new ≡ config_of self.old) }
+        ensures settled { IsFalse
+            (makes_block (hart_turn setup.now hart (chosen (config_of self.old)))) → IsOk result }
+    {
+        let pc = self.pc(hart);
+        let state = &mut self.states[usize::from(hart.number())];
+        match step(hart, state, &mut self.memory, &mut self.held) {
+            StepEnd::Next(instr, access) => Ok(self.go_on(hart, instr, pc, access)),
+            StepEnd::Call => self.call(setup, hart),
+            StepEnd::Trap(cause) => {
+                self.take_turn(hart);
+                Ok(Turn::Ended(Outcome::Trap(hart, pc, cause)))
+            }
+        }
+    }
+
+    // The end of the run where no hart can run.
+    #[cold]
+    fn rest(&self) -> Outcome
+        ensures outcome { result ≡ option_map_or Outcome.Exit (finished_code self.now.threads)
+            Outcome.Deadlock }
+        ensures end { (harts : ℕ) → IsEndOf harts result }
+    {
+        match self.threads.finished() {
+            Some(code) => Outcome::Exit(code),
+            None => Outcome::Deadlock,
+        }
+    }
+
+    /// One turn: the end of the run, or the step of the hart that the schedule chooses.
+    #[inline]
+    pub fn turn(&mut self, setup: &Setup) -> Result<Turn, NoMemory>
+        requires fits { Fits setup.now.harts (config_of self.old) }
+        requires accesses { self.old.accesses ≤ self.old.steps }
+        ensures turn { IfOk result (λ turn. turn_seen turn (config_of self.new) ≡ turn_of setup.now
+            (config_of self.old)) }
+        ensures fits { Fits setup.now.harts (config_of self.new) }
+        ensures seen { IfOk result (λ turn. IsSeen setup.now.harts turn (config_of self.new)) }
+        ensures refused { OnErr result (config_of self.new ≡ config_of self.old) }
+        ensures settled { IsFalse (makes_block (turn_of setup.now (config_of self.old)))
+            → IsOk result }
+    {
+        match self.next_hart() {
+            None => Ok(Turn::Ended(self.rest())),
+            Some(hart) => {
+                if self.steps < setup.budget {
+                    self.run(setup, hart)
+                } else {
+                    Ok(Turn::Ended(Outcome::Budget))
+                }
+            }
+        }
+    }
+}

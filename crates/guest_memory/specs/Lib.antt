@@ -1,4 +1,0 @@
-pub mod Bytes
-pub mod Space
-pub mod Faults
-pub mod Changes

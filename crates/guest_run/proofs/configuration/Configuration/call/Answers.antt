@@ -1,8 +1,0 @@
-use Rattle.std.proofs.Common.{◌∙◌, ap}
-use Rattle.guest_run.specs.Configs.{Config}
-use Rattle.guest_run.specs.Calls.{call_turn}
-use Rattle.guest_run.proofs.configuration.Configuration.call.Goals as goal
-
-pub returns-else-value_in-eq-MAKE_BLOCK-clause-turn : goal.returns-else-value_in-eq-MAKE_BLOCK-clause-turn
-returns-else-value_in-eq-MAKE_BLOCK-clause-turn c =
-    c.other_call.ensures.turn ∙ ap (λ (d : Config). call_turn c.args.setup.now c.args.hart d) c.take_turn.ensures

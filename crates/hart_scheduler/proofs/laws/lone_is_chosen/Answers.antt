@@ -1,5 +1,0 @@
-use Rattle.hart_scheduler.proofs.InTurn.{lone_chosen}
-use Rattle.hart_scheduler.proofs.laws.lone_is_chosen.Goals as goal
-
-pub returns : goal.returns
-returns c = lone_chosen

@@ -1,5 +1,0 @@
-use Rattle.heap_objects.specs.ApartLaws.{each_apart}
-use Rattle.heap_objects.proofs.table.ObjectTable.symbol_count.Goals as goal
-
-pub returns-clause-apart : goal.returns-clause-apart
-returns-clause-apart c = rw (← c.self.view_is) (each_apart _ c.self.invariant.0)

@@ -1,9 +1,0 @@
-pub mod Names
-pub mod Symbols
-pub mod SymbolLaws
-pub mod ApartLaws
-pub mod Rows
-pub mod Blocks
-pub mod Objects
-pub mod Heaps
-pub mod Indexes

@@ -1,0 +1,1 @@
+-- The best pair of the words of two observed lines is that of the list.

@@ -1,0 +1,6 @@
+pub mod BetweenLaws
+pub mod EntryLaws
+pub mod EvenLaws
+pub mod ReachLaws
+pub mod ReadLaws
+pub mod UndoLaws

@@ -1,0 +1,7 @@
+-- The laws of the definitions, by what they are about.
+pub mod Few
+pub mod Kept
+pub mod Placed
+pub mod Quiet
+pub mod WordLines
+pub mod Words

@@ -1,0 +1,11 @@
+pub mod Entries
+pub mod HistoryFields
+pub mod HotRows
+pub mod Kept
+pub mod KeptIn
+pub mod Laws
+pub mod Neighbours
+pub mod Placed
+pub mod Quiet
+pub mod RangeWords
+pub mod TrackView

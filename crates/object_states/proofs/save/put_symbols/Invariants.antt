@@ -1,8 +1,0 @@
--- The symbols so far are appended.
-use Rattle.std.proofs.Common.{◌≡◌, ◌++◌, take}
-use Rattle.std.specs.List.{flat_map}
-use Rattle.object_states.specs.Spelling.{spell_saved_symbol}
-use Rattle.object_states.proofs.save.put_symbols.Given as goal
-
-abbrev pub invariant-loop-i : goal.invariant-loop-i
-invariant-loop-i l = l.into.items ≡ l.initial.into.items ++ flat_map spell_saved_symbol (take l.i l.table.symbols)

@@ -1,4 +1,0 @@
-pub mod Units
-pub mod Spelling
-pub mod Judging
-pub mod Rules

@@ -1,0 +1,4 @@
+-- The laws of the definitions, by what they are about.
+pub mod Apart
+pub mod Indexes
+pub mod Symbols

@@ -1,0 +1,6 @@
+pub mod Blocks
+pub mod Indexes
+pub mod Laws
+pub mod Objects
+pub mod Rows
+pub mod Symbols

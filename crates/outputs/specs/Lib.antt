@@ -1,4 +1,0 @@
-pub mod Files
-pub mod OneFile
-pub mod OnTheirWay
-pub mod Laws

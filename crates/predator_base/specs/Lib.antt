@@ -1,4 +1,0 @@
-pub mod Touch
-pub mod Lines
-pub mod Ranges
-pub mod Levels

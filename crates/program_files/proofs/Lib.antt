@@ -1,0 +1,11 @@
+pub mod FirstFaults
+pub mod Names
+pub mod PlacedSummaries
+pub mod Placing
+pub mod Rooms
+pub mod SegmentsApart
+pub mod SymbolCounts
+pub mod Tables
+pub mod TextPieces
+pub mod WholeMemories
+pub mod Worked

@@ -1,0 +1,11 @@
+pub mod Faults
+pub mod Fields
+pub mod Images
+pub mod NotedSymbols
+pub mod PlacedImages
+pub mod PlacedSegments
+pub mod Programs
+pub mod SegmentViews
+pub mod Summaries
+pub mod SymbolViews
+pub mod Symbols

@@ -1,0 +1,46 @@
+// Numbers and tables at their places in a file.
+ghost use Rattle.std.specs.Prelude.{◌≡◌, ◌+◌, ◌*◌, ◌<◌, ◌≤◌, length};
+ghost use Rattle.program_files.specs.Fields.{field16, field32, part, rows};
+
+use byteorder::{ByteOrder, LittleEndian};
+
+#[tactic(auto, unfolding(crate::specs::Fields::field16))]
+pub(crate) fn u16_at(bytes: &[u8], place: usize) -> u16
+    requires { place + 2 ≤ length bytes.now }
+    ensures { result ≡ field16 bytes.now place }
+{
+    LittleEndian::read_u16(&bytes[place..])
+}
+
+#[tactic(auto, unfolding(crate::specs::Fields::field32))]
+pub(crate) fn u32_at(bytes: &[u8], place: usize) -> u32
+    requires { place + 4 ≤ length bytes.now }
+    ensures { result ≡ field32 bytes.now place }
+{
+    LittleEndian::read_u32(&bytes[place..])
+}
+
+// The rows of a table, of N bytes each.
+#[tactic(auto, using(crate::proofs::Tables::rows_within))]
+pub(crate) fn rows_at<const N: usize>(file: &[u8], place: usize, n: usize) -> &[[u8; N]]
+    requires size { 0 < N }
+    requires within { place + N * n ≤ length file.now }
+    ensures { result.now ≡ rows N n place file.now }
+{
+    let (_, rest) = file.split_at(place);
+    let (all, _) = rest.as_chunks::<N>();
+    &all[..n]
+}
+
+// The bytes of a range. One of no bytes may lie anywhere.
+pub(crate) fn part_of(file: &[u8], offset: usize, size: usize) -> &[u8]
+    requires { 0 < size → offset + size ≤ length file.now }
+    ensures { result.now ≡ part file.now offset size }
+{
+    if size == 0 {
+        return &[];
+    }
+    let (_, rest) = file.split_at(offset);
+    let (part, _) = rest.split_at(size);
+    part
+}

@@ -1,7 +1,0 @@
--- So many of the first symbols are of the kind.
-use Rattle.std.proofs.Common.{◌≡◌, ◌≤◌, take}
-use Rattle.program_summary.specs.Noted.{count_of}
-use Rattle.program_summary.proofs.symbols.count_of.Given as goal
-
-abbrev pub invariant-loop-i : goal.invariant-loop-i
-invariant-loop-i l = (l.count ≡ count_of l.kind (take l.i l.symbols.symbols)) × (l.count ≤ l.i)

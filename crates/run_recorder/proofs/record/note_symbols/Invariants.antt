@@ -1,7 +1,0 @@
-use Rattle.run_recorder.proofs.Symbols.{SymbolsNoted}
-use Rattle.run_recorder.proofs.record.note_symbols.Given as goal
-
-abbrev pub invariant-loop-place : goal.invariant-loop-place
-invariant-loop-place g l =
-    SymbolsNoted g.O.Observer.given l.symbols l.place l.initial.observer l.observer l.files l.initial.outputs l.outputs
-    (g.S.Shelf.outside l.initial.shelf) (g.S.Shelf.outside l.shelf)

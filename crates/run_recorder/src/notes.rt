@@ -1,0 +1,162 @@
+// What is noted while a run goes on: an observer sees each record, and each file gets what its
+// content says.
+ghost use Rattle.std.specs.Prelude.{◌≡◌, ◌<◌, ◌++◌, ◌∷◌, [], List, ℕ, IfErr, OnOk, length};
+ghost use Rattle.std.specs.List.{All};
+ghost use Rattle.shelf.specs.Shelf.{Outside};
+ghost use Rattle.shelf.specs.OnTheirWay.{AreBegun, names_of as waiting_names};
+ghost use Rattle.trace_format.specs.Rules.{IsGoodRecord, IsWritable};
+ghost use Rattle.trace_format.specs.declared.record.TraceRecord.{TraceRecord as ARecord};
+ghost use Rattle.trace_format.specs.declared.record.TraceRecord.TheVariants as records;
+ghost use Rattle.trace_passes.specs.Rooms.{HasRoom};
+ghost use Rattle.run_recorder.specs.Recording.{AreCutAfter, AreNoted, IsTold, bytes_told};
+ghost use Rattle.run_recorder.specs.Recording.{records_told};
+
+use crate::files::{put_output, put_record};
+use crate::run_file::RunFile;
+use base::Access;
+use guest::{Event, Guest};
+use shelf::{Shelf, ShelfError};
+use trace_files::TraceOutputs;
+use trace_format::TraceRecord;
+use trace_passes::Observer;
+
+// A record: the observer sees it, and the files get it.
+#[inline]
+pub(crate) fn note_record<S: Shelf, O: Observer>(
+    shelf: &mut S,
+    files: &[RunFile<'_>],
+    outputs: &mut TraceOutputs<'_>,
+    observer: &mut O,
+    item: &TraceRecord,
+) -> Result<(), ShelfError>
+    requires paired { length outputs.old ≡ length files.now }
+    requires begun { AreBegun (waiting_names outputs.old) (S.outside shelf.old) }
+    requires writable { IsWritable item.now }
+    requires room { HasRoom O.begins O.given observer.old (item.now ∷ []) }
+    ensures given { OnOk result ((begun : O) (earlier : List ARecord)
+        → O.given begun observer.old earlier → O.given begun observer.new
+        (earlier ++ item.now ∷ [])) }
+    ensures noted { OnOk result
+        ((harts : ℕ) (items : List ARecord) (put : List ℕ) (before : Outside)
+        → AreNoted harts items put files.now outputs.old before (S.outside shelf.old)
+        → AreNoted harts (items ++ item.now ∷ []) put files.now outputs.new before
+        (S.outside shelf.new)) }
+    ensures cut { IfErr result (λ error. (harts : ℕ) (items : List ARecord) (put : List ℕ)
+        (before : Outside)
+        → AreNoted harts items put files.now outputs.old before (S.outside shelf.old)
+        → AreCutAfter harts (items ++ item.now ∷ []) put files.now before (S.outside shelf.new)
+        error) }
+    ensures begun { OnOk result (AreBegun (waiting_names outputs.new) (S.outside shelf.new)) }
+    ensures count { length outputs.new ≡ length outputs.old }
+{
+    match observer.note(item) {
+        Ok(()) => put_record(shelf, files, outputs, item),
+        Err(_) => Err(ShelfError::NoMemory),
+    }
+}
+
+// The record of an access, which is of an allowed size and place, as its hart says.
+fn touch_record(access: Access) -> TraceRecord
+    ensures value { result ≡ records.Touch access }
+    ensures good { (harts : ℕ) → access.hart < harts → IsGoodRecord harts result }
+{
+    let _hart = access.hart();
+    TraceRecord::Touch(access)
+}
+
+// The record of a block.
+fn alloc_record(addr: u32, size: u32, sites: [u32; 4]) -> TraceRecord
+    ensures value { result ≡ records.Alloc addr size sites }
+    ensures good { (harts : ℕ) → IsGoodRecord harts result }
+{
+    TraceRecord::Alloc { addr, size, sites }
+}
+
+fn free_record(addr: u32) -> TraceRecord
+    ensures value { result ≡ records.Free addr }
+    ensures good { (harts : ℕ) → IsGoodRecord harts result }
+{
+    TraceRecord::Free { addr }
+}
+
+// Bytes that the guest puts out: the files get them.
+fn note_output<S: Shelf>(
+    shelf: &mut S,
+    files: &[RunFile<'_>],
+    outputs: &mut TraceOutputs<'_>,
+    bytes: &[u8],
+) -> Result<(), ShelfError>
+    requires paired { length outputs.old ≡ length files.now }
+    requires begun { AreBegun (waiting_names outputs.old) (S.outside shelf.old) }
+    ensures noted { OnOk result
+        ((harts : ℕ) (items : List ARecord) (put : List ℕ) (before : Outside)
+        → AreNoted harts items put files.now outputs.old before (S.outside shelf.old)
+        → AreNoted harts items (put ++ bytes.now) files.now outputs.new before
+        (S.outside shelf.new)) }
+    ensures cut { IfErr result (λ error. (harts : ℕ) (items : List ARecord) (put : List ℕ)
+        (before : Outside)
+        → AreNoted harts items put files.now outputs.old before (S.outside shelf.old)
+        → AreCutAfter harts items (put ++ bytes.now) files.now before (S.outside shelf.new) error) }
+    ensures begun { OnOk result (AreBegun (waiting_names outputs.new) (S.outside shelf.new)) }
+    ensures count { length outputs.new ≡ length outputs.old }
+{
+    put_output(shelf, files, outputs, bytes)
+}
+
+// What is seen of a step of the guest.
+#[tactic(auto, unfolding(crate::specs::Recording::IsTold, crate::specs::Recording::records_told, crate::specs::Recording::bytes_told))]
+#[inline]
+pub(crate) fn note_event<S: Shelf, O: Observer>(
+    shelf: &mut S,
+    files: &[RunFile<'_>],
+    outputs: &mut TraceOutputs<'_>,
+    observer: &mut O,
+    guest: &Guest,
+    event: Event,
+) -> Result<(), ShelfError>
+    requires paired { length outputs.old ≡ length files.now }
+    requires begun { AreBegun (waiting_names outputs.old) (S.outside shelf.old) }
+    requires seen { IsTold guest.now.setup.harts event guest.now.config }
+    requires room { HasRoom O.begins O.given observer.old
+        (records_told guest.now.config event) }
+    ensures given { OnOk result ((begun : O) (earlier : List ARecord)
+        → O.given begun observer.old earlier
+        → O.given begun observer.new (earlier ++ records_told guest.now.config event)) }
+    ensures good { All (IsGoodRecord guest.now.setup.harts)
+        (records_told guest.now.config event) }
+    ensures noted { OnOk result
+        ((harts : ℕ) (items : List ARecord) (put : List ℕ) (before : Outside)
+        → AreNoted harts items put files.now outputs.old before (S.outside shelf.old)
+        → AreNoted harts (items ++ records_told guest.now.config event)
+        (put ++ bytes_told guest.now.config event) files.now outputs.new before
+        (S.outside shelf.new)) }
+    ensures cut { IfErr result (λ error. (harts : ℕ) (items : List ARecord) (put : List ℕ)
+        (before : Outside)
+        → AreNoted harts items put files.now outputs.old before (S.outside shelf.old)
+        → AreCutAfter harts (items ++ records_told guest.now.config event)
+        (put ++ bytes_told guest.now.config event) files.now before
+        (S.outside shelf.new) error) }
+    ensures begun { OnOk result (AreBegun (waiting_names outputs.new) (S.outside shelf.new)) }
+    ensures count { length outputs.new ≡ length outputs.old }
+{
+    match event {
+        Event::Quiet => Ok(()),
+        Event::Touch(access) => {
+            note_record(shelf, files, outputs, observer, &touch_record(access))
+        }
+        Event::Alloc { addr, size, sites } => {
+            note_record(
+                shelf,
+                files,
+                outputs,
+                observer,
+                &alloc_record(addr, size, sites),
+            )
+        }
+        Event::Free { addr } => { note_record(shelf, files, outputs, observer, &free_record(addr)) }
+        Event::Output { addr, len } => match guest.bytes(addr, len) {
+            Some(bytes) => note_output(shelf, files, outputs, bytes),
+            None => unreachable!(),
+        },
+    }
+}

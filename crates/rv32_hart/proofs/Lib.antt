@@ -1,0 +1,11 @@
+pub mod Fillings
+pub mod Freshness
+pub mod LoadedNumbers
+pub mod Mappings
+pub mod Products
+pub mod Releases
+pub mod Rights
+pub mod Slices
+pub mod StepKeeps
+pub mod Stores
+pub mod Within

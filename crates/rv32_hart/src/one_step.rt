@@ -1,0 +1,136 @@
+// One step of a hart.
+ghost use Rattle.std.specs.Prelude.{◌≡◌, ◌<◌, length};
+ghost use Rattle.rv32_hart.specs.Effect.{KeepsPages, LeavesUnlessNext, effect, machine, outcome};
+ghost use Rattle.rv32_hart.specs.Effect.{stepped};
+
+use crate::Memory;
+use crate::arithmetic::{alu_of, plain_op};
+use crate::effects::{
+    amo, branch, give, jump, load, load_reserved, moved_by, store, store_conditional,
+};
+use crate::hart_state::HartState;
+use crate::reservations::Reservations;
+use crate::step_end::StepEnd;
+use base::{Cause, Hart};
+use rv32_decode::{Instr, decode};
+
+/// One step of a hart: the instruction at its pc is fetched, decoded and has its effect.
+///
+/// `Next` is the effect, with the one access that the instruction made, if it made one. `Call`
+/// comes exactly at ECALL. `Trap` tells the first cause that there is: FetchOutside where no
+/// instruction can be fetched at the pc, Illegal where the word is none, Breakpoint at EBREAK,
+/// FetchMisaligned where a taken jump's target is no multiple of 4, and the fault of the access,
+/// where memory refuses it. At a call and at a trap all stays as it was, the pc included.
+#[inline(always)]
+#[tactic(auto, using(crate::proofs::StepKeeps::kept))]
+pub fn step(
+    hart: Hart,
+    state: &mut HartState,
+    memory: &mut Memory,
+    held: &mut Reservations,
+) -> StepEnd
+    requires { hart < length held.old }
+    ensures effect { outcome result (machine state.new memory.new held.new) ≡ stepped hart
+        (machine state.old memory.old held.old) }
+
+    // All stays at a call and at a trap.
+    ensures left { LeavesUnlessNext (machine state.old memory.old held.old) result
+        (machine state.new memory.new held.new) }
+
+    // No instruction changes how many harts or bytes there are, or the rights of a page.
+    ensures harts { length held.new ≡ length held.old }
+    ensures pages { KeepsPages memory.old memory.new }
+{
+    run_step(hart, state, memory, held)
+}
+
+#[inline(always)]
+#[tactic(auto, unfolding(crate::specs::Effect::stepped))]
+fn run_step(
+    hart: Hart,
+    state: &mut HartState,
+    memory: &mut Memory,
+    held: &mut Reservations,
+) -> StepEnd
+    requires { hart < length held.old }
+    ensures { outcome result (machine state.new memory.new held.new) ≡ stepped hart
+        (machine state.old memory.old held.old) }
+{
+    let word = match memory.fetch_word(state.pc()) {
+        Ok(word) => word,
+        Err(_) => return StepEnd::Trap(Cause::FetchOutside),
+    };
+    match decode(word) {
+        Some(instr) => act(hart, instr, state, memory, held),
+        None => StepEnd::Trap(Cause::Illegal),
+    }
+}
+
+#[inline(always)]
+fn act(
+    hart: Hart,
+    instr: Instr,
+    state: &mut HartState,
+    memory: &mut Memory,
+    held: &mut Reservations,
+) -> StepEnd
+    requires { hart < length held.old }
+    ensures { outcome result (machine state.new memory.new held.new) ≡ effect hart instr
+        (machine state.old memory.old held.old) }
+{
+    match instr {
+        Instr::Lui { rd, imm } => give(instr, rd, imm, state),
+        Instr::Auipc { rd, imm } => give(instr, rd, state.pc().wrapping_add(imm), state),
+        Instr::Jal { rd, offset } => jump(instr, rd, moved_by(state.pc(), offset), state),
+        Instr::Jalr { rd, rs1, offset } => {
+            jump(instr, rd, moved_by(state.reg(rs1), offset) / 2 * 2, state)
+        }
+        Instr::Branch {
+            test,
+            rs1,
+            rs2,
+            offset,
+        } => branch(instr, test, rs1, rs2, offset, state),
+        Instr::Load {
+            kind,
+            rd,
+            rs1,
+            offset,
+        } => load(hart, instr, kind, rd, rs1, offset, state, memory),
+        Instr::Store {
+            kind,
+            rs1,
+            rs2,
+            offset,
+        } => store(hart, instr, kind, rs1, rs2, offset, state, memory, held),
+        Instr::Imm { op, rd, rs1, value } => give(
+            instr,
+            rd,
+            alu_of(plain_op(op), state.reg(rs1), value.cast_unsigned()),
+            state,
+        ),
+        Instr::Op { op, rd, rs1, rs2 } => give(
+            instr,
+            rd,
+            alu_of(op, state.reg(rs1), state.reg(rs2)),
+            state,
+        ),
+        Instr::Fence { .. } => {
+            state.advance();
+            StepEnd::Next(instr, None)
+        }
+        Instr::Ecall => StepEnd::Call,
+        Instr::Ebreak => StepEnd::Trap(Cause::Breakpoint),
+        Instr::Lr { rd, rs1, .. } => load_reserved(hart, instr, rd, rs1, state, memory, held),
+        Instr::Sc { rd, rs1, rs2, .. } => {
+            store_conditional(hart, instr, rd, rs1, rs2, state, memory, held)
+        }
+        Instr::Amo {
+            op,
+            rd,
+            rs1,
+            rs2,
+            ..
+        } => amo(hart, instr, op, rd, rs1, rs2, state, memory, held),
+    }
+}

@@ -1,4 +1,0 @@
-pub mod Registers
-pub mod Reserved
-pub mod Arithmetic
-pub mod Effect

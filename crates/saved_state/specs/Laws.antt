@@ -1,0 +1,12 @@
+pub mod Again
+pub mod Counted
+pub mod DueTracks
+pub mod GoodLists
+pub mod GoodTracks
+pub mod GoodWords
+pub mod Lengths
+pub mod Lists
+pub mod OfLists
+pub mod Parts
+pub mod Predicted
+pub mod Reading

@@ -1,0 +1,16 @@
+pub mod Counted
+pub mod HeaderPlaces
+pub mod Laws
+pub mod ObjectJudging
+pub mod ObjectRules
+pub mod ObjectSpelling
+pub mod ObjectUnits
+pub mod OfLists
+pub mod Parts
+pub mod Reading
+pub mod Ready
+pub mod Resuming
+pub mod Saving
+pub mod Spelling
+pub mod Units
+pub mod WrittenParts

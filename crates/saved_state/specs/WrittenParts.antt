@@ -1,0 +1,20 @@
+-- What the parts that a state is written of mean.
+use Rattle.line_tracks.specs.Kept.{Kept}
+use Rattle.saved_state.specs.declared.track_order.TrackRef.{TrackRef}
+use Rattle.saved_state.specs.declared.state_parts.StateParts.{StateParts}
+use Rattle.saved_state.specs.Spelling.{State}
+
+abbrev pub state_of : StateParts → State
+state_of s = record {
+  grid = s.layout;
+  tracking = s.thresholds.tracking;
+  prediction = s.thresholds.prediction;
+  harts = s.harts;
+  position = s.position;
+  lines = s.lines.now;
+  tracks = s.tracks.now;
+}
+
+-- the track that is meant
+abbrev pub track_of : TrackRef → Kept
+track_of one = one.track.now

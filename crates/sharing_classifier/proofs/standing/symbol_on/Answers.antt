@@ -1,5 +1,0 @@
-use Rattle.sharing_classifier.proofs.StandingLaws.{symbol_exact}
-use Rattle.sharing_classifier.proofs.standing.symbol_on.Goals as goal
-
-pub returns-clause-exact : goal.returns-clause-exact
-returns-clause-exact c = rw c.do_meet.ensures (symbol_exact c.args.range c.args.addr c.args.size)

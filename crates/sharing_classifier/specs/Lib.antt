@@ -1,3 +1,0 @@
-pub mod Quiet
-pub mod Standing
-pub mod QuietLaws

@@ -1,0 +1,584 @@
+-- One of the files on their way, and the others beside it.
+use Rattle.std.proofs.Common.{◌≡◌, ◌≢◌, ℕ, ◌<◌, ◌≤◌, zero, suc, List, [], ◌∷◌, ◌++◌, length, get_or}
+use Rattle.std.proofs.Common.{Option, Some, None, true, false}
+use Rattle.std.proofs.Common.{Result, Ok, Err, ◌⊎◌, OnOk, OnErr, IfErr, refl, sym, ap, ◌∙◌, subst}
+use Rattle.std.proofs.Common.{inl, inr, arith}
+use Rattle.std.specs.Prelude.{IsErrOf, IsErrAnd}
+use Rattle.std.proofs.Math.ListN.{set}
+use Rattle.std.proofs.Common.{length-set}
+use Rattle.std.proofs.lemmas.Bool.{cases_Bool}
+use Rattle.std.proofs.lemmas.Slice.Eq.{bytes_eq-Decides}
+use Rattle.std.specs.Str.{bytes_eq}
+use Rattle.std.proofs.Math.Seq.{map-set_same}
+use Rattle.std.proofs.lemmas.List.{append-nil}
+use Rattle.shelf.specs.Shelf.{Outside, Files, Told, Goes, HasCauseAt, ChangesAt, OnlyWrites, Rose}
+use Rattle.shelf.specs.declared.shelf.ShelfError.{ShelfError}
+use Rattle.shelf.specs.declared.shelf.ShelfError.TheVariants.{Failed, NoMemory}
+use Rattle.shelf.specs.Files.{Output, MayStand, RoseAmong, AreCut, AreWritten}
+use Rattle.shelf.specs.OneFile.{Waiting, kept_of, AddsUp, Holds, IsBegun, Sunk, HoldsFront}
+use Rattle.shelf.specs.OneFile.{OthersStay, OthersStand}
+use Rattle.shelf.specs.OnTheirWay.{names_of, IsNew, AreApart, AreBegun, AreSunk, IsOutputs}
+use Rattle.shelf.specs.OnTheirWay.{NothingWaits, changed_at, waiting_with}
+use Rattle.shelf.specs.Laws.Files.{Sunk-front, goes_then, Others, output_names, MayBe, AllMayBe}
+use Rattle.shelf.specs.Laws.Files.{AreHeld, all_may, held_whole, may_all}
+use Rattle.shelf.specs.Laws.Files.{front_may, sunk_names}
+
+pub changed_not : (outputs : List Output) (place : ℕ) → changed_at outputs place (λ b. b) ≡ outputs
+changed_not [] place = refl
+changed_not (o ∷ outputs) zero = refl
+changed_not (o ∷ outputs) (suc place) = ap (λ (l : List Output). o ∷ l) (changed_not outputs place)
+
+-- a call that did its work on one file
+pub record Moves (f after : Waiting) (g : List ℕ → List ℕ) (old new : Outside) : Type 0 where
+  pub name : after.name ≡ f.name
+  pub sunk : (bytes : List ℕ) → Sunk f bytes old → Sunk after (g bytes) new
+  pub others : OthersStay f.name old new
+  pub stand : OthersStand f.name old new
+  pub faults : new.write_faults ≡ old.write_faults
+  pub only : OnlyWrites old new
+
+-- a call that gave up on one file
+pub record Stops (f : Waiting) (g : List ℕ → List ℕ) (old new : Outside)
+    (e : ShelfError) : Type 0 where
+  pub front : (bytes : List ℕ) → Sunk f bytes old → HoldsFront f.name (g bytes) new
+  pub others : OthersStay f.name old new
+  pub stand : OthersStand f.name old new
+  pub cause : HasCauseAt {T = Unit {0}} f.name old.write_faults new.write_faults (Err e)
+  pub only : OnlyWrites old new
+
+pub only_then : (a b c : Outside) → OnlyWrites a b → OnlyWrites b c → OnlyWrites a c
+only_then a b c x y = record {
+  held = y.held ∙ x.held;
+  printed = y.printed ∙ x.printed;
+  read_faults = y.read_faults ∙ x.read_faults;
+  print_faults = y.print_faults ∙ x.print_faults;
+}
+
+same_error : (T : Type 0) (e f : ShelfError) → e ≡ f → IsErrOf {T = T} (Err e) f
+same_error T e f same = ap (λ (x : ShelfError). let r : Result T ShelfError = Err x in r) same
+
+other_error : (T : Type 0) (e f : ShelfError) → e ≢ f → IsErrOf {T = T} (Err e) f → ⊥
+other_error T e f other is = other (cc)
+
+-- ---- names
+
+pub name_at : (files : List Waiting) (i : ℕ) (f after : Waiting) → get_or files i f ≡ f → after.name
+    ≡ f.name
+    → names_of (set files i after) ≡ names_of files
+name_at files i f after is same = map-set_same (λ x. x.name) files i after f
+    (same ∙ sym (ap (λ (x : Waiting). x.name) is))
+
+-- a name that is none of the files' is not that of one of them
+pub new_at : (name : List ℕ) (files : List Waiting) (i : ℕ) (f : Waiting) → i < length files
+    → get_or files i f ≡ f
+    → IsNew name (names_of files) → f.name ≢ name
+new_at name [] i f below is new = absurd (omega arith)
+new_at name (x ∷ files) zero f below is new = subst (λ (y : Waiting). y.name ≢ name) is new.0
+new_at name (x ∷ files) (suc i) f below is new = new_at name files i f (omega arith) is new.1
+
+pub begun_at : (files : List Waiting) (i : ℕ) (f : Waiting) (outside : Outside) → i < length files
+    → get_or files i f ≡ f
+    → AreBegun (names_of files) outside → IsBegun f.name outside
+begun_at [] i f outside below is begun = absurd (omega arith)
+begun_at (x ∷ files) zero f outside below is begun = subst (λ (y : Waiting). IsBegun y.name outside)
+    is begun.0
+begun_at (x ∷ files) (suc i) f outside below is begun = begun_at files i f outside
+    (omega arith) is begun.1
+
+pub new_append : (name last : List ℕ) (names : List (List ℕ)) → IsNew name (names ++ last ∷ [])
+    → IsNew name names × (last ≢ name)
+new_append name last [] new = (tt, new.0)
+new_append name last (n ∷ names) new = let r = new_append name last names new.1 in
+    ((new.0, r.0), r.1)
+
+pub new_added : (name last : List ℕ) (names : List (List ℕ)) → IsNew name names → last ≢ name
+    → IsNew name (names ++ last ∷ [])
+new_added name last [] new other = (other, tt)
+new_added name last (n ∷ names) new other = (new.0, new_added name last names new.1 other)
+
+pub apart_added : (last : List ℕ) (names : List (List ℕ)) → AreApart names → IsNew last names
+    → AreApart (names ++ last ∷ [])
+apart_added last [] apart new = (tt, tt)
+apart_added last (n ∷ names) apart new = (
+  new_added n last names apart.0 (λ e. new.0 (sym e)),
+  apart_added last names apart.1 new.1,
+)
+
+-- ---- what was put
+
+pub begun_stays : (name : List ℕ) (names : List (List ℕ)) (old new : Outside)
+    → OthersStand name old new → IsBegun name new
+    → AreBegun names old → AreBegun names new
+begun_stays name [] old new stand is begun = tt
+begun_stays name (n ∷ names) old new stand is begun =
+    let one : IsBegun n new =
+    elim (cases_Bool (bytes_eq n name)) [
+      | inl same ↦ subst (λ (x : List ℕ). IsBegun x new) (sym ((bytes_eq-Decides n name).0 same)) is
+      | inr not_same ↦ stand.begun n (λ e. let both : true
+          ≡ false = sym ((bytes_eq-Decides n name).1 e) ∙ not_same in cc) begun.0
+    ] in
+    (one, begun_stays name names old new stand is begun.1)
+
+-- files of other names stand
+pub all_stay : (name : List ℕ) (files : List Waiting) (outputs : List Output) (old new : Outside)
+    → IsNew name (names_of files)
+    → OthersStand name old new
+    → AreSunk files outputs old → AreSunk files outputs new
+all_stay name [] [] old new is stand sunk = tt
+all_stay name [] (o ∷ outputs) old new is stand sunk = absurd sunk
+all_stay name (f ∷ files) [] old new is stand sunk = absurd sunk
+all_stay name (f ∷ files) (o ∷ outputs) old new is stand sunk = (
+  sunk.0,
+  stand.sunk f o.bytes is.0 sunk.1,
+  all_stay name files outputs old new is.1 stand
+      sunk.2,
+)
+
+sunk_moved : (f after : Waiting) (g : List ℕ → List ℕ) (old new : Outside) → Moves f after g old new
+    → (files : List Waiting) (i : ℕ)
+    → i < length files → get_or files i f ≡ f
+    → AreApart (names_of files) → (outputs : List Output) → AreSunk files outputs old
+    → AreSunk (set files i after) (changed_at outputs i g) new
+sunk_moved f after g old new moves [] i below is apart outputs sunk = absurd (omega arith)
+sunk_moved f after g old new moves (x ∷ files) i below is apart [] sunk = absurd sunk
+sunk_moved f after g old new moves (x ∷ files) zero below is apart (o ∷ outputs) sunk =
+    let name : after.name ≡ o.name = moves.name ∙ sym (ap (λ (y : Waiting). y.name) is) ∙ sunk.0 in
+    let put : Sunk f o.bytes old = subst (λ (y : Waiting). Sunk y o.bytes old) is sunk.1 in
+    let new_name : IsNew f.name (names_of files) =
+    subst (λ (y : Waiting). IsNew y.name (names_of files)) is apart.0 in (
+      name,
+      moves.sunk o.bytes put,
+      all_stay f.name files outputs old new new_name moves.stand
+          sunk.2,
+    )
+sunk_moved f after g old new moves (x ∷ files) (suc i) below is apart (o ∷ outputs) sunk =
+    let other : f.name ≢ x.name = new_at x.name files i f (omega arith) is apart.0 in (
+      sunk.0,
+      moves.stand.sunk x o.bytes (λ e. other (sym e)) sunk.1,
+      sunk_moved f after g old new moves files i (omega arith) is apart.1
+          outputs sunk.2,
+    )
+
+-- one file moves on, and all are on their way
+pub outputs_moved : (f after : Waiting) (g : List ℕ → List ℕ) (old new : Outside)
+    → Moves f after g old new
+    → (files : List Waiting) (i : ℕ) → i < length files → get_or files i f ≡ f
+    → AreApart (names_of files) → (outputs : List Output) (before : Outside)
+    → IsOutputs files outputs before old
+    → IsOutputs (set files i after) (changed_at outputs i g) before new
+outputs_moved f after g old new moves files i below is apart outputs before on = record {
+  sunk = sunk_moved f after g old new moves files i below is apart outputs on.sunk;
+  others = goes_then (Others (names_of files)) (λ b n. (m : List ℕ) → m ≢ f.name → n m ≡ b m)
+      (Others (names_of (set files i after)))
+      before.written old.written new.written
+      (λ x y z p q name fresh.
+      let so : IsNew name (names_of files) = subst (λ (l : List (List ℕ)). IsNew name l)
+      (name_at files i f after is moves.name) fresh
+      in
+      q name (λ e. new_at name files i f below is so (sym e)) ∙ p name so) on.others moves.others;
+  faults = moves.faults ∙ on.faults;
+  only = only_then before old new on.only moves.only;
+}
+
+-- ---- where a call gave up
+
+may_moved : (f : Waiting) (g : List ℕ → List ℕ) (before old new : Outside) (r : ShelfError)
+    → Stops f g old new r → (P : _)
+    → Goes before.written new.written P
+    → (files : List Waiting) (i : ℕ) → i < length files → get_or files i f ≡ f
+    → AreApart (names_of files) → (outputs : List Output)
+    → AreSunk files outputs old
+    → AllMayBe (changed_at outputs i g) before new
+may_moved f g before old new r stops P goes [] i below is apart outputs sunk = absurd (omega arith)
+may_moved f g before old new r stops P goes (x ∷ files) i below is apart [] sunk = absurd sunk
+may_moved f g before old new r stops P goes (x ∷ files) zero below is apart (o ∷ outputs) sunk =
+    let name : f.name ≡ o.name = sym (ap (λ (y : Waiting). y.name) is) ∙ sunk.0 in
+    let put : Sunk f o.bytes old = subst (λ (y : Waiting). Sunk y o.bytes old) is sunk.1 in
+    let new_name : IsNew f.name (names_of files) =
+    subst (λ (y : Waiting). IsNew y.name (names_of files)) is apart.0 in (
+      front_may o.name (g o.bytes) P before new goes
+          (subst (λ (n : List ℕ). HoldsFront n (g o.bytes) new) name
+          (stops.front o.bytes put)),
+      all_may files outputs P before new goes
+          (all_stay f.name files outputs old new new_name stops.stand sunk.2),
+    )
+may_moved f g before old new r stops P goes (x ∷ files) (suc i) below is apart (o ∷ outputs) sunk =
+    let other : f.name ≢ x.name = new_at x.name files i f (omega arith) is apart.0 in
+    let stays : Sunk x o.bytes new = stops.stand.sunk x o.bytes (λ e. other (sym e)) sunk.1 in (
+      front_may o.name o.bytes P before new goes
+          (subst (λ (n : List ℕ). HoldsFront n o.bytes new) sunk.0
+          (Sunk-front x o.bytes new stays)),
+      may_moved f g before old new r stops P goes files i (omega arith) is apart.1 outputs sunk.2,
+    )
+
+rose_at : (f : Waiting) (g : List ℕ → List ℕ) (before now : List ℕ → ℕ) (old : Outside)
+    → Rose (before f.name) (now f.name)
+    → (files : List Waiting) (i : ℕ) → i < length files → get_or files i f ≡ f
+    → (outputs : List Output) → AreSunk files outputs old
+    → RoseAmong (changed_at outputs i g) before now
+rose_at f g before now old rose [] i below is outputs sunk = absurd (omega arith)
+rose_at f g before now old rose (x ∷ files) i below is [] sunk = absurd sunk
+rose_at f g before now old rose (x ∷ files) zero below is (o ∷ outputs) sunk =
+    let name : f.name ≡ o.name = sym (ap (λ (y : Waiting). y.name) is) ∙ sunk.0 in
+    inl (subst (λ (n : List ℕ). Rose (before n) (now n)) name rose)
+rose_at f g before now old rose (x ∷ files) (suc i) below is (o ∷ outputs) sunk = inr
+    (rose_at f g before now old rose files i (omega arith) is outputs sunk.2)
+
+changed_names : (outputs : List Output) (i : ℕ) (g : List ℕ → List ℕ)
+    → output_names (changed_at outputs i g) ≡ output_names outputs
+changed_names [] i g = refl
+changed_names (o ∷ outputs) zero g = refl
+changed_names (o ∷ outputs) (suc i) g = ap (λ (l : List (List ℕ)). o.name ∷ l)
+    (changed_names outputs i g)
+
+-- one file is cut, and all the others stand
+pub outputs_stopped : (f : Waiting) (g : List ℕ → List ℕ) (old new : Outside) (r : ShelfError)
+    → Stops f g old new r
+    → (files : List Waiting) (i : ℕ) → i < length files
+    → get_or files i f ≡ f → AreApart (names_of files) → (outputs : List Output) (before : Outside)
+    → IsOutputs files outputs before old
+    → AreCut (changed_at outputs i g) before new r
+outputs_stopped f g old new r stops files i below is apart outputs before on =
+    let names : output_names (changed_at outputs i g) ≡ names_of files = changed_names outputs i g
+    ∙ sunk_names files outputs old
+    on.sunk in
+    let goes : Goes before.written new.written (Others (output_names (changed_at outputs i g))) =
+    goes_then (Others (names_of files)) (λ b n. (m : List ℕ) → m ≢ f.name → n m ≡ b m)
+    (Others (output_names (changed_at outputs i g)))
+    before.written old.written new.written
+    (λ x y z p q name fresh.
+    let so : IsNew name (names_of files) = subst (λ (l : List (List ℕ)). IsNew name l) names fresh
+    in
+    q name (λ e. new_at name files i f below is so (sym e)) ∙ p name so) on.others stops.others in
+    let same : old.write_faults ≡ before.write_faults = on.faults in
+    let cause : HasCauseAt {T = Unit {0}} f.name before.write_faults new.write_faults (Err r) =
+    subst
+    (λ (h : List ℕ → ℕ). HasCauseAt {T = Unit {0}} f.name h new.write_faults (Err r)) same
+    stops.cause in
+    record {
+      may = may_all (changed_at outputs i g) before new goes
+          (may_moved f g before old new r stops (Others (output_names (changed_at outputs i g)))
+          goes files i below is apart outputs
+          on.sunk);
+      cause = record {
+        later = cause.later;
+        failed = λ e. rose_at f g before.write_faults new.write_faults old
+            (cause.failed (same_error (Unit {0}) r Failed e)) files i
+            below is outputs on.sunk;
+        quiet = λ other. cause.quiet (other_error (Unit {0}) r Failed other);
+      };
+      only = only_then before old new on.only stops.only;
+    }
+
+-- ---- all is written
+
+held_told : (name kept bytes : List ℕ) (written : Option Files) → kept ≡ []
+    → Told written (AddsUp (record { name = name; kept = kept }) bytes)
+    → Told written (λ files. files name ≡ Some bytes)
+held_told name kept bytes None none sunk = tt
+held_told name kept bytes (Some files) none sunk =
+    let all : sunk.0 ++ [] ≡ bytes = subst (λ (l : List ℕ). sunk.0 ++ l ≡ bytes) none sunk.2 in
+    sunk.1 ∙ ap (λ (l : List ℕ). Some l) (sym (append-nil sunk.0) ∙ all)
+
+all_held : (files : List Waiting) (outputs : List Output) (outside : Outside) → NothingWaits files
+    → AreSunk files outputs outside
+    → AreHeld outputs outside
+all_held files [] outside nothing sunk = tt
+all_held [] (o ∷ outputs) outside nothing sunk = absurd sunk
+all_held (f ∷ files) (o ∷ outputs) outside nothing sunk = (
+  subst (λ (n : List ℕ). Holds n o.bytes outside) sunk.0
+      (held_told f.name f.kept o.bytes outside.written nothing.0 sunk.1),
+  all_held
+      files outputs outside nothing.1 sunk.2,
+)
+
+pub outputs_written : (files : List Waiting) (outputs : List Output) (before now : Outside)
+    → NothingWaits files
+    → IsOutputs files outputs before now → AreWritten outputs before now
+outputs_written files outputs before now nothing on = record {
+  whole = held_whole outputs before now (subst
+      (λ (l : List (List ℕ)). Goes before.written now.written (Others l))
+      (sym (sunk_names files outputs now on.sunk)) on.others)
+      (all_held files outputs now nothing on.sunk);
+  faults = on.faults;
+  only = on.only;
+}
+
+-- ---- a call by its answer
+
+pub moves_ok : {T : Type 0} (f after : Waiting) (g : List ℕ → List ℕ) (old new : Outside)
+    (r : Result T ShelfError)
+    → OnOk r ((bytes : List ℕ) → Sunk f bytes old → Sunk after (g bytes) new)
+    → after.name ≡ f.name → OthersStay f.name old new → OthersStand f.name old new
+    → HasCauseAt f.name old.write_faults new.write_faults r → OnlyWrites old new
+    → OnOk r (Moves f after g old new)
+moves_ok f after g old new (Ok x) sunk name others stand cause only = record {
+  name = name;
+  sunk = sunk;
+  others = others;
+  stand = stand;
+  faults = cause.quiet (λ e. cc);
+  only = only;
+}
+moves_ok f after g old new (Err e) sunk name others stand cause only = tt
+
+pub stops_err : (f : Waiting) (g : List ℕ → List ℕ) (old new : Outside)
+    (r : Result (Unit {0}) ShelfError)
+    → OnErr r ((bytes : List ℕ) → Sunk f bytes old → HoldsFront f.name (g bytes) new)
+    → OthersStay f.name old new → OthersStand f.name old new
+    → HasCauseAt f.name old.write_faults new.write_faults r
+    → OnlyWrites old new → IfErr r (λ e. Stops f g old new e)
+stops_err f g old new (Ok x) front others stand cause only = tt
+stops_err f g old new (Err e) front others stand cause only = record
+    { front = front; others = others; stand = stand; cause = cause; only = only }
+
+waiting_of : (w : Waiting) (name kept : List ℕ) → w.name ≡ name → w.kept ≡ kept → w
+    ≡ record { name = name; kept = kept }
+waiting_of w name kept p q =
+    ap (λ (n : List ℕ). let r : Waiting = record { name = n; kept = w.kept } in r) p ∙ ap
+    (λ (k : List ℕ). let r : Waiting = record { name = name; kept = k } in r) q
+
+-- what waits after a put
+pub waits_at : (files : List Waiting) (i : ℕ) (f after : Waiting) (bytes : List ℕ)
+    → i < length files → get_or files i f ≡ f
+    → after.name ≡ f.name → after.kept ≡ kept_of (f.kept ++ bytes)
+    → set files i after ≡ waiting_with files i bytes
+waits_at [] i f after bytes below is name kept = absurd (omega arith)
+waits_at (x ∷ files) zero f after bytes below is name kept =
+    let same : after ≡ record f { kept = kept_of (f.kept ++ bytes) } = waiting_of after f.name
+    (kept_of (f.kept ++ bytes)) name kept in
+    ap (λ (w : Waiting). w ∷ files) (same
+    ∙ ap (λ (w : Waiting). let r : Waiting = record w { kept = kept_of (w.kept ++ bytes) } in r)
+    (sym is))
+waits_at (x ∷ files) (suc i) f after bytes below is name kept = ap (λ (l : List Waiting). x ∷ l)
+    (waits_at files i f after bytes (omega arith) is name kept)
+
+-- ---- each file in turn
+
+-- of the first so many files nothing waits
+abbrev pub FirstDone : ℕ → List Waiting → Type 0
+FirstDone zero files = Unit {0}
+FirstDone (suc i) [] = Unit {0}
+FirstDone (suc i) (f ∷ files) = (f.kept ≡ []) × FirstDone i files
+
+pub done_more : (files : List Waiting) (i : ℕ) (after : Waiting) → after.kept ≡ []
+    → FirstDone i files
+    → FirstDone (suc i) (set files i after)
+done_more [] i after none done = tt
+done_more (x ∷ files) zero after none done = (none, tt)
+done_more (x ∷ files) (suc i) after none done = (done.0, done_more files i after none done.1)
+
+pub done_all : (files : List Waiting) → FirstDone (length files) files → NothingWaits files
+done_all [] done = tt
+done_all (f ∷ files) done = (done.0, done_all files done.1)
+
+-- the first so many files are whole, and all are on their way
+pub record FinishedTo (first now : List Waiting) (place : ℕ) (old new : Outside) : Type 0 where
+  pub names : names_of now ≡ names_of first
+  pub long : length now ≡ length first
+  pub begun : AreBegun (names_of now) new
+  pub outputs : (outputs : List Output) (before : Outside) → IsOutputs first outputs before old
+      → IsOutputs now outputs before new
+  pub done : FirstDone place now
+
+-- ---- one file more
+
+names_added : (files : List Waiting) (f : Waiting) → names_of (files ++ f ∷ [])
+    ≡ names_of files ++ f.name ∷ []
+names_added [] f = refl
+names_added (x ∷ files) f = ap (λ (l : List (List ℕ)). x.name ∷ l) (names_added files f)
+
+output_names_added : (outputs : List Output) (o : Output) → output_names (outputs ++ o ∷ [])
+    ≡ output_names outputs ++ o.name ∷ []
+output_names_added [] o = refl
+output_names_added (x ∷ outputs) o = ap (λ (l : List (List ℕ)). x.name ∷ l)
+    (output_names_added outputs o)
+
+sunk_added : (files : List Waiting) (outputs : List Output) (f : Waiting) (o : Output)
+    (outside : Outside)
+    → AreSunk files outputs outside → f.name ≡ o.name → Sunk f o.bytes outside
+    → AreSunk (files ++ f ∷ []) (outputs ++ o ∷ []) outside
+sunk_added [] [] f o outside sunk same last = (same, last, tt)
+sunk_added [] (x ∷ outputs) f o outside sunk same last = absurd sunk
+sunk_added (y ∷ files) [] f o outside sunk same last = absurd sunk
+sunk_added (y ∷ files) (x ∷ outputs) f o outside sunk same last =
+    (sunk.0, sunk.1, sunk_added files outputs f o outside sunk.2 same last)
+
+-- a file that was begun
+pub record IsBegunFile (f : Waiting) (old new : Outside) : Type 0 where
+  pub sunk : Sunk f [] new
+  pub others : OthersStay f.name old new
+  pub stand : OthersStand f.name old new
+  pub faults : new.write_faults ≡ old.write_faults
+  pub only : OnlyWrites old new
+
+pub apart_more : (files : List Waiting) (f : Waiting) → IsNew f.name (names_of files)
+    → AreApart (names_of files)
+    → AreApart (names_of (files ++ f ∷ []))
+apart_more files f new apart = subst AreApart (sym (names_added files f))
+    (apart_added f.name (names_of files) apart new)
+
+pub outputs_begun : (f : Waiting) (files : List Waiting) (outputs : List Output)
+    (before old new : Outside)
+    → IsNew f.name (names_of files) → IsBegunFile f old new → IsOutputs files outputs before old
+    → IsOutputs (files ++ f ∷ []) (outputs ++ record { name = f.name; bytes = [] } ∷ []) before new
+outputs_begun f files outputs before old new is begins on = record {
+  sunk = sunk_added files outputs f (record { name = f.name; bytes = [] }) new
+      (all_stay f.name files outputs old new is begins.stand on.sunk) refl begins.sunk;
+  others = goes_then (Others (names_of files)) (λ b n. (m : List ℕ) → m ≢ f.name → n m ≡ b m)
+      (Others (names_of (files ++ f ∷ [])))
+      before.written old.written new.written
+      (λ x y z p q name fresh.
+      let both : IsNew name (names_of files) × (f.name ≢ name) = new_append name f.name
+      (names_of files)
+      (subst (λ (l : List (List ℕ)). IsNew name l) (names_added files f) fresh) in
+      q name (λ e. both.1 (sym e)) ∙ p name both.0) on.others begins.others;
+  faults = begins.faults ∙ on.faults;
+  only = only_then before old new on.only begins.only;
+}
+
+begun_added : (names : List (List ℕ)) (last : List ℕ) (outside : Outside) → AreBegun names outside
+    → IsBegun last outside
+    → AreBegun (names ++ last ∷ []) outside
+begun_added [] last outside begun is = (is, tt)
+begun_added (n ∷ names) last outside begun is = (begun.0, begun_added names last outside begun.1 is)
+
+pub begun_more : (files : List Waiting) (f : Waiting) (old new : Outside)
+    → OthersStand f.name old new → IsBegun f.name new
+    → AreBegun (names_of files) old → AreBegun (names_of (files ++ f ∷ [])) new
+begun_more files f old new stand is begun =
+    subst (λ (l : List (List ℕ)). AreBegun l new) (sym (names_added files f))
+    (begun_added (names_of files) f.name new
+    (begun_stays f.name (names_of files) old new stand is begun) is)
+
+pub begun_moved : (files : List Waiting) (i : ℕ) (f after : Waiting) (old new : Outside)
+    → get_or files i f ≡ f → after.name ≡ f.name
+    → OthersStand f.name old new → IsBegun f.name new
+    → AreBegun (names_of files) old → AreBegun (names_of (set files i after)) new
+begun_moved files i f after old new at name stand is begun =
+    subst (λ (l : List (List ℕ)). AreBegun l new) (sym (name_at files i f after at name))
+    (begun_stays f.name (names_of files) old new stand is begun)
+
+may_added : (outputs : List Output) (o : Output) (before now : Outside)
+    → AllMayBe outputs before now → MayBe o before now
+    → AllMayBe (outputs ++ o ∷ []) before now
+may_added [] o before now may last = (last, tt)
+may_added (x ∷ outputs) o before now may last = (may.0, may_added outputs o before now may.1 last)
+
+rose_added : (outputs : List Output) (o : Output) (f g : List ℕ → ℕ) → Rose (f o.name) (g o.name)
+    → RoseAmong (outputs ++ o ∷ []) f g
+rose_added [] o f g rose = inl rose
+rose_added (x ∷ outputs) o f g rose = inr (rose_added outputs o f g rose)
+
+begins_may : (was now : Option (List ℕ)) → (now ≡ was) ⊎ (now ≡ Some [])
+    → MayStand (Some []) was now
+begins_may was now (inl same) = inl same
+begins_may was now (inr empty) = inr (0, empty)
+
+pub begin_cut : {T : Type 0} (name : List ℕ) (files : List Waiting) (outputs : List Output)
+    (before old new : Outside) (r : ShelfError)
+    → IsNew name (names_of files)
+    → Goes old.written new.written (ChangesAt name (λ was now. (now ≡ was) ⊎ (now ≡ Some [])))
+    → OthersStand name old new
+    → HasCauseAt {T = T} name old.write_faults new.write_faults (Err r) → OnlyWrites old new
+    → IsOutputs files outputs before old → AreCut
+    (outputs ++ record { name = name; bytes = [] } ∷ []) before new r
+begin_cut {T = T} name files outputs before old new r is begins stand cause only on =
+    let last : Output = record { name = name; bytes = [] } in
+    let names : output_names (outputs ++ last ∷ []) ≡ names_of files ++ name ∷ [] =
+    output_names_added outputs last ∙ ap
+    (λ (l : List (List ℕ)). l ++ name ∷ []) (sunk_names files outputs old on.sunk) in
+    let Change : Option (List ℕ) → Option (List ℕ) → Type 0 = λ was now. (now ≡ was)
+    ⊎ (now ≡ Some []) in
+    let goes : Goes before.written new.written (Others (output_names (outputs ++ last ∷ []))) =
+    goes_then (Others (names_of files)) (ChangesAt name Change)
+    (Others (output_names (outputs ++ last ∷ []))) before.written
+    old.written new.written
+    (λ x y z p q n fresh.
+    let both : IsNew n (names_of files) × (name ≢ n) = new_append n name (names_of files)
+    (subst (λ (l : List (List ℕ)). IsNew n l) names fresh) in
+    q.others n (λ e. both.1 (sym e)) ∙ p n both.0) on.others begins in
+    let may : MayBe last before new =
+    goes_then (Others (names_of files)) (ChangesAt name Change)
+    (λ b n. MayStand (Some []) (b name) (n name)) before.written old.written
+    new.written
+    (λ x y z p q. begins_may (x name) (z name)
+    (subst (λ (w : Option (List ℕ)). (z name ≡ w) ⊎ (z name ≡ Some [])) (p name is) q.here))
+    on.others begins in
+    let since : HasCauseAt {T = T} name before.write_faults new.write_faults (Err r) = subst
+    (λ (h : List ℕ → ℕ). HasCauseAt {T = T} name h new.write_faults (Err r)) on.faults cause in
+    record {
+      may = may_all (outputs ++ last ∷ []) before new goes
+          (may_added outputs last before new
+          (all_may files outputs (Others (output_names (outputs ++ last ∷ []))) before new goes
+          (all_stay name files outputs old new is stand on.sunk)) may);
+      cause = record {
+        later = since.later;
+        failed = λ e. rose_added outputs last before.write_faults new.write_faults
+            (since.failed (same_error T r Failed e));
+        quiet = λ other. since.quiet (other_error T r Failed other);
+      };
+      only = only_then before old new on.only only;
+    }
+
+pub begun_file : (f sink : Waiting) (old new : Outside) → sink ≡ f → Sunk sink [] new
+    → OthersStay f.name old new
+    → OthersStand f.name old new
+    → HasCauseAt f.name old.write_faults new.write_faults (Ok sink) → OnlyWrites old new
+    → IsBegunFile f old new
+begun_file f sink old new same sunk others stand cause only =
+    record {
+      sunk = subst (λ (w : Waiting). Sunk w [] new) same sunk;
+      others = others;
+      stand = stand;
+      faults = cause.quiet (λ e. cc);
+      only = only;
+    }
+
+-- an answer whose only error is want of memory
+pub only_memory : {T : Type 0} (P : ShelfError → Type 0) (r : Result T ShelfError)
+    → IsErrAnd r (λ e. e ≡ NoMemory) → P NoMemory
+    → IfErr r P
+only_memory P (Ok x) is p = tt
+only_memory P (Err x) is p = subst P (sym is) p
+
+pub finished_more : (first files : List Waiting) (i : ℕ) (f after : Waiting) (old mid new : Outside)
+    → FinishedTo first files i old mid
+    → AreApart (names_of first) → i < length files → get_or files i f ≡ f
+    → Moves f after (λ put. put) mid new → IsBegun f.name new → after.kept ≡ []
+    → FinishedTo first (set files i after) (suc i) old new
+finished_more first files i f after old mid new finished apart below is moves begun none =
+    let named : names_of (set files i after)
+    ≡ names_of files = name_at files i f after is moves.name in
+    record {
+      names = named ∙ finished.names;
+      long = length-set files i after ∙ finished.long;
+      begun = subst (λ (l : List (List ℕ)). AreBegun l new) (sym named)
+          (begun_stays f.name (names_of files) mid new moves.stand begun finished.begun);
+      outputs = λ outputs before on.
+          subst (λ (l : List Output). IsOutputs (set files i after) l before new)
+          (changed_not outputs i)
+          (outputs_moved f after (λ put. put) mid new moves files i below is
+          (subst AreApart (sym finished.names) apart) outputs before
+          (finished.outputs outputs before on));
+      done = done_more files i after none finished.done;
+    }
+
+pub finished_stops : (first files : List Waiting) (i : ℕ) (f : Waiting) (old mid new : Outside)
+    (r : ShelfError)
+    → FinishedTo first files i old mid → AreApart (names_of first)
+    → i < length files → get_or files i f ≡ f → Stops f (λ put. put) mid new r
+    → (outputs : List Output) (before : Outside)
+    → IsOutputs first outputs before old → AreCut outputs before new r
+finished_stops first files i f old mid new r finished apart below is stops outputs before on =
+    subst (λ (l : List Output). AreCut l before new r) (changed_not outputs i)
+    (outputs_stopped f (λ put. put) mid new r stops files i below is
+    (subst AreApart (sym finished.names) apart) outputs before
+    (finished.outputs outputs before on))
+
+pub finished_all : (first files : List Waiting) (i : ℕ) (old new : Outside)
+    → FinishedTo first files i old new → length first ≤ i
+    → i ≤ length first → NothingWaits files
+finished_all first files i old new finished above below =
+    let same : i ≡ length files = omega (arith, finished.long) in
+    done_all files (subst (λ (n : ℕ). FirstDone n files) same finished.done)

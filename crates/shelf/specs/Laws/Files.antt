@@ -1,0 +1,330 @@
+-- What follows from how files are on their way, by the definitions alone.
+use Rattle.std.proofs.Common.{◌≡◌, ◌≢◌, ℕ, zero, suc, List, [], ◌∷◌, ◌++◌, take, length, Option}
+use Rattle.std.proofs.Common.{Some, None, true, false, refl, sym, ap, ◌∙◌, subst, inl, inr, map}
+use Rattle.std.proofs.Common.{arith}
+use Rattle.std.specs.Prelude.{IsSome}
+use Rattle.std.proofs.lemmas.Bool.{cases_Bool}
+use Rattle.std.proofs.lemmas.List.{append-nil}
+use Rattle.std.proofs.Math.Seq.{take-append_seam}
+use Rattle.std.proofs.lemmas.Slice.Eq.{bytes_eq-Decides}
+use Rattle.std.specs.Option.{option_or}
+use Rattle.std.specs.Str.{bytes_eq}
+use Rattle.shelf.specs.Shelf.{Outside, Files, Told, Goes}
+use Rattle.shelf.specs.declared.shelf.ShelfError.{ShelfError}
+use Rattle.shelf.specs.declared.shelf.ShelfError.TheVariants.{Failed}
+use Rattle.shelf.specs.Files.{Output, bytes_for, MayStand, AllMayStand, AreWhole, GoOn, RoseAmong}
+use Rattle.shelf.specs.Files.{HasCauseAmong, AreCut}
+use Rattle.shelf.specs.OneFile.{Waiting, AddsUp, IsBegun, Sunk, Holds, HoldsFront}
+use Rattle.shelf.specs.OnTheirWay.{names_of, IsNew, AreBegun, AreSunk, IsOutputs, outputs_with}
+
+-- ---- meanings that a shelf may leave untold
+
+pub goes_then : {A : Type 0} (P Q R : A → A → Type 0) (a b c : Option A)
+    → ((x y z : A) → P x y → Q y z → R x z) → Goes a b P
+    → Goes b c Q → Goes a c R
+goes_then P Q R None None None f p q = tt
+goes_then P Q R None None (Some z) f p q = absurd q
+goes_then P Q R None (Some y) c f p q = absurd p
+goes_then P Q R (Some x) None c f p q = absurd p
+goes_then P Q R (Some x) (Some y) None f p q = absurd q
+goes_then P Q R (Some x) (Some y) (Some z) f p q = f x y z p q
+
+pub goes_by : {A : Type 0} (P Q : A → A → Type 0) (a b : Option A)
+    → ((x y : A) → a ≡ Some x → b ≡ Some y → P x y → Q x y) → Goes a b P
+    → Goes a b Q
+goes_by P Q None None f p = tt
+goes_by P Q None (Some y) f p = absurd p
+goes_by P Q (Some x) None f p = absurd p
+goes_by P Q (Some x) (Some y) f p = f x y refl refl p
+
+pub goes_at : {A : Type 0} (P : A → A → Type 0) (a b : Option A) (x y : A) → a ≡ Some x → b ≡ Some y
+    → Goes a b P → P x y
+goes_at {A = A} P a b x y i j goes =
+    let so : Goes (Some x) (Some y) P = subst (λ (o : Option A). Goes (Some x) o P) j
+    (subst (λ (o : Option A). Goes o b P) i goes) in
+    so
+
+pub told_at : {A : Type 0} (P : A → Type 0) (a : Option A) (x : A) → a ≡ Some x → Told a P → P x
+told_at {A = A} P a x i told = let so : Told (Some x) P = subst (λ (o : Option A). Told o P) i told
+    in so
+
+-- ---- one file
+
+begun_where_told : (sink : Waiting) (pushed : List ℕ) (written : Option Files)
+    → Told written (AddsUp sink pushed)
+    → (files : Files) → written ≡ Some files → IsSome (files sink.name)
+begun_where_told sink pushed None sunk files told = cc
+begun_where_told sink pushed (Some before) sunk files told = cc (told, sunk.1)
+
+-- the name of a sink is begun
+pub Sunk-begun : (sink : Waiting) (pushed : List ℕ) (outside : Outside) → Sunk sink pushed outside
+    → IsBegun sink.name outside
+Sunk-begun sink pushed outside sunk = begun_where_told sink pushed outside.written sunk
+
+front_where_told : (sink : Waiting) (pushed : List ℕ) (written : Option Files)
+    → Told written (AddsUp sink pushed)
+    → Told written (λ files. (k : ℕ) × (files sink.name ≡ Some (take k pushed)))
+front_where_told sink pushed None sunk = tt
+front_where_told sink pushed (Some files) sunk =
+    let front : take (length sunk.0) pushed ≡ sunk.0 =
+    ap (take (length sunk.0)) (sym sunk.2) ∙ take-append_seam sunk.0 sink.kept in
+    (length sunk.0, sunk.1 ∙ ap (λ x. Some x) (sym front))
+
+-- the file of the name is a front of what was put
+pub Sunk-front : (sink : Waiting) (pushed : List ℕ) (outside : Outside) → Sunk sink pushed outside
+    → HoldsFront sink.name pushed outside
+Sunk-front sink pushed outside sunk = front_where_told sink pushed outside.written sunk
+
+-- ---- files by their names
+
+abbrev pub output_names : List Output → List (List ℕ)
+output_names outputs = map (λ o. o.name) outputs
+
+-- each name that is none of these is as it was
+abbrev pub Others : List (List ℕ) → Files → Files → Type 0
+Others names old new = (name : List ℕ) → IsNew name names → new name ≡ old name
+
+here : (o : Output) (rest : List Output) (name : List ℕ) → bytes_eq o.name name ≡ true
+    → bytes_for (o ∷ rest) name ≡ Some o.bytes
+here o rest name is = rw is refl
+
+later : (o : Output) (rest : List Output) (name : List ℕ) → bytes_eq o.name name ≡ false
+    → bytes_for (o ∷ rest) name ≡ bytes_for rest name
+later o rest name is = rw is refl
+
+same_name : (a b : List ℕ) → bytes_eq a b ≡ true → a ≡ b
+same_name a b is = (bytes_eq-Decides a b).0 is
+
+other_name : (a b : List ℕ) → bytes_eq a b ≡ false → a ≢ b
+other_name a b is = λ e. let both : true ≡ false = sym ((bytes_eq-Decides a b).1 e) ∙ is in cc
+
+-- what is to be shown of the bytes for a name is shown where it is the first, and where it is not
+at_name : (P : Option (List ℕ) → Type 0) (o : Output) (rest : List Output) (name : List ℕ)
+    → (o.name ≡ name → P (Some o.bytes)) → (o.name ≢ name → P (bytes_for rest name))
+    → P (bytes_for (o ∷ rest) name)
+at_name P o rest name h k =
+    elim (cases_Bool (bytes_eq o.name name)) [
+      | inl is ↦ subst P (sym (here o rest name is)) (h (same_name o.name name is))
+      | inr is ↦ subst P (sym (later o rest name is)) (k (other_name o.name name is))
+    ]
+
+-- ---- whole files
+
+abbrev pub AreHeld : List Output → Outside → Type 0
+AreHeld [] outside = Unit {0}
+AreHeld (o ∷ outputs) outside = Holds o.name o.bytes outside × AreHeld outputs outside
+
+whole_name : (outputs : List Output) (now : Outside) (name : List ℕ) (b n : Files)
+    → now.written ≡ Some n → AreHeld outputs now
+    → (IsNew name (output_names outputs) → n name ≡ b name)
+    → n name ≡ option_or (bytes_for outputs name) (b name)
+whole_name [] now name b n told held others = others tt
+whole_name (o ∷ outputs) now name b n told held others =
+    at_name (λ (x : Option (List ℕ)). n name ≡ option_or x (b name)) o outputs name
+    (λ is. let holds : n o.name ≡ Some o.bytes = told_at (λ (f : Files). f o.name ≡ Some o.bytes)
+    now.written n told held.0 in subst
+    (λ (x : List ℕ). n x ≡ Some o.bytes) is holds)
+    (λ other. whole_name outputs now name b n told held.1 (λ new. others (other, new)))
+
+pub held_whole : (outputs : List Output) (before now : Outside)
+    → Goes before.written now.written (Others (output_names outputs))
+    → AreHeld outputs now
+    → Goes before.written now.written (AreWhole outputs)
+held_whole outputs before now goes held =
+    goes_by (Others (output_names outputs)) (AreWhole outputs) before.written now.written
+    (λ b n i j others name. whole_name outputs now name b n j held (others name)) goes
+
+-- ---- files that may stand
+
+-- the file of an output is as it was, or a front of its bytes
+abbrev pub MayBe : Output → Outside → Outside → Type 0
+MayBe o before now = Goes before.written now.written
+    (λ b n. MayStand (Some o.bytes) (b o.name) (n o.name))
+
+abbrev pub AllMayBe : List Output → Outside → Outside → Type 0
+AllMayBe [] before now = Unit {0}
+AllMayBe (o ∷ outputs) before now = MayBe o before now × AllMayBe outputs before now
+
+may_name : (outputs : List Output) (before now : Outside) (name : List ℕ) (b n : Files)
+    → before.written ≡ Some b → now.written ≡ Some n
+    → AllMayBe outputs before now
+    → (IsNew name (output_names outputs) → n name ≡ b name)
+    → MayStand (bytes_for outputs name) (b name) (n name)
+may_name [] before now name b n i j may others = others tt
+may_name (o ∷ outputs) before now name b n i j may others =
+    at_name (λ (x : Option (List ℕ)). MayStand x (b name) (n name)) o outputs name
+    (λ is. let one : MayStand (Some o.bytes) (b o.name) (n o.name) =
+    goes_at (λ f g. MayStand (Some o.bytes) (f o.name) (g o.name))
+    before.written now.written b n i j may.0 in
+    subst (λ (x : List ℕ). MayStand (Some o.bytes) (b x) (n x)) is one)
+    (λ other. may_name outputs before now name b n i j may.1 (λ new. others (other, new)))
+
+pub may_all : (outputs : List Output) (before now : Outside)
+    → Goes before.written now.written (Others (output_names outputs))
+    → AllMayBe outputs before now
+    → Goes before.written now.written (AllMayStand outputs)
+may_all outputs before now goes may =
+    goes_by (Others (output_names outputs)) (AllMayStand outputs) before.written now.written
+    (λ b n i j others name. may_name outputs before now name b n i j may (others name)) goes
+
+-- a front may stand
+pub front_may : (name bytes : List ℕ) (P : Files → Files → Type 0) (before now : Outside)
+    → Goes before.written now.written P
+    → HoldsFront name bytes now
+    → MayBe (record { name = name; bytes = bytes }) before now
+front_may name bytes P before now goes front =
+    goes_by P (λ b n. MayStand (Some bytes) (b name) (n name)) before.written now.written
+    (λ b n i j p. inr (told_at (λ (f : Files). (k : ℕ) × (f name ≡ Some (take k bytes))) now.written
+    n j front)) goes
+
+-- ---- more bytes, and more files
+
+take_within : (k : ℕ) (xs ys : List ℕ) → (j : ℕ) × (take k xs ≡ take j (xs ++ ys))
+take_within zero [] ys = (0, refl)
+take_within zero (x ∷ xs) ys = (0, refl)
+take_within (suc k) [] ys = (0, refl)
+take_within (suc k) (x ∷ xs) ys = let r = take_within k xs ys
+    in (suc r.0, ap (λ (l : List ℕ). x ∷ l) r.1)
+
+may_longer : (xs ys : List ℕ) (before now : Option (List ℕ)) → MayStand (Some xs) before now
+    → MayStand (Some (xs ++ ys)) before now
+may_longer xs ys before now (inl same) = inl same
+may_longer xs ys before now (inr front) = let r = take_within front.0 xs ys
+    in inr (r.0, front.1 ∙ ap (λ (l : List ℕ). Some l) r.1)
+
+same_may : (bytes before now : Option (List ℕ)) → now ≡ before → MayStand bytes before now
+same_may None before now same = same
+same_may (Some b) before now same = inl same
+
+goes_on_at : (outputs longer : List Output) (name : List ℕ) (before now : Option (List ℕ))
+    → GoOn outputs longer
+    → MayStand (bytes_for outputs name) before now → MayStand (bytes_for longer name) before now
+goes_on_at [] longer name before now on may = same_may (bytes_for longer name) before now may
+goes_on_at (o ∷ os) [] name before now on may = absurd on
+goes_on_at (o ∷ os) (l ∷ ls) name before now on may =
+    elim (cases_Bool (bytes_eq o.name name)) [
+      | inl is ↦
+          let short : MayStand (Some o.bytes) before now =
+          subst (λ (x : Option (List ℕ)). MayStand x before now) (here o os name is)
+          may in
+          let long : MayStand (Some l.bytes) before now =
+          subst (λ (x : List ℕ). MayStand (Some x) before now) (sym on.1.1)
+          (may_longer o.bytes on.1.0 before now short) in
+          subst (λ (x : Option (List ℕ)). MayStand x before now)
+          (sym (here l ls name (ap (λ (x : List ℕ). bytes_eq x name) on.0 ∙ is)))
+          long
+      | inr is ↦
+          subst (λ (x : Option (List ℕ)). MayStand x before now)
+          (sym (later l ls name (ap (λ (x : List ℕ). bytes_eq x name) on.0 ∙ is)))
+          (goes_on_at os ls name before now on.2
+          (subst (λ (x : Option (List ℕ)). MayStand x before now) (later o os name is) may))
+    ]
+
+rose_longer : (outputs longer : List Output) (f g : List ℕ → ℕ) → GoOn outputs longer
+    → RoseAmong outputs f g → RoseAmong longer f g
+rose_longer [] longer f g on rose = absurd rose
+rose_longer (o ∷ os) [] f g on rose = absurd on
+rose_longer (o ∷ os) (l ∷ ls) f g on (inl rose) = inl (rw on.0 rose)
+rose_longer (o ∷ os) (l ∷ ls) f g on (inr rose) = inr (rose_longer os ls f g on.2 rose)
+
+pub cause_longer : (outputs longer : List Output) (f g : List ℕ → ℕ) (e : ShelfError)
+    → GoOn outputs longer
+    → HasCauseAmong outputs f g e → HasCauseAmong longer f g e
+cause_longer outputs longer f g e on cause = record {
+  later = cause.later;
+  failed = λ i. rose_longer outputs longer f g on
+      (cause.failed i);
+  quiet = cause.quiet;
+}
+
+-- what is cut is also cut where more bytes and more files were to come
+pub AreCut-longer : (outputs longer : List Output) (before now : Outside) (e : ShelfError)
+    → GoOn outputs longer
+    → AreCut outputs before now e → AreCut longer before now e
+AreCut-longer outputs longer before now e on cut = record {
+  may = goes_by (AllMayStand outputs) (AllMayStand longer) before.written now.written
+      (λ b n i j may name. goes_on_at outputs longer name (b name) (n name) on (may name)) cut.may;
+  cause = cause_longer outputs longer before.write_faults now.write_faults e on cut.cause;
+  only = cut.only;
+}
+
+-- ---- files on their way
+
+pub sunk_names : (files : List Waiting) (outputs : List Output) (outside : Outside)
+    → AreSunk files outputs outside
+    → output_names outputs ≡ names_of files
+sunk_names [] [] outside sunk = refl
+sunk_names [] (o ∷ outputs) outside sunk = absurd sunk
+sunk_names (f ∷ files) [] outside sunk = absurd sunk
+sunk_names (f ∷ files) (o ∷ outputs) outside sunk =
+    cc (sunk.0, sunk_names files outputs outside sunk.2)
+
+pub sunk_begun : (files : List Waiting) (outputs : List Output) (outside : Outside)
+    → AreSunk files outputs outside
+    → AreBegun (names_of files) outside
+sunk_begun [] outputs outside sunk = tt
+sunk_begun (f ∷ files) [] outside sunk = absurd sunk
+sunk_begun (f ∷ files) (o ∷ outputs) outside sunk =
+    (Sunk-begun f o.bytes outside sunk.1, sunk_begun files outputs outside sunk.2)
+
+-- files on their way are begun
+pub IsOutputs-begun : (files : List Waiting) (outputs : List Output) (before now : Outside)
+    → IsOutputs files outputs before now
+    → AreBegun (names_of files) now
+IsOutputs-begun files outputs before now on = sunk_begun files outputs now on.sunk
+
+pub all_may : (files : List Waiting) (outputs : List Output) (P : _) (before now : Outside)
+    → Goes before.written now.written P
+    → AreSunk files outputs now → AllMayBe outputs before now
+all_may files [] P before now goes sunk = tt
+all_may [] (o ∷ outputs) P before now goes sunk = absurd sunk
+all_may (f ∷ files) (o ∷ outputs) P before now goes sunk = (
+  front_may o.name o.bytes P before now goes
+      (subst (λ (n : List ℕ). HoldsFront n o.bytes now) sunk.0
+      (Sunk-front f o.bytes now sunk.1)),
+  all_may files outputs P before now goes sunk.2,
+)
+
+-- where another call gives up, what was put stands but for what waits
+pub IsOutputs-cut : (files : List Waiting) (outputs : List Output) (before now : Outside)
+    (e : ShelfError) → e ≢ Failed
+    → IsOutputs files outputs before now → AreCut outputs before now e
+IsOutputs-cut files outputs before now e quiet on =
+    let goes : Goes before.written now.written (Others (output_names outputs)) =
+    subst (λ (l : List (List ℕ)). Goes before.written now.written (Others l))
+    (sym (sunk_names files outputs now on.sunk)) on.others in
+    record {
+      may = may_all outputs before now goes
+          (all_may files outputs (Others (output_names outputs)) before now goes on.sunk);
+      cause = record {
+        later = λ n. let same : now.write_faults n ≡ before.write_faults n =
+            ap (λ (h : List ℕ → ℕ). h n) on.faults in
+            omega arith;
+        failed = λ i. absurd (quiet i);
+        quiet = λ i. on.faults;
+      };
+      only = on.only;
+    }
+
+-- ---- outputs that go on
+
+pub GoOn-same : (outputs : List Output) → GoOn outputs outputs
+GoOn-same [] = tt
+GoOn-same (o ∷ outputs) = (refl, ([], sym (append-nil o.bytes)), GoOn-same outputs)
+
+pub GoOn-with : (outputs : List Output) (place : ℕ) (bytes : List ℕ)
+    → GoOn outputs (outputs_with outputs place bytes)
+GoOn-with [] place bytes = tt
+GoOn-with (o ∷ outputs) zero bytes = (refl, (bytes, refl), GoOn-same outputs)
+GoOn-with (o ∷ outputs) (suc place) bytes =
+    (refl, ([], sym (append-nil o.bytes)), GoOn-with outputs place bytes)
+
+-- no bytes more change nothing
+pub outputs_with-nothing : (outputs : List Output) (place : ℕ)
+    → outputs_with outputs place [] ≡ outputs
+outputs_with-nothing [] place = refl
+outputs_with-nothing (o ∷ outputs) zero =
+    ap (λ (b : List ℕ). let l : List Output = record { name = o.name; bytes = b } ∷ outputs in l)
+    (append-nil o.bytes)
+outputs_with-nothing (o ∷ outputs) (suc place) = ap (λ (l : List Output). o ∷ l)
+    (outputs_with-nothing outputs place)

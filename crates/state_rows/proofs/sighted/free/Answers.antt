@@ -1,6 +1,0 @@
-use Rattle.std.proofs.Common.{arith}
-use Rattle.state_rows.proofs.Noting.{room_to_free}
-use Rattle.state_rows.proofs.sighted.free.Goals as goal
-
-pub give-requires-clause-room : goal.give-requires-clause-room
-give-requires-clause-room g c = room_to_free c.args.sightings.now c.args.addr c.position.ensures.begun (omega arith)

@@ -1,0 +1,255 @@
+// Command lines as users write them, each against what it asks for.
+use base::Layout;
+use command_line::{
+    CheckOptions, ConvertOptions, Demand, GenOptions, ReplayOptions, RunOptions, SplitOptions,
+    WordsFault, read_words,
+};
+use std::alloc::{AllocError, Global};
+use std::process::Abort;
+use std::test::Fail;
+
+// What a line asks for, none where it is refused.
+type Answer<'a> = Option<Demand<'a>>;
+
+// The words of a line, cut at its spaces.
+fn words_of(alloc: Global, line: &str) -> Result<Vec<String>, AllocError> {
+    let mut words = Vec::new(alloc);
+    for word in line.split(' ') {
+        words.push(String::from_str(alloc, word)?)?;
+    }
+    Ok(words)
+}
+
+fn is_answer(alloc: Global, words: &[String], answer: &Answer<'_>) -> bool {
+    match read_words(alloc, words) {
+        Ok(demand) => *answer == Some(demand),
+        Err(WordsFault::Usage(_)) => answer.is_none(),
+        Err(WordsFault::NoMemory) => false,
+    }
+}
+
+// The words of a line get an answer.
+fn answers(rt: &impl Abort, alloc: Global, line: &str, answer: &Answer<'_>) -> Result<(), Fail> {
+    let words = words_of(alloc, line)?;
+    assert!(rt; is_answer(alloc, words.as_slice(), answer), "{line}");
+    Ok(())
+}
+
+fn all_answer(rt: &impl Abort, alloc: Global, rows: &[(&str, Answer<'_>)]) -> Result<(), Fail> {
+    for (line, answer) in rows {
+        answers(rt, alloc, line, answer)?;
+    }
+    Ok(())
+}
+
+const REPLAYS: [(&str, Answer<'static>); 4] = [
+    (
+        "replay a",
+        Some(Demand::Replay(ReplayOptions {
+            trace: "a",
+            settings: None,
+            layout: None,
+            save: None,
+            resume: None,
+        })),
+    ),
+    (
+        "replay -- --x",
+        Some(Demand::Replay(ReplayOptions {
+            trace: "--x",
+            settings: None,
+            layout: None,
+            save: None,
+            resume: None,
+        })),
+    ),
+    (
+        "replay a --settings=",
+        Some(Demand::Replay(ReplayOptions {
+            trace: "a",
+            settings: Some(""),
+            layout: None,
+            save: None,
+            resume: None,
+        })),
+    ),
+    (
+        "replay --save b t --resume=a",
+        Some(Demand::Replay(ReplayOptions {
+            trace: "t",
+            settings: None,
+            layout: None,
+            save: Some("b"),
+            resume: Some("a"),
+        })),
+    ),
+];
+
+#[test]
+fn reads_replays(rt: HostRuntime) -> Result<(), Fail> {
+    all_answer(&rt, rt.alloc(), &REPLAYS)
+}
+
+const RUNS: [(&str, Answer<'static>); 3] = [
+    (
+        "run p",
+        Some(Demand::Run(RunOptions {
+            program: "p",
+            settings: None,
+            schedule: None,
+            trace: None,
+            output: None,
+        })),
+    ),
+    (
+        "run --output o --trace=t p --schedule l --settings s",
+        Some(Demand::Run(RunOptions {
+            program: "p",
+            settings: Some("s"),
+            schedule: Some("l"),
+            trace: Some("t"),
+            output: Some("o"),
+        })),
+    ),
+    // two inputs may have one name
+    (
+        "run p --settings p --schedule p",
+        Some(Demand::Run(RunOptions {
+            program: "p",
+            settings: Some("p"),
+            schedule: Some("p"),
+            trace: None,
+            output: None,
+        })),
+    ),
+];
+
+#[test]
+fn reads_runs(rt: HostRuntime) -> Result<(), Fail> {
+    all_answer(&rt, rt.alloc(), &RUNS)
+}
+
+const OTHERS: [(&str, Answer<'static>); 4] = [
+    (
+        "check --settings s p",
+        Some(Demand::Check(CheckOptions {
+            program: "p",
+            settings: Some("s"),
+        })),
+    ),
+    (
+        "gen 1000000000 -",
+        Some(Demand::Gen(GenOptions {
+            count: 1_000_000_000,
+            file: "-",
+        })),
+    ),
+    (
+        "split t 18446744073709551615 a ",
+        Some(Demand::Split(SplitOptions {
+            trace: "t",
+            at: 18_446_744_073_709_551_615,
+            first: "a",
+            second: "",
+        })),
+    ),
+    (
+        "convert -- -t f",
+        Some(Demand::Convert(ConvertOptions {
+            trace: "-t",
+            file: "f",
+        })),
+    ),
+];
+
+#[test]
+fn reads_other_commands(rt: HostRuntime) -> Result<(), Fail> {
+    all_answer(&rt, rt.alloc(), &OTHERS)
+}
+
+// Lines that ask to replay `t`, each with the settings, and the size and offset of the layout.
+const LAID_OUT: [(&str, Option<&str>, u32, u32); 3] = [
+    ("replay --settings=s --size=64 -- t", Some("s"), 64, 0),
+    ("replay t --shift 4", None, 64, 4),
+    ("replay --shift=8 t --size 32", None, 32, 8),
+];
+
+fn replay<'a>(settings: Option<&'a str>, layout: Option<Layout>) -> Demand<'a> {
+    Demand::Replay(ReplayOptions {
+        trace: "t",
+        settings,
+        layout,
+        save: None,
+        resume: None,
+    })
+}
+
+#[test]
+fn reads_layouts(rt: HostRuntime) -> Result<(), Fail> {
+    let alloc = rt.alloc();
+    for (line, settings, size, shift) in &LAID_OUT {
+        let demand = replay(*settings, Layout::new(*size, *shift));
+        answers(&rt, alloc, line, &Some(demand))?;
+    }
+    Ok(())
+}
+
+const REFUSED: [&str; 45] = [
+    // other words
+    "replay",
+    "replay a b",
+    "replay a --help",
+    "replay a -h",
+    "replay a --size 64 --size 64",
+    "replay t --save a --save b",
+    "reply a",
+    "check",
+    "check p --schedule s",
+    "run",
+    "run p q",
+    "run p --trace t --trace u",
+    "run p --save a",
+    "gen 3",
+    "gen 3 f g",
+    "gen 3 --f",
+    "split t 4 a",
+    "split t 4 a b c",
+    "split t 4 a b --c",
+    "convert t",
+    "convert t f g",
+    "convert t --f",
+    // other numbers
+    "replay a --size 48",
+    "replay a --size 064",
+    "replay a --size=",
+    "replay a --size=+64",
+    "replay a --size 4294967360",
+    "gen 1000000001 f",
+    "gen 03 f",
+    "gen -3 f",
+    "gen f 3",
+    "split t 18446744073709551616 a b",
+    "split t 04 a b",
+    "split 4 t a b",
+    // one name for two files
+    "run p --trace p",
+    "run p --output s --settings s",
+    "run p --schedule s --output=s",
+    "run p --output t --trace t",
+    "replay t --save t",
+    "replay t --save s --resume s",
+    "replay t --save s --settings s",
+    "split t 4 a a",
+    "split t 4 t b",
+    "split t 4 a t",
+    "convert t t",
+];
+
+#[test]
+fn refuses_other_lines(rt: HostRuntime) -> Result<(), Fail> {
+    let alloc = rt.alloc();
+    for line in &REFUSED {
+        answers(&rt, alloc, line, &None)?;
+    }
+    Ok(())
+}

@@ -1,7 +1,0 @@
-pub mod Places
-pub mod Keeps
-pub mod First
-pub mod Wakes
-pub mod Tells
-pub mod WorkedCalls
-pub mod Alone

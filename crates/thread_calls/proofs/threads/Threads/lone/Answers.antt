@@ -1,5 +1,0 @@
-use Rattle.thread_calls.proofs.Alone.{lone_tells}
-use Rattle.thread_calls.proofs.threads.Threads.lone.Goals as goal
-
-pub returns-clause-alone : goal.returns-clause-alone
-returns-clause-alone c = lone_tells c.args.self.now c.self.inside.lone (rw c.self.view_is at c.self.invariant.known)

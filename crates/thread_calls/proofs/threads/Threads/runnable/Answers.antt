@@ -1,7 +1,0 @@
-use Rattle.std.proofs.Common.{◌∙◌}
-use Rattle.thread_calls.proofs.Tells.{marks_tell}
-use Rattle.thread_calls.proofs.threads.Threads.runnable.Goals as goal
-
-pub returns-clause-each : goal.returns-clause-each
-returns-clause-each c = marks_tell c.as_slice.result.now c.args.self.now (c.as_slice.ensures.value
-    ∙ rw c.self.view_is at c.self.invariant.marked)

@@ -1,0 +1,14 @@
+pub mod Again
+pub mod Answering
+pub mod Begun
+pub mod Conversions
+pub mod Going
+pub mod Items
+pub mod Kept
+pub mod MadeGoing
+pub mod OneTraces
+pub mod Pieces
+pub mod Readings
+pub mod Splittings
+pub mod Stopped
+pub mod Worked

@@ -1,0 +1,262 @@
+-- What stands where a copy gave up.
+use Rattle.std.proofs.Common.{◌≡◌, ◌≢◌, ℕ, List, [], ◌∷◌, Option, Some, None, Err, inl, inr, refl}
+use Rattle.std.proofs.Common.{sym, ap, ◌∙◌, subst, arith}
+use Rattle.std.proofs.lemmas.Bool.{cases_Bool}
+use Rattle.std.proofs.lemmas.List.{append-nil}
+use Rattle.std.proofs.lemmas.Slice.Eq.{bytes_eq-Decides}
+use Rattle.std.specs.Str.{bytes_eq}
+use Rattle.shelf.specs.Shelf.{Files, Goes, OnlyReads, Outside, Told, content}
+use Rattle.shelf.specs.Files.{Output, AllMayStand, GoOn, MayStand, bytes_for}
+use Rattle.shelf.specs.OneFile.{Waiting}
+use Rattle.shelf.specs.OnTheirWay.{IsNew, IsOutputs}
+use Rattle.shelf.specs.Laws.Files.{AreCut-longer, goes_by, output_names}
+use Rattle.shelf.specs.Laws.Told.{told, told_both, told_map}
+use Rattle.trace_format.specs.declared.record.TraceRecord.{TraceRecord}
+use Rattle.trace_format.specs.Reading.{reading_of}
+use Rattle.trace_passes.specs.declared.passes.PassFault.{PassFault}
+use Rattle.trace_passes.specs.declared.passes.PassFault.TheVariants as passes
+use Rattle.trace_passes.specs.declared.passes.Passed.{Passed}
+use Rattle.trace_passes.specs.declared.wanted.Refusal.{Refusal}
+use Rattle.trace_passes.specs.Passes.{HasPassCause, Trace, all_records, refusal_of, trace_of}
+use Rattle.trace_passes.specs.Passes.{trace_with}
+use Rattle.trace_passes.specs.Laws.Passes.{trace-records}
+use Rattle.trace_files.specs.declared.copy_fault.CopyFault.{CopyFault}
+use Rattle.trace_files.specs.declared.copy_fault.CopyFault.TheVariants.{Refused, Changed, ReadFault}
+use Rattle.trace_files.specs.declared.copy_fault.CopyFault.TheVariants.{WriteFault, NoMemory}
+use Rattle.trace_files.specs.Copies.{HasCopyCause, HasStopped, StaysWhereRefused, any}
+use Rattle.trace_files.specs.Copying.{AreFirst, IsAccepted, IsCutShort, first_fault}
+use Rattle.trace_files.specs.Laws.Copies.{trace_unrefused}
+use Rattle.trace_files.proofs.Readings.{same_at, short_read}
+
+-- ---- each other file
+
+none_for : (outputs : List Output) (name : List ℕ) → IsNew name (output_names outputs)
+    → bytes_for outputs name ≡ None
+none_for [] name new = refl
+none_for (o ∷ outputs) name new =
+    elim (cases_Bool (bytes_eq o.name name)) [
+      | inl is ↦ absurd (new.0 ((bytes_eq-Decides o.name name).0 is))
+      | inr is ↦ rw is (none_for outputs name new.1)
+    ]
+
+stays : (bytes before now : Option (List ℕ)) → bytes ≡ None → MayStand bytes before now → now
+    ≡ before
+stays None before now none may = may
+stays (Some b) before now none may = absurd cc
+
+others_stay : (outputs : List Output) (before now : Outside) → Goes before.written now.written
+    (AllMayStand outputs)
+    → Goes before.written now.written (λ old new. (n : List ℕ) → IsNew n (output_names outputs)
+    → new n ≡ old n)
+others_stay outputs before now may =
+    goes_by (AllMayStand outputs) (λ old new. (n : List ℕ) → IsNew n (output_names outputs) → new n
+    ≡ old n)
+    before.written now.written
+    (λ b n i j all name new. stays (bytes_for outputs name) (b name) (n name)
+    (none_for outputs name new) (all name)) may
+
+-- ---- within the second reading
+
+module _ (held : Option Files) (name : List ℕ) (names : List (List ℕ))
+    (outputs : Trace → List Output)
+    (files : List TraceRecord → List Output) (before now : Outside) (fault : CopyFault)
+    (named : (seen : List TraceRecord) → output_names (files seen) ≡ names)
+    (goes : (seen : List TraceRecord) → AreFirst held name seen
+    → Told held (λ fs. (t : Trace) → trace_of (content fs name) ≡ Some t
+    → GoOn (files seen) (outputs t)))
+    (short : IsCutShort held name files before now fault)
+  where
+    moved : (P : Files → Files → Type 0) → Goes before.written short.last.written P
+        → Goes before.written now.written P
+    moved P goes = subst (λ (w : Option Files). Goes before.written w P) (sym short.written) goes
+
+    pub stopped : HasStopped held name names outputs before now fault
+    stopped =
+        let some = files short.seen in
+        let is = named short.seen in
+        record {
+          fronts = told_map held (λ fs on t there. moved (AllMayStand (outputs t))
+              (AreCut-longer some (outputs t) before short.last short.error
+              (on t there) short.cut).may) (goes short.seen short.first);
+          others = moved (λ old new. (n : List ℕ) → IsNew n names → new n ≡ old n)
+              (subst (λ (l : List (List ℕ)). Goes before.written short.last.written
+              (λ old new. (n : List ℕ) → IsNew n l → new n ≡ old n))
+              is
+              (others_stay some before short.last short.cut.may));
+          cause = subst (λ (l : List (List ℕ)). HasCopyCause name l before now fault) is
+              short.cause;
+          held_stay = short.held_stay;
+          printed = short.printed;
+          print_faults = short.print_faults;
+        }
+
+-- ---- within the first reading
+
+same_may : (bytes before now : Option (List ℕ)) → now ≡ before → MayStand bytes before now
+same_may None before now same = same
+same_may (Some b) before now same = inl same
+
+goes_same : (P : Files → Files → Type 0) (a b : Option Files) → b ≡ a → ((x : Files) → P x x)
+    → Goes a b P
+goes_same P None None same p = tt
+goes_same P None (Some y) same p = absurd cc
+goes_same P (Some x) None same p = absurd cc
+goes_same P (Some x) (Some y) same p = let is : x ≡ y = cc in subst (P x) is (p x)
+
+module _ (held : Option Files) (name : List ℕ) (old new : Outside) (only : OnlyReads old new) where
+  with_cause : (fault : CopyFault) (names : List (List ℕ)) (outputs : Trace → List Output)
+      → HasCopyCause name names old new fault
+      → HasStopped held name names outputs old new fault
+  with_cause fault names outputs cause = record {
+    fronts = told held (λ fs t is. goes_same (AllMayStand (outputs t)) old.written new.written
+        only.written
+        (λ x n. same_may (bytes_for (outputs t) n) (x n) (x n) refl));
+    others = goes_same (λ a b. (n : List ℕ) → IsNew n names → b n ≡ a n) old.written new.written
+        only.written (λ x n other. refl);
+    cause = cause;
+    held_stay = only.held;
+    printed = only.printed;
+    print_faults = only.print_faults;
+  }
+
+  quiet : (fault : CopyFault) (names : List (List ℕ)) → fault ≢ ReadFault → fault ≢ WriteFault
+      → new.read_faults ≡ old.read_faults
+      → HasCopyCause name names old new fault
+  quiet fault names no_read no_write same = record {
+    reads = λ n. same_at old.read_faults new.read_faults n same;
+    writes = λ n. same_at old.write_faults new.write_faults n only.write_faults;
+    read_failed = λ e. absurd (no_read e);
+    write_failed = λ e. absurd (no_write e);
+    read_quiet = λ e. same;
+    write_quiet = λ e. only.write_faults;
+  }
+
+  pub stopped_first : {T : Type 0} (fault : PassFault) → HasPassCause {T = T} name old new
+      (Err fault)
+      → (names : List (List ℕ)) (outputs : Trace → List Output)
+      → HasStopped held name names outputs old new (first_fault fault)
+  stopped_first (passes.Refused refusal) cause names outputs =
+      with_cause (Refused refusal) names outputs
+      (quiet (Refused refusal) names (λ e. cc) (λ e. cc) (cause.quiet (λ e. cc)))
+  stopped_first passes.ReadFault cause names outputs =
+      with_cause ReadFault names outputs (record {
+        reads = cause.later;
+        writes = λ n. same_at old.write_faults new.write_faults n only.write_faults;
+        read_failed = λ e. cause.failed refl;
+        write_failed = λ e. absurd cc;
+        read_quiet = λ e. absurd (e refl);
+        write_quiet = λ e. only.write_faults;
+      })
+  stopped_first passes.NoMemory cause names outputs =
+      with_cause NoMemory names outputs (quiet NoMemory names (λ e. cc) (λ e. cc)
+      (cause.quiet (λ e. cc)))
+
+-- ---- behind the second reading
+
+-- the records of the trace that was copied are all of the held bytes
+pub first_all : (held : Option Files) (name bytes : List ℕ) (t : Trace)
+    → Told held (λ files. bytes ≡ content files name)
+    → trace_of bytes ≡ Some t → AreFirst held name (all_records t)
+first_all held name bytes t whole is =
+    told_map held (λ files same. (
+      [],
+      ap (λ (xs : List ℕ). (reading_of xs).0) (sym same) ∙ trace-records bytes t is
+          ∙ sym (append-nil (all_records t)),
+    )) whole
+
+-- another trace was read than at first
+pub short_other : (held : Option Files) (name : List ℕ) (files : List TraceRecord → List Output)
+    (seen : List TraceRecord)
+    (waiting : List Waiting) (before now : Outside) (refusal : Refusal) → AreFirst held name seen
+    → IsOutputs waiting (files seen) before now → IsCutShort held name files before now
+    (Changed refusal)
+short_other held name files seen waiting before now refusal first on =
+    short_read held name files seen waiting before now now first on
+    (record {
+      held = refl;
+      written = refl;
+      printed = refl;
+      write_faults = refl;
+      print_faults =
+          refl;
+    }) {T = Unit {0}}
+    (passes.Refused refusal)
+    (record { later = λ n. omega arith; failed = λ e. absurd cc; quiet = λ e. refl })
+
+-- ---- two readings of what is told
+
+pub same_trace : (a b : Trace) (x : Option Trace) → x ≡ Some a → x ≡ Some b → a ≡ b
+same_trace a b x one two = let both : Some a ≡ Some b = sym one ∙ two in cc
+
+-- the parts of the trace that is told
+pub told_parts : (held : Option Files) (name : List ℕ) (first : Passed) → IsAccepted held name first
+    → Told held (λ files. (t : Trace) → trace_of (content files name) ≡ Some t
+    → (items : List TraceRecord) × (t ≡ trace_with first items))
+told_parts held name first accepted =
+    told_map held (λ files same t is. (
+      accepted.items,
+      same_trace t (trace_with first accepted.items) (trace_of (content files name)) is
+          (ap trace_of (sym same) ∙ accepted.is),
+    )) accepted.whole
+
+-- two readings tell the same parts, where the bytes are told
+pub same_parts : (held : Option Files) (name : List ℕ) (first second : Passed) (bytes : List ℕ)
+    (items : List TraceRecord)
+    → IsAccepted held name first → Told held (λ files. bytes ≡ content files name)
+    → trace_of bytes ≡ Some (trace_with second items) → Told held (λ files. first ≡ second)
+same_parts held name first second bytes items accepted whole is =
+    told_both held (λ files one two.
+    let there : trace_of (content files name) ≡ Some (trace_with second items) = ap trace_of
+    (sym two) ∙ is in
+    let same : trace_of (content files name) ≡ Some (trace_with first accepted.items) = ap trace_of
+    (sym one) ∙ accepted.is in
+    let t = same_trace (trace_with first accepted.items) (trace_with second items)
+    (trace_of (content files name)) same there in
+    λ i. record { version = (t i).version; header = (t i).header; ending = (t i).ending })
+    accepted.whole whole
+
+pub untold : (held : Option Files) (P : Type 0) → Told held (λ files. P) → (P → ⊥) → held ≡ None
+untold None P told never = refl
+untold (Some files) P told never = absurd (never told)
+
+-- ---- an accepted trace
+
+pub told_accepted : (held : Option Files) (name : List ℕ) (first : Passed)
+    → IsAccepted held name first
+    → Told held (λ files. refusal_of any (content files name) ≡ None)
+told_accepted held name first accepted =
+    told_map held
+    (λ files same. ap (refusal_of any) (sym same) ∙ trace_unrefused accepted.bytes
+    (trace_with first accepted.items) accepted.is)
+    accepted.whole
+
+-- it isn't refused where its bytes are told
+pub never_refused : (held : Option Files) (name : List ℕ) (first : Passed)
+    → IsAccepted held name first → (refusal : Refusal)
+    → Told held (λ files. refusal_of any (content files name) ≡ Some refusal) → held ≡ None
+never_refused held name first accepted refusal told =
+    untold held ⊥ (told_both held (λ files a b. let no : None ≡ Some refusal = sym a
+    ∙ b in absurd cc)
+    (told_accepted held name first accepted) told) (λ x. x)
+
+-- ---- a refused trace
+
+-- the first reading gave up, and wrote under no name
+pub refused_first : (held : Option Files) (name : List ℕ) (old new : Outside) (fault : CopyFault)
+    → ((names : List (List ℕ)) (outputs : Trace → List Output)
+    → HasStopped held name names outputs old new fault)
+    → StaysWhereRefused held name old new
+refused_first held name old new fault stopped =
+    let others = (stopped [] (λ t. [])).others in
+    told held (λ files refusal is. goes_by (λ a b. (n : List ℕ) → IsNew n [] → b n ≡ a n)
+    (λ a b. (n : List ℕ) → b n ≡ a n)
+    old.written new.written (λ a b i j same n. same n tt) others)
+
+-- the second one is made of accepted traces alone
+pub refused_never : (held : Option Files) (name : List ℕ) (first : Passed) (old new : Outside)
+    → IsAccepted held name first
+    → StaysWhereRefused held name old new
+refused_never held name first old new accepted =
+    told_map held (λ files none refusal is. let no : None ≡ Some refusal = sym none
+    ∙ is in absurd cc)
+    (told_accepted held name first accepted)

@@ -1,0 +1,30 @@
+use Rattle.std.proofs.Common.{◌≡◌}
+use Rattle.trace_passes.specs.Passes.{all_records, trace_with}
+use Rattle.trace_files.proofs.Stopped.{first_all, never_refused, same_parts, short_other, untold}
+use Rattle.trace_files.proofs.copy.copy_again.Goals as goal
+
+pub returns-in-Err-clause-changed : goal.returns-in-Err-clause-changed
+returns-in-Err-clause-changed g c = λ refusal same.
+    never_refused (g.S.Shelf.outside c.args.shelf.now).held c.args.name.now c.args.first.now
+    c.requires.accepted refusal
+    (c.in-Err.ensures.changed refusal (cc))
+
+pub returns-in-Some-clause-short : goal.returns-in-Some-clause-short
+returns-in-Some-clause-short g c = λ before began.
+    let copied = c.in-Ok.ensures.copied before began in
+    let t = trace_with c.in-Ok.passed copied.items in
+    let held = (g.S.Shelf.outside c.args.shelf.now).held in
+    short_other held c.args.name.now (g.T.Target.files c.args.target.now) (all_records t)
+    (g.T.Target.waiting c.copy_records.new.target) before
+    (g.S.Shelf.outside c.copy_records.new.shelf) c.in-Some.refusal
+    (first_all held c.args.name.now copied.bytes t copied.whole copied.is) copied.outputs
+
+pub returns-in-Some-clause-changed : goal.returns-in-Some-clause-changed
+returns-in-Some-clause-changed g c = λ refusal same.
+    let copied = c.in-Ok.ensures.copied c.requires.way.0 c.requires.way.1 in
+    let some = c.in-Some.is in
+    untold (g.S.Shelf.outside c.args.shelf.now).held (c.args.first.now ≡ c.in-Ok.passed)
+    (same_parts (g.S.Shelf.outside c.args.shelf.now).held c.args.name.now c.args.first.now
+    c.in-Ok.passed copied.bytes copied.items
+    c.requires.accepted copied.whole copied.is)
+    (λ one. let none = c.differs.ensures.other one in absurd cc)

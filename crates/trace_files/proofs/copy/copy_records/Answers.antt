@@ -1,0 +1,153 @@
+use Rattle.std.proofs.Common.{◌≢◌, ◌++◌, ℕ, List, All, Ok, Err, Option, refl, sym, ap, subst, take}
+use Rattle.trace_passes.specs.declared.passes.PassFault.{PassFault}
+use Rattle.trace_passes.specs.declared.passes.Passed.{Passed}
+use Rattle.shelf.specs.Shelf.{Outside}
+use Rattle.shelf.specs.Files.{AreCut}
+use Rattle.shelf.specs.OnTheirWay.{IsOutputs}
+use Rattle.trace_format.specs.declared.record.TraceRecord.{TraceRecord}
+use Rattle.trace_format.specs.Rules.{IsWritable}
+use Rattle.trace_files.proofs.Going.{at_first, way_at}
+use Rattle.trace_files.proofs.Pieces.{come_at, cut_at, end_at, ended_at, next_at, on_at}
+use Rattle.trace_files.proofs.Pieces.{piece_writable, refused_at, short_at, short_none}
+use Rattle.trace_files.proofs.Pieces.{was_refused}
+use Rattle.trace_files.proofs.Readings.{same_outside}
+use Rattle.trace_files.proofs.copy.copy_records.Goals as goal
+
+-- an answer is no fault
+no_fault : (o : Option Passed) (f : PassFault) → Ok o ≢ Err f
+no_fault o f = λ e. cc
+
+pub pieces-init : goal.pieces-init
+pieces-init g c =
+    at_first g.T.Target.waiting g.T.Target.files g.T.Target.has c.args.name.now c.args.target.now
+    c.in-Ok.cursor
+    (g.S.Shelf.outside c.args.shelf.now) (c.in-Ok.ensures.begins _ _ _) c.requires.has
+
+pub advance-requires : goal.advance-requires
+advance-requires g c = (
+  c.pieces.invariant.bytes,
+  come_at g.T.Target.waiting g.T.Target.files g.T.Target.has c.args.name.now c.args.target.now
+      c.pieces.target c.pieces.cursor
+      (g.S.Shelf.outside c.args.shelf.now) (g.S.Shelf.outside c.pieces.shelf) c.pieces.invariant
+      c.any.result c.any.ensures,
+)
+
+pub put_all-requires : goal.put_all-requires
+put_all-requires g c =
+    let none = c.in-Ok-None.field-0-is in
+    let e = c.in-Ok-None.ensures in
+    let old = g.S.Shelf.outside c.args.shelf.now in
+    let mid = g.S.Shelf.outside c.pieces.shelf in
+    let next = c.advance.new.self in
+    let on = on_at g.T.Target.waiting g.T.Target.files g.T.Target.has c.args.name.now
+    c.args.target.now c.pieces.target c.pieces.cursor
+    old mid c.pieces.invariant c.any.result c.any.ensures next (e.more (ap Ok none)) in
+    record {
+      writable = subst (All IsWritable) (sym c.items.ensures)
+          (piece_writable old.held c.args.name.now c.pieces.invariant.bytes next on);
+      way = way_at g.T.Target.waiting g.T.Target.files g.T.Target.has c.args.name.now
+          c.args.target.now c.pieces.target c.pieces.cursor
+          old mid (g.S.Shelf.outside c.advance.new.shelf) c.requires.way.0 c.requires.way.1
+          c.pieces.invariant
+          (same_outside mid (g.S.Shelf.outside c.advance.new.shelf) e.only
+          (e.cause.quiet (no_fault _ _)));
+    }
+
+pub pieces-preserved : goal.pieces-preserved
+pieces-preserved g c =
+    let none = c.in-Ok-None.field-0-is in
+    let e = c.in-Ok-None.ensures in
+    let old = g.S.Shelf.outside c.args.shelf.now in
+    let mid = g.S.Shelf.outside c.pieces.shelf in
+    let read = g.S.Shelf.outside c.advance.new.shelf in
+    let new = g.S.Shelf.outside c.put_all.new.shelf in
+    let now = c.pieces.target in
+    let later = c.put_all.new.target in
+    let next = c.advance.new.self in
+    let has = g.T.Target.has in
+    let on = on_at g.T.Target.waiting g.T.Target.files has c.args.name.now c.args.target.now now
+    c.pieces.cursor
+    old mid c.pieces.invariant c.any.result c.any.ensures next (e.more (ap Ok none)) in
+    next_at g.T.Target.waiting g.T.Target.files has c.args.name.now c.args.target.now now
+    c.pieces.cursor
+    old mid c.pieces.invariant next read e.only (e.cause.quiet (no_fault _ _)) on later new
+    c.requires.way.0 c.requires.way.1
+    c.put_all.ensures.files
+    (subst (λ (items : List TraceRecord). (seen : List TraceRecord) → has now seen
+    → has later (seen ++ items))
+    c.items.ensures c.in-Ok-put_all.ensures.has)
+    (subst (λ (items : List TraceRecord). (seen : List TraceRecord) (b : Outside) → has now seen
+    → IsOutputs (g.T.Target.waiting now) (g.T.Target.files now seen) b read
+    → IsOutputs (g.T.Target.waiting later) (g.T.Target.files now (seen ++ items)) b new)
+    c.items.ensures c.in-Ok-put_all.ensures.outputs)
+
+pub pieces-smaller : goal.pieces-smaller
+pieces-smaller g c = let none = c.in-Ok-None.field-0-is in c.in-Ok-None.ensures.fewer (ap Ok none)
+
+pub returns-in-Err-clause-short : goal.returns-in-Err-clause-short
+returns-in-Err-clause-short g c = λ before began.
+    let old = g.S.Shelf.outside c.args.shelf.now in
+    rw c.second_fault.ensures
+    (short_none old.held c.args.name.now (g.T.Target.files c.args.target.now)
+    (g.T.Target.waiting c.args.target.now) c.in-Err.fault
+    (c.in-Err.ensures.memory c.in-Err.fault refl) old before began)
+
+pub returns-in-Ok-Some-clause-copied : goal.returns-in-Ok-Some-clause-copied
+returns-in-Ok-Some-clause-copied g c =
+    let some = c.in-Ok-Some.field-0-is in
+    let e = c.in-Ok-Some.ensures in
+    let old = g.S.Shelf.outside c.args.shelf.now in
+    let mid = g.S.Shelf.outside c.pieces.shelf in
+    let passed = c.in-Ok-Some.passed in
+    let ended = end_at g.T.Target.waiting g.T.Target.files g.T.Target.has c.args.name.now
+    c.args.target.now c.pieces.target c.pieces.cursor
+    old mid c.pieces.invariant c.any.result c.any.ensures passed (e.ended passed (ap Ok some)) in
+    ended_at g.T.Target.waiting g.T.Target.files g.T.Target.has c.args.name.now c.args.target.now
+    c.pieces.target c.pieces.cursor
+    old mid c.pieces.invariant passed (g.S.Shelf.outside c.advance.new.shelf) e.only
+    (e.cause.quiet (no_fault _ _)) ended
+
+pub returns-in-Err-put_all-clause-short : goal.returns-in-Err-put_all-clause-short
+returns-in-Err-put_all-clause-short g c = λ before began.
+    let none = c.in-Ok-None.field-0-is in
+    let e = c.in-Ok-None.ensures in
+    let old = g.S.Shelf.outside c.args.shelf.now in
+    let mid = g.S.Shelf.outside c.pieces.shelf in
+    let read = g.S.Shelf.outside c.advance.new.shelf in
+    let new = g.S.Shelf.outside c.put_all.new.shelf in
+    let now = c.pieces.target in
+    let next = c.advance.new.self in
+    let error = c.in-Err-put_all.error in
+    let on = on_at g.T.Target.waiting g.T.Target.files g.T.Target.has c.args.name.now
+    c.args.target.now now c.pieces.cursor
+    old mid c.pieces.invariant c.any.result c.any.ensures next (e.more (ap Ok none)) in
+    rw c.write_fault.ensures
+    (cut_at g.T.Target.waiting g.T.Target.files g.T.Target.has c.args.name.now c.args.target.now now
+    c.pieces.cursor
+    old mid c.pieces.invariant next read e.only (e.cause.quiet (no_fault _ _)) on new error
+    (subst (λ (items : List TraceRecord). (k : ℕ)
+    × ((seen : List TraceRecord) (b : Outside) → g.T.Target.has now seen
+    → IsOutputs (g.T.Target.waiting now) (g.T.Target.files now seen) b read
+    → AreCut (g.T.Target.files now (seen ++ take k items)) b new error)) c.items.ensures
+    c.in-Err-put_all.ensures.cut)
+    before began)
+
+pub returns-in-Err-advance-clause-short : goal.returns-in-Err-advance-clause-short
+returns-in-Err-advance-clause-short g c = λ before began.
+    let e = c.in-Err-advance.ensures in
+    rw c.second_fault-in-Err-advance.ensures
+    (short_at g.T.Target.waiting g.T.Target.files g.T.Target.has c.args.name.now c.args.target.now
+    c.pieces.target c.pieces.cursor
+    (g.S.Shelf.outside c.args.shelf.now) (g.S.Shelf.outside c.pieces.shelf) c.pieces.invariant
+    c.in-Err-advance.fault
+    (g.S.Shelf.outside c.advance.new.shelf) e.only e.cause before began)
+
+pub returns-in-Err-advance-clause-changed : goal.returns-in-Err-advance-clause-changed
+returns-in-Err-advance-clause-changed g c = λ refusal same.
+    let refused = was_refused c.in-Err-advance.fault c.second_fault-in-Err-advance.result refusal
+    c.second_fault-in-Err-advance.ensures (cc) in
+    refused_at g.T.Target.waiting g.T.Target.files g.T.Target.has c.args.name.now c.args.target.now
+    c.pieces.target c.pieces.cursor
+    (g.S.Shelf.outside c.args.shelf.now) (g.S.Shelf.outside c.pieces.shelf) c.pieces.invariant
+    c.any.result c.any.ensures refusal
+    (c.in-Err-advance.ensures.refused refusal (cc))

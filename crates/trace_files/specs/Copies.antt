@@ -1,0 +1,113 @@
+-- Which traces a copy writes, and what stands where it gave up.
+use Rattle.std.specs.Prelude.{◌≡◌, ◌≢◌, ◌⊎◌, ◌≤◌, ℕ, List, [], ◌∷◌, Option, Some, None}
+use Rattle.shelf.specs.Shelf.{Files, Goes, Outside, Rose, Told, content}
+use Rattle.shelf.specs.Files.{Output, AllMayStand, AreWritten, one_file}
+use Rattle.shelf.specs.OnTheirWay.{IsNew}
+use Rattle.trace_format.specs.declared.record.Version.{Version}
+use Rattle.trace_format.specs.declared.record.Version.TheVariants.{One, Two}
+use Rattle.trace_passes.specs.declared.wanted.Wanted.{Wanted}
+use Rattle.trace_passes.specs.declared.wanted.Refusal.{Refusal}
+use Rattle.trace_passes.specs.Passes.{Trace, all_records, refusal_of, spell_trace, trace_of}
+use Rattle.trace_format.specs.Splits.{begin_split, endings_of, halves_of, headers_of}
+use Rattle.trace_files.specs.declared.copy_fault.CopyFault.{CopyFault}
+use Rattle.trace_files.specs.declared.copy_fault.CopyFault.TheVariants.{ReadFault, WriteFault}
+
+-- any trace will do
+abbrev pub any : Wanted
+any = record { harts = None; first = None }
+
+-- ---- the copies
+
+abbrev pub other_version : Version → Version
+other_version One = Two
+other_version Two = One
+
+-- the trace in the other version
+abbrev pub converted : Trace → Trace
+converted t = record t { version = other_version t.version }
+
+-- The half before access number `at`, which has not ended.
+abbrev pub first_half : ℕ → Trace → Trace
+first_half at t =
+    let s = begin_split t.header t.ending.accesses at in
+    record {
+      version = t.version;
+      header = (headers_of s).0;
+      items = (halves_of s.cut (all_records t)).0;
+      ending = (endings_of s t.ending).0;
+    }
+
+-- The half from that access on, which ends as the whole.
+abbrev pub second_half : ℕ → Trace → Trace
+second_half at t =
+    let s = begin_split t.header t.ending.accesses at in
+    record {
+      version = t.version;
+      header = (headers_of s).1;
+      items = (halves_of s.cut (all_records t)).1;
+      ending = (endings_of s t.ending).1;
+    }
+
+-- the files of each copy, by the trace
+abbrev pub conversion : List ℕ → Trace → List Output
+conversion name t = one_file name (spell_trace (converted t))
+
+abbrev pub halves : ℕ → List ℕ → List ℕ → Trace → List Output
+halves at first second t =
+    record { name = first; bytes = spell_trace (first_half at t) }
+    ∷ record { name = second; bytes = spell_trace (second_half at t) } ∷ []
+
+-- ---- what a call says
+
+-- There are bytes, the held ones of the name where these are told, that are a trace, of which this
+-- is told, and whose outputs are written.
+pub record HasCopied (held : Option Files) (name : List ℕ) (outputs : Trace → List Output)
+    (says : Trace → Type 0)
+    (before now : Outside) : Type 0 where
+  pub bytes : List ℕ
+  pub whole : Told held (λ files. bytes ≡ content files name)
+  pub trace : Trace
+  pub is : trace_of bytes ≡ Some trace
+  pub told : says trace
+  pub written : AreWritten (outputs trace) before now
+
+-- how the name's bytes are refused as a trace, if they are
+abbrev pub IsJudged : Option Files → List ℕ → Option Refusal → Type 0
+IsJudged held name judged =
+    Told held (λ files. refusal_of any (content files name) ≡ judged)
+
+-- where they are, each file is as it was
+abbrev pub StaysWhereRefused : Option Files → List ℕ → Outside → Outside → Type 0
+StaysWhereRefused held name before now = Told held (λ files. (refusal : Refusal)
+    → refusal_of any (content files name) ≡ Some refusal
+    → Goes before.written now.written (λ old new. (n : List ℕ) → new n ≡ old n))
+
+-- one of the numbers of faults rose that these names have
+abbrev pub RoseAt : List (List ℕ) → (List ℕ → ℕ) → (List ℕ → ℕ) → Type 0
+RoseAt [] before now = ⊥
+RoseAt (n ∷ names) before now = Rose (before n) (now n) ⊎ RoseAt names before now
+
+-- No number of faults falls. Those of reading the name rose at a fault of reading, those of
+-- writing an output at a fault of writing, and else they stay.
+pub record HasCopyCause (name : List ℕ) (outputs : List (List ℕ)) (before now : Outside)
+    (fault : CopyFault) : Type 0 where
+  pub reads : (n : List ℕ) → before.read_faults n ≤ now.read_faults n
+  pub writes : (n : List ℕ) → before.write_faults n ≤ now.write_faults n
+  pub read_failed : fault ≡ ReadFault → Rose (before.read_faults name) (now.read_faults name)
+  pub write_failed : fault ≡ WriteFault → RoseAt outputs before.write_faults now.write_faults
+  pub read_quiet : fault ≢ ReadFault → now.read_faults ≡ before.read_faults
+  pub write_quiet : fault ≢ WriteFault → now.write_faults ≡ before.write_faults
+
+-- A copy gave up. Each output is as it was, or a front of its bytes where the trace is told, and
+-- each other file is as it was; it is known who is the cause.
+pub record HasStopped (held : Option Files) (name : List ℕ) (names : List (List ℕ))
+    (outputs : Trace → List Output)
+    (before now : Outside) (fault : CopyFault) : Type 0 where
+  pub fronts : Told held (λ files. (t : Trace) → trace_of (content files name) ≡ Some t
+      → Goes before.written now.written (AllMayStand (outputs t)))
+  pub others : Goes before.written now.written
+      (λ old new. (n : List ℕ) → IsNew n names → new n ≡ old n)
+  pub cause : HasCopyCause name names before now fault
+  pub held_stay : now.held ≡ before.held
+  pub printed : now.printed ≡ before.printed
+  pub print_faults : now.print_faults ≡ before.print_faults

@@ -1,0 +1,32 @@
+//! Traces on their way to files: made, or copied from another trace.
+//!
+//! [`make_trace`] writes a trace of as many accesses as are wanted, for trying out what reads
+//! traces, and gives each record to an observer as it is made, so that nothing of it is kept. The
+//! accesses come from a linear congruence; `specs/Made.antt` says which trace is made, as one list.
+//!
+//! [`convert_trace`] copies a named trace in the other version, and [`split_trace`] cuts it in two
+//! at an access. The trace is read twice. A first reading judges it and tells how many accesses
+//! there are, and only where it is accepted are the outputs begun. The second reading copies each
+//! record to a `Target`, which knows the files and the spelling. `specs/Copies.antt` says which
+//! traces are written, and what stands where a copy gave up.
+#![tactic(auto)]
+
+mod convert;
+mod copy;
+mod copy_fault;
+mod copy_laws;
+mod made_laws;
+mod maker;
+mod numbers;
+mod split;
+mod target;
+mod trace_file;
+mod trace_outputs;
+
+pub use convert::{Converted, convert_trace};
+pub use copy_fault::CopyFault;
+pub use copy_laws::{a_trace_converted_twice_is_itself, the_halves_have_the_accesses_of_the_whole};
+pub use made_laws::a_made_trace_is_a_trace;
+pub use maker::make_trace;
+pub use split::{Halves, split_trace};
+pub use trace_outputs::TraceOutputs;

@@ -1,0 +1,26 @@
+-- An end is given exactly where the bytes so far are a trace.
+use Rattle.std.proofs.Common.{◌≡◌, ℕ, List, Ok, sym, ap, ◌∙◌}
+use Rattle.base.specs.declared.ending.Ending.{Ending}
+use Rattle.trace_format.specs.declared.record.TraceRecord.{TraceRecord}
+use Rattle.trace_format.specs.Found.{IsTraceOf}
+use Rattle.trace_format.specs.Reading.{Reading, ending_of, reading_of}
+use Rattle.trace_format.specs.Laws.Traces.{trace_again}
+use Rattle.trace_format.specs.ReaderStates.{HasRead, ReadsTrace}
+
+module _ (now : Reading) (bytes : List ℕ) (first items : List TraceRecord) (e : Ending)
+    (has : HasRead bytes first now items) where
+  pub end_is_of_trace : (ending_of (reading_of bytes).1 ≡ Ok e
+      → IsTraceOf bytes (reading_of bytes).0 e) → ending_of now ≡ Ok e
+      → ReadsTrace bytes first items e
+  end_is_of_trace law ends =
+      record {
+        records = (reading_of bytes).0;
+        behind = has.records;
+        trace =
+            law (ap ending_of (sym has.reading) ∙ ends);
+      }
+
+  pub trace_has_end : ReadsTrace bytes first items e → ending_of now ≡ Ok e
+  trace_has_end reads =
+      let t = reads.trace in
+      ap ending_of has.reading ∙ (trace_again bytes t.version t.header t.items e t.trace).1

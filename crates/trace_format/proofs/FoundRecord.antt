@@ -1,0 +1,155 @@
+-- What is judged good is a good record, and the bytes are its spelling.
+use Rattle.std.proofs.Common.{◌≡◌, ℕ, ◌+◌, ◌^◌, ◌≤◌, ◌<◌, true, eqb, eqb-true, ltb, List, length}
+use Rattle.std.proofs.Common.{get_or, Option, Some, None, Result, Ok}
+use Rattle.std.proofs.Common.{Err, refl, subst, arith}
+use Rattle.std.proofs.lemmas.Bool.Decides.{nat_tests}
+use Rattle.std.specs.Int.{w32, w64}
+use Rattle.base.specs.Touch.{Touch, is_access_size}
+use Rattle.base.specs.declared.ending.Outcome.{Outcome}
+use Rattle.trace_format.specs.declared.fault.TraceFault.{TraceFault}
+use Rattle.trace_format.specs.declared.record.Version.{Version}
+use Rattle.trace_format.specs.declared.record.Version.TheVariants.{One, Two}
+use Rattle.trace_format.specs.declared.record.TraceRecord.{TraceRecord}
+use Rattle.trace_format.specs.declared.record.TraceRecord.TheVariants as records
+use Rattle.trace_format.specs.declared.tag.Tag.{Tag}
+use Rattle.trace_format.specs.declared.tag.Tag.TheVariants as tags
+use Rattle.trace_format.specs.declared.read_so_far.ReadSoFar.{ReadSoFar}
+use Rattle.trace_format.specs.Spelling.{spell_record, spell_touch}
+use Rattle.trace_format.specs.Tags.{tag_of}
+use Rattle.trace_format.specs.Rules.{IsGoodRecord, last_position}
+use Rattle.trace_format.specs.Found.{IsFound}
+use Rattle.trace_format.specs.Judging.{alloc_at, end_counted, end_with, extent_if, extent_of}
+use Rattle.trace_format.specs.Judging.{number_at, outcome_judged, record_extent}
+use Rattle.trace_format.specs.Judging.{record_judged, short_touch_judged, symbol_judged}
+use Rattle.trace_format.specs.Judging.{symbol_kind_of, tagged_if, tagged_judged, touch_counted}
+use Rattle.trace_format.specs.Judging.{touch_judged}
+use Rattle.trace_format.specs.Laws.Bytes.{IsBytes}
+use Rattle.trace_format.proofs.FoundRecords.{IsTagAt, ShortTouchIn, TouchIn, alloc_found}
+use Rattle.trace_format.proofs.FoundRecords.{free_found}
+use Rattle.trace_format.proofs.FoundRecords.{granted, same_Ok, short_touch_found, symbol_found}
+use Rattle.trace_format.proofs.FoundRecords.{tag_found, touch_found}
+use Rattle.trace_format.proofs.FoundEnds.{ending_found}
+
+touch_in_its : (v : Version) (last : ℕ) (bytes : List ℕ) (a : Touch) → TouchIn v → bytes
+    ≡ spell_touch One last a
+    → bytes ≡ spell_touch v last a
+touch_in_its One last bytes a fits is = is
+touch_in_its Two last bytes a fits is = absurd fits
+
+short_touch_in_its : (v : Version) (size last : ℕ) (bytes : List ℕ) (a : Touch)
+    → ShortTouchIn size v → bytes
+    ≡ spell_touch Two last a
+    → bytes ≡ spell_touch v last a
+short_touch_in_its One size last bytes a fits is = absurd fits
+short_touch_in_its Two size last bytes a fits is = is
+
+short_touch_size : (v : Version) (size : ℕ) → ShortTouchIn size v → is_access_size size ≡ true
+short_touch_size One size fits = absurd fits
+short_touch_size Two size fits = fits
+
+-- what an access that is counted was
+record WasTouch (p : ReadSoFar) (j : Result Touch TraceFault) (item : TraceRecord) : Type 0 where
+  touch : Touch
+  judged : j ≡ Ok touch
+  is : records.Touch touch ≡ item
+  there : p.header.first + p.counted < last_position
+
+was_touch : (p : ReadSoFar) (j : Result Touch TraceFault) (item : TraceRecord) → touch_counted p j
+    ≡ Ok item → WasTouch p j item
+was_touch p (Err fault) item e = absurd cc
+was_touch p (Ok a) item e =
+    let g = granted (ltb (p.header.first + p.counted) last_position) _ _ item e in
+    let low : ltb (p.header.first + p.counted) last_position ≡ true = g.0 in
+    record {
+      touch = a;
+      judged = refl;
+      is = same_Ok (records.Touch a) item g.1;
+      there = grind
+          (arith, nat_tests);
+    }
+
+-- what an end that is counted was
+record WasEnd (p : ReadSoFar) (bytes : List ℕ) (j : Result Outcome TraceFault)
+    (item : TraceRecord) : Type 0 where
+  outcome : Outcome
+  judged : j ≡ Ok outcome
+  is : records.End (end_with bytes outcome) ≡ item
+  there : number_at w64 17 bytes ≡ p.counted
+
+was_end : (p : ReadSoFar) (bytes : List ℕ) (j : Result Outcome TraceFault) (item : TraceRecord)
+    → end_counted p bytes j ≡ Ok item
+    → WasEnd p bytes j item
+was_end p bytes (Err fault) item e = absurd cc
+was_end p bytes (Ok o) item e =
+    let g = granted (eqb (number_at w64 17 bytes) p.counted) _ _ item e in
+    record {
+      outcome = o;
+      judged = refl;
+      is = same_Ok (records.End (end_with bytes o)) item g.1;
+      there = eqb-true (number_at w64 17 bytes) p.counted g.0;
+    }
+
+alloc_is : (p : ReadSoFar) (bytes : List ℕ) → IsGoodRecord p.header.harts (alloc_at bytes)
+    → bytes ≡ spell_record p.version p.last (alloc_at bytes)
+    → IsFound p bytes (alloc_at bytes)
+unfolding alloc_at
+alloc_is p bytes good spelled = record { good = good; there = tt; spelled = spelled }
+
+module _ (p : ReadSoFar) (bytes : List ℕ) (item : TraceRecord) (few : p.header.harts ≤ 256)
+    (low : p.last < 2 ^ 32) (is : IsBytes bytes)
+  where
+    tagged_found : (tag : Tag) → IsTagAt p.version (get_or bytes 0 0) tag → length bytes
+        ≡ extent_of tag bytes
+        → tagged_judged p tag bytes ≡ Ok item
+        → IsFound p bytes item
+    unfolding symbol_judged
+    tagged_found (tags.Touch kind) at len e =
+        let w = was_touch p (touch_judged kind p.header.harts p.place bytes) item e in
+        let f = touch_found kind p.header.harts p.place p.last bytes w.touch few len is at.number
+        w.judged in
+        subst (IsFound p bytes) w.is (record {
+          good = f.0;
+          there = w.there;
+          spelled = touch_in_its p.version p.last bytes w.touch at.fits f.1;
+        })
+    tagged_found (tags.ShortTouch kind size) at len e =
+        let w = was_touch p (short_touch_judged kind size p.header.harts p.last p.place bytes) item
+        e in
+        let f = short_touch_found kind size p.header.harts p.last p.place bytes w.touch few low
+        (short_touch_size p.version size at.fits) len is at.number
+        w.judged in
+        subst (IsFound p bytes) w.is (record {
+          good = f.0;
+          there = w.there;
+          spelled = short_touch_in_its p.version size p.last bytes w.touch at.fits f.1;
+        })
+    tagged_found tags.Alloc at len e =
+        let f = alloc_found p.header.harts p.version p.last bytes len is at.number in
+        subst (IsFound p bytes) (same_Ok (alloc_at bytes) item e) (alloc_is p bytes f.0 f.1)
+    tagged_found tags.Free at len e =
+        let f = free_found p.header.harts bytes len is at.number in
+        subst (IsFound p bytes) (same_Ok (records.Free (number_at w32 1 bytes)) item e)
+        (record { good = f.0; there = tt; spelled = f.1 })
+    tagged_found tags.Symbol at len e =
+        let kind = symbol_kind_of (get_or bytes 1 0) in
+        let f = symbol_found p.version p.header.harts p.last p.place bytes item len is at.number
+        kind refl e p
+        in
+        record { good = f.0; there = f.2; spelled = f.1 }
+    tagged_found tags.End at len e =
+        let w = was_end p bytes (outcome_judged p.header.harts p.place bytes) item e in
+        let f = ending_found p.header.harts p.place bytes w.outcome len is at.number w.judged in
+        subst (IsFound p bytes) w.is (record { good = f.0; there = w.there; spelled = f.1 })
+
+    found_if : (tag : Option Tag) → tag_of p.version (get_or bytes 0 0) ≡ tag → length bytes
+        ≡ extent_if tag bytes
+        → tagged_if p tag bytes ≡ Ok item
+        → IsFound p bytes item
+    found_if None known len e = absurd cc
+    found_if (Some tag) known len e = tagged_found tag
+        (tag_found p.version (get_or bytes 0 0) tag known) len e
+
+    pub record_found : length bytes ≡ record_extent p.version bytes → record_judged p bytes
+        ≡ Ok item → IsFound p bytes item
+    unfolding record_extent record_judged
+    record_found len e = found_if (tag_of p.version (get_or bytes 0 0)) refl len e

@@ -1,0 +1,434 @@
+-- What is read with no fault up to an end is a trace.
+use Rattle.std.proofs.Common.{◌≡◌, ℕ, ◌+◌, ◌^◌, ◌≤◌, ◌<◌, inl, inr, Bool, true, false, cond, eqb}
+use Rattle.std.proofs.Common.{ltb, List, [], ◌∷◌, ◌++◌, length, take}
+use Rattle.std.proofs.Common.{All, Option, Some, None, Result, Ok, Err, refl, sym, ap, subst, ◌∙◌}
+use Rattle.std.proofs.Common.{append_assoc, arith}
+use Rattle.std.proofs.lemmas.Bool.Decides.{nat_tests}
+use Rattle.std.proofs.lemmas.Bool.{cases_lt}
+use Rattle.std.proofs.lemmas.List.{append-nil, length-append, take-append-le}
+use Rattle.std.proofs.lemmas.List.Elements.{All-append, All-cons, All-head, All-nil, All-tail}
+use Rattle.std.proofs.lemmas.List.Elements.{filter_map-append}
+use Rattle.base.specs.declared.ending.Ending.{Ending}
+use Rattle.trace_format.specs.declared.fault.TraceFault.{TraceFault}
+use Rattle.trace_format.specs.declared.fault.TraceFault.TheVariants as faults
+use Rattle.trace_format.specs.declared.record.Version.{Version}
+use Rattle.trace_format.specs.declared.record.TraceRecord.{TraceRecord}
+use Rattle.trace_format.specs.declared.record.TraceRecord.TheVariants as records
+use Rattle.trace_format.specs.declared.read_so_far.ReadSoFar.{ReadSoFar}
+use Rattle.trace_format.specs.Spelling.{last_after, spell, spell_ending, spell_header, spell_record}
+use Rattle.trace_format.specs.Spelling.{spell_records}
+use Rattle.trace_format.specs.Rules.{IsGoodHeader, IsGoodRecord, IsInner, last_position}
+use Rattle.trace_format.specs.Rules.{longest_trace, touch_in, touches_in}
+use Rattle.trace_format.specs.Judging.{header_judged, record_extent, record_judged}
+use Rattle.trace_format.specs.Reading.{Reading, begin, byte_read, counted_after, ending_in}
+use Rattle.trace_format.specs.Reading.{ending_of, extent_at, header_read, part_at}
+use Rattle.trace_format.specs.Reading.{place_of, progress_after, read_on, reading_of, record_read}
+use Rattle.trace_format.specs.Reading.{with_fault}
+use Rattle.trace_format.specs.Laws.Reading.{waiting}
+use Rattle.trace_format.specs.Laws.Extents.{extent_is_some, fronts_wait_at}
+use Rattle.trace_format.specs.Laws.Again.{ComesAt}
+use Rattle.trace_format.specs.Found.{IsFound, IsTraceOf}
+use Rattle.trace_format.specs.Laws.Bytes.{bytes_of}
+use Rattle.trace_format.proofs.FoundEnds.{header_found}
+use Rattle.trace_format.proofs.FoundRecord.{record_found}
+
+-- ---- lists of records
+
+last_of : ℕ → List TraceRecord → ℕ
+last_of last [] = last
+last_of last (x ∷ xs) = last_of (last_after last x) xs
+
+last_of-more : (last : ℕ) (xs : List TraceRecord) (x : TraceRecord) → last_of last (xs ++ x ∷ [])
+    ≡ last_after (last_of last xs) x
+unfolding last_of
+last_of-more last [] x = refl
+last_of-more last (y ∷ ys) x = last_of-more (last_after last y) ys x
+
+spelled-more : (v : Version) (last : ℕ) (xs : List TraceRecord) (x : TraceRecord)
+    → spell_records v last (xs ++ x ∷ []) ≡ spell_records v last xs ++ spell_record v
+    (last_of last xs) x
+unfolding last_of
+spelled-more v last [] x = append-nil (spell_record v last x)
+spelled-more v last (y ∷ ys) x =
+    ap (λ (bytes : List ℕ). spell_record v last y ++ bytes)
+    (spelled-more v (last_after last y) ys x)
+    ∙ sym (append_assoc (spell_record v last y) (spell_records v (last_after last y) ys)
+    (spell_record v (last_of (last_after last y) ys) x))
+
+counted-one : (n : ℕ) (x : TraceRecord) → n + length (touches_in (x ∷ [])) ≡ counted_after n x
+counted-one n (records.Touch a) = refl
+counted-one n (records.Alloc addr size sites) = omega arith
+counted-one n (records.Free addr) = omega arith
+counted-one n (records.Symbol kind addr size name) = omega arith
+counted-one n (records.End e) = omega arith
+
+counted-more : (xs : List TraceRecord) (x : TraceRecord) → counted_after (length (touches_in xs)) x
+    ≡ length (touches_in (xs ++ x ∷ []))
+counted-more xs x =
+    sym (ap length (filter_map-append touch_in xs (x ∷ [])) ∙ length-append (touches_in xs)
+    (touches_in (x ∷ []))
+    ∙ counted-one (length (touches_in xs)) x)
+
+last_first : (last : ℕ) → last ≡ 0 → last ≡ last_of 0 []
+unfolding last_of
+last_first last is = is
+
+-- ---- what waits is judged as soon as its bytes are there
+
+grown : (p : Option ReadSoFar) (e : Option Ending) (xs : List ℕ) (b : ℕ)
+    → length xs < extent_at p e xs
+    → length xs < extent_at p e (xs ++ b ∷ [])
+grown p e xs b waits =
+    let n = extent_at p e (xs ++ b ∷ []) in
+    let size : length (xs ++ b ∷ []) ≡ length xs + 1 = length-append xs (b ∷ []) in
+    let some : 1 ≤ n = extent_is_some p e (xs ++ b ∷ []) in
+    elim (cases_lt (length xs) n) [
+      | inl lt ↦ lt
+      | inr le ↦
+          let front : take n (xs ++ b ∷ []) ≡ take n xs = take-append-le n xs (b ∷ []) le in
+          let whole = (fronts_wait_at p e (xs ++ b ∷ [])).whole n some (omega arith) refl in
+          let short = (fronts_wait_at p e xs).short n some le (omega arith) in
+          absurd (omega (arith, whole, short, ap (extent_at p e) front))
+    ]
+
+-- ---- what is true of each reading
+
+-- records so far, and bytes that wait
+record IsOpen (bytes : List ℕ) (items : List TraceRecord) (pending : List ℕ)
+    (p : ReadSoFar) : Type 0 where
+  header : IsGoodHeader p.header
+  good : All (IsGoodRecord p.header.harts) items
+  inner : All IsInner items
+  positions : p.header.first + p.counted ≤ last_position
+  counted : p.counted ≡ length (touches_in items)
+  last : p.last ≡ last_of 0 items
+  low : p.last < 2 ^ 32
+  place : p.place ≡ length (spell_header p.version p.header ++ spell_records p.version 0 items)
+  spelled : bytes ≡ (spell_header p.version p.header ++ spell_records p.version 0 items) ++ pending
+  room : p.place + length pending ≤ longest_trace
+  waits : length pending < record_extent p.version pending
+  fits : All (λ b. b < 256) pending
+
+record IsBefore (bytes : List ℕ) (items : List TraceRecord) (pending : List ℕ)
+    (e : Option Ending) : Type 0 where
+  none : items ≡ []
+  no_end : e ≡ None
+  same : bytes ≡ pending
+  waits : length pending < 20
+  fits : All (λ b. b < 256) pending
+
+abbrev Keeps : Option ReadSoFar → Option Ending → List ℕ → List TraceRecord → List ℕ → Type 0
+Keeps None e bytes items pending = IsBefore bytes items pending e
+Keeps (Some p) None bytes items pending = IsOpen bytes items pending p
+Keeps (Some p) (Some e) bytes items pending = IsTraceOf bytes items e
+
+abbrev Stands : Option TraceFault → Option ReadSoFar → Option Ending → List ℕ → List TraceRecord
+    → List ℕ → Type 0
+Stands (Some fault) p e bytes items pending = Unit {0}
+Stands None p e bytes items pending = Keeps p e bytes items pending
+
+abbrev StandsAt : List ℕ → List TraceRecord → Reading → Type 0
+StandsAt bytes items r = Stands r.fault r.progress r.ending bytes items r.pending
+
+-- ---- one more byte
+
+by_test : {A : Type 0} (P : A → Type 0) (b : Bool) (x y : A) → (b ≡ true → P x) → (b ≡ false → P y)
+    → P (cond b x y)
+by_test P true x y on off = on refl
+by_test P false x y on off = off refl
+
+byte_is : (b : ℕ) → b < 256 → All (λ b. b < 256) (b ∷ [])
+byte_is b small = All-cons (λ b. b < 256) b [] small (All-nil (λ b. b < 256))
+
+-- an inner record takes a position at most, and leaves the last address one of 32 bits
+positions_after : (p : ReadSoFar) (item : TraceRecord) → ComesAt p item
+    → p.header.first + p.counted ≤ last_position
+    → p.header.first + counted_after p.counted item ≤ last_position
+positions_after p (records.Touch a) there fits = omega arith
+positions_after p (records.Alloc addr size sites) there fits = fits
+positions_after p (records.Free addr) there fits = fits
+positions_after p (records.Symbol kind addr size name) there fits = fits
+positions_after p (records.End e) there fits = fits
+
+low_after : (p : ReadSoFar) (item : TraceRecord) → IsGoodRecord p.header.harts item
+    → p.last < 2 ^ 32 → last_after p.last item < 2 ^ 32
+low_after p (records.Touch a) good low = good.allowed.addr_in_range
+low_after p (records.Alloc addr size sites) good low = low
+low_after p (records.Free addr) good low = low
+low_after p (records.Symbol kind addr size name) good low = low
+low_after p (records.End e) good low = low
+
+module _ (before : List ℕ) (items : List TraceRecord) (pending : List ℕ) (b : ℕ)
+    (small : b < 256) where
+  -- the bytes with one more, and those that wait
+  bytes : List ℕ
+  bytes = before ++ b ∷ []
+
+  more : List ℕ
+  more = pending ++ b ∷ []
+
+  longer : length more ≡ length pending + 1
+  unfolding more
+  longer = length-append pending (b ∷ [])
+
+  waits_still : (p : Option ReadSoFar) (e : Option Ending) → Keeps p e before items pending
+      → eqb (place_of p + length pending) longest_trace ≡ false
+      → ltb (length more) (extent_at p e more) ≡ true → Keeps p e bytes (items ++ []) more
+  unfolding bytes more
+  waits_still None e k room short =
+      record {
+        none = append-nil items ∙ k.none;
+        no_end = k.no_end;
+        same = ap (λ (xs : List ℕ). xs ++ b ∷ []) k.same;
+        waits = grind (arith, nat_tests);
+        fits = All-append (λ b. b < 256) pending (b ∷ []) k.fits (byte_is b small);
+      }
+  waits_still (Some p) None k room short =
+      let kept = k.room in
+      let waits : length more < record_extent p.version more = grind (arith, nat_tests) in
+      let front = spell_header p.version p.header ++ spell_records p.version 0 items in
+      let now : IsOpen bytes items more p =
+      record {
+        header = k.header;
+        good = k.good;
+        inner = k.inner;
+        positions = k.positions;
+        counted = k.counted;
+        last = k.last;
+        low = k.low;
+        place = k.place;
+        spelled = ap (λ (xs : List ℕ). xs ++ b ∷ []) k.spelled
+            ∙ append_assoc front pending (b ∷ []);
+        room = grind (arith, nat_tests, longer);
+        waits = waits;
+        fits = All-append (λ b. b < 256) pending (b ∷ []) k.fits (byte_is b small);
+      } in
+      subst (λ (xs : List TraceRecord). IsOpen bytes xs more p) (sym (append-nil items)) now
+  waits_still (Some p) (Some e) k room short = absurd (grind (arith, nat_tests, longer))
+
+  header_stands : (e : Option Ending) → IsBefore before items pending e → length more ≡ 20
+      → (j : Result ReadSoFar TraceFault)
+      → header_judged more ≡ j
+      → (let now = header_read (waiting None e pending) j in StandsAt bytes (items ++ now.0) now.1)
+  unfolding bytes more
+  header_stands e k len (Err fault) known = tt
+  header_stands e k len (Ok p) known =
+      let is : All (λ b. b < 256) more = All-append (λ b. b < 256) pending (b ∷ []) k.fits
+      (byte_is b small) in
+      let found = header_found more p len (bytes_of more is) known in
+      let same : bytes ≡ spell_header p.version p.header ++ [] =
+      ap (λ (xs : List ℕ). xs ++ b ∷ []) k.same ∙ found.spelled
+      ∙ sym (append-nil (spell_header p.version p.header)) in
+      let size : 20 ≡ length (spell_header p.version p.header ++ []) =
+      sym len ∙ ap length (found.spelled ∙ sym (append-nil (spell_header p.version p.header))) in
+      let fresh = found.fresh in
+      let position = found.good.position in
+      let counted : p.counted ≡ 0 = ap (λ (x : ReadSoFar). x.counted) fresh in
+      let last : p.last ≡ 0 = ap (λ (x : ReadSoFar). x.last) fresh in
+      let place : p.place ≡ 20 = ap (λ (x : ReadSoFar). x.place) fresh in
+      let now : IsOpen bytes [] [] p =
+      record {
+        header = found.good;
+        good = All-nil (IsGoodRecord p.header.harts);
+        inner = All-nil IsInner;
+        positions = omega arith;
+        counted = counted;
+        last = last_first p.last last;
+        low = omega arith;
+        place = place ∙ size;
+        spelled = same ∙ sym (append-nil (spell_header p.version p.header ++ []));
+        room = omega arith;
+        waits = omega (arith, extent_is_some (Some p) None []);
+        fits = All-nil (λ b. b < 256);
+      } in
+      subst (λ (x : Option Ending). Keeps (Some p) x bytes (items ++ []) []) (sym k.no_end)
+      (subst (λ (xs : List TraceRecord). IsOpen bytes xs [] p) (sym (append-nil items ∙ k.none))
+      now)
+
+  module _ (p : ReadSoFar) (k : IsOpen before items pending p)
+      (room : p.place + length more ≤ longest_trace) where
+    front : List ℕ
+    front = spell_header p.version p.header ++ spell_records p.version 0 items
+
+    joined : bytes ≡ front ++ more
+    unfolding bytes more front
+    joined = ap (λ (xs : List ℕ). xs ++ b ∷ []) k.spelled ∙ append_assoc
+        (spell_header p.version p.header ++ spell_records p.version 0 items) pending (b ∷ [])
+
+    size : length bytes ≡ p.place + length more
+    unfolding front
+    size = ap length joined ∙ length-append front more ∙ ap (λ (n : ℕ). n + length more)
+        (sym k.place)
+
+    -- the bytes once a record is found
+    with_record : (item : TraceRecord) → IsFound p more item
+        → bytes ≡ spell_header p.version p.header ++ spell_records p.version 0 (items ++ item ∷ [])
+    unfolding front
+    with_record item found =
+        let v = p.version in
+        let h = spell_header v p.header in
+        let rs = spell_records v 0 items in
+        let last : spell_record v p.last item ≡ spell_record v (last_of 0 items) item =
+        ap (λ (l : ℕ). spell_record v l item) k.last in
+        joined ∙ ap (λ (xs : List ℕ). front ++ xs) (found.spelled ∙ last)
+        ∙ append_assoc h rs (spell_record v (last_of 0 items) item)
+        ∙ ap (λ (xs : List ℕ). h ++ xs) (sym (spelled-more v 0 items item))
+
+    open_after : (item : TraceRecord) → IsInner item → IsFound p more item
+        → IsOpen bytes (items ++ item ∷ []) [] (progress_after p item (length more))
+    open_after item inner found =
+        let P : TraceRecord → Type 0 = IsGoodRecord p.header.harts in
+        let whole = with_record item found in
+        let all = spell_header p.version p.header ++ spell_records p.version 0
+        (items ++ item ∷ []) in
+        record {
+          header = k.header;
+          good = All-append P items (item ∷ []) k.good (All-cons P item [] found.good (All-nil P));
+          inner = All-append IsInner items (item ∷ []) k.inner
+              (All-cons IsInner item [] inner (All-nil IsInner));
+          positions = positions_after p item found.there k.positions;
+          counted = ap (λ (n : ℕ). counted_after n item) k.counted ∙ counted-more items item;
+          last = ap (λ (l : ℕ). last_after l item) k.last ∙ sym (last_of-more 0 items item);
+          low = low_after p item found.good k.low;
+          place = sym size ∙ ap length whole;
+          spelled = whole ∙ sym (append-nil all);
+          room = omega arith;
+          waits = omega (arith, extent_is_some (Some p) None []);
+          fits = All-nil (λ b. b < 256);
+        }
+
+    closed_after : (e : Ending) → IsFound p more (records.End e)
+        → IsTraceOf bytes (items ++ records.End e ∷ []) e
+    unfolding front spell
+    closed_after e found =
+        let v = p.version in
+        let h = spell_header v p.header in
+        let rs = spell_records v 0 items in
+        let whole : bytes ≡ spell v p.header items e = joined
+        ∙ ap (λ (xs : List ℕ). front ++ xs) found.spelled
+        ∙ append_assoc h rs (spell_ending e) in
+        let positions = k.positions in
+        let counted = k.counted in
+        record {
+          version = v;
+          header = p.header;
+          items = items;
+          trace = record {
+            good = record {
+              header = k.header;
+              records = k.good;
+              inner = k.inner;
+              ending = found.good;
+              positions = omega arith;
+              counted = found.there ∙ k.counted;
+              short = omega (arith, size, ap length whole);
+            };
+            spelled = whole;
+          };
+          records = refl;
+        }
+
+    item_stands : (item : TraceRecord) → IsFound p more item
+        → Keeps (Some (progress_after p item (length more))) (ending_in item) bytes
+        (items ++ item ∷ []) []
+    item_stands (records.Touch a) found = open_after (records.Touch a) tt found
+    item_stands (records.Alloc addr n sites) found = open_after (records.Alloc addr n sites) tt
+        found
+    item_stands (records.Free addr) found = open_after (records.Free addr) tt found
+    item_stands (records.Symbol kind addr n name) found = open_after
+        (records.Symbol kind addr n name) tt found
+    item_stands (records.End e) found = closed_after e found
+
+    more_fits : All (λ b. b < 256) more
+    unfolding more
+    more_fits = All-append (λ b. b < 256) pending (b ∷ []) k.fits (byte_is b small)
+
+    record_stands : length more ≡ record_extent p.version more → (j : Result TraceRecord TraceFault)
+        → record_judged p more ≡ j
+        → (let now = record_read (waiting (Some p) None pending) p (length more) j in StandsAt bytes
+        (items ++ now.0) now.1)
+    record_stands len (Err fault) known = tt
+    record_stands len (Ok item) known = item_stands item
+        (record_found p more item k.header.few k.low (bytes_of more more_fits) len known)
+
+  part_stands : (p : Option ReadSoFar) (e : Option Ending) → Keeps p e before items pending
+      → eqb (place_of p + length pending) longest_trace ≡ false
+      → ltb (length more) (extent_at p e more) ≡ false
+      → (let now = part_at (waiting p e pending) p e more in StandsAt bytes (items ++ now.0) now.1)
+  unfolding more
+  part_stands None e k room long =
+      let waits = k.waits in
+      header_stands e k (grind (arith, nat_tests, longer)) (header_judged more) refl
+  part_stands (Some p) None k room long =
+      let waits = k.waits in
+      let kept = k.room in
+      let grew : length pending < record_extent p.version more = grown (Some p) None pending b waits
+      in
+      record_stands p k (grind (arith, nat_tests, longer)) (grind (arith, nat_tests, longer))
+      (record_judged p more) refl
+  part_stands (Some p) (Some e) k room long = tt
+
+  byte_stands : (f : Option TraceFault) (p : Option ReadSoFar) (e : Option Ending)
+      → Stands f p e before items pending
+      → (let now = byte_read (record { progress = p; pending = pending; ending = e; fault = f })
+      b in StandsAt bytes (items ++ now.0) now.1)
+  unfolding byte_read more
+  byte_stands (Some fault) p e stands = tt
+  byte_stands None p e stands =
+      let r = waiting p e pending in
+      let P : List TraceRecord × Reading → Type 0 = λ now. StandsAt bytes (items ++ now.0) now.1 in
+      by_test P (eqb (place_of p + length pending) longest_trace) ([], with_fault r faults.TooLong)
+      _ (λ last. tt)
+      (λ room. by_test P (ltb (length more) (extent_at p e more)) ([], record r { pending = more })
+      (part_at r p e more)
+      (λ short. waits_still p e stands room short) (λ long. part_stands p e stands room long))
+
+-- ---- all bytes
+
+stands_on : (bytes before : List ℕ) (items : List TraceRecord) (r : Reading)
+    → All (λ b. b < 256) bytes → StandsAt before items r
+    → StandsAt (before ++ bytes) (items ++ (read_on r bytes).0) (read_on r bytes).1
+unfolding read_on bytes
+stands_on [] before items r small stands =
+    subst (λ (x : List ℕ). StandsAt x (items ++ []) r) (sym (append-nil before))
+    (subst (λ (xs : List TraceRecord). StandsAt before xs r) (sym (append-nil items)) stands)
+stands_on (b ∷ bytes) before items r small stands =
+    let now = byte_read r b in
+    let one = byte_stands before items r.pending b (All-head (λ b. b < 256) b bytes small) r.fault
+    r.progress r.ending stands in
+    let later = stands_on bytes (before ++ b ∷ []) (items ++ now.0) now.1
+    (All-tail (λ b. b < 256) b bytes small) one in
+    let all = read_on now.1 bytes in
+    subst (λ (x : List ℕ). StandsAt x (items ++ (now.0 ++ all.0)) all.1)
+    (append_assoc before (b ∷ []) bytes)
+    (subst (λ (xs : List TraceRecord). StandsAt ((before ++ b ∷ []) ++ bytes) xs all.1)
+    (append_assoc items now.0 all.0) later)
+
+ends : (bytes : List ℕ) (items : List TraceRecord) (f : Option TraceFault) (p : Option ReadSoFar)
+    (ending : Option Ending) (pending : List ℕ)
+    (e : Ending)
+    → Stands f p ending bytes items pending
+    → ending_of (record { progress = p; pending = pending; ending = ending; fault = f }) ≡ Ok e
+    → IsTraceOf bytes items e
+ends bytes items (Some fault) p ending pending e stands is = absurd cc
+ends bytes items None None ending pending e stands is = absurd cc
+ends bytes items None (Some p) None pending e stands is = absurd cc
+ends bytes items None (Some p) (Some e') pending e stands is = subst (IsTraceOf bytes items)
+    (let same : e' ≡ e = cc in same) stands
+
+pub trace_found : (bytes : List ℕ) (e : Ending) → All (λ b. b < 256) bytes
+    → ending_of (reading_of bytes).1 ≡ Ok e
+    → IsTraceOf bytes (reading_of bytes).0 e
+trace_found bytes e small is =
+    let r = (reading_of bytes).1 in
+    let first : StandsAt [] [] begin =
+    record {
+      none = refl;
+      no_end = refl;
+      same = refl;
+      waits = omega arith;
+      fits = All-nil
+          (λ b. b < 256);
+    } in
+    ends bytes (reading_of bytes).0 r.fault r.progress r.ending r.pending e
+    (stands_on bytes [] [] begin small first) is

@@ -1,0 +1,16 @@
+pub mod Cuts
+pub mod Endings
+pub mod FoundEnds
+pub mod FoundRecord
+pub mod FoundRecords
+pub mod FoundShortTouches
+pub mod FoundTrace
+pub mod Groups
+pub mod Heads
+pub mod Limits
+pub mod Pieces
+pub mod ReadParts
+pub mod Runs
+pub mod ShortTouches
+pub mod Worked
+pub mod WriteParts

@@ -1,0 +1,12 @@
+-- The laws of the definitions, by what they are about.
+pub mod Again
+pub mod Bytes
+pub mod Counts
+pub mod Extents
+pub mod Pieces
+pub mod Prefixes
+pub mod Reading
+pub mod Records
+pub mod Spelling
+pub mod Traces
+pub mod Writing

@@ -1,0 +1,316 @@
+-- What good records spell is read as those records.
+use Rattle.std.proofs.Common.{◌≡◌, ◌≢◌, ℕ, ◌+◌, ◌*◌, ◌%◌, ◌^◌, ◌≤◌, ◌<◌, true, false, eqb, eq-eqb}
+use Rattle.std.proofs.Common.{ltb, leb, List, [], ◌∷◌, length, get_or, All, Some, Ok, refl, ap}
+use Rattle.std.proofs.Common.{arith}
+use Rattle.std.proofs.lemmas.Bool.Decides.{nat_tests}
+use Rattle.std.proofs.lemmas.List.Elements.{All-head, All-tail}
+use Rattle.std.proofs.lemmas.Nat.{from_le_bytes-to_le_bytes_2, from_le_bytes-to_le_bytes_4}
+use Rattle.std.proofs.lemmas.Nat.{from_le_bytes-to_le_bytes_8}
+use Rattle.std.specs.List.{list_any}
+use Rattle.objects.specs.declared.symbol.SymbolKind.{SymbolKind}
+use Rattle.objects.specs.declared.symbol.SymbolKind.TheVariants.{Object, Function}
+use Rattle.base.specs.Touch.{Touch, is_access_size}
+use Rattle.base.specs.declared.ending.Cause.{Cause}
+use Rattle.base.specs.declared.ending.Cause.TheVariants.{Illegal, Breakpoint}
+use Rattle.base.specs.declared.ending.Cause.TheVariants.{FetchMisaligned, FetchOutside}
+use Rattle.base.specs.declared.ending.Cause.TheVariants.{LoadMisaligned, LoadOutside}
+use Rattle.base.specs.declared.ending.Cause.TheVariants.{StoreMisaligned, StoreOutside}
+use Rattle.base.specs.declared.ending.Outcome.{Outcome}
+use Rattle.base.specs.declared.ending.Outcome.TheVariants.{Exit, Budget, Deadlock, Trap}
+use Rattle.base.specs.declared.ending.Outcome.TheVariants.{Part}
+use Rattle.trace_format.specs.declared.record.Header.{Header}
+use Rattle.trace_format.specs.declared.record.Version.{Version}
+use Rattle.trace_format.specs.declared.record.Version.TheVariants.{One, Two}
+use Rattle.trace_format.specs.declared.record.TraceRecord.{TraceRecord}
+use Rattle.trace_format.specs.declared.record.TraceRecord.TheVariants as records
+use Rattle.trace_format.specs.declared.read_so_far.ReadSoFar.{ReadSoFar}
+use Rattle.trace_format.specs.Numbers.{distance}
+use Rattle.trace_format.specs.Spelling.{cause_number, kind_number, spell_alloc, spell_ending}
+use Rattle.trace_format.specs.Spelling.{spell_free, spell_header, spell_record, spell_symbol}
+use Rattle.trace_format.specs.Spelling.{spell_touch}
+use Rattle.trace_format.specs.Tags.{half_of}
+use Rattle.std.specs.Int.{w32, w64}
+use Rattle.trace_format.specs.Rules.{FitsFields, IsAllowedEnd, IsGoodEnding, IsGoodHeader}
+use Rattle.trace_format.specs.Rules.{IsGoodRecord, IsGoodSymbol, IsGoodTouch, last_position}
+use Rattle.trace_format.specs.Judging.{alloc_at, begun, cause_of, header_judged, number_at}
+use Rattle.trace_format.specs.Judging.{outcome_judged, plain_judged, record_judged}
+use Rattle.trace_format.specs.Judging.{short_touch_judged}
+use Rattle.trace_format.specs.Judging.{symbol_judged, symbol_kind_of, touch_judged, trap_judged}
+use Rattle.trace_format.specs.Laws.Spelling.{address_again, distance_small, groups_good}
+use Rattle.trace_format.specs.Laws.Spelling.{number_again, short_touch_tag, touch_tag}
+
+pub header_again : (v : Version) (h : Header) → IsGoodHeader h
+    → header_judged (spell_header v h) ≡ Ok (begun v h)
+unfolding header_judged spell_header
+header_again One h good =
+    let first = from_le_bytes-to_le_bytes_8 h.first (omega (arith, good.position)) in
+    let harts = from_le_bytes-to_le_bytes_2 h.harts (omega (arith, good.few)) in
+    let near : ltb last_position h.first ≡ false = grind (arith, nat_tests, good.position) in
+    let some : leb 1 h.harts ≡ true = grind (arith, nat_tests, good.some) in
+    let few : leb h.harts 256 ≡ true = grind (arith, nat_tests, good.few) in
+    rw (first, harts, near, some, few) refl
+header_again Two h good =
+    let first = from_le_bytes-to_le_bytes_8 h.first (omega (arith, good.position)) in
+    let harts = from_le_bytes-to_le_bytes_2 h.harts (omega (arith, good.few)) in
+    let near : ltb last_position h.first ≡ false = grind (arith, nat_tests, good.position) in
+    let some : leb 1 h.harts ≡ true = grind (arith, nat_tests, good.some) in
+    let few : leb h.harts 256 ≡ true = grind (arith, nat_tests, good.few) in
+    rw (first, harts, near, some, few) refl
+
+touch_again : (harts last place : ℕ) (a : Touch) → IsGoodTouch harts a
+    → touch_judged a.kind harts place (spell_touch One last a) ≡ Ok a
+unfolding touch_judged spell_touch
+touch_again harts last place a good =
+    let inside : leb harts a.hart ≡ false = grind (arith, nat_tests, good.hart) in
+    let sized : is_access_size a.size ≡ true = good.allowed.sized in
+    let aligned : eqb (a.addr % a.size) 0 ≡ true =
+    eq-eqb (a.addr % a.size) 0 good.allowed.aligned in
+    rw (
+      from_le_bytes-to_le_bytes_2 a.hart (omega (arith, good.allowed.hart_in_range)),
+      from_le_bytes-to_le_bytes_4 a.addr good.allowed.addr_in_range,
+      inside,
+      sized,
+      aligned,
+    )
+    refl
+
+short_touch_again : (harts last place : ℕ) (a : Touch) → last < 2 ^ 32 → IsGoodTouch harts a
+    → short_touch_judged a.kind a.size harts last place (spell_touch Two last a) ≡ Ok a
+unfolding short_touch_judged spell_touch
+short_touch_again harts last place a low good =
+    let inside : leb harts a.hart ≡ false = grind (arith, nat_tests, good.hart) in
+    let z = distance last a.addr in
+    let small = distance_small last a.addr in
+    let there = address_again last a.addr low good.allowed.addr_in_range in
+    let aligned : eqb (a.addr % a.size) 0 ≡ true =
+    eq-eqb (a.addr % a.size) 0 good.allowed.aligned in
+    rw (inside, groups_good z small, number_again z small, there, aligned) refl
+
+cause_again : (c : Cause) → cause_of (cause_number c) ≡ Some c
+cause_again Illegal = refl
+cause_again Breakpoint = refl
+cause_again FetchMisaligned = refl
+cause_again FetchOutside = refl
+cause_again LoadMisaligned = refl
+cause_again LoadOutside = refl
+cause_again StoreMisaligned = refl
+cause_again StoreOutside = refl
+
+outcome_again : (harts place : ℕ) (o : Outcome) (steps accesses : ℕ) → harts ≤ 256
+    → IsAllowedEnd steps o → FitsFields harts o → steps < 2 ^ 64
+    → outcome_judged harts place (spell_ending
+    (record { outcome = o; steps = steps; accesses = accesses })) ≡ Ok o
+unfolding outcome_judged trap_judged plain_judged spell_ending
+outcome_again harts place (Exit code) steps accesses few allowed fits s =
+    rw (from_le_bytes-to_le_bytes_4 code fits) refl
+outcome_again harts place Budget steps accesses few allowed fits s = refl
+outcome_again harts place Deadlock steps accesses few allowed fits s = refl
+outcome_again harts place (Trap hart pc cause) steps accesses few allowed fits s =
+    let inside : leb harts hart ≡ false = grind (arith, nat_tests, fits.0) in
+    let aligned : eqb (pc % 4) 0 ≡ true = eq-eqb (pc % 4) 0 allowed in
+    rw (
+      cause_again cause,
+      from_le_bytes-to_le_bytes_2 hart (omega (arith, fits.0)),
+      from_le_bytes-to_le_bytes_4 pc fits.1,
+      inside,
+      aligned,
+    ) refl
+outcome_again harts place Part steps accesses few allowed fits s =
+    rw (from_le_bytes-to_le_bytes_8 steps s, allowed) refl
+
+kind_again : (k : SymbolKind) → symbol_kind_of (kind_number k) ≡ Some k
+kind_again Object = refl
+kind_again Function = refl
+
+no_zero : (name : List ℕ) → All (λ b. b ≢ 0) name → list_any (eqb 0) name ≡ false
+no_zero [] none = refl
+no_zero (b ∷ bs) none =
+    let here : eqb 0 b ≡ false = grind (arith, nat_tests, All-head (λ b. b ≢ 0) b bs none) in
+    rw here (no_zero bs (All-tail (λ b. b ≢ 0) b bs none))
+
+symbol_again : (place : ℕ) (kind : SymbolKind) (addr size : ℕ) (name : List ℕ)
+    → IsGoodSymbol addr size name
+    → symbol_judged place (spell_symbol kind addr size name) ≡ Ok (records.Symbol kind addr size
+    name)
+unfolding symbol_judged spell_symbol
+symbol_again place kind addr size name good =
+    let told = from_le_bytes-to_le_bytes_2 (length name) (omega (arith, good.short)) in
+    let sized : eqb size 0 ≡ false = grind (arith, nat_tests, good.some) in
+    let fits : ltb 1024 (length name) ≡ false = grind (arith, nat_tests, good.short) in
+    rw (
+      kind_again kind,
+      from_le_bytes-to_le_bytes_4 addr good.addr_in_range,
+      from_le_bytes-to_le_bytes_4 size good.size_in_range,
+      sized,
+      told,
+      fits,
+      no_zero name
+          good.no_zero,
+    ) refl
+
+alloc_again : (addr size : ℕ) (sites : List ℕ) → addr < 2 ^ 32 → size < 2 ^ 32 → length sites ≡ 4
+    → All (λ site. site < 2 ^ 32) sites
+    → alloc_at (spell_alloc addr size sites) ≡ records.Alloc addr size sites
+unfolding alloc_at spell_alloc
+alloc_again addr size (a ∷ b ∷ c ∷ d ∷ []) small_addr small_size four each =
+    let rest = All-tail (λ s. s < 2 ^ 32) a (b ∷ c ∷ d ∷ []) each in
+    let rest' = All-tail (λ s. s < 2 ^ 32) b (c ∷ d ∷ []) rest in
+    let rest'' = All-tail (λ s. s < 2 ^ 32) c (d ∷ []) rest' in
+    rw (
+      from_le_bytes-to_le_bytes_4 addr small_addr,
+      from_le_bytes-to_le_bytes_4 size small_size,
+      from_le_bytes-to_le_bytes_4 a (All-head (λ s. s < 2 ^ 32) a (b ∷ c ∷ d ∷ []) each),
+      from_le_bytes-to_le_bytes_4 b (All-head (λ s. s < 2 ^ 32) b (c ∷ d ∷ []) rest),
+      from_le_bytes-to_le_bytes_4 c (All-head (λ s. s < 2 ^ 32) c (d ∷ []) rest'),
+      from_le_bytes-to_le_bytes_4 d (All-head (λ s. s < 2 ^ 32) d [] rest''),
+    ) refl
+alloc_again addr size [] small_addr small_size four each = absurd (omega arith)
+alloc_again addr size (a ∷ []) small_addr small_size four each = absurd (omega arith)
+alloc_again addr size (a ∷ b ∷ []) small_addr small_size four each = absurd (omega arith)
+alloc_again addr size (a ∷ b ∷ c ∷ []) small_addr small_size four each = absurd (omega arith)
+alloc_again addr size (a ∷ b ∷ c ∷ d ∷ e ∷ rest) small_addr small_size four each =
+    absurd (omega arith)
+
+first_of_touch : (last : ℕ) (a : Touch) → get_or (spell_touch One last a) 0 0 ≡ half_of a.kind
+unfolding spell_touch
+first_of_touch last a = refl
+
+first_of_short_touch : (last : ℕ) (a : Touch)
+    → get_or (spell_touch Two last a) 0 0 ≡ 16 * half_of a.kind + a.size
+unfolding spell_touch
+first_of_short_touch last a = refl
+
+first_of_ending : (o : Outcome) (steps accesses : ℕ)
+    → get_or (spell_ending (record { outcome = o; steps = steps; accesses = accesses })) 0 0 ≡ 6
+unfolding spell_ending
+first_of_ending o steps accesses = refl
+
+steps_of : (o : Outcome) (steps accesses : ℕ) → steps < 2 ^ 64
+    → number_at w64 9 (spell_ending (record { outcome = o; steps = steps; accesses = accesses }))
+    ≡ steps
+unfolding spell_ending
+steps_of (Exit code) steps accesses s = from_le_bytes-to_le_bytes_8 steps s
+steps_of Budget steps accesses s = from_le_bytes-to_le_bytes_8 steps s
+steps_of Deadlock steps accesses s = from_le_bytes-to_le_bytes_8 steps s
+steps_of (Trap hart pc cause) steps accesses s = from_le_bytes-to_le_bytes_8 steps s
+steps_of Part steps accesses s = from_le_bytes-to_le_bytes_8 steps s
+
+accesses_of : (o : Outcome) (steps accesses : ℕ) → accesses < 2 ^ 64
+    → number_at w64 17 (spell_ending (record { outcome = o; steps = steps; accesses = accesses }))
+    ≡ accesses
+unfolding spell_ending
+accesses_of (Exit code) steps accesses s = from_le_bytes-to_le_bytes_8 accesses s
+accesses_of Budget steps accesses s = from_le_bytes-to_le_bytes_8 accesses s
+accesses_of Deadlock steps accesses s = from_le_bytes-to_le_bytes_8 accesses s
+accesses_of (Trap hart pc cause) steps accesses s = from_le_bytes-to_le_bytes_8 accesses s
+accesses_of Part steps accesses s = from_le_bytes-to_le_bytes_8 accesses s
+
+first_of_alloc : (addr size : ℕ) (sites : List ℕ) → get_or (spell_alloc addr size sites) 0 0 ≡ 3
+unfolding spell_alloc
+first_of_alloc addr size sites = refl
+
+first_of_free : (addr : ℕ) → get_or (spell_free addr) 0 0 ≡ 4
+unfolding spell_free
+first_of_free addr = refl
+
+addr_of_free : (addr : ℕ) → addr < 2 ^ 32 → number_at w32 1 (spell_free addr) ≡ addr
+unfolding spell_free
+addr_of_free addr small = from_le_bytes-to_le_bytes_4 addr small
+
+first_of_symbol : (kind : SymbolKind) (addr size : ℕ) (name : List ℕ)
+    → get_or (spell_symbol kind addr size name) 0 0 ≡ 5
+unfolding spell_symbol
+first_of_symbol kind addr size name = refl
+
+-- what a record needs of the records before it: an access has a position, and an end tells how
+-- many accesses there were
+abbrev pub ComesAt : ReadSoFar → TraceRecord → Type 0
+ComesAt p (records.Touch a) = p.header.first + p.counted < last_position
+ComesAt p (records.End e) = e.accesses ≡ p.counted
+ComesAt p _ = Unit {0}
+
+module _ (header : Header) (counted last place : ℕ) (few : header.harts ≤ 256) (low : last < 2 ^
+    32) where
+  at : Version → ReadSoFar
+  at v = record { version = v; header = header; counted = counted; last = last; place = place }
+
+  touch_judged_again : (v : Version) (a : Touch) → IsGoodTouch header.harts a
+      → header.first + counted < last_position
+      → record_judged (at v) (spell_touch v last a) ≡ Ok (records.Touch a)
+  unfolding at record_judged
+  touch_judged_again One a good there =
+      let inside : ltb (header.first + counted) last_position ≡ true = grind (arith, nat_tests) in
+      rw (
+        first_of_touch last a,
+        touch_tag a.kind,
+        touch_again header.harts last place a good,
+        inside,
+      ) refl
+  touch_judged_again Two a good there =
+      let inside : ltb (header.first + counted) last_position ≡ true = grind (arith, nat_tests) in
+      rw (
+        first_of_short_touch last a,
+        short_touch_tag a.kind a.size good.allowed.sized,
+        short_touch_again header.harts
+            last place a low good,
+        inside,
+      ) refl
+
+  end_judged_again : (v : Version) (o : Outcome) (steps accesses : ℕ)
+      → IsGoodEnding header.harts (record { outcome = o; steps = steps; accesses = accesses })
+      → accesses ≡ counted
+      → record_judged (at v) (spell_ending
+      (record { outcome = o; steps = steps; accesses = accesses })) ≡ Ok (records.End (record
+      { outcome = o; steps = steps; accesses = accesses }))
+  unfolding at record_judged
+  end_judged_again One o steps accesses good same =
+      let told : eqb accesses counted ≡ true = eq-eqb accesses counted same in
+      rw (
+        first_of_ending o steps accesses,
+        outcome_again header.harts place o steps accesses few
+            good.allowed good.outcome good.steps,
+        steps_of o steps accesses good.steps,
+        accesses_of
+            o steps accesses good.accesses,
+        told,
+      ) refl
+  end_judged_again Two o steps accesses good same =
+      let told : eqb accesses counted ≡ true = eq-eqb accesses counted same in
+      rw (
+        first_of_ending o steps accesses,
+        outcome_again header.harts place o steps accesses few
+            good.allowed good.outcome good.steps,
+        steps_of o steps accesses good.steps,
+        accesses_of
+            o steps accesses good.accesses,
+        told,
+      ) refl
+
+  others_judged_again : (v : Version) (item : TraceRecord) → IsGoodRecord header.harts item
+      → ComesAt (at v) item → record_judged (at v) (spell_record v last item) ≡ Ok item
+  unfolding at record_judged
+  others_judged_again v (records.Touch a) good there = touch_judged_again v a good there
+  others_judged_again v (records.End e) good there =
+      end_judged_again v e.outcome e.steps e.accesses good there
+  others_judged_again One (records.Alloc addr size sites) good there =
+      rw (first_of_alloc addr size sites) (ap (λ x. Ok x)
+      (alloc_again addr size sites good.0 good.1 good.2 good.3))
+  others_judged_again Two (records.Alloc addr size sites) good there =
+      rw (first_of_alloc addr size sites) (ap (λ x. Ok x)
+      (alloc_again addr size sites good.0 good.1 good.2 good.3))
+  others_judged_again One (records.Free addr) good there =
+      rw (first_of_free addr, addr_of_free addr good) refl
+  others_judged_again Two (records.Free addr) good there =
+      rw (first_of_free addr, addr_of_free addr good) refl
+  others_judged_again One (records.Symbol kind addr size name) good there =
+      rw (first_of_symbol kind addr size name) (symbol_again place kind addr size name good)
+  others_judged_again Two (records.Symbol kind addr size name) good there =
+      rw (first_of_symbol kind addr size name) (symbol_again place kind addr size name good)
+
+-- A good record is read again from what it spells.
+pub record_again : (p : ReadSoFar) (item : TraceRecord) → p.header.harts ≤ 256 → p.last < 2 ^ 32
+    → IsGoodRecord p.header.harts item → ComesAt p item
+    → record_judged p (spell_record p.version p.last item) ≡ Ok item
+unfolding at
+record_again p item few low good there =
+    others_judged_again p.header p.counted p.last p.place few low p.version item good there

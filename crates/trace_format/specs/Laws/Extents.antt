@@ -1,0 +1,160 @@
+-- A beginning of a record never looks like a whole one.
+use Rattle.std.proofs.Common.{◌≡◌, ℕ, ◌+◌, ◌-◌, ◌≤◌, ◌<◌, inl, inr, true, false, cond, ltb, List}
+use Rattle.std.proofs.Common.{length, get_or, take, drop, Option, Some, None, refl, sym, ap, ◌∙◌}
+use Rattle.std.proofs.Common.{arith}
+use Rattle.std.proofs.lemmas.Bool.{cases_lt}
+use Rattle.std.proofs.lemmas.Bool.Decides.{nat_tests}
+use Rattle.std.proofs.lemmas.List.{take-take, drop-take, length-take-le, get_or-take, get_or-drop}
+use Rattle.std.proofs.lemmas.List.{get_or_past}
+use Rattle.std.specs.Int.{w16, from_le_bytes}
+use Rattle.base.specs.declared.ending.Ending.{Ending}
+use Rattle.trace_format.specs.declared.record.Version.{Version}
+use Rattle.trace_format.specs.declared.tag.Tag.{Tag}
+use Rattle.trace_format.specs.declared.tag.Tag.TheVariants as tags
+use Rattle.trace_format.specs.declared.read_so_far.ReadSoFar.{ReadSoFar}
+use Rattle.trace_format.specs.Tags.{tag_of}
+use Rattle.trace_format.specs.Numbers.{group_count}
+use Rattle.trace_format.specs.Judging.{number_at, symbol_extent, extent_of, extent_if}
+use Rattle.trace_format.specs.Judging.{record_extent}
+use Rattle.trace_format.specs.Reading.{extent_at}
+use Rattle.trace_format.specs.Laws.Reading.{FrontsWait}
+
+-- a number of a list of which only the first k are there
+there : (k i : ℕ) (bytes : List ℕ) → i < k → get_or (take k bytes) i 0 ≡ get_or bytes i 0
+there k i bytes lt = get_or-take k bytes i 0 lt
+
+missing : (k i : ℕ) (bytes : List ℕ) → k ≤ length bytes → k ≤ i → get_or (take k bytes) i 0 ≡ 0
+missing k i bytes le past =
+    get_or_past (take k bytes) i 0 (omega (arith, length-take-le k bytes le))
+
+-- the groups of four numbers and one more
+count_of : ℕ → ℕ → ℕ → ℕ → ℕ
+count_of a b c d =
+    cond (ltb a 128) 1 (cond (ltb b 128) 2 (cond (ltb c 128) 3 (cond (ltb d 128) 4 5)))
+
+short_groups : (k a b c d a' b' c' d' : ℕ) → (2 < k → a' ≡ a) → (3 < k → b' ≡ b)
+    → (4 < k → c' ≡ c) → (5 < k → d' ≡ d)
+    → (k ≤ 2 → a' ≡ 0) → (k ≤ 3 → b' ≡ 0) → (k ≤ 4 → c' ≡ 0) → (k ≤ 5 → d' ≡ 0)
+    → k < 2 + count_of a b c d → k < 2 + count_of a' b' c' d'
+unfolding count_of
+short_groups k a b c d a' b' c' d' ea eb ec ed za zb zc zd lt = grind (arith, nat_tests)
+
+whole_groups : (k a b c d a' b' c' d' : ℕ) → (2 < k → a' ≡ a) → (3 < k → b' ≡ b)
+    → (4 < k → c' ≡ c) → (5 < k → d' ≡ d)
+    → k ≡ 2 + count_of a b c d → count_of a' b' c' d' ≡ count_of a b c d
+unfolding count_of
+whole_groups k a b c d a' b' c' d' ea eb ec ed is = grind (arith, nat_tests)
+
+-- how a beginning of k bytes looks beside its whole
+record IsFront (k whole front : ℕ) : Type 0 where
+  short : k < whole → k < front
+  same : k ≡ whole → front ≡ whole
+
+module _ (k : ℕ) (bytes : List ℕ) (some : 1 ≤ k) (le : k ≤ length bytes) where
+  byte_there : (i : ℕ) → 2 + i < k
+      → get_or (drop 2 (take k bytes)) i 0 ≡ get_or (drop 2 bytes) i 0
+  byte_there i lt = get_or-drop 2 (take k bytes) i 0 ∙ there k (2 + i) bytes lt
+      ∙ sym (get_or-drop 2 bytes i 0)
+
+  byte_missing : (i : ℕ) → k ≤ 2 + i → get_or (drop 2 (take k bytes)) i 0 ≡ 0
+  byte_missing i past = get_or-drop 2 (take k bytes) i 0 ∙ missing k (2 + i) bytes le past
+
+  short_touch_front : IsFront k (2 + group_count (drop 2 bytes)) (2 + group_count
+      (drop 2 (take k bytes)))
+  unfolding count_of
+  short_touch_front = record {
+    short =
+        λ lt. short_groups k _ _ _ _ _ _ _ _ (byte_there 0) (byte_there 1) (byte_there 2)
+        (byte_there 3) (byte_missing 0) (byte_missing 1) (byte_missing 2) (byte_missing 3) lt;
+    same =
+        λ is. ap (λ (n : ℕ). 2 + n) (whole_groups k _ _ _ _ _ _ _ _ (byte_there 0) (byte_there 1)
+        (byte_there 2) (byte_there 3) is);
+  }
+
+  -- the length that a symbol tells, where it is there
+  told_again : 12 ≤ k → number_at w16 10 (take k bytes) ≡ number_at w16 10 bytes
+  told_again enough =
+      let cut : drop 10 (take (10 + (k - 10)) bytes) ≡ take (k - 10) (drop 10 bytes) =
+      drop-take 10 (k - 10) bytes in
+      let whole : 10 + (k - 10) ≡ k = omega arith in
+      let again : drop 10 (take k bytes) ≡ take (k - 10) (drop 10 bytes) =
+      ap (λ (n : ℕ). drop 10 (take n bytes)) (sym whole)
+      ∙ cut in
+      ap (λ (xs : List ℕ). from_le_bytes w16 (take 2 xs)) again
+      ∙ ap (from_le_bytes w16) (take-take 2 (k - 10) (drop 10 bytes) (omega arith))
+
+  symbol_front : IsFront k (symbol_extent bytes) (symbol_extent (take k bytes))
+  unfolding symbol_extent
+  symbol_front =
+      let size : length (take k bytes) ≡ k = length-take-le k bytes le in
+      elim (cases_lt k 12) [
+        | inl lt ↦
+            let few : ltb (length (take k bytes)) 12 ≡ true = grind (arith, nat_tests) in
+            rw few (record { short = λ _. lt; same = λ is. grind (arith, nat_tests) })
+        | inr enough ↦
+            let many : ltb (length bytes) 12 ≡ false = grind (arith, nat_tests) in
+            let still : ltb (length (take k bytes)) 12 ≡ false = grind (arith, nat_tests) in
+            rw (many, still, told_again enough) (record { short = λ lt. lt; same = λ is. refl })
+      ]
+
+  tag_front : (tag : Tag) → IsFront k (extent_of tag bytes) (extent_of tag (take k bytes))
+  tag_front (tags.Touch kind) = record { short = λ lt. lt; same = λ is. refl }
+  tag_front (tags.ShortTouch kind size) = short_touch_front
+  tag_front tags.Alloc = record { short = λ lt. lt; same = λ is. refl }
+  tag_front tags.Free = record { short = λ lt. lt; same = λ is. refl }
+  tag_front tags.Symbol = symbol_front
+  tag_front tags.End = record { short = λ lt. lt; same = λ is. refl }
+
+  front_if : (tag : Option Tag) → IsFront k (extent_if tag bytes) (extent_if tag (take k bytes))
+  front_if None = record { short = λ lt. lt; same = λ is. refl }
+  front_if (Some tag) = tag_front tag
+
+  record_front : (v : Version)
+      → IsFront k (record_extent v bytes) (record_extent v (take k bytes))
+  unfolding record_extent
+  record_front v = rw (there k 0 bytes (omega arith)) (front_if (tag_of v (get_or bytes 0 0)))
+
+  front_at : (p : Option ReadSoFar) (e : Option Ending)
+      → IsFront k (extent_at p e bytes) (extent_at p e (take k bytes))
+  front_at None e = record { short = λ lt. lt; same = λ is. refl }
+  front_at (Some p) None = record_front p.version
+  front_at (Some p) (Some e) = record { short = λ lt. lt; same = λ is. refl }
+
+-- The header and each record wait until they are whole.
+pub fronts_wait_at : (p : Option ReadSoFar) (e : Option Ending) (bytes : List ℕ)
+    → FrontsWait p e bytes
+fronts_wait_at p e bytes = record {
+  short = λ k some le lt. (front_at k bytes some le p e).short lt;
+  whole = λ k some le is. (front_at k bytes some le p e).same is;
+}
+
+some_groups : (a b c d : ℕ) → 1 ≤ count_of a b c d
+unfolding count_of
+some_groups a b c d = grind (arith, nat_tests)
+
+some_symbol : (bytes : List ℕ) → 1 ≤ symbol_extent bytes
+unfolding symbol_extent
+some_symbol bytes = grind (arith, nat_tests)
+
+some_tag : (tag : Option Tag) (bytes : List ℕ) → 1 ≤ extent_if tag bytes
+unfolding count_of
+some_tag None bytes = omega arith
+some_tag (Some (tags.Touch kind)) bytes = omega arith
+some_tag (Some (tags.ShortTouch kind size)) bytes =
+    omega (
+      arith,
+      some_groups (get_or (drop 2 bytes) 0 0) (get_or (drop 2 bytes) 1 0)
+          (get_or (drop 2 bytes) 2 0) (get_or (drop 2 bytes) 3 0),
+    )
+some_tag (Some tags.Alloc) bytes = omega arith
+some_tag (Some tags.Free) bytes = omega arith
+some_tag (Some tags.Symbol) bytes = some_symbol bytes
+some_tag (Some tags.End) bytes = omega arith
+
+-- What is judged has at least a byte.
+pub extent_is_some : (p : Option ReadSoFar) (e : Option Ending) (bytes : List ℕ)
+    → 1 ≤ extent_at p e bytes
+unfolding record_extent
+extent_is_some None e bytes = omega arith
+extent_is_some (Some p) None bytes = some_tag (tag_of p.version (get_or bytes 0 0)) bytes
+extent_is_some (Some p) (Some e) bytes = omega arith

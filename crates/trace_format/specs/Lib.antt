@@ -1,0 +1,12 @@
+pub mod Found
+pub mod Judging
+pub mod Laws
+pub mod Numbers
+pub mod ReaderStates
+pub mod Reading
+pub mod Rules
+pub mod Sound
+pub mod Spelling
+pub mod Splits
+pub mod Tags
+pub mod Writing

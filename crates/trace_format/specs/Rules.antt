@@ -1,0 +1,113 @@
+-- The rules that the parts of a trace keep.
+use Rattle.std.specs.Prelude.{◌≡◌, ◌≢◌, ℕ, ◌+◌, ◌%◌, ◌^◌, ◌<◌, ◌≤◌, List, length}
+use Rattle.std.specs.List.{All, filter_map}
+use Rattle.std.specs.Prelude.{Option, Some, None}
+use Rattle.base.specs.Names.{longest_name}
+use Rattle.base.specs.Touch.{Touch, IsAllowed}
+use Rattle.base.specs.declared.ending.Outcome.{Outcome}
+use Rattle.base.specs.declared.ending.Outcome.TheVariants.{Exit, Budget, Deadlock, Trap}
+use Rattle.base.specs.declared.ending.Outcome.TheVariants.{Part}
+use Rattle.base.specs.declared.ending.Ending.{Ending}
+use Rattle.trace_format.specs.declared.record.Version.{Version}
+use Rattle.trace_format.specs.declared.record.Header.{Header}
+use Rattle.trace_format.specs.declared.record.TraceRecord.{TraceRecord}
+use Rattle.trace_format.specs.declared.record.TraceRecord.TheVariants as records
+use Rattle.trace_format.specs.Spelling.{spell}
+
+pub record IsGoodHeader (h : Header) : Type 0 where
+  pub position : h.first ≤ 2 ^ 40
+  pub some : 1 ≤ h.harts
+  pub few : h.harts ≤ 256
+
+-- an access of one of so many harts
+pub record IsGoodTouch (harts : ℕ) (a : Touch) : Type 0 where
+  pub hart : a.hart < harts
+  pub allowed : IsAllowed a
+
+-- it has bytes, and a name that fits, with no zero byte
+pub record IsGoodSymbol (addr size : ℕ) (name : List ℕ) : Type 0 where
+  pub addr_in_range : addr < 2 ^ 32
+  pub size_in_range : size < 2 ^ 32
+  pub some : 1 ≤ size
+  pub short : length name ≤ longest_name
+  pub bytes : All (λ b. b < 256) name
+  pub no_zero : All (λ b. b ≢ 0) name
+
+-- a trap is at a multiple of 4, and a part takes no steps
+abbrev pub IsAllowedEnd : ℕ → Outcome → Type 0
+IsAllowedEnd steps (Exit code) = Unit {0}
+IsAllowedEnd steps Budget = Unit {0}
+IsAllowedEnd steps Deadlock = Unit {0}
+IsAllowedEnd steps (Trap hart pc cause) = pc % 4 ≡ 0
+IsAllowedEnd steps Part = steps ≡ 0
+
+-- its numbers have a place in the fields, and a trap's hart is one of so many
+abbrev pub FitsFields : ℕ → Outcome → Type 0
+FitsFields harts (Exit code) = code < 2 ^ 32
+FitsFields harts Budget = Unit {0}
+FitsFields harts Deadlock = Unit {0}
+FitsFields harts (Trap hart pc cause) = (hart < harts) × (pc < 2 ^ 32)
+FitsFields harts Part = Unit {0}
+
+pub record IsGoodEnding (harts : ℕ) (e : Ending) : Type 0 where
+  pub allowed : IsAllowedEnd e.steps e.outcome
+  pub outcome : FitsFields harts e.outcome
+  pub steps : e.steps < 2 ^ 64
+  pub accesses : e.accesses < 2 ^ 64
+
+-- A record of a trace with so many harts. An end comes last, and alone.
+abbrev pub IsGoodRecord : ℕ → TraceRecord → Type 0
+IsGoodRecord harts (records.Touch a) = IsGoodTouch harts a
+IsGoodRecord harts (records.Alloc addr size sites) = (addr < 2 ^ 32) × (size < 2 ^ 32)
+    × (length sites ≡ 4) × All (λ site. site < 2 ^ 32) sites
+IsGoodRecord harts (records.Free addr) = addr < 2 ^ 32
+IsGoodRecord harts (records.Symbol kind addr size name) = IsGoodSymbol addr size name
+IsGoodRecord harts (records.End e) = IsGoodEnding harts e
+
+abbrev pub IsInner : TraceRecord → Type 0
+IsInner (records.End e) = ⊥
+IsInner _ = Unit {0}
+
+-- the accesses among records, in order
+abbrev pub touch_in : TraceRecord → Option Touch
+touch_in (records.Touch a) = Some a
+touch_in _ = None
+
+abbrev pub touches_in : List TraceRecord → List Touch
+touches_in items = filter_map touch_in items
+
+-- no byte of a trace has this place
+abbrev pub longest_trace : ℕ
+longest_trace = 2 ^ 44
+
+-- no access of a trace has this position
+abbrev pub last_position : ℕ
+last_position = 2 ^ 40
+
+-- The parts keep the rules: positions are below 2^40, the end tells how many accesses there are,
+-- and there are at most
+-- 2^44 bytes.
+pub record IsGoodTrace (v : Version) (h : Header) (items : List TraceRecord) (e : Ending) : Type 0
+  where
+    pub header : IsGoodHeader h
+    pub records : All (IsGoodRecord h.harts) items
+    pub inner : All IsInner items
+    pub ending : IsGoodEnding h.harts e
+    pub positions : h.first + length (touches_in items) ≤ last_position
+    pub counted : e.accesses ≡ length (touches_in items)
+    pub short : length (spell v h items e) ≤ longest_trace
+
+-- the bytes are a trace of these parts
+pub record IsTrace (bytes : List ℕ) (v : Version) (h : Header) (items : List TraceRecord)
+    (e : Ending) : Type 0 where
+  pub good : IsGoodTrace v h items e
+  pub spelled : bytes ≡ spell v h items e
+
+-- What the types of a record's parts don't say: an end keeps its rules, and a symbol has bytes and
+-- no zero byte in its name.
+abbrev pub IsWritable : TraceRecord → Type 0
+IsWritable (records.Touch a) = Unit {0}
+IsWritable (records.Alloc addr size sites) = Unit {0}
+IsWritable (records.Free addr) = Unit {0}
+IsWritable (records.Symbol kind addr size name) = (1 ≤ size) × All (λ b. b ≢ 0) name
+IsWritable (records.End e) = IsAllowedEnd e.steps e.outcome

@@ -1,0 +1,111 @@
+-- A trace: the one spelling of each of its parts, in both versions. Numbers are little endian.
+use Rattle.std.specs.Prelude.{ℕ, List, [], ◌∷◌, ◌++◌, length, codes}
+use Rattle.std.specs.List.{flat_map}
+use Rattle.std.specs.Int.{w16, w32, w64, to_le_bytes}
+use Rattle.objects.specs.declared.symbol.SymbolKind.{SymbolKind}
+use Rattle.objects.specs.declared.symbol.SymbolKind.TheVariants.{Object, Function}
+use Rattle.base.specs.Touch.{Touch}
+use Rattle.base.specs.declared.ending.Cause.{Cause}
+use Rattle.base.specs.declared.ending.Cause.TheVariants.{Illegal, Breakpoint}
+use Rattle.base.specs.declared.ending.Cause.TheVariants.{FetchMisaligned, FetchOutside}
+use Rattle.base.specs.declared.ending.Cause.TheVariants.{LoadMisaligned, LoadOutside}
+use Rattle.base.specs.declared.ending.Cause.TheVariants.{StoreMisaligned, StoreOutside}
+use Rattle.base.specs.declared.ending.Outcome.{Outcome}
+use Rattle.base.specs.declared.ending.Outcome.TheVariants.{Exit, Budget, Deadlock, Trap}
+use Rattle.base.specs.declared.ending.Outcome.TheVariants.{Part}
+use Rattle.base.specs.declared.ending.Ending.{Ending}
+use Rattle.trace_format.specs.declared.record.Version.{Version}
+use Rattle.trace_format.specs.declared.record.Version.TheVariants.{One, Two}
+use Rattle.trace_format.specs.declared.record.Header.{Header}
+use Rattle.trace_format.specs.declared.record.TraceRecord.{TraceRecord}
+use Rattle.trace_format.specs.declared.record.TraceRecord.TheVariants as records
+use Rattle.trace_format.specs.declared.tag.Tag.TheVariants as tags
+use Rattle.trace_format.specs.Tags.{number_of}
+use Rattle.trace_format.specs.Numbers.{distance, groups}
+
+abbrev pub magic_of : Version → List ℕ
+magic_of One = codes "PRDTRC01"
+magic_of Two = codes "PRDTRC02"
+
+-- 20 bytes: the magic, the first position, how many harts there are, and zero
+unfoldable pub spell_header : Version → Header → List ℕ
+spell_header v h = magic_of v ++ (to_le_bytes w64
+    h.first ++ (to_le_bytes w16 h.harts ++ to_le_bytes w16 0))
+
+-- Version 1: 8 bytes, a tag, then hart, address and size. Version 2: a tag that tells the size,
+-- the hart in one byte, and
+-- the distance from the address of the access before.
+unfoldable pub spell_touch : Version → ℕ → Touch → List ℕ
+spell_touch One last a = number_of (tags.Touch a.kind)
+    ∷ (to_le_bytes w16 a.hart ++ (to_le_bytes w32 a.addr ++ a.size ∷ []))
+spell_touch Two last a = number_of (tags.ShortTouch a.kind a.size) ∷ a.hart ∷ groups
+    (distance last a.addr)
+
+-- 25 bytes: a tag, address, size and four call sites
+unfoldable pub spell_alloc : ℕ → ℕ → List ℕ → List ℕ
+spell_alloc addr size sites = number_of tags.Alloc
+    ∷ (to_le_bytes w32 addr ++ (to_le_bytes w32 size ++ flat_map (to_le_bytes w32) sites))
+
+-- 5 bytes: a tag and the address
+unfoldable pub spell_free : ℕ → List ℕ
+spell_free addr = number_of tags.Free ∷ to_le_bytes w32 addr
+
+abbrev pub kind_number : SymbolKind → ℕ
+kind_number Object = 1
+kind_number Function = 2
+
+-- 12 bytes and the name: a tag, kind, address, size, and the name's length
+unfoldable pub spell_symbol : SymbolKind → ℕ → ℕ → List ℕ → List ℕ
+spell_symbol kind addr size name =
+    number_of tags.Symbol ∷ kind_number kind ∷ (to_le_bytes w32
+    addr ++ (to_le_bytes w32 size ++ (to_le_bytes w16 (length name) ++ name)))
+
+abbrev pub cause_number : Cause → ℕ
+cause_number Illegal = 1
+cause_number Breakpoint = 2
+cause_number FetchMisaligned = 3
+cause_number FetchOutside = 4
+cause_number LoadMisaligned = 5
+cause_number LoadOutside = 6
+cause_number StoreMisaligned = 7
+cause_number StoreOutside = 8
+
+-- 8 bytes: which outcome, then cause, hart and value, each 0 where the outcome has none
+abbrev pub outcome_fields : ℕ → ℕ → ℕ → ℕ → List ℕ
+outcome_fields which cause hart value = which ∷ cause
+    ∷ (to_le_bytes w16 hart ++ to_le_bytes w32 value)
+
+abbrev pub spell_outcome : Outcome → List ℕ
+spell_outcome (Exit code) = outcome_fields 0 0 0 code
+spell_outcome Budget = outcome_fields 1 0 0 0
+spell_outcome Deadlock = outcome_fields 2 0 0 0
+spell_outcome (Trap hart pc cause) = outcome_fields 3 (cause_number cause) hart pc
+spell_outcome Part = outcome_fields 4 0 0 0
+
+-- 25 bytes: the tag, the outcome, then how many steps and accesses there were
+unfoldable pub spell_ending : Ending → List ℕ
+spell_ending e = number_of tags.End ∷ (spell_outcome
+    e.outcome ++ (to_le_bytes w64 e.steps ++ to_le_bytes w64 e.accesses))
+
+-- a record after an access at an address
+abbrev pub spell_record : Version → ℕ → TraceRecord → List ℕ
+spell_record v last (records.Touch a) = spell_touch v last a
+spell_record v last (records.Alloc addr size sites) = spell_alloc addr size sites
+spell_record v last (records.Free addr) = spell_free addr
+spell_record v last (records.Symbol kind addr size name) = spell_symbol kind addr size name
+spell_record v last (records.End e) = spell_ending e
+
+-- the address of the last access once a record is read
+abbrev pub last_after : ℕ → TraceRecord → ℕ
+last_after last (records.Touch a) = a.addr
+last_after last _ = last
+
+abbrev pub spell_records : Version → ℕ → List TraceRecord → List ℕ
+spell_records v last [] = []
+spell_records v last (item ∷ items) = spell_record v last item ++ spell_records v
+    (last_after last item) items
+
+-- The whole. The address before the first access is 0.
+unfoldable pub spell : Version → Header → List TraceRecord → Ending → List ℕ
+spell v header items ending = spell_header v header
+    ++ (spell_records v 0 items ++ spell_ending ending)

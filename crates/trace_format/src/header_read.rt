@@ -1,0 +1,81 @@
+// The header of a trace.
+ghost use Rattle.std.specs.Prelude.{◌≡◌, ◌≢◌, ◌≤◌, Err, IfOk, length};
+ghost use Rattle.trace_format.specs.Judging.{begun, fields_judged, header_judged, version_at};
+ghost use Rattle.trace_format.specs.Sound.{IsSound};
+
+use crate::fields::{u16_at, u64_at};
+use crate::{Header, ReadSoFar, TraceFault, Version};
+
+pub(crate) const MAGIC_ONE: [u8; 8] = *b"PRDTRC01";
+
+pub(crate) const MAGIC_TWO: [u8; 8] = *b"PRDTRC02";
+
+// How many bytes a header has.
+pub(crate) const HEADER_LENGTH: usize = 20;
+
+// The position that no access has.
+pub(crate) const LAST_POSITION: u64 = 1 << 40;
+
+fn version_of(bytes: &[u8]) -> Option<Version>
+    ensures { result ≡ version_at bytes.now }
+{
+    if bytes.starts_with(&MAGIC_ONE) {
+        Some(Version::One)
+    } else if bytes.starts_with(&MAGIC_TWO) {
+        Some(Version::Two)
+    } else {
+        None
+    }
+}
+
+fn begin(version: Version, header: Header) -> ReadSoFar
+    ensures { result ≡ begun version header }
+{
+    ReadSoFar {
+        version,
+        header,
+        counted: 0,
+        last: 0,
+        place: HEADER_LENGTH as u64,
+    }
+}
+
+#[tactic(auto, using(std::proofs::lemmas::Bool::Decides::nat_tests))]
+fn progress_of(
+    version: Option<Version>,
+    first: u64,
+    harts: u16,
+    two: u16,
+) -> Result<ReadSoFar, TraceFault>
+    ensures value { result ≡ fields_judged version first harts two }
+    ensures sound { IfOk result IsSound }
+    ensures begins { IfOk result (λ p. p.place ≡ 20) }
+    ensures never { result ≢ Err TraceFault.NoMemory }
+{
+    let Some(version) = version else {
+        return Err(TraceFault::BadMagic);
+    };
+    if first > LAST_POSITION {
+        return Err(TraceFault::BadField(8));
+    }
+    if harts < 1 || harts > 256 || two != 0 {
+        return Err(TraceFault::BadHarts);
+    }
+    Ok(begin(version, Header { first, harts }))
+}
+
+#[tactic(auto, unfolding(crate::specs::Judging::header_judged))]
+pub(crate) fn header_of(bytes: &[u8]) -> Result<ReadSoFar, TraceFault>
+    requires { 20 ≤ length bytes.now }
+    ensures value { result ≡ header_judged bytes.now }
+    ensures sound { IfOk result IsSound }
+    ensures begins { IfOk result (λ p. p.place ≡ 20) }
+    ensures never { result ≢ Err TraceFault.NoMemory }
+{
+    progress_of(
+        version_of(bytes),
+        u64_at(bytes, 8),
+        u16_at(bytes, 16),
+        u16_at(bytes, 18),
+    )
+}

@@ -1,0 +1,235 @@
+// How far a trace is read, without what is left over.
+ghost use Rattle.std.specs.Prelude.{◌≡◌, ◌≤◌, ◌+◌, ◌≢◌, Some, None, [], length};
+ghost use Rattle.std.specs.Prelude.{◌<◌, IsSome};
+ghost use Rattle.std.specs.Option.{ForSome};
+ghost use Rattle.trace_format.specs.Judging.{header_judged, record_extent};
+ghost use Rattle.trace_format.specs.Reading.{ending_in, header_read, place_of};
+ghost use Rattle.trace_format.specs.Reading.{progress_after};
+ghost use Rattle.trace_format.specs.Rules.{longest_trace};
+ghost use Rattle.trace_format.specs.Sound.{IsSound};
+ghost use Rattle.trace_format.specs.ReaderStates.{AddsSome, KeepsHead, ReadsBut, ReadsOn, ReadsPart};
+ghost use Rattle.trace_format.specs.ReaderStates.{SameHead, extent_in, reading_with};
+
+use crate::header_read::{HEADER_LENGTH, header_of};
+use crate::record_read::{record_extent, record_of};
+use crate::run_read::read_run;
+use crate::{ReadSoFar, TraceFault, TraceRecord};
+use base::{Access, Ending};
+use std::alloc::Global;
+
+/// How far a trace is read, without what is left over.
+#[derive(Clone, Copy)]
+pub struct State {
+    /// What the records so far say, once the header is accepted.
+    pub progress: Option<ReadSoFar>,
+    /// The end record.
+    pub ending: Option<Ending>,
+    /// The first fault.
+    pub fault: Option<TraceFault>,
+}
+
+// How many bytes what begins here has, as far as they are there.
+#[inline(always)]
+fn extent_in(state: &State, bytes: &[u8]) -> usize
+    ensures { result ≡ extent_in state.now bytes.now }
+{
+    match (state.progress, state.ending) {
+        (None, _) => HEADER_LENGTH,
+        (Some(progress), None) => record_extent(progress.version, bytes),
+        (Some(_), Some(_)) => 1,
+    }
+}
+
+/// An access more is read, in so many bytes.
+#[inline(always)]
+pub(crate) fn count_access(progress: &mut ReadSoFar, access: Access, size: usize)
+    requires sound { IsSound progress.old }
+    requires some { 1 ≤ size }
+    requires low { progress.old.place + size ≤ longest_trace }
+    ensures value { progress.new ≡ progress_after progress.old (TraceRecord.Touch access) size }
+    ensures sound { IsSound progress.new }
+{
+    progress.counted += 1;
+    progress.last = access.addr();
+    progress.place += size as u64;
+}
+
+// How far a trace is read once a record of some bytes is.
+#[inline(always)]
+fn progress_after(progress: &ReadSoFar, item: &TraceRecord, size: usize) -> ReadSoFar
+    requires sound { IsSound progress.now }
+    requires some { 1 ≤ size }
+    requires low { progress.now.place + size ≤ longest_trace }
+    ensures value { result ≡ progress_after progress.now item.now size }
+    ensures sound { IsSound result }
+{
+    let mut later = *progress;
+    match item {
+        TraceRecord::Touch(access) => count_access(&mut later, *access, size),
+        _ => later.place += size as u64,
+    }
+    later
+}
+
+#[inline(always)]
+fn ending_in(item: &TraceRecord) -> Option<Ending>
+    ensures { result ≡ ending_in item.now }
+{
+    match item {
+        TraceRecord::End(ending) => Some(*ending),
+        _ => None,
+    }
+}
+
+// Reads the 20 bytes of a header.
+fn read_header(state: &mut State, bytes: &[u8])
+    requires long { 20 ≤ length bytes.now }
+    requires first { state.old.progress ≡ None }
+    requires clean { state.old.fault ≡ None }
+    ensures sound { ForSome state.new.progress IsSound }
+    ensures place { place_of state.new.progress ≤ 20 }
+    ensures exact { state.new.fault ≡ None → place_of state.new.progress ≡ 20 }
+    ensures read { reading_with state.new [] ≡
+        (header_read (reading_with state.old []) (header_judged bytes.now)).1 }
+    ensures never { state.new.fault ≢ Some TraceFault.NoMemory }
+{
+    match header_of(bytes) {
+        Ok(progress) => state.progress = Some(progress),
+        Err(fault) => state.fault = Some(fault),
+    }
+}
+
+// Reads one record, whose bytes are these. At want of memory nothing is appended.
+#[inline(always)]
+fn read_record(
+    alloc: Global,
+    progress: ReadSoFar,
+    state: &mut State,
+    bytes: &[u8],
+    into: &mut Vec<TraceRecord>,
+)
+    requires at { state.old.progress ≡ Some progress }
+    requires open { state.old.ending ≡ None }
+    requires clean { state.old.fault ≡ None }
+    requires long { length bytes.now ≡ record_extent progress.version bytes.now }
+    requires some { 1 ≤ length bytes.now }
+    requires sound { IsSound progress }
+    requires low { progress.place + length bytes.now ≤ longest_trace }
+    ensures sound { ForSome state.new.progress IsSound }
+    ensures place { place_of state.new.progress ≤ progress.place + length bytes.now }
+    ensures exact { state.new.fault ≡ None →
+        place_of state.new.progress ≡ progress.place + length bytes.now }
+    ensures same { state.new.fault ≡ Some TraceFault.NoMemory →
+        state.new.progress ≡ state.old.progress }
+    ensures read { state.new.fault ≢ Some TraceFault.NoMemory →
+        ReadsPart state.old bytes.now state.new into.old.items into.new.items }
+    ensures no_memory { state.new.fault ≡ Some TraceFault.NoMemory
+        → into.new.items ≡ into.old.items }
+{
+    match record_of(alloc, &progress, bytes) {
+        Ok(item) => {
+            let later = progress_after(&progress, &item, bytes.len());
+            let ending = ending_in(&item);
+            match into.push(item) {
+                Ok(()) => {
+                    state.progress = Some(later);
+                    state.ending = ending;
+                }
+                Err(_) => state.fault = Some(TraceFault::NoMemory),
+            }
+        }
+        Err(fault) => state.fault = Some(fault),
+    }
+}
+
+// Reads the header or a record, whose bytes are these. At want of memory nothing is appended.
+#[inline(never)]
+fn read_part(alloc: Global, state: &mut State, bytes: &[u8], into: &mut Vec<TraceRecord>)
+    requires clean { state.old.fault ≡ None }
+    requires long { length bytes.now ≡ extent_in state.old bytes.now }
+    requires some { 1 ≤ length bytes.now }
+    requires sound { ForSome state.old.progress IsSound }
+    requires low { place_of state.old.progress + length bytes.now ≤ longest_trace }
+    ensures sound { ForSome state.new.progress IsSound }
+    ensures place { place_of state.new.progress ≤ place_of state.old.progress + length bytes.now }
+    ensures exact { state.new.fault ≡ None →
+        place_of state.new.progress ≡ place_of state.old.progress + length bytes.now }
+    ensures same { state.new.fault ≡ Some TraceFault.NoMemory →
+        state.new.progress ≡ state.old.progress }
+    ensures read { state.new.fault ≢ Some TraceFault.NoMemory →
+        ReadsPart state.old bytes.now state.new into.old.items into.new.items }
+    ensures no_memory { state.new.fault ≡ Some TraceFault.NoMemory
+        → into.new.items ≡ into.old.items }
+{
+    match (state.progress, state.ending) {
+        (None, _) => read_header(state, bytes),
+        (Some(progress), None) => read_record(alloc, progress, state, bytes, into),
+        (Some(progress), Some(_)) => state.fault = Some(TraceFault::AfterEnd(progress.place)),
+    }
+}
+
+// Reads the accesses at the front of some bytes, where the header is read and the end is not.
+#[inline(always)]
+fn read_accesses<'a>(state: &mut State, bytes: &'a [u8], into: &mut Vec<TraceRecord>) -> &'a [u8]
+    requires clean { state.old.fault ≡ None }
+    requires sound { ForSome state.old.progress IsSound }
+    requires low { place_of state.old.progress + length bytes.now ≤ longest_trace }
+    ensures clean { state.new.fault ≡ None }
+    ensures sound { ForSome state.new.progress IsSound }
+    ensures head { SameHead state.new.progress state.old.progress }
+    ensures fewer { length result.now ≤ length bytes.now }
+    ensures exact { place_of state.new.progress + length result.now
+        ≡ place_of state.old.progress + length bytes.now }
+    ensures read { ReadsBut (reading_with state.old []) bytes.now (reading_with state.new [])
+        result.now into.old.items into.new.items }
+{
+    match (state.progress, state.ending) {
+        (Some(progress), None) => {
+            let mut progress = progress;
+            let rest = read_run(&mut progress, bytes, into);
+            state.progress = Some(progress);
+            rest
+        }
+        _ => bytes,
+    }
+}
+
+// Reads what is whole at the front of some bytes, and gives the bytes behind it.
+pub(crate) fn read_parts<'a>(
+    alloc: Global,
+    state: &mut State,
+    bytes: &'a [u8],
+    into: &mut Vec<TraceRecord>,
+) -> &'a [u8]
+    requires clean { state.old.fault ≡ None }
+    requires sound { ForSome state.old.progress IsSound }
+    requires low { place_of state.old.progress + length bytes.now ≤ longest_trace }
+    ensures sound { ForSome state.new.progress IsSound }
+    ensures place { place_of state.new.progress + length result.now ≤
+        place_of state.old.progress + length bytes.now }
+    ensures exact { state.new.fault ≡ None → place_of state.new.progress + length result.now ≡
+        place_of state.old.progress + length bytes.now }
+    ensures head { KeepsHead (reading_with state.old []) bytes.now (reading_with state.new []) }
+    ensures waits { state.new.fault ≡ None → length result.now < extent_in state.new result.now }
+    ensures read { state.new.fault ≡ None →
+        ReadsOn (reading_with state.old []) bytes.now (reading_with state.new result.now)
+        into.old.items into.new.items }
+    ensures fault { IsSome state.new.fault → state.new.fault ≢ Some TraceFault.NoMemory →
+        ReadsOn (reading_with state.old []) bytes.now (reading_with state.new []) into.old.items
+        into.new.items }
+    ensures no_memory { state.new.fault ≡ Some TraceFault.NoMemory →
+        AddsSome (reading_with state.old []) bytes.now into.old.items into.new.items }
+{
+    let mut rest = bytes;
+    while state.fault.is_none() {
+        let front = read_accesses(state, rest, into);
+        let size = extent_in(state, front);
+        if front.len() < size {
+            return front;
+        }
+        let (part, after) = front.split_at(size);
+        read_part(alloc, state, part, into);
+        rest = after;
+    }
+    rest
+}

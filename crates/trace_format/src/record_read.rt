@@ -1,0 +1,169 @@
+// One record, all of whose bytes are there.
+ghost use Rattle.std.specs.Prelude.{◌≡◌, ◌^◌, ◌+◌, ◌≤◌, ◌≢◌, Err, drop, length};
+ghost use Rattle.trace_format.specs.Numbers.{group_count};
+ghost use Rattle.trace_format.specs.Judging.{alloc_at, extent_of, record_extent};
+ghost use Rattle.trace_format.specs.Judging.{record_judged, tagged_judged, touch_counted};
+ghost use Rattle.trace_format.specs.Tags.{IsTag};
+ghost use Rattle.trace_format.specs.Sound.{IsSound};
+
+use crate::access_read::{group_count, short_touch_of, touch_of};
+use crate::ending_read::outcome_of;
+use crate::fields::{u32_at, u64_at};
+use crate::header_read::LAST_POSITION;
+use crate::symbol_read::{symbol_extent, symbol_of};
+use crate::{ReadSoFar, Tag, TraceFault, TraceRecord, Version};
+use base::{Access, Ending};
+use std::alloc::Global;
+
+// How many bytes an access of version 1 has.
+pub(crate) const TOUCH_LENGTH: usize = 8;
+
+// How many bytes an access of version 2 has, as far as they are there.
+#[inline(always)]
+pub(crate) fn short_touch_extent(bytes: &[u8]) -> usize
+    ensures { result ≡ 2 + group_count (drop 2 bytes.now) }
+{
+    2 + group_count(bytes.get(2..).unwrap_or(&[]))
+}
+
+// How many bytes a record of a tag has, as far as they are there.
+#[inline(always)]
+fn extent_of(tag: Tag, bytes: &[u8]) -> usize
+    ensures { result ≡ extent_of tag bytes.now }
+{
+    match tag {
+        Tag::Touch(_) => TOUCH_LENGTH,
+        Tag::ShortTouch(_, _) => short_touch_extent(bytes),
+        Tag::Alloc | Tag::End => 25,
+        Tag::Free => 5,
+        Tag::Symbol => symbol_extent(bytes),
+    }
+}
+
+// How many bytes the record that begins here has, as far as they are there.
+#[tactic(auto, unfolding(crate::specs::Judging::record_extent))]
+#[inline(always)]
+pub(crate) fn record_extent(version: Version, bytes: &[u8]) -> usize
+    ensures { result ≡ record_extent version bytes.now }
+{
+    let Some(first) = bytes.first() else {
+        return 1;
+    };
+    match Tag::read(version, *first) {
+        Some(tag) => extent_of(tag, bytes),
+        None => 1,
+    }
+}
+
+#[tactic(auto, unfolding(crate::specs::Judging::alloc_at))]
+fn alloc_of(bytes: &[u8]) -> TraceRecord
+    requires { 25 ≤ length bytes.now }
+    ensures { result ≡ alloc_at bytes.now }
+{
+    TraceRecord::Alloc {
+        addr: u32_at(bytes, 1),
+        size: u32_at(bytes, 5),
+        sites: [
+            u32_at(bytes, 9),
+            u32_at(bytes, 13),
+            u32_at(bytes, 17),
+            u32_at(bytes, 21),
+        ],
+    }
+}
+
+#[tactic(auto, using(std::proofs::lemmas::Bool::Decides::nat_tests))]
+#[inline(always)]
+fn counted(
+    progress: &ReadSoFar,
+    access: Result<Access, TraceFault>,
+) -> Result<TraceRecord, TraceFault>
+    requires sound { IsSound progress.now }
+    requires low { progress.now.place ≤ 2 ^ 44 }
+    ensures { result ≡ touch_counted progress.now access }
+{
+    match access {
+        Ok(access) => {
+            if progress.header.first + progress.counted < LAST_POSITION {
+                Ok(TraceRecord::Touch(access))
+            } else {
+                Err(TraceFault::TooLong)
+            }
+        }
+        Err(fault) => Err(fault),
+    }
+}
+
+#[tactic(auto, using(std::proofs::lemmas::Bool::Decides::nat_tests))]
+fn end_of(progress: &ReadSoFar, bytes: &[u8]) -> Result<TraceRecord, TraceFault>
+    requires long { 25 ≤ length bytes.now }
+    requires sound { IsSound progress.now }
+    requires low { progress.now.place ≤ 2 ^ 44 }
+    ensures { result ≡ tagged_judged progress.now Tag.End bytes.now }
+{
+    let outcome = match outcome_of(bytes, progress.header.harts, progress.place) {
+        Ok(outcome) => outcome,
+        Err(fault) => return Err(fault),
+    };
+    let (steps, told) = (u64_at(bytes, 9), u64_at(bytes, 17));
+    if told != progress.counted {
+        return Err(TraceFault::CountMismatch {
+            told,
+            counted: progress.counted,
+        });
+    }
+    Ok(TraceRecord::End(Ending {
+        outcome,
+        steps,
+        accesses: told,
+    }))
+}
+
+#[inline(always)]
+fn tagged_of(
+    alloc: Global,
+    progress: &ReadSoFar,
+    tag: Tag,
+    bytes: &[u8],
+) -> Result<TraceRecord, TraceFault>
+    requires long { length bytes.now ≡ extent_of tag bytes.now }
+    requires sound { IsSound progress.now }
+    requires low { progress.now.place ≤ 2 ^ 44 }
+    requires tagged { IsTag tag }
+    ensures { result ≢ Err TraceFault.NoMemory → result ≡ tagged_judged progress.now tag bytes.now }
+{
+    let (harts, place) = (progress.header.harts, progress.place);
+    match tag {
+        Tag::Touch(kind) => counted(progress, touch_of(bytes, kind, harts, place)),
+        Tag::ShortTouch(kind, size) => counted(
+            progress,
+            short_touch_of(bytes, kind, size, harts, progress.last, place),
+        ),
+        Tag::Alloc => Ok(alloc_of(bytes)),
+        Tag::Free => Ok(TraceRecord::Free {
+            addr: u32_at(bytes, 1),
+        }),
+        Tag::Symbol => symbol_of(alloc, bytes, place),
+        Tag::End => end_of(progress, bytes),
+    }
+}
+
+// The record in the bytes, which are all that it has. It takes memory for a name alone.
+#[tactic(auto, unfolding(crate::specs::Judging::record_judged, crate::specs::Judging::record_extent))]
+#[inline(always)]
+pub(crate) fn record_of(
+    alloc: Global,
+    progress: &ReadSoFar,
+    bytes: &[u8],
+) -> Result<TraceRecord, TraceFault>
+    requires long { length bytes.now ≡ record_extent progress.now.version bytes.now }
+    requires some { 1 ≤ length bytes.now }
+    requires sound { IsSound progress.now }
+    requires low { progress.now.place ≤ 2 ^ 44 }
+    ensures { result ≢ Err TraceFault.NoMemory → result ≡ record_judged progress.now bytes.now }
+{
+    match Tag::read(progress.version, bytes[0]) {
+        Some(tag) => tagged_of(alloc, progress, tag, bytes),
+        None => Err(TraceFault::BadTag(progress.place)),
+    }
+}

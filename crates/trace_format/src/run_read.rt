@@ -1,0 +1,146 @@
+// The accesses at the front of some bytes, read one after the other. Most records are accesses, so
+// that their way is short: what is no access, or not a good one, is left to the way of all records.
+ghost use Rattle.std.specs.Prelude.{◌≡◌, ◌^◌, ◌+◌, ◌≤◌, [], ◌∷◌, ◌++◌, length, IfSome, Ok, IsTrue};
+ghost use Rattle.std.specs.Prelude.{IsFalse, Some, slice_index};
+ghost use Rattle.base.specs.Touch.{is_access_size};
+ghost use Rattle.trace_format.specs.Judging.{touch_counted};
+ghost use Rattle.trace_format.specs.Rules.{longest_trace};
+ghost use Rattle.trace_format.specs.Tags.{tag_of};
+ghost use Rattle.trace_format.specs.Sound.{IsSound};
+ghost use Rattle.trace_format.specs.ReaderStates.{HasAccess, HasSameHead, ReadsBut, reading_at};
+
+use crate::access_read::{short_touch_of, touch_of};
+use crate::fields::behind;
+use crate::header_read::LAST_POSITION;
+use crate::reader_state::count_access;
+use crate::record_read::{TOUCH_LENGTH, short_touch_extent};
+use crate::{ReadSoFar, Tag, TraceFault, TraceRecord};
+use base::{Access, Kind};
+
+// An access that is good in itself, if there is a position for it.
+#[tactic(auto, using(std::proofs::lemmas::Bool::Decides::nat_tests))]
+#[inline(always)]
+fn placed(progress: &ReadSoFar, access: Result<Access, TraceFault>) -> Option<Access>
+    requires sound { IsSound progress.now }
+    requires low { progress.now.place ≤ 2 ^ 44 }
+    ensures { IfSome result (λ a. touch_counted progress.now access ≡ Ok (TraceRecord.Touch a)) }
+{
+    match access {
+        Ok(access) if progress.header.first + progress.counted < LAST_POSITION => Some(access),
+        _ => None,
+    }
+}
+
+// A good access at the front of some bytes, and how many bytes it has.
+#[derive(Clone, Copy, Drop)]
+struct Ahead {
+    access: Access,
+    size: usize,
+}
+
+// A good access of version 1, if all of it is there.
+#[inline(always)]
+fn touch_ahead(progress: &ReadSoFar, kind: Kind, bytes: &[u8]) -> Option<Ahead>
+    requires sound { IsSound progress.now }
+    requires low { progress.now.place ≤ 2 ^ 44 }
+    requires tagged { tag_of progress.now.version (slice_index bytes.now 0)
+        ≡ Some (Tag.Touch kind) }
+    ensures { IfSome result (λ ahead. HasAccess progress.now bytes.now ahead.access ahead.size) }
+{
+    if bytes.len() < TOUCH_LENGTH {
+        return None;
+    }
+    let (part, _) = bytes.split_at(TOUCH_LENGTH);
+    let access = touch_of(part, kind, progress.header.harts, progress.place);
+    match placed(progress, access) {
+        Some(access) => Some(Ahead {
+            access,
+            size: TOUCH_LENGTH,
+        }),
+        None => None,
+    }
+}
+
+// A good access of version 2, if all of it is there.
+#[inline(always)]
+fn short_touch_ahead(progress: &ReadSoFar, kind: Kind, width: u8, bytes: &[u8]) -> Option<Ahead>
+    requires sound { IsSound progress.now }
+    requires low { progress.now.place ≤ 2 ^ 44 }
+    requires sized { IsTrue (is_access_size width) }
+    requires tagged { tag_of progress.now.version (slice_index bytes.now 0)
+        ≡ Some (Tag.ShortTouch kind width) }
+    ensures { IfSome result (λ ahead. HasAccess progress.now bytes.now ahead.access ahead.size) }
+{
+    let size = short_touch_extent(bytes);
+    if bytes.len() < size {
+        return None;
+    }
+    let (part, _) = bytes.split_at(size);
+    let (harts, last, place) = (progress.header.harts, progress.last, progress.place);
+    match placed(
+        progress,
+        short_touch_of(part, kind, width, harts, last, place),
+    ) {
+        Some(access) => Some(Ahead { access, size }),
+        None => None,
+    }
+}
+
+// The good access that begins some bytes, if all of it is there.
+#[inline(always)]
+fn access_ahead(progress: &ReadSoFar, bytes: &[u8]) -> Option<Ahead>
+    requires sound { IsSound progress.now }
+    requires low { progress.now.place ≤ 2 ^ 44 }
+    ensures { IfSome result (λ ahead. HasAccess progress.now bytes.now ahead.access ahead.size) }
+{
+    if bytes.is_empty() {
+        return None;
+    }
+    match Tag::read(progress.version, bytes[0]) {
+        Some(Tag::Touch(kind)) => touch_ahead(progress, kind, bytes),
+        Some(Tag::ShortTouch(kind, width)) => short_touch_ahead(progress, kind, width, bytes),
+        _ => None,
+    }
+}
+
+// Appends an access, if there is memory for it.
+#[inline(always)]
+fn put(access: Access, into: &mut Vec<TraceRecord>) -> bool
+    ensures put { IsTrue result
+        → into.new.items ≡ into.old.items ++ TraceRecord.Touch access ∷ [] }
+    ensures same { IsFalse result → into.new.items ≡ into.old.items }
+{
+    match into.push(TraceRecord::Touch(access)) {
+        Ok(()) => true,
+        Err(_) => false,
+    }
+}
+
+/// Reads the accesses at the front of some bytes, as far as they are whole and good and there is
+/// memory for them, and gives the bytes behind them.
+#[inline(always)]
+pub(crate) fn read_run<'a>(
+    progress: &mut ReadSoFar,
+    bytes: &'a [u8],
+    into: &mut Vec<TraceRecord>,
+) -> &'a [u8]
+    requires sound { IsSound progress.old }
+    requires low { progress.old.place + length bytes.now ≤ longest_trace }
+    ensures sound { IsSound progress.new }
+    ensures head { HasSameHead progress.new progress.old }
+    ensures fewer { length result.now ≤ length bytes.now }
+    ensures exact { progress.new.place + length result.now
+        ≡ progress.old.place + length bytes.now }
+    ensures read { ReadsBut (reading_at progress.old) bytes.now (reading_at progress.new) result.now
+        into.old.items into.new.items }
+{
+    let mut rest = bytes;
+    while let Some(ahead) = access_ahead(progress, rest) {
+        if !put(ahead.access, into) {
+            break;
+        }
+        count_access(progress, ahead.access, ahead.size);
+        rest = behind(rest, ahead.size);
+    }
+    rest
+}

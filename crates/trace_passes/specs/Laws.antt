@@ -1,0 +1,3 @@
+-- The laws of the definitions, by what they are about.
+pub mod Passes
+pub mod Spelled

@@ -1,2 +1,0 @@
-pub mod TotalsOf
-pub mod Counted

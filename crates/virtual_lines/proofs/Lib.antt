@@ -1,3 +1,0 @@
-pub mod UndoLaws
-pub mod EvenLaws
-pub mod ReadLaws

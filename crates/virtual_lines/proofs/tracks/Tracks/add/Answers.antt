@@ -1,9 +1,0 @@
--- A new track has no start.
-use Rattle.virtual_lines.specs.KeptLaws.{kept-new}
-use Rattle.virtual_lines.proofs.tracks.Tracks.add.Goals as goal
-
-pub returns-in-Ok-clause-stands : goal.returns-in-Ok-clause-stands
-returns-in-Ok-clause-stands c = λ l from t same short. kept-new l from t c.args.kind c.args.range same short
-
-pub returns-in-Err-clause-stands : goal.returns-in-Err-clause-stands
-returns-in-Err-clause-stands c = λ l from t same short. kept-new l from t c.args.kind c.args.range same short

@@ -1,3 +1,0 @@
-pub mod RangeWords
-pub mod Laws
-pub mod LineLaws
