@@ -1,0 +1,15 @@
+-- What follows from the definitions. A law stands here with its proof, so that other crates can
+-- cite it.
+pub mod Copies
+pub mod Costs
+pub mod Entered
+pub mod Entries
+pub mod Fits
+pub mod Kept
+pub mod KeptLines
+pub mod KeptOf
+pub mod Loads
+pub mod Served
+pub mod Sums
+pub mod Totals
+pub mod WordLines

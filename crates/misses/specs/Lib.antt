@@ -1,0 +1,7 @@
+pub mod Entries
+pub mod Fits
+pub mod Kept
+pub mod Laws
+pub mod Misses
+pub mod Rows
+pub mod WordLines
