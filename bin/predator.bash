@@ -2,10 +2,14 @@
 _predator() {
     local word=${COMP_WORDS[COMP_CWORD]} before=${COMP_WORDS[COMP_CWORD - 1]} options
     if ((COMP_CWORD == 1)); then
-        mapfile -t COMPREPLY < <(compgen -W "run replay check split gen convert --help --version" -- "$word")
+        mapfile -t COMPREPLY < <(compgen -W "run replay check split gen convert help --help --version" -- "$word")
         return
     fi
     case ${COMP_WORDS[1]} in
+        help)
+            mapfile -t COMPREPLY < <(compgen -W "run replay check split gen convert" -- "$word")
+            return
+            ;;
         run) options="--settings --schedule --trace --output" ;;
         replay) options="--settings --size --shift --save --resume" ;;
         check) options="--settings" ;;
@@ -17,7 +21,7 @@ _predator() {
         --shift) ;;
         *)
             if [[ $word == -* ]]; then
-                mapfile -t COMPREPLY < <(compgen -W "$options" -- "$word")
+                mapfile -t COMPREPLY < <(compgen -W "$options --help" -- "$word")
             else
                 mapfile -t COMPREPLY < <(compgen -f -- "$word")
             fi

@@ -1,9 +1,12 @@
 #!/usr/bin/env python3
 """Runs the commands of the documents and compares what they print with what stands there: check_docs.py [--renew] [FILE ..].
 
+Without a FILE it also compares the lines of usage in the page of help, the manual page, the completion and docs/FORMATS.md with those
+of the crates, which needs no built program; --usage does that alone.
+
 A command is an indented line that begins with `$ `, and what it is to print are the lines of the same block behind it. All commands
 of a document run in one folder, which has what stands at the top of the repository. A command that lacks a tool of this machine
-(named in brackets behind `#`, as `# [valgrind]`) is left out. --renew puts what was printed into the documents, to be read through
+(named in brackets behind `#`, as `# [valgrind]`) is left out. In the manual page commands stand between .nf and .fi. --renew puts what was printed into the documents, to be read through
 before it is committed. It ends with 1 if anything differs."""
 
 import os
@@ -16,6 +19,11 @@ import tempfile
 TOP = os.path.abspath(os.path.join(os.path.dirname(os.path.abspath(__file__)), ".."))
 FILES = ["README.md", "docs/GUIDE.md", "guest/README.md", "examples/README.md", "docs/FORMATS.md", "docs/STUDIES.md"]
 BLOCK = "    "
+MANUAL = "docs/predator.1"
+# What the cases print of usage.
+USAGE = "crates/worked_runs/data/usage.txt"
+# Crates whose texts are copies: tests, and cases that are written by hand.
+COPIES = ("_tests", "worked_runs")
 
 
 def run(command, work):
@@ -54,9 +62,88 @@ def check(name, renew):
     return wrong
 
 
+def read(name):
+    with open(os.path.join(TOP, name), encoding="utf-8") as file:
+        return file.read()
+
+
+def check_manual(renew):
+    """How many examples of the manual page the program prints otherwise."""
+    text, wrong, tried = read(MANUAL), 0, 0
+    for example in re.findall(r"^\.nf\n(.*?)^\.fi$", text, re.MULTILINE | re.DOTALL):
+        lines = example.replace("\\-", "-").rstrip("\n").split("\n")
+        if not lines[0].startswith("$ predator "):
+            continue
+        tried += 1
+        made = run(f"bin/{lines[0][2:]}", TOP)
+        if made != lines[1:]:
+            wrong += 1
+            print(f"{MANUAL}: {lines[0]}", *made, sep="\n  ")
+            text = text.replace(example, "\n".join([lines[0], *made, ""]))
+    if renew:
+        with open(os.path.join(TOP, MANUAL), "w", encoding="utf-8") as file:
+            file.write(text)
+    print(f"{MANUAL}: {tried} commands, {wrong} wrong")
+    return wrong
+
+
+def usage_of_crates():
+    """The lines of usage, without their heads, as the crates have them."""
+    found = []
+    for crate in sorted(os.listdir(os.path.join(TOP, "crates"))):
+        folder = os.path.join(TOP, "crates", crate, "src")
+        for name in sorted(os.listdir(folder)) if os.path.isdir(folder) and not crate.endswith(COPIES) else ():
+            for text in re.findall(r'"(?:[^"\\]|\\.)*"', read(f"crates/{crate}/src/{name}")):
+                found += re.findall(r"usage: (predator [a-z]+ [^\\\"]+)", text)
+    return found
+
+
+def usage_of_manual():
+    synopsis = re.search(r"^\.SH SYNOPSIS\n(.*?)^\.SH", read(MANUAL), re.MULTILINE | re.DOTALL)[1]
+    lines = re.sub(r"^\.(?:B|I|RB|IR) ", "", synopsis.replace("\\-", "-"), flags=re.MULTILINE).replace("[ ", "[").replace(" ]", "]")
+    return [" ".join(it.split()) for it in lines.split(".br\n")]
+
+
+def usage_of_completion():
+    """What completes, as (command, options), and the words that may stand first."""
+    text = read("bin/predator.bash")
+    first = re.search(r'compgen -W "([^"]*)"', text)[1].split()
+    arms = re.findall(r'^\s+([a-z |]+)\) options="([^"]*)"', text, re.MULTILINE)
+    return first, {name: options.split() for names, options in arms for name in names.split(" | ")}
+
+
+def check_usage():
+    """Whether each place that tells how commands are called tells the same."""
+    wanted, wrong = usage_of_crates(), 0
+    places = {
+        "bin/help.txt": re.findall(r"^  (predator [a-z]+ .*)$", read("bin/help.txt"), re.MULTILINE),
+        MANUAL: [it for it in usage_of_manual() if not it.startswith("predator --")],
+        "docs/FORMATS.md": re.findall(r"^    (predator [a-z]+ [A-Z].*)$", read("docs/FORMATS.md"), re.MULTILINE),
+    }
+    if os.path.exists(os.path.join(TOP, USAGE)):
+        places[USAGE] = re.findall(r"^usage: (.*)$", read(USAGE), re.MULTILINE)
+    for name, lines in places.items():
+        if sorted(lines) != sorted(wanted):
+            wrong += 1
+            print(f"{name}: the lines of usage are other ones than in the crates:", *sorted({*lines} ^ {*wanted}), sep="\n  ")
+    first, options = usage_of_completion()
+    commands = {it.split()[1]: re.findall(r"--[a-z]+", it) for it in wanted}
+    if options != commands or not {*commands} <= {*first}:
+        wrong += 1
+        print("bin/predator.bash: it completes", first, options)
+    print(f"usage: {len(wanted)} lines, {wrong} places wrong")
+    return wrong + (not wanted)
+
+
 def main(words):
-    names = [it for it in words if it != "--renew"] or [it for it in FILES if os.path.exists(os.path.join(TOP, it))]
-    wrong = sum(check(it, "--renew" in words) for it in names)
+    if "--help" in words or "-h" in words:
+        print(__doc__)
+        return 0
+    names = [it for it in words if not it.startswith("--")]
+    wrong, renew = 0 if names else check_usage(), "--renew" in words
+    if "--usage" not in words:
+        wrong += 0 if names else check_manual(renew)
+        wrong += sum(check(it, renew) for it in names or [it for it in FILES if os.path.exists(os.path.join(TOP, it))])
     return 1 if wrong else 0
 
 

@@ -5,7 +5,7 @@ usage: guest/refuse_memory.py
 
 Each call is made once with all memory, and then with its first allocation refused, with its second one, and so on. It must end with
 status 9, print nothing but `predator: no memory` behind a front of what it prints else, and leave a front of each file that it writes;
-or it goes on without that memory, and ends, prints and writes as before. It wants a C compiler, and is no part of the gate."""
+or it goes on without that memory, and ends, prints and writes as before. It needs a C compiler. bin/try calls it."""
 
 import os
 import subprocess
@@ -13,7 +13,7 @@ import sys
 import tempfile
 
 TOP = os.path.join(os.path.dirname(os.path.abspath(__file__)), "..")
-PROGRAM = os.path.join(TOP, "crates/predator/out/predator")
+PROGRAM = os.path.abspath(os.environ.get("PREDATOR_PROGRAM") or os.path.join(TOP, "crates/predator/out/predator"))
 DATA = os.path.join(TOP, "crates/worked_runs/data")
 LINE = b"predator: no memory\n"
 
@@ -143,6 +143,9 @@ def main():
         sys.exit(1 if sum(try_call(words) for words in CALLS) else 0)
 
 
+if len(sys.argv) > 1:
+    print(__doc__)
+    sys.exit(0 if sys.argv[1] in ("--help", "-h") else 1)
 if not os.access(PROGRAM, os.X_OK):
     sys.exit("refuse_memory.py: build the program first: bin/predator replay examples/counters.trace")
 main()

@@ -5,8 +5,11 @@
 #     threads.sh --broken [NAME ..]        the same with a fault of each kind in pthread.c: a seed that shows it is wanted
 #
 # A program puts out the lines that stand at its head behind `//>` (sorted, where it says so) and ends with 0, or a seed is wrong. PREDATOR names another program
-# than bin/predator. It is no part of the gate.
+# than bin/predator. bin/try calls it.
 set -eu
+case ${1:-} in
+    --help | -h) sed -n '2,/^[^#]/s/^# \{0,1\}//p' "$0"; exit ;;
+esac
 here=$(cd "$(dirname "$(readlink -f "$0")")" && pwd)
 predator=${PREDATOR:-$here/../bin/predator}
 seeds=20

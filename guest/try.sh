@@ -1,6 +1,9 @@
 #!/usr/bin/env bash
-# Tries the program and its launcher as a user would, in a folder of its own, and says what answered otherwise than it should. It
-# builds the program where that is still to do. It is no part of the gate.
+# Tries the program and its launcher as a user would, in a folder of its own, and says what answered otherwise than it should:
+#
+#     try.sh [PART ..]     of program, install, kit, c_library and unproved; the first four, unless some are named
+#
+# It builds the program where that is still to do. bin/try calls it, with all else that isn't proved.
 set -u
 here=$(cd "$(dirname "$(readlink -f "$0")")" && pwd)
 top=$(dirname "$here")
@@ -54,129 +57,145 @@ quiet() {
     fi
 }
 
-# ---- the launcher
-
-"$predator" >/dev/null 2>&1
-try "help" 0 "$predator" --help
-prints "help" "Usage:"
-try "version" 0 "$predator" --version
-ln -s "$predator" linked
-try "through a link" 0 ./linked --version
-try "without rt, once built" 0 env PATH=/usr/bin:/bin "$predator" check "$here/built/counters.elf"
-cp -r "$here/built" programs
-printf 'tracking = 1\nreport = 1\n' >settings
-
-# ---- a first program
-
-try "counters" 0 "$predator" run "$here/built/counters.elf"
-quiet "counters"
-prints "counters" "outcome exit 0"
-prints "counters" "accesses 160042"
-tried=$((tried + 1))
-grep -q "^line observed 0x00011000 64 start 41 count 4007" out || { echo "counters: another line"; failed=$((failed + 1)); }
-try "apart" 0 "$predator" run programs/apart.elf
-prints "apart" "lines 0"
-try "a trace" 0 "$predator" run programs/counters.elf --trace t --output o
-try "the output" 0 grep -x "sum 80000" o
-try "a replay" 0 "$predator" replay t
-try "a replay under words" 0 "$predator" replay t --size 4
-prints "a replay under words" "lines 0"
-try "a conversion" 0 "$predator" convert t converted
-prints "a conversion" "convert 2 160042"
-try "a conversion back" 0 "$predator" convert converted back
-try "the first trace again" 0 cmp t back
-try "a cut" 0 "$predator" split t 100000 before behind
-prints "a cut" "split 100000 60042"
-try "a half over its trace" 8 "$predator" split t 100000 other ./t
-try "the trace, still there" 0 cmp t back
-try "a summary" 0 "$predator" check programs/counters.elf
-prints "a summary" "entry 0x00010000"
-
-# ---- refusals
-
-try "no words" 1 "$predator"
-try "a wrong word" 1 "$predator" run programs/counters.elf --fast
-says "a wrong word" "'--fast' is no option of this command"
-try "no program" 2 "$predator" run settings
-printf '9 1\n' >schedule
-try "no schedule" 3 "$predator" run programs/counters.elf --schedule schedule
-printf 'harts = 0\n' >bad
-try "bad settings" 4 "$predator" run programs/counters.elf --settings bad
-says "bad settings" "\`harts\` is a whole number from 1 to 256"
-try "no trace" 5 "$predator" replay settings
-try "a missing file" 7 "$predator" replay missing
-says "a missing file" "missing: No such file or directory"
-try "a folder" 7 "$predator" replay programs
-says "a folder" "programs: Is a directory"
-try "no place to write" 8 "$predator" run programs/counters.elf --trace missing/t
-says "no place to write" "missing/t: No such file or directory"
-printf 'budget = 10\n' >few
-try "a small budget" 10 "$predator" run programs/counters.elf --settings few
-try "its own name as an output" 1 "$predator" run programs/counters.elf --trace programs/counters.elf
-says "its own name as an output" "a file that is written has the name of another one; each wants its own"
-
-# ---- nothing is lost
-
+# same WHAT: the program that was a file of the last command is there as it was.
 same() {
     tried=$((tried + 1))
     cmp -s "$here/built/counters.elf" programs/counters.elf || { echo "$1: the program was lost"; failed=$((failed + 1)); }
     cp "$here/built/counters.elf" programs/counters.elf
 }
-ln -s programs/counters.elf soft.elf
-ln programs/counters.elf hard.elf
-for it in ./programs/counters.elf "$work/programs/counters.elf" soft.elf hard.elf; do
-    try "$it as a trace" 8 "$predator" run programs/counters.elf --trace "$it"
-    says "$it as a trace" "$it: the same file is in use under another name, and stays as it is"
-    same "$it as a trace"
-    try "$it as an output" 8 "$predator" run programs/counters.elf --output "$it"
-    same "$it as an output"
-done
-try "the settings as an output" 8 "$predator" run programs/counters.elf --settings settings --output ./settings
-try "the settings, still there" 0 grep -x "tracking = 1" settings
-try "two outputs of one file" 8 "$predator" run programs/counters.elf --trace t --output ./t
-try "a device" 0 "$predator" run programs/counters.elf --trace /dev/null --output /dev/./null
-quiet "a device"
 
-# ---- messages
+# cannot WHAT SOURCE REASON: such a program isn't built, and why is said.
+cannot() {
+    echo "$2" >cannot.c
+    try "cannot $1" 1 "$here/build.sh" cannot.elf cannot.c
+    tried=$((tried + 1))
+    grep -q "declared with 'error' attribute: $3" said || { echo "cannot $1: no reason is said"; failed=$((failed + 1)); }
+}
 
-try "an output that can't be printed" 8 bash -c '"$0" check programs/counters.elf >/dev/full' "$predator"
-says "an output that can't be printed" "standard output: No space left on device"
-try "no word" 1 "$predator"
-says "no word" "the command is missing; see predator --help"
-try "a wrong command" 1 "$predator" reply t
-says "a wrong command" "'reply' is no command; see predator --help"
-try "a lone option" 1 "$predator" run programs/counters.elf --trace
-says "a lone option" "--trace wants a value behind it"
-try "no layout" 1 "$predator" replay t --size 48
-says "no layout" "--size is a power of two from 4 to 1024, --shift a multiple of 4 below the size"
-try "another machine" 2 "$predator" check /bin/true
-says "another machine" "compile for little-endian RV32, with -march=rv32ima -mabi=ilp32"
-printf 'memory = 65536\n' >small
-try "a small memory" 2 "$predator" run programs/counters.elf --settings small
-says "a small memory" "set more \`memory\`, fewer \`harts\` or less \`stack\` in the settings"
-printf '0  1\n' >spaces
-try "a schedule's line" 3 "$predator" run programs/counters.elf --schedule spaces
-says "a schedule's line" "a line is a hart, one space and a count, as \`0 500\`"
+# What the parts share: the programs, copied, and settings that list each line.
+cp -r "$here/built" programs
+printf 'tracking = 1\nreport = 1\n' >settings
+printf 'harts = 0\n' >bad
 
-# ---- the cases, over real files
+try_launcher() {
+    "$predator" >/dev/null 2>&1
+    try "help" 0 "$predator" --help
+    prints "help" "Usage:"
+    for it in "run --help" "help run" "run p.elf -h"; do
+        # (the words apart)
+        # shellcheck disable=SC2086
+        try "$it" 0 "$predator" $it
+        prints "$it" "usage: predator run PROGRAM [--settings F] [--schedule F] [--trace F] [--output F]"
+    done
+    try "help of no command" 1 "$predator" help reply
+    says "help of no command" "'reply' is no command; see predator --help"
+    try "version" 0 "$predator" --version
+    ln -s "$predator" linked
+    try "through a link" 0 ./linked --version
+    try "without rt, once built" 0 env PATH=/usr/bin:/bin "$predator" check "$here/built/counters.elf"
+}
 
-try "the cases" 0 "$here/cases/on_disk.py"
-try "the documents" 0 "$here/check_docs.py"
-try "two studies" 0 "$here/studies/run.py" histogram bounded_queue
+try_commands() {
+    try "counters" 0 "$predator" run "$here/built/counters.elf"
+    quiet "counters"
+    prints "counters" "outcome exit 0"
+    prints "counters" "accesses 160042"
+    tried=$((tried + 1))
+    grep -q "^line observed 0x00011000 64 start 41 count 4007" out || { echo "counters: another line"; failed=$((failed + 1)); }
+    try "apart" 0 "$predator" run programs/apart.elf
+    prints "apart" "lines 0"
+    try "a trace" 0 "$predator" run programs/counters.elf --trace t --output o
+    try "the output" 0 grep -x "sum 80000" o
+    try "a replay" 0 "$predator" replay t
+    try "a replay under words" 0 "$predator" replay t --size 4
+    prints "a replay under words" "lines 0"
+    try "a conversion" 0 "$predator" convert t converted
+    prints "a conversion" "convert 2 160042"
+    try "a conversion back" 0 "$predator" convert converted back
+    try "the first trace again" 0 cmp t back
+    try "a cut" 0 "$predator" split t 100000 before behind
+    prints "a cut" "split 100000 60042"
+    try "a half over its trace" 8 "$predator" split t 100000 other ./t
+    try "the trace, still there" 0 cmp t back
+    try "a summary" 0 "$predator" check programs/counters.elf
+    prints "a summary" "entry 0x00010000"
+}
 
-# ---- installed
+try_refusals() {
+    try "no words" 1 "$predator"
+    try "a wrong word" 1 "$predator" run programs/counters.elf --fast
+    says "a wrong word" "unexpected argument '--fast' found"
+    try "no program" 2 "$predator" run settings
+    printf '9 1\n' >schedule
+    try "no schedule" 3 "$predator" run programs/counters.elf --schedule schedule
+    try "bad settings" 4 "$predator" run programs/counters.elf --settings bad
+    says "bad settings" "\`harts\` is a whole number from 1 to 256"
+    try "no trace" 5 "$predator" replay settings
+    try "a missing file" 7 "$predator" replay missing
+    says "a missing file" "missing: No such file or directory"
+    try "a folder" 7 "$predator" replay programs
+    says "a folder" "programs: Is a directory"
+    try "no place to write" 8 "$predator" run programs/counters.elf --trace missing/t
+    says "no place to write" "missing/t: No such file or directory"
+    printf 'budget = 10\n' >few
+    try "a small budget" 10 "$predator" run programs/counters.elf --settings few
+    try "its own name as an output" 1 "$predator" run programs/counters.elf --trace programs/counters.elf
+    says "its own name as an output" "'programs/counters.elf' stands twice; each file that is written wants its own name"
+}
 
-try "install" 0 "$top/bin/install" "$work/prefix"
-try "installed" 0 env PATH=/usr/bin:/bin "$work/prefix/bin/predator" check programs/counters.elf
-try "installed help" 0 env PATH=/usr/bin:/bin "$work/prefix/bin/predator" --help
-try "installed version" 0 env PATH=/usr/bin:/bin "$work/prefix/bin/predator" --version
-for file in share/man/man1/predator.1 share/bash-completion/completions/predator; do
-    try "$file" 0 test -s "$work/prefix/$file"
-done
+# Nothing is lost by the name of an output.
+try_outputs() {
+    ln -s programs/counters.elf soft.elf
+    ln programs/counters.elf hard.elf
+    for it in ./programs/counters.elf "$work/programs/counters.elf" soft.elf hard.elf; do
+        try "$it as a trace" 8 "$predator" run programs/counters.elf --trace "$it"
+        says "$it as a trace" "$it: the same file is in use under another name, and stays as it is"
+        same "$it as a trace"
+        try "$it as an output" 8 "$predator" run programs/counters.elf --output "$it"
+        same "$it as an output"
+    done
+    try "the settings as an output" 8 "$predator" run programs/counters.elf --settings settings --output ./settings
+    try "the settings, still there" 0 grep -x "tracking = 1" settings
+    try "two outputs of one file" 8 "$predator" run programs/counters.elf --trace t --output ./t
+    try "a device" 0 "$predator" run programs/counters.elf --trace /dev/null --output /dev/./null
+    quiet "a device"
+}
 
-# ---- the guest kit
+try_messages() {
+    try "an output that can't be printed" 8 bash -c '"$0" check programs/counters.elf >/dev/full' "$predator"
+    says "an output that can't be printed" "standard output: No space left on device"
+    try "no word" 1 "$predator"
+    says "no word" "the command is missing; see predator --help"
+    try "a wrong command" 1 "$predator" reply t
+    says "a wrong command" "'reply' is no command; see predator --help"
+    try "a lone option" 1 "$predator" run programs/counters.elf --trace
+    says "a lone option" "a value is required for '--trace <trace>' but none was supplied"
+    try "no layout" 1 "$predator" replay t --size 48
+    says "no layout" "'--size 48 --shift 0' is no layout: --size is a power of two from 4 to 1024, --shift a multiple of 4 below the size"
+    try "another machine" 2 "$predator" check /bin/true
+    says "another machine" "compile for little-endian RV32, with -march=rv32ima -mabi=ilp32"
+    printf 'memory = 65536\n' >small
+    try "a small memory" 2 "$predator" run programs/counters.elf --settings small
+    says "a small memory" "set more \`memory\`, fewer \`harts\` or less \`stack\` in the settings"
+    printf '0  1\n' >spaces
+    try "a schedule's line" 3 "$predator" run programs/counters.elf --schedule spaces
+    says "a schedule's line" "a line is a hart, one space and a count, as \`0 500\`"
+}
 
-if command -v clang >/dev/null && command -v ld.lld >/dev/null; then
+try_install() {
+    try "install" 0 "$top/bin/install" "$work/prefix"
+    quiet "install"
+    try "install without a folder" 1 "$top/bin/install"
+    try "install's help" 0 "$top/bin/install" --help
+    try "installed" 0 env PATH=/usr/bin:/bin "$work/prefix/bin/predator" check programs/counters.elf
+    try "installed help" 0 env PATH=/usr/bin:/bin "$work/prefix/bin/predator" --help
+    try "installed version" 0 env PATH=/usr/bin:/bin "$work/prefix/bin/predator" --version
+    for file in share/man/man1/predator.1 share/bash-completion/completions/predator share/predator/docs/FORMATS.md share/predator/guest/build.sh; do
+        try "$file" 0 test -s "$work/prefix/$file"
+    done
+}
+
+try_kit() {
     cat >init.c <<'C'
 #include "predator.h"
 ALONE volatile uint32_t first = 5;
@@ -211,38 +230,30 @@ C
     try "lone variables" 0 "$predator" run alone.elf
     prints "lone variables" "outcome exit 0"
 
-    # What can't be had says why.
-    cannot() {
-        echo "$2" >cannot.c
-        try "cannot $1" 1 "$here/build.sh" cannot.elf cannot.c
-        tried=$((tried + 1))
-        grep -q "unavailable: $3" said || { echo "cannot $1: no reason is said"; failed=$((failed + 1)); }
-    }
     cannot "cancel" '#include <pthread.h>
-int main(void) { return pthread_cancel(pthread_self()); }' "a hart can't be ended by another one"
+    int main(void) { return pthread_cancel(pthread_self()); }' "a hart can't be ended by another one"
     cannot "signal" '#include <pthread.h>
-int main(void) { return pthread_kill(pthread_self(), 2); }' "there are no signals"
+    int main(void) { return pthread_kill(pthread_self(), 2); }' "there are no signals"
     cannot "wait for a time" '#include <pthread.h>
-int f(pthread_cond_t *c, pthread_mutex_t *m) { return pthread_cond_timedwait(c, m, 0); } int main(void) { return 0; }' "there is no clock"
+    int f(pthread_cond_t *c, pthread_mutex_t *m) { return pthread_cond_timedwait(c, m, 0); } int main(void) { return 0; }' "there is no clock"
     cannot "bring a stack" '#include <pthread.h>
-int main(void) { pthread_attr_t a; return pthread_attr_setstack(&a, 0, 0); }' "each hart has the stack"
+    int main(void) { pthread_attr_t a; return pthread_attr_setstack(&a, 0, 0); }' "each hart has the stack"
     cannot "sleep" '#include <unistd.h>
-int main(void) { return (int)sleep(1); }' "there is no clock"
-    try "threads" 0 "$here/threads.sh" --seeds 2
+    int main(void) { return (int)sleep(1); }' "there is no clock"
+}
 
-    # The C library, where it is.
-    if [ -d /usr/lib/picolibc/riscv64-unknown-elf ]; then
-        for it in as_is atomics; do
-            try "a build of $it" 0 "$here/build.sh" $it.elf "$here/examples/$it.c"
-            try "$it" 0 "$predator" run $it.elf --output $it.out
-            prints "$it" "outcome exit 0"
-            if command -v cc >/dev/null; then
-                try "$it natively" 0 cc -pthread -w "$here/examples/$it.c" -o $it.native
-                ./$it.native >$it.wanted
-                try "the same from $it" 0 cmp $it.wanted $it.out
-            fi
-        done
-        cat >words.c <<'C'
+try_c_library() {
+    for it in as_is atomics; do
+        try "a build of $it" 0 "$here/build.sh" $it.elf "$here/examples/$it.c"
+        try "$it" 0 "$predator" run $it.elf --output $it.out
+        prints "$it" "outcome exit 0"
+        if command -v cc >/dev/null; then
+            try "$it natively" 0 cc -pthread -w "$here/examples/$it.c" -o $it.native
+            ./$it.native >$it.wanted
+            try "the same from $it" 0 cmp $it.wanted $it.out
+        fi
+    done
+    cat >words.c <<'C'
 #include <assert.h>
 #include <stdio.h>
 #include <stdlib.h>
@@ -256,24 +267,34 @@ int main(int count, char **words)
     exit(3);
 }
 C
-        try "a build with words" 0 env ARGUMENTS="4 in.txt" "$here/build.sh" words.elf words.c
-        try "words" 0 "$predator" run words.elf --output o
-        prints "words" "outcome exit 3"
-        try "the last words" 0 grep -x -c -e last -e "word in.txt" o
-        try "a build without words" 0 "$here/build.sh" words.elf words.c
-        try "a failed claim" 0 "$predator" run words.elf --output o
-        prints "a failed claim" "outcome exit 134"
-        try "a failed claim is said" 0 grep "count == 3" o
-    fi
-fi
+    try "a build with words" 0 env ARGUMENTS="4 in.txt" "$here/build.sh" words.elf words.c
+    try "words" 0 "$predator" run words.elf --output o
+    prints "words" "outcome exit 3"
+    try "the last words" 0 grep -x -c -e last -e "word in.txt" o
+    try "a build without words" 0 "$here/build.sh" words.elf words.c
+    try "a failed claim" 0 "$predator" run words.elf --output o
+    prints "a failed claim" "outcome exit 134"
+    try "a failed claim is said" 0 grep "count == 3" o
+}
 
-# ---- the unproved run, which takes minutes: UNPROVED=1
-
-if [ "${UNPROVED:-}" = 1 ] && command -v rt >/dev/null; then
+# It takes minutes.
+try_unproved() {
     try "unproved" 0 env PREDATOR_TRY=1 "$predator" check "$here/built/counters.elf" --settings=settings
     prints "unproved" "entry 0x00010000"
     try "unproved, refused" 4 env PREDATOR_TRY=1 "$predator" check programs/counters.elf --settings=bad
-fi
+}
 
+"$predator" check "$here/built/apart.elf" >/dev/null || exit
+[ $# -gt 0 ] || set -- program install kit c_library
+for part in "$@"; do
+    case $part in
+        program) for it in launcher commands refusals outputs messages; do "try_$it"; done ;;
+        install | kit | c_library | unproved) "try_$part" ;;
+        *)
+            sed -n '2,/^[^#]/s/^# \{0,1\}//p' "$here/try.sh" >&2
+            exit 1
+            ;;
+    esac
+done
 echo "$tried tried, $failed failed"
 [ "$failed" = 0 ]

@@ -2,7 +2,7 @@
 """Says what the report of a replay is by its rules alone, as docs/RULES.md and docs/FORMATS.md tell them, and stands on nothing of
 the program. It goes over whole lists: caches are sets of harts, starts and openings least positions, and nothing is kept of a line.
 
-usage: judge_report.py PROGRAM [COUNT [SEED]]
+usage: tools/judge_report.py PROGRAM [COUNT [SEED]]
 
 makes COUNT (1000) small traces, each with its settings and words, by the random numbers that follow from SEED (1); replays each by
 PROGRAM, and tells where that prints another report. It ends with 1 where it found one.
@@ -304,6 +304,7 @@ def main(program, count=1000, seed=1):
 
 
 if __name__ == "__main__":
-    if not 2 <= len(sys.argv) <= 4:
-        sys.exit(__doc__)
+    if not 2 <= len(sys.argv) <= 4 or sys.argv[1] in ("--help", "-h"):
+        print(__doc__)
+        sys.exit(0 if sys.argv[1:2] in (["--help"], ["-h"]) else 1)
     sys.exit(main(*sys.argv[1:]))

@@ -1,10 +1,9 @@
 #!/usr/bin/env python3
 """Says what a saved state is by its rules alone, as docs/FORMATS.md tells them, and stands on nothing of the program.
 
-usage: judge_state.py STATE                      prints `good`, or the place of the first unit at fault
-       judge_state.py STATE PROGRAM TRACE WORDS  changes and cuts the state in many ways, replays TRACE from each by PROGRAM with
-                                                 WORDS (settings, a layout), and tells where the program says another thing
-"""
+usage: tools/judge_state.py STATE                      prints `good`, or the place of the first unit at fault
+       tools/judge_state.py STATE PROGRAM TRACE WORDS  changes and cuts the state in many ways, replays TRACE from each by PROGRAM
+                                                       with WORDS (settings, a layout), and tells where it says another thing"""
 import os
 import struct
 import subprocess
@@ -159,38 +158,52 @@ def said(program, trace, words, state):
     return done.returncode, done.stdout
 
 
-def main():
-    state = open(sys.argv[1], "rb").read()
-    if len(sys.argv) == 2:
-        head, place = judged(state)
-        print("good" if place is None else f"BadState {place}")
-        return
-    program, trace, words = sys.argv[2], sys.argv[3], sys.argv[4:]
-    own = judged(state)[0]
+def judge_changes(name, program, trace, words):
+    """Replays a trace from each change of a state: how many there are, and of how many the program says another thing."""
+    with open(name, "rb") as file:
+        state = file.read()
+    own, good = judged(state)[0], said(program, trace, words, name)[0]
     tried = wrong = 0
     with tempfile.TemporaryDirectory() as work:
-        name = os.path.join(work, "state")
+        changed = os.path.join(work, "state")
         for it in variants(state):
-            with open(name, "wb") as out:
+            with open(changed, "wb") as out:
                 out.write(it)
-            status, text = said(program, trace, words, name)
-            head, place = judged(it)
-            if place is not None:
-                want = text == f"predator: state BadState {place}\n" and status == 6
-            else:
-                differs = [at for at, mine, its in zip((8, 12, 16, 24, 32), own[:5], head[:5]) if mine != its]
-                if differs:
-                    want = text == f"predator: state WrongSettings {differs[0]}\n" and status == 6
-                elif head[5] != own[5]:
-                    want = text == f"predator: state WrongPosition {head[5]} {own[5]}\n" and status == 6
-                else:
-                    want = text.startswith("predator report 1\n") and status == 0
             tried += 1
-            if not want:
+            status, text = said(program, trace, words, changed)
+            if not is_right(own, it, status, text, good):
                 wrong += 1
-                print(f"variant {tried}: {place} {head}: {status} {text[:60]!r}")
+                print(f"variant {tried}: {judged(it)}: {status} {text[:60]!r}")
+    return tried, wrong
+
+
+def is_right(own, changed, status, text, good):
+    """Whether a replay from a changed state ends as that state says, where the trace goes on from a state with the header `own`, and
+    ends with the status `good` from a good one."""
+    head, place = judged(changed)
+    if place is not None:
+        return text == f"predator: state BadState {place}\n" and status == 6
+    differs = [at for at, mine, its in zip((8, 12, 16, 24, 32), own[:5], head[:5]) if mine != its]
+    if differs:
+        return text == f"predator: state WrongSettings {differs[0]}\n" and status == 6
+    if head[5] != own[5]:
+        return text == f"predator: state WrongPosition {head[5]} {own[5]}\n" and status == 6
+    return text.startswith("predator report 1\n") and status == good
+
+
+def main(words):
+    if not words or words[0] in ("--help", "-h"):
+        print(__doc__)
+        return 0 if words else 1
+    if len(words) == 1:
+        with open(words[0], "rb") as file:
+            place = judged(file.read())[1]
+        print("good" if place is None else f"BadState {place}")
+        return 0
+    tried, wrong = judge_changes(words[0], words[1], words[2], words[3:])
     print(f"{tried} tried, {wrong} wrong")
-    sys.exit(1 if wrong else 0)
+    return 1 if wrong else 0
 
 
-main()
+if __name__ == "__main__":
+    sys.exit(main(sys.argv[1:]))

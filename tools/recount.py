@@ -1,5 +1,7 @@
 #!/usr/bin/env python3
-"""Counts the observed lines of a trace anew: recount.py TRACE [SIZE SHIFT TRACKING REPORT]   (64 0 16 100 unless they are given)
+"""Counts the observed lines of a trace anew.
+
+usage: tools/recount.py TRACE [SIZE SHIFT TRACKING REPORT]      (64 0 16 100 unless they are given)
 
 Written from docs/RULES.md and the trace of docs/FORMATS.md alone, as slow and plain as they are: one cache without bounds for each hart,
 and a write takes its line out of all others. It prints each observed line that is listed as a report does, up to its count."""
@@ -39,11 +41,17 @@ def recount(trace, size=64, shift=0, tracking=16, report=100):
 
 
 def main(words):
-    numbers = [int(it) for it in words[2:]]
-    with open(words[1], "rb") as file:
+    if not words or words[0] in ("--help", "-h"):
+        print(__doc__)
+        return 0 if words else 1
+    numbers = [int(it) for it in words[1:]]
+    with open(words[0], "rb") as file:
         for base, start, count in recount(file.read(), *numbers):
             print(f"line observed {'-' if base < 0 else ''}0x{abs(base):08x} {(numbers + [64])[0]} start {start} count {count}")
 
 
+    return 0
+
+
 if __name__ == "__main__":
-    main(sys.argv)
+    sys.exit(main(sys.argv[1:]))

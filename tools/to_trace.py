@@ -1,7 +1,8 @@
 #!/usr/bin/env python3
 """Makes a trace that `predator replay` reads of lines of text, as other tracers print them after a line of awk.
 
-    to_trace.py LINES OUT.trace [--split] [--table FILE]
+usage: tools/to_trace.py LINES OUT.trace [--split] [--table FILE]
+       tools/to_trace.py --back FILE ADDRESS ..
 
 Each line is `HART KIND ADDRESS SIZE`, in the order in which the accesses were made: HART is any word that names a thread, KIND
 is `R` or `W`, ADDRESS is hexadecimal, with `0x` or without, and SIZE is in bytes. LINES may be `-`, for standard input.
@@ -89,6 +90,9 @@ def back(path, words):
 
 
 def main(words):
+    if words[:1] in (["--help"], ["-h"]):
+        print(__doc__)
+        return
     if words[:1] == ["--back"] and len(words) > 2:
         return back(words[1], words[2:])
     splits = "--split" in words

@@ -1,0 +1,182 @@
+#!/usr/bin/env python3
+"""Finds what the documents name and the repository doesn't have.
+
+usage: tools/documents.py [FILE ..]      all documents, unless some are named
+
+Prints `FILE:LINE: NAME` for each
+- path below a crate, as sharing_rules/specs/Lines, with or without crates/ before it, and a crate that crates.txt doesn't list; a path
+  that begins with src/, specs/ or proofs/, or a name with the ending .rt, is below a crate that its paragraph or heading names before;
+- item of a crate, as `report::write_report`, that its src/ doesn't define;
+- clause in the tables of docs/PROMISES.md that no function of the row's crates has, and definition there that no file defines;
+- word in backquotes, a single name, that stands nowhere in the crates, the scripts and the kit for guests (but in the studies, which
+  have words of other programs);
+- code that docs/PROMISES.md quotes and no source has; a line `..` stands for what is left out;
+- crate whose floor in docs/ARCHITECTURE.md isn't the length of its longest chain, and crate that has no row there;
+- link to a file or to a heading that isn't there.
+It ends with 1 where there are any."""
+
+import os
+import re
+import sys
+
+TOP = os.path.abspath(os.path.join(os.path.dirname(os.path.abspath(__file__)), ".."))
+PARTS = ("src", "specs", "proofs", "must-fail", "data")
+
+
+def read(path):
+    with open(os.path.join(TOP, path), encoding="utf-8") as file:
+        return file.read()
+
+
+def documents():
+    for folder, folders, files in os.walk(TOP):
+        folders[:] = [it for it in folders if it not in ("out", ".git", "crates", "__pycache__")]
+        yield from (os.path.relpath(os.path.join(folder, it), TOP) for it in files if it.endswith((".md", ".1")))
+
+
+class Crate:
+    """What a crate defines: the text of its sources, and the names of its clauses."""
+
+    def __init__(self, name):
+        self.texts = {part: "" for part in PARTS}
+        for part in ("src", "specs", "proofs"):
+            for folder, _, files in os.walk(os.path.join(TOP, "crates", name, part)):
+                for it in files:
+                    self.texts[part] += read(os.path.join(folder, it))
+        self.defined = set(re.findall(r"^ *(?:[a-z]+ )*([^\s:({]+)\s*[:({]", self.texts["specs"], re.MULTILINE))
+        self.defined |= set(re.findall(r"\b(?:fn|struct|enum|trait|const) (\w+)", self.texts["src"]))
+        self.clauses = set(re.findall(r"\b(?:ensures\*?|requires|ghost) (\w+)\s*[{=:]", self.texts["src"]))
+
+    def has_item(self, name):
+        kinds = r"fn|struct|enum|trait|const|static|type|mod"
+        reexported = rf"pub use [^;]*\b{name}\b"
+        return bool(re.search(rf"\b(?:{kinds}) {name}\b|^\s+{name}\b\s*[,({{=]|{reexported}", self.texts["src"], re.MULTILINE))
+
+    def defines(self, name):
+        return name in self.defined
+
+
+def has_path(path):
+    """Whether a path below crates/ is there, with or without its ending, or names an item's folder of proofs."""
+    full = os.path.join(TOP, "crates", path)
+    return any(os.path.exists(full + it) for it in ("", ".rt", ".antt"))
+
+
+def words_of_sources():
+    """Every word of the files that aren't documents."""
+    found = set()
+    for folder, folders, files in os.walk(TOP):
+        folders[:] = [it for it in folders if it not in ("out", ".git", "docs", "__pycache__")]
+        for it in files:
+            found.add(it)
+            if it.endswith((".rt", ".antt", ".sh", ".py", ".c", ".h", ".S", ".txt", ".bash", ".edit", ".case")) or "." not in it:
+                with open(os.path.join(folder, it), encoding="utf-8", errors="ignore") as file:
+                    found.update(re.findall(r"[\w≢-]+", file.read()))
+    return found
+
+
+def headings(text):
+    return {re.sub(r"[^\w\- ]", "", it.lower()).replace(" ", "-") for it in re.findall(r"^#+ (.*)$", text, re.MULTILINE)}
+
+
+def links(name, line):
+    for to in re.findall(r"\]\(([^)\s]+)\)", line):
+        if "://" in to:
+            continue
+        path, _, heading = to.partition("#")
+        full = os.path.normpath(os.path.join(os.path.dirname(name), path)) if path else name
+        if not os.path.exists(os.path.join(TOP, full)):
+            yield to
+        elif heading and heading not in headings(read(full)):
+            yield to
+
+
+def relative(line, about):
+    """Paths of a line that none of some crates has."""
+    found = re.findall(r"(?<![\w/.])((?:src|specs|proofs)/[A-Za-z_][\w/]*(?:\.rt|\.antt)?)", line)
+    found += [f"src/{it}" for it in re.findall(r"(?<![\w/.])([a-z_]+\.rt)\b", line)]
+    return [it for it in found if about and not any(has_path(f"{crate}/{it}") for crate in about)]
+
+
+def quoted(text, crates):
+    """The lines at which the quotes of a document begin that no source has, whatever its spaces and comments."""
+    sources = [" ".join(re.sub(r"(?m)^\s*//.*$", "", it.texts["src"]).split()) for it in crates.values()]
+    begin, quote = 0, []
+    for number, line in enumerate([*text.split("\n"), ""], 1):
+        if line.startswith("    ") and line.strip() != "..":
+            begin = begin if quote else number
+            quote.append(line)
+        elif quote:
+            if not any(" ".join(" ".join(quote).split()) in it for it in sources):
+                yield begin, quote[0].strip()
+            quote = []
+
+
+def floors():
+    """How many crates the longest chain has that ends with a crate, by crates.txt."""
+    below = {it.split(":")[0].split()[0]: it.split(":")[1].split() for it in read("crates.txt").split("\n") if re.match(r"[a-z]", it)}
+
+    def floor(name):
+        return 1 + max((floor(it) for it in below[name] if it in below), default=0)
+
+    return {it: floor(it) for it in below}
+
+
+def wrong_floors(text):
+    told = {name: int(floor) for floor, name in re.findall(r"^\| (\d) \| `(\w+)` \|", text, re.MULTILINE)}
+    return [f"{name}: floor {floor}" for name, floor in floors().items() if told.get(name) != floor]
+
+
+def of_promises(line, crates, before):
+    """What a row of docs/PROMISES.md names in vain, and the crates that it is about."""
+    cells = [it.strip() for it in line.strip().strip("|").split(" | ")]
+    if len(cells) < 3 or cells[0] == "Promise":
+        return [], before
+    about = [it for it in crates if re.search(rf"\b{it}\b", cells[1])]
+    about += before if "the same" in cells[1] else []
+    clauses = set().union(*(crates[it].clauses for it in about))
+    wrong = [it for it in re.findall(r"`(\w+)`", cells[2]) if it not in clauses]
+    found = [it for it in re.findall(r"`([\w-]+)`", cells[3])] if len(cells) > 3 else []
+    wrong += [it for it in found if not any(crate.defines(it) for crate in crates.values())]
+    return wrong, about
+
+
+def main(words):
+    if "--help" in words or "-h" in words:
+        print(__doc__)
+        return 0
+    listed = [it.split(":")[0].split()[0] for it in read("crates.txt").split("\n") if re.match(r"[a-z]", it)]
+    crates = {it: Crate(it) for it in listed}
+    everywhere, wrong = words_of_sources(), 0
+    for it in [] if words else wrong_floors(read("docs/ARCHITECTURE.md")):
+        wrong += 1
+        print(f"docs/ARCHITECTURE.md:1: {it}")
+    for name in words or sorted(documents()):
+        if name == "docs/PROMISES.md":
+            for number, line in quoted(read(name), crates):
+                wrong += 1
+                print(f"{name}:{number}: {line}")
+        about, heading, paragraph = [], [], []
+        for number, line in enumerate(read(name).split("\n"), 1):
+            named = [it for it in crates if re.search(rf"(?<![\w]){it}(?![\w])", line)]
+            heading = named if line.startswith("#") else heading
+            paragraph = named if line.startswith(("|", "- ")) or not line.strip() else paragraph + named
+            found = [*links(name, line), *relative(line, paragraph or heading)]
+            paths = re.findall(r"(?<![\w/.])(?:crates/)?([a-z_0-9]+/(?:src|specs|proofs|must-fail|data)\b(?:/[\w./]*\w)?)", line)
+            found += [it for it in paths if not has_path(it)]
+            found += [f"crates/{it}" for it in re.findall(r"\bcrates/([a-z_0-9]+)", line) if it not in crates and it != "NAME"]
+            for crate, item in re.findall(r"`([a-z_0-9]+)::(\w+)", line):
+                if crate not in crates or not crates[crate].has_item(item):
+                    found.append(f"{crate}::{item}")
+            found += [it for it in re.findall(r"`([A-Za-z][\w-]*)`", line) if it not in everywhere and not it.endswith("_") and "STUDIES" not in name]
+            if name == "docs/PROMISES.md" and line.startswith("| "):
+                more, about = of_promises(line, crates, about)
+                found += more
+            wrong += len(found)
+            for it in dict.fromkeys(found):
+                print(f"{name}:{number}: {it}")
+    return 1 if wrong else 0
+
+
+if __name__ == "__main__":
+    sys.exit(main(sys.argv[1:]))

@@ -1,0 +1,204 @@
+#!/usr/bin/env python3
+"""Finds names that a file of the crates imports for contracts and proofs, and doesn't use.
+
+usage: tools/imports.py [--fix] [FILE or FOLDER ..]      all crates, unless some are named
+
+In a .rt file a `ghost use` serves clauses, ghost members and attributes: a name that only Rust's code has is unused. In an .antt
+file a `use` serves all other lines. An operator is used where each of its signs stands by itself. Prints `FILE:LINE: NAME` for each,
+and ends with 1 where there are any. --fix takes them out, with lines that nothing is left of; `rt fmt` lays out what remains."""
+
+import os
+import re
+import sys
+from typing import NamedTuple
+
+TOP = os.path.abspath(os.path.join(os.path.dirname(os.path.abspath(__file__)), ".."))
+# What stands between two words of antt: all other signs are letters of a name.
+BETWEEN = re.compile(r"[\s(){}\[\],;]+")
+OPENING, CLOSING = "({[", ")}]"
+
+
+class Import(NamedTuple):
+    """One name that an import brings, by the places of its own text and of its whole statement."""
+
+    name: str
+    module: str
+    start: int
+    end: int
+    statement: tuple
+    scope: tuple
+
+
+def blank(text):
+    return re.sub(r"[^\n]", " ", text)
+
+
+def blanked(text, start, end):
+    return text[:start] + blank(text[start:end]) + text[end:]
+
+
+def without_comments(text, is_rust):
+    """The text with blanks in the place of comments and of what strings hold."""
+    comment = r"//[^\n]*|/\*.*?\*/" if is_rust else r"(?<!\S)--[^\n]*|\{-.*?-\}"
+    quoted = r'"(?:\\.|[^"\\])*"'
+    if is_rust:
+        quoted += r"|b?'(?:\\[^\n]|[^'\\\n])'"
+    return re.sub(f"{comment}|{quoted}", lambda it: blank(it[0]), text, flags=re.DOTALL)
+
+
+def closed(text, at):
+    """Behind the bracket that closes the one at a place."""
+    depth = 0
+    for place in range(at, len(text)):
+        depth += (text[place] in OPENING) - (text[place] in CLOSING)
+        if depth == 0:
+            return place + 1
+    return len(text)
+
+
+def ghost_parts(text):
+    """Where clauses, ghost members and attributes stand in Rust's text."""
+    for found in re.finditer(r"\b(?:requires|ensures)\b\*?\s*\w*\s*(?=\{)", text):
+        yield found.start(), closed(text, found.end())
+    for found in re.finditer(r"#!?(?=\[)", text):
+        yield found.start(), closed(text, found.end())
+    for found in re.finditer(r"\bghost\s+(?!use\b)", text):
+        depth, at = 0, found.end()
+        while at < len(text) and depth >= 0 and not (depth == 0 and text[at] in ";,"):
+            depth += (text[at] in OPENING) - (text[at] in CLOSING)
+            at += 1
+        yield found.start(), at
+
+
+def block_around(text, at):
+    """The innermost block of braces around a place, or the whole text."""
+    depth = 0
+    for place in range(at - 1, -1, -1):
+        depth += (text[place] == "}") - (text[place] == "{")
+        if depth < 0:
+            return place, closed(text, place)
+    return 0, len(text)
+
+
+def imports_of(text, is_rust):
+    """The imports of a text, and the places of their statements."""
+    word = r"^[ \t]*ghost use\s+" if is_rust else r"^[ \t]*use\s+"
+    found = []
+    for it in re.finditer(word + r"([^\s{;]+)(?:\s+as\s+([^\s;]+)|(\{[^}]*\}))?[ \t]*;?[ \t]*(?=\n|$)", text, re.MULTILINE):
+        scope = block_around(text, it.start()) if is_rust else (0, len(text))
+        if it[3] is None:
+            name = it[2] or it[1].split(".")[-1]
+            found.append(Import(name, it[1], it.start(), it.end(), it.span(), scope))
+            continue
+        for part in re.finditer(r"[^,{}]+", it[3]):
+            if part[0].strip():
+                name = re.split(r"\s+as\s+", part[0].strip())[-1]
+                start = it.start(3) + part.start() + len(part[0]) - len(part[0].lstrip())
+                found.append(Import(name, it[1], start, start + len(part[0].strip()), it.span(), scope))
+    return found
+
+
+def words_of(text):
+    """The words of a text, and the fronts of dotted ones. What stands behind a dot names a field, unless the dot ends a lambda."""
+    text = re.sub(r"λ[^.\n]*\.", lambda it: it[0][:-1] + " ", text)
+    found = {"[]"} if "[]" in text else set()
+    for word in BETWEEN.split(text):
+        for part in word.split("::"):
+            front = part.split(".")[0] or part
+            found.update((part, front, front.strip("«»"), front.lstrip("λ")))
+    return found
+
+
+def is_in(name, words):
+    return all(part in words for part in name.split("◌") if part) or name.strip("«»") in words
+
+
+def unused(text, is_rust):
+    """The imports whose names nothing in their reach has, or that one before has brought."""
+    plain = without_comments(text, is_rust)
+    found, brought, again = imports_of(plain, is_rust), set(), []
+    for it in found:
+        if (it.name, it.module, it.scope) in brought:
+            again.append(it)
+        brought.add((it.name, it.module, it.scope))
+    return sorted({*again, *without_use(plain, found, is_rust)}, key=lambda it: it.start)
+
+
+def without_use(plain, found, is_rust):
+    """Those of the imports whose names nothing in their reach has."""
+    rest = plain
+    for span in {it.statement for it in found}:
+        rest = blanked(rest, *span)
+    if not is_rust:
+        words = words_of(rest)
+        return [it for it in found if not is_in(it.name, words)]
+    parts = list(ghost_parts(rest))
+
+    def words_in(scopes, but):
+        """The words of the parts that stand in a scope and in none of the others."""
+        taken = [part for part in parts if scopes[0] <= part[0] < scopes[1]]
+        return words_of(" ".join(rest[a:b] for a, b in taken if not any(x <= a < y for x, y in but)))
+
+    left = []
+    for it in found:
+        inner = [one.scope for one in found if one.name == it.name and it.scope[0] < one.scope[0] and one.scope[1] <= it.scope[1]]
+        if not is_in(it.name, words_in(it.scope, inner)):
+            left.append(it)
+    return left
+
+
+def fixed(text, gone):
+    """The text without some of its imports."""
+    by_statement = {}
+    for it in gone:
+        by_statement.setdefault(it.statement, []).append(it)
+    for span, names in sorted(by_statement.items(), reverse=True):
+        statement = text[span[0] : span[1]]
+        kept = None
+        if "{" in statement and names[0].start != span[0]:
+            head, inside, behind = re.fullmatch(r"([^{]*\{)([^}]*)(\}.*)", statement, re.DOTALL).groups()
+            begin, gone_at = span[0] + len(head), {it.start for it in names}
+            parts = [(begin + it.start() + len(it[0]) - len(it[0].lstrip()), it[0].strip()) for it in re.finditer(r"[^,]+", inside)]
+            left = [part for at, part in parts if part and at not in gone_at]
+            kept = head + ", ".join(left) + behind if left else None
+        if kept is not None:
+            text = text[: span[0]] + kept + text[span[1] :]
+        else:
+            before, after = text[: span[0]], text[span[1] + 1 :]
+            if (before.endswith("{\n") or before.endswith("\n\n") or not before) and after.startswith("\n"):
+                after = after[1:]
+            text = before + after
+    return text
+
+
+def files_below(names):
+    for name in names:
+        if os.path.isfile(name):
+            yield name
+            continue
+        for folder, folders, files in os.walk(name):
+            folders[:] = sorted(it for it in folders if it != "out")
+            yield from (os.path.join(folder, it) for it in sorted(files) if it.endswith((".rt", ".antt")))
+
+
+def main(words):
+    if "--help" in words or "-h" in words:
+        print(__doc__)
+        return 0
+    fix = "--fix" in words
+    count = 0
+    for path in files_below([it for it in words if it != "--fix"] or [os.path.join(TOP, "crates")]):
+        with open(path, encoding="utf-8") as file:
+            text = file.read()
+        gone = unused(text, path.endswith(".rt"))
+        count += len(gone)
+        for it in gone:
+            print(f"{os.path.relpath(path)}:{text.count(chr(10), 0, it.start) + 1}: {it.name}")
+        if gone and fix:
+            with open(path, "w", encoding="utf-8") as file:
+                file.write(fixed(text, gone))
+    return 1 if count and not fix else 0
+
+
+if __name__ == "__main__":
+    sys.exit(main(sys.argv[1:]))

@@ -1,0 +1,175 @@
+#!/usr/bin/env python3
+"""Finds what a review would take out of the crates.
+
+usage: tools/leftovers.py [CRATE ..]      all crates, unless some are named
+
+Prints `FILE:LINE: WHAT` for each
+- dead item: one of specs/ or proofs/ that nothing names but itself and imports that nothing uses. Answers to goals, invariants and
+  the worked cases (files whose name begins with Worked) stand for themselves;
+- long line: one of more than 100 columns, and long file: one of more than 600 lines;
+- comment that says no more than the name under it.
+It ends with 1 where there are any."""
+
+import os
+import re
+import sys
+
+TOP = os.path.abspath(os.path.join(os.path.dirname(os.path.abspath(__file__)), ".."))
+sys.path.insert(0, os.path.dirname(os.path.abspath(__file__)))
+import imports  # noqa: E402
+
+WIDTH, LENGTH = 100, 600
+# What these hold is found by its place.
+ANSWERS = ("Answers.antt", "Invariants.antt", "Proof.antt", "Lib.antt")
+ITEM = re.compile(r"^( *)(?:pub )?(?:(?:abbrev|unfoldable|data|record|ruleset|axiom) (?:pub )?)*(?:pub )?([^\s(){}\[\]:,;]+)\s*(?=[:({])")
+# Words that begin a line and no item.
+NOT_ITEMS = {"use", "mod", "module", "unfolding", "open", "mutual", "where", "infix", "infixl", "infixr", "let", "elim", "in", "|"}
+PLAIN = set("a an and are for how is it its of that the this was what".split())
+
+
+def read(path):
+    with open(path, encoding="utf-8") as file:
+        return file.read()
+
+
+class Source:
+    """A file of the crates: its text without comments and imports, what it imports, and its place in the house."""
+
+    def __init__(self, path):
+        self.path, self.text = path, read(path)
+        self.is_rust = path.endswith(".rt")
+        self.plain = imports.without_comments(self.text, self.is_rust)
+        found = imports.imports_of(self.plain, self.is_rust)
+        self.rest = self.plain
+        for span in {it.statement for it in found}:
+            self.rest = imports.blanked(self.rest, *span)
+        self.imported = {}
+        for it in found:
+            statement = self.plain[slice(*it.statement)]
+            module = it.module.rstrip(".")
+            whole = self.plain[it.start : it.end]
+            real = re.split(r"\s+as\s+", whole)[0].strip() if "{" in statement and it.start != it.statement[0] else None
+            self.imported.setdefault(module, {})[it.name] = real
+        parts = os.path.relpath(path, f"{TOP}/crates")[: -len(".antt")].split(os.sep)
+        self.module = ".".join(["Rattle", *parts])
+
+    def words(self, rest=None):
+        return imports.words_of(self.rest if rest is None else rest)
+
+
+def items_of(source):
+    """The items of a file of definitions or proofs: name, line, and the extent of what is the item's own."""
+    lines = source.rest.split("\n")
+    heads = []
+    for number, line in enumerate(lines):
+        found = ITEM.match(line)
+        if not found or found[2] in NOT_ITEMS or "=" in line[: found.end()]:
+            continue
+        heads.append((len(found[1]), found[2], number))
+    for depth, name, number in heads:
+        # An item stands at the file's margin, or at that of the module around it.
+        if depth and not is_in_module(lines, number, depth):
+            continue
+        end = number + 1
+        while end < len(lines) and (not lines[end].strip() or is_own(lines[end], depth, name)):
+            end += 1
+        yield name, number, end
+
+
+def is_own(line, depth, name):
+    """Whether a line below an item's head belongs to the item: deeper ones do, and its own clauses."""
+    indent = len(line) - len(line.lstrip(" "))
+    if indent > depth:
+        return True
+    first = re.split(r"[\s(){}\[\],;]", line.strip(), maxsplit=1)[0]
+    return indent == depth and first in (name, "unfolding")
+
+
+def is_in_module(lines, number, depth):
+    for above in range(number - 1, -1, -1):
+        line = lines[above]
+        if line.strip() and len(line) - len(line.lstrip(" ")) < depth:
+            return bool(re.match(r"\s*(pub )?module\b.*where\s*$", line))
+    return False
+
+
+def dead_items(sources, chosen):
+    by_module = {}
+    for it in sources:
+        for module, names in it.imported.items():
+            by_module.setdefault(module, []).append((it, names))
+    for source in chosen:
+        folder = os.path.relpath(source.path, f"{TOP}/crates").split(os.sep)
+        if source.is_rust or folder[-1] in ANSWERS or folder[-1].startswith("Worked"):
+            continue
+        path = source.module.split(".")[2:]
+        for name, start, end in items_of(source):
+            lines = source.rest.split("\n")
+            if name in source.words("\n".join(lines[:start] + lines[end:])):
+                continue
+            if is_named_elsewhere(source, name, by_module, sources, "::".join(path)):
+                continue
+            yield f"{source.path}:{start + 1}: dead item: {name}"
+
+
+def is_named_elsewhere(source, name, by_module, sources, path):
+    for other, names in by_module.get(source.module, ()):
+        for local, real in names.items():
+            if real == name and imports.is_in(local, other.words()):
+                return True
+            if real is None and re.search(rf"(?<![\w.]){re.escape(local)}\.{re.escape(name)}(?![\w'-])", other.rest):
+                return True
+    # An attribute names the whole way.
+    return any(other.is_rust and f"{path}::{name}" in other.plain for other in sources)
+
+
+def stem(word):
+    word = word.lower()
+    for end in ("ings", "ing", "ies", "ied", "ed", "es", "s", "e", "y"):
+        if word.endswith(end) and len(word) - len(end) >= 3:
+            return word[: -len(end)]
+    return word
+
+
+def words_in(text):
+    return {stem(it) for it in re.findall(r"[A-Za-z']+", re.sub(r"([a-z])([A-Z])", r"\1 \2", text.replace("_", " ").replace("-", " ")))
+            if it.lower() not in PLAIN}
+
+
+def comments_of_names(source):
+    """Comments of one line that stand on an item and have no word that its name hasn't."""
+    lines = source.text.split("\n")
+    for number, line in enumerate(lines[:-1]):
+        found = re.match(r"\s*(?:///|//|--)\s+(.*\S)\s*$", line)
+        alone = number == 0 or not re.match(r"\s*(///|//|--)", lines[number - 1])
+        below = number + 1
+        while below < len(lines) and re.match(r"\s*#\[", lines[below]):
+            below += 1
+        if not found or not alone or below >= len(lines) or re.match(r"\s*(///|//|--|$)", lines[below]):
+            continue
+        head = re.match(r"\s*(?:pub(?:\([a-z]+\))? |abbrev |unfoldable |const |unsafe )*(?:fn |struct |enum |trait |record |data |static |type |ruleset )?"
+                        r"(?:pub )?([^\s(){}<,:;=]+)\s*([:=({<,;]|where|$)", lines[below])
+        if head and number > 0 and words_in(found[1]) and words_in(found[1]) <= words_in(head[1]):
+            yield f"{source.path}:{number + 1}: comment that repeats the name: {found[1]}"
+
+
+def main(words):
+    if "--help" in words or "-h" in words:
+        print(__doc__)
+        return 0
+    sources = [Source(it) for it in imports.files_below([os.path.join(TOP, "crates")])]
+    chosen = [it for it in sources if not words or os.path.relpath(it.path, f"{TOP}/crates").split(os.sep)[0] in words]
+    found = list(dead_items(sources, chosen))
+    for it in chosen:
+        lines = it.text.split("\n")
+        found += [f"{it.path}:{n + 1}: long line: {len(line)} columns" for n, line in enumerate(lines) if len(line) > WIDTH]
+        if len(lines) - 1 > LENGTH:
+            found.append(f"{it.path}:1: long file: {len(lines) - 1} lines")
+        found += comments_of_names(it)
+    for it in found:
+        print(os.path.relpath(it))
+    return 1 if found else 0
+
+
+if __name__ == "__main__":
+    sys.exit(main(sys.argv[1:]))
