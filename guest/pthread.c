@@ -49,6 +49,9 @@ ALONE static struct {
     uint32_t lock, threads, main_ended, harts;
     void *main_result;
     unsigned char states[HARTS];
+#ifdef PREDATOR_TELLS
+    unsigned char told;
+#endif
 } pthread_harts = {.threads = 1, .states = {RUNS}};
 
 static _Thread_local struct pthread_cleanup *cleanups;
@@ -81,13 +84,61 @@ static void free_detached(void)
         }
 }
 
+#ifdef PREDATOR_TELLS
+int predator_spawn_or_tell(void *(*run)(void *), void *argument);
+
+#define SMALL __attribute__((minsize, noinline))
+
+SMALL static char *put_text(char *to, const char *text)
+{
+    while (*text != 0)
+        *to++ = *text++;
+    return to;
+}
+
+SMALL static char *put_number(char *to, uint32_t number)
+{
+    if (number >= 10)
+        to = put_number(to, number / 10);
+    *to++ = (char)('0' + number % 10);
+    return to;
+}
+
+// predator_spawn_thread, and where there is no hart it says so, once a run and under the lock, and what helps. Each hart is in use then, so
+// the highest that was ever started is the last one. (The compiler takes it for any function, so that a thread that has a hart makes the
+// same steps with it and without.)
+__attribute__((weak)) SMALL int predator_spawn_or_tell(void *(*run)(void *), void *argument)
+{
+    char line[160], *end;
+    uint32_t harts = HARTS;
+    int hart = predator_spawn_thread(run, argument);
+    if (hart >= 0 || pthread_harts.told)
+        return hart;
+    pthread_harts.told = 1;
+    while (harts - 1 > (uint32_t)predator_hart_id() && pthread_harts.states[harts - 1] == NONE)
+        harts--;
+    end = put_text(line, "pthread_create: each of the ");
+    end = put_number(end, harts);
+    end = put_text(end, " harts is in use, so there is none for another thread");
+    if (harts < HARTS) {
+        end = put_text(end, ": the settings may have more, as harts = ");
+        end = put_number(end, harts < HARTS / 2 ? 2 * harts : HARTS);
+    }
+    *end++ = '\n';
+    predator_write(2, line, (size_t)(end - line));
+    return hart;
+}
+#else
+#define predator_spawn_or_tell predator_spawn_thread
+#endif
+
 int pthread_create(pthread_t *thread, const pthread_attr_t *attr, void *(*run)(void *), void *argument)
 {
     lock(&pthread_harts.lock);
     int hart = predator_spawn_thread(run, argument);
     if (hart < 0) {
         free_detached();
-        hart = predator_spawn_thread(run, argument);
+        hart = predator_spawn_or_tell(run, argument);
     }
     if (hart > 0) {
         pthread_harts.states[hart] = attr != NULL && attr->detached ? DETACHED : RUNS;

@@ -1,9 +1,10 @@
 // Threads over the harts of predator: each thread is a hart, and there are no more threads at a time than harts. What waits, waits
-// by the call `wait` and takes no step meanwhile; a spin lock alone spins. What can't be had is declared, and using it is a build
+// by the call `wait` and takes no step meanwhile; a spin lock alone spins. What can't be had is declared, and a call of it is a build
 // error that says why.
 #ifndef PREDATOR_PTHREAD_H
 #define PREDATOR_PTHREAD_H
 
+#include <predator_missing.h>
 #include <sched.h>
 #include <stddef.h>
 #include <stdint.h>
@@ -240,14 +241,6 @@ void pthread_cleanup_leave(struct pthread_cleanup *cleanup, int runs);
 #define PTHREAD_CANCEL_DEFERRED 0
 #define PTHREAD_CANCEL_ASYNCHRONOUS 1
 
-#define PREDATOR_NO_CANCEL __attribute__((unavailable("a hart can't be ended by another one: let the thread look at a flag")))
-#define PREDATOR_NO_SIGNAL __attribute__((unavailable("there are no signals: harts meet by mutexes and condition variables")))
-#define PREDATOR_NO_CLOCK __attribute__((unavailable("there is no clock, so nothing ends after a time: wait without one")))
-#define PREDATOR_NO_STACK __attribute__((unavailable("each hart has the stack of the settings (`stack`), and no other")))
-#define PREDATOR_NO_ROBUST __attribute__((unavailable("a mutex isn't told that its holder has ended")))
-#define PREDATOR_NO_PRIORITY __attribute__((unavailable("harts have no priorities: a schedule says who runs")))
-#define PREDATOR_NO_FORK __attribute__((unavailable("there is one process, and no fork")))
-
 struct timespec;
 int pthread_cancel(pthread_t thread) PREDATOR_NO_CANCEL;
 int pthread_setcancelstate(int state, int *old) PREDATOR_NO_CANCEL;
@@ -272,9 +265,7 @@ int pthread_mutex_consistent(pthread_mutex_t *mutex) PREDATOR_NO_ROBUST;
 int pthread_mutexattr_setprotocol(pthread_mutexattr_t *attr, int protocol) PREDATOR_NO_PRIORITY;
 int pthread_mutexattr_setprioceiling(pthread_mutexattr_t *attr, int ceiling) PREDATOR_NO_PRIORITY;
 int pthread_setschedprio(pthread_t thread, int priority) PREDATOR_NO_PRIORITY;
-#if !__has_include(<sys/unistd.h>)
 int pthread_atfork(void (*prepare)(void), void (*parent)(void), void (*child)(void)) PREDATOR_NO_FORK;
-#endif
 
 #ifdef __cplusplus
 }

@@ -2,6 +2,7 @@
 #ifndef PREDATOR_SEMAPHORE_H
 #define PREDATOR_SEMAPHORE_H
 
+#include <predator_missing.h>
 #include <stdint.h>
 
 #ifdef __cplusplus
@@ -24,9 +25,10 @@ int sem_post(sem_t *semaphore);
 int sem_getvalue(sem_t *semaphore, int *value);
 
 struct timespec;
-int sem_timedwait(sem_t *semaphore, const struct timespec *until)
-    __attribute__((unavailable("there is no clock, so nothing ends after a time: wait without one")));
-sem_t *sem_open(const char *name, int flags, ...) __attribute__((unavailable("there is one process, so no semaphore has a name: sem_init")));
+int sem_timedwait(sem_t *semaphore, const struct timespec *until) PREDATOR_NO_CLOCK;
+sem_t *sem_open(const char *name, int flags, ...) PREDATOR_NO_NAME;
+int sem_close(sem_t *semaphore) PREDATOR_NO_NAME;
+int sem_unlink(const char *name) PREDATOR_NO_NAME;
 
 #ifdef __cplusplus
 }

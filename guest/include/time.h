@@ -1,11 +1,23 @@
 // The C library's time.h, and what it leaves out without a clock: there is none, so that a clock that is asked answers -1.
-#include_next <time.h>
 #ifndef PREDATOR_TIME_H
 #define PREDATOR_TIME_H
+
+#include <predator_missing.h>
+#include <sys/types.h>
 
 #ifdef __cplusplus
 extern "C" {
 #endif
+
+struct timespec;
+int nanosleep(const struct timespec *time, struct timespec *rest) PREDATOR_NO_TIME;
+int clock_nanosleep(clockid_t clock, int flags, const struct timespec *time, struct timespec *rest) PREDATOR_NO_TIME;
+
+#ifdef __cplusplus
+}
+#endif
+
+#include_next <time.h>
 
 #ifndef CLOCK_REALTIME
 #define CLOCK_REALTIME ((clockid_t)1)
@@ -20,10 +32,12 @@ extern "C" {
 #define CLOCK_MONOTONIC ((clockid_t)4)
 #endif
 
+#ifdef __cplusplus
+extern "C" {
+#endif
+
 int clock_gettime(clockid_t clock, struct timespec *now);
 int clock_getres(clockid_t clock, struct timespec *least);
-int nanosleep(const struct timespec *time, struct timespec *rest)
-    __attribute__((unavailable("there is no clock: wait for another thread, not for a time")));
 
 #ifdef __cplusplus
 }

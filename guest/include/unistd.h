@@ -1,7 +1,8 @@
-// The C library's unistd.h, where there is one, and of it what harts can do.
+// The C library's unistd.h, where there is one, and of it what harts can do. sys/unistd.h has what can't be had.
 #ifndef PREDATOR_UNISTD_H
 #define PREDATOR_UNISTD_H
 
+#include <predator_missing.h>
 #include <stddef.h>
 #if __has_include_next(<unistd.h>)
 #include_next <unistd.h>
@@ -20,13 +21,14 @@ extern "C" {
 // _SC_PAGESIZE: 4096. -1 for any other name.
 long sysconf(int name);
 
-#define PREDATOR_NO_TIME __attribute__((unavailable("there is no clock: wait for another thread, not for a time")))
-#define PREDATOR_NO_PROCESS __attribute__((unavailable("there is one process, and no other")))
-
-unsigned sleep(unsigned seconds) PREDATOR_NO_TIME;
 #if __has_include_next(<unistd.h>)
-int usleep(useconds_t microseconds) PREDATOR_NO_TIME;
-pid_t fork(void) PREDATOR_NO_PROCESS;
+// The memory of sbrk is one block of the heap, which the first call takes: of this size, which a program may define itself, or the
+// largest half, quarter and so on of it that there is.
+extern const size_t predator_break;
+void *sbrk(ptrdiff_t more);
+int brk(void *end);
+#else
+unsigned sleep(unsigned seconds) PREDATOR_NO_TIME;
 #endif
 
 #ifdef __cplusplus

@@ -1,5 +1,6 @@
 // Threads: each harts' threads one after another, their results, and what is refused.
 //
+//> pthread_create: each of the 8 harts is in use, so there is none for another thread: the settings may have more, as harts = 16
 //> ran 40
 //> detached 30
 #include "check.h"

@@ -1,0 +1,26 @@
+// The C library's sys/stat.h. fstat tells of the files 0 to 2, each of which is a device that isn't a terminal.
+#ifndef PREDATOR_SYS_STAT_H
+#define PREDATOR_SYS_STAT_H
+
+#include <predator_missing.h>
+#include <sys/types.h>
+
+#ifdef __cplusplus
+extern "C" {
+#endif
+
+struct stat;
+int stat(const char *path, struct stat *told) PREDATOR_NO_FILE;
+int lstat(const char *path, struct stat *told) PREDATOR_NO_FILE;
+int chmod(const char *path, mode_t mode) PREDATOR_NO_FILE;
+int fchmod(int file, mode_t mode) PREDATOR_NO_FILE;
+int mkdir(const char *path, mode_t mode) PREDATOR_NO_FILE;
+int mkfifo(const char *path, mode_t mode) PREDATOR_NO_FILE;
+
+#ifdef __cplusplus
+}
+#endif
+
+#include_next <sys/stat.h>
+
+#endif

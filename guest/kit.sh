@@ -1,0 +1,512 @@
+#!/usr/bin/env bash
+# Tries the guest kit in a folder of its own: what must build, what must be refused and with which reason, that the examples are built as
+# they stand in built/, and, where the built program is there, what programs do that were built so. It builds no program of the
+# repository, and is no part of the gate.
+#
+#     kit.sh        PREDATOR names another program than crates/predator/out/predator
+#
+# Its last line is `N passed, M failed, K skipped`, and it ends with 0 exactly where M is 0.
+set -u
+here=$(cd "$(dirname "$(readlink -f "$0")")" && pwd)
+build=$here/build.sh
+cc=$here/cc
+cxx=$here/c++
+predator=${PREDATOR:-$here/../crates/predator/out/predator}
+export GLIBC_TUNABLES=${GLIBC_TUNABLES:-glibc.malloc.hugetlb=1}
+work=$(mktemp -d)
+trap 'rm -rf "$work"' EXIT
+cd "$work" || exit 1
+export XDG_CACHE_HOME=$work/cache
+unset KIT ARGUMENTS PAGE PICOLIBC
+passed=0 failed=0 skipped=0
+
+pass() { passed=$((passed + 1)); }
+
+wrong() {
+    failed=$((failed + 1))
+    echo "$1:"
+    [ -z "${2:-}" ] || head -n 8 "$2"
+}
+
+skip() {
+    skipped=$((skipped + $1))
+    echo "skipped, $1: $2"
+}
+
+# builds WHAT COMMAND ..: the command ends with 0 and says nothing. What it printed stands in `out`.
+builds() {
+    local what=$1
+    shift
+    if "$@" >out 2>said </dev/null && [ ! -s said ]; then pass; else wrong "$what: not built, or not silently" said; fi
+}
+
+# refuses WHAT REASON COMMAND ..: the command fails, and says the reason, a fixed text.
+refuses() {
+    local what=$1 reason=$2
+    shift 2
+    if "$@" >out 2>said </dev/null; then
+        wrong "$what: not refused"
+    elif grep -q -F -e "$reason" said; then
+        pass
+    else
+        wrong "$what: refused, and not by '$reason'" said
+    fi
+}
+
+# is WHAT COMMAND ..: the command ends with 0.
+is() {
+    local what=$1
+    shift
+    if "$@" >out 2>said </dev/null; then pass; else wrong "$what" said; fi
+}
+
+# What is loaded of a program, its segments, and its symbols that have a name.
+loaded() {
+    llvm-readelf -lW "$1" && llvm-readelf -sW "$1" | awk 'NF == 8 { $1 = ""; print }' &&
+        llvm-objcopy --strip-all "$1" "$work/stripped" && sha256sum <"$work/stripped"
+}
+same() { [ "$(loaded "$1")" = "$(loaded "$2")" ]; }
+
+for tool in clang ld.lld llvm-readelf llvm-objcopy llvm-dwarfdump llvm-ar llvm-strings llvm-symbolizer; do
+    if ! command -v "$tool" >/dev/null; then
+        skip 1 "all of it wants $tool (Debian: clang, lld, llvm)"
+        echo "0 passed, 0 failed, 1 skipped"
+        exit 0
+    fi
+done
+has_library=
+[ -d /usr/lib/picolibc/riscv64-unknown-elf ] && has_library=1
+
+# ---- what stands in built/ is what is built
+
+mkdir copy
+kit=copy/guest
+cp -r "$here" $kit
+rm -rf $kit/built
+mkdir $kit/built
+# (of the studies, those that are kept)
+grep -v '^ *#' "$here/studies/builds.txt" | while read -r name rest; do
+    if git -C "$here" ls-files --error-unmatch "built/studies/$name.elf" >/dev/null 2>&1; then
+        echo "$name $rest"
+    fi
+done >$kit/studies/builds.txt
+is "the examples" $kit/build.sh examples
+is "the studies" $kit/build.sh studies
+for it in $(cd "$here/built" && git ls-files '*.elf'); do
+    case $it in
+        linked.elf) command -v riscv64-unknown-elf-ld >/dev/null || { skip 1 "linked.elf wants riscv64-unknown-elf-ld"; continue; } ;;
+        as_is.elf | atomics.elf | studies/*) [ -n "$has_library" ] || { skip 1 "$it wants picolibc"; continue; } ;;
+    esac
+    is "$it isn't built as it stands in built/" same "$here/built/$it" "$kit/built/$it"
+done
+
+# ---- small programs
+
+cat >small.c <<'C'
+#include "predator.h"
+struct pair { int one, other; } pair;
+int main(void) { pair.one = 3; print_number((unsigned)pair.one); return 0; }
+C
+builds "a small program" "$build" small.elf small.c
+is "types of a default build" grep -q DW_TAG_structure_type <(llvm-dwarfdump small.elf)
+builds "a small program without debug information" "$build" bare.elf small.c -- -g0
+is "what is loaded with debug information and without" same small.elf bare.elf
+refuses "no source" "build.sh OUT.elf" "$build" small.elf
+refuses "a source that isn't there" "nowhere.c" "$build" small.elf nowhere.c
+echo 'int main(void) { return one; }' >wrong.c
+refuses "a source that is wrong" "wrong.c:1:25: error: use of undeclared identifier 'one'" "$build" wrong.elf wrong.c
+is "no program then" test ! -e wrong.elf
+cat >threads.c <<'C'
+#include <threads.h>
+static int run(void *unused) { return unused == NULL; }
+int main(void) { thrd_t t; int r; return thrd_create(&t, run, NULL) != thrd_success || thrd_join(t, &r) != thrd_success || r != 1; }
+C
+builds "threads.h without a C library" env PICOLIBC=/nowhere "$build" threads.elf threads.c
+echo 'int main(void) { return pthread_cancel(pthread_self()); }' >cancel.c
+refuses "cancel without a C library" "a hart can't be ended by another one" \
+    env PICOLIBC=/nowhere "$build" x.elf cancel.c -- -include pthread.h
+printf '#include <stdio.h>\nint main(void) { return puts("a"); }\n' >puts.c
+refuses "stdio.h without a C library" "there is none" env PICOLIBC=/nowhere "$build" x.elf puts.c
+refuses "the driver without a C library" "there is no picolibc" env PICOLIBC=/nowhere "$cc" puts.c
+
+# ---- the words of main
+
+words_are() {
+    local text=$1 wanted=$2 got
+    got=$(self=kit.sh && . "$here/common.bash" && part_words "$text" && echo "${words[*]}")
+    if [ "$got" = "$wanted" ]; then pass; else wrong "ARGUMENTS=$text gives $got and not $wanted"; fi
+}
+words_are '' ''
+words_are '   ' ''
+words_are '4 a.txt "x y"' '"4", "a.txt", "x y",'
+words_are "'x  \"y\"'  z" '"x  \"y\"", "z",'
+words_are '"" a '"''" '"", "a", "",'
+words_are 'a\ b \"c "d\"e" "f\g"' '"a b", "\"c", "d\"e", "f\\g",'
+words_are '* $HOME `id` ~ {1,2}' '"*", "$HOME", "`id`", "~", "{1,2}",'
+words_are 'a"b c"d' '"ab cd",'
+words_are "a'"$'\n\t'"'b" '"a\012\011b",'
+words_are $'1\n2\t3' '"1", "2", "3",'
+words_are 'grün ä' '"grün", "ä",'
+words_are 'a\' '"a\\",'
+refuses "an open quote" "has a \" that isn't closed" env ARGUMENTS='4 "a' "$cc" puts.c
+refuses "another open quote" "has a ' that isn't closed" env ARGUMENTS="it's" "$cc" puts.c
+
+if [ -z "$has_library" ]; then
+    skip 1 "what is built over the C library wants picolibc (Debian: picolibc-riscv64-unknown-elf)"
+    echo "$passed passed, $failed failed, $skipped skipped"
+    exit $((failed > 0))
+fi
+
+# ---- what can't be had: refused where it is called, and there alone
+
+headers=$(cd "$here/include" && find . -name '*.h' | sed 's|^\./||' | grep -v -x predator_missing.h | LC_ALL=C sort)
+all=$(for it in $headers; do echo "#include <$it>"; done)
+# A call that can't be had, and the reason.
+cat >cannot.txt <<'C'
+pthread_cancel(pthread_self())|a hart can't be ended by another one
+pthread_kill(pthread_self(), 2)|there are no signals
+pthread_cond_timedwait(0, 0, 0)|there is no clock
+pthread_mutex_timedlock(0, 0)|there is no clock
+pthread_attr_setstack(0, 0, 0)|each hart has the stack
+pthread_mutex_consistent(0)|a mutex isn't told
+pthread_setschedprio(0, 1)|harts have no priorities
+pthread_atfork(0, 0, 0)|there is one process
+sem_timedwait(0, 0)|there is no clock
+sem_open("a", 0)|there is one process
+mtx_timedlock(0, 0)|there is no clock
+cnd_timedwait(0, 0, 0)|there is no clock
+thrd_sleep(0, 0)|there is no clock
+sleep(1)|there is no clock
+usleep(1)|there is no clock
+alarm(1)|there is no clock
+nanosleep(0, 0)|there is no clock
+select(0, 0, 0, 0, 0)|there is no clock
+fork()|there is one process
+execv("a", 0)|there is one process
+system("a")|there is one process
+popen("a", "r")|there is one process
+waitpid(1, 0, 0)|there is one process
+sigwait(0, 0)|there are no signals
+open("a", O_RDONLY)|there are no files
+fopen("a", "r")|there are no files
+lstat("a", 0)|there are no files
+unlink("a")|there are no files
+opendir("a")|there are no files
+shm_open("a", 0, 0)|there are no files
+mremap(0, 0, 0, 0)|a mapping can't be made larger
+C
+# Each in a function of its own, begun so, and main.
+calls() {
+    echo "$all"
+    awk -F'|' -v begun="$1" '{ printf "%s f%d(void) { %s; }\n", begun, NR, $1 }' cannot.txt
+    echo 'int main(void) { return 0; }'
+}
+calls "void" >cannot.c
+calls "static inline void" >can.c
+for level in -O0 -O1 -O2 -Os; do
+    refuses "calls that can't be had, $level" "declared with 'error' attribute" "$cc" -w -ferror-limit=0 $level -c cannot.c -o cannot.o
+    cp said said.$level
+    while IFS='|' read -r call reason; do
+        is "$call, $level, is refused otherwise" grep -q -F "call to ${call%%(*} declared with 'error' attribute: $reason" said.$level
+    done <cannot.txt
+    builds "the same where nobody calls it, $level" "$cc" -w $level can.c -o can.elf
+    builds "the same, refused at run time, $level" "$cc" -w $level -DPREDATOR_REFUSE_AT_RUN cannot.c -o can.elf
+done
+builds "the same where nobody calls it, by build.sh" "$build" can.elf can.c -- -w
+builds "the same where nobody calls it, in C++" "$cxx" -w -x c++ -fpermissive can.c -o can.elf
+
+# Each marked name may be named where nobody calls it; and where a program wants it, the linker's line has a reason.
+names=$(grep -rhoE '[ *][a-z_0-9]+\(.*\) PREDATOR_NO_[A-Z]+;' "$here/include" | sed -E 's/^[ *]([a-z_0-9]+)\(.*/\1/' | LC_ALL=C sort -u)
+{
+    echo "$all"
+    echo 'void *const all[] = {'
+    for it in $names; do echo "    (void *)$it,"; done
+    echo '};'
+} >named.c
+builds "all names, as addresses" "$cc" -Wall -Werror -c named.c -o named.o
+builds "all names, at run time" "$cc" -Wall -Werror -DPREDATOR_REFUSE_AT_RUN -c named.c -o at_run.o
+printf 'extern void *const all[];\nint main(int count, char **words) { (void)words; return all[count] == 0; }\n' >wants.c
+builds "all names at run time, linked" "$cc" at_run.o wants.c -o wants.elf
+# (names that the C library has, over others that it hasn't)
+wanted=$(printf '%s\n' $names $(grep -v '^#' "$here/clib/missing.txt" | tr ' ' '\n' | grep -v '^PREDATOR_NO_') |
+    grep -v -x -E 'fopen|freopen|remove|system|tmpfile|mkstemp')
+{
+    for it in $wanted; do echo "void $it(void);"; done
+    echo 'void *volatile all[] = {'
+    for it in $wanted; do echo "    $it,"; done
+    printf '};\nint main(int count, char **words) { (void)words; return all[count] == 0; }\n'
+} >linker.c
+refuses "all names, by the linker" "can't be had" "$cc" -w -fno-builtin linker.c -o linker.elf -Wl,--error-limit=0
+cp said linker.said
+for it in $wanted; do
+    is "$it has no reason where the linker lacks it" grep -q "error: '$it' can't be had: " linker.said
+done
+cat >address.c <<'C'
+#include <stdio.h>
+FILE *(*volatile opens)(const char *, const char *) = fopen;
+int main(void) { return opens("a", "r") != 0; }
+C
+refuses "fopen, by its address" "'open' can't be had: there are no files" "$cc" address.c -o x.elf
+refuses "fopen, by its address, and build.sh" "'open' can't be had: there are no files" "$build" x.elf address.c
+refuses "cancel and build.sh" "a hart can't be ended by another one" "$build" x.elf cancel.c -- -include pthread.h
+echo 'int no_such_name(void); int main(void) { return no_such_name(); }' >no_such.c
+refuses "a name that nobody knows" "undefined symbol: no_such_name" "$cc" no_such.c -o x.elf
+
+# ---- headers, each first and the others behind it, in several standards
+
+headers_by() {
+    local what=$1 compiler=$2 first it
+    shift 2
+    for first in $headers; do
+        { for it in $first $headers; do echo "#include <$it>"; done; } >first.c
+        if ! "$compiler" -fsyntax-only -Wall -Werror "$@" first.c 2>said; then
+            wrong "$first, and then all headers, as $what" said
+            return
+        fi
+    done
+    pass
+}
+headers_by "C" "$cc"
+headers_by "strict C99" "$cc" -std=c99 -pedantic -U_DEFAULT_SOURCE -D_POSIX_C_SOURCE=200809L -D_XOPEN_SOURCE=700
+headers_by "GNU C" "$cc" -D_GNU_SOURCE
+headers_by "C, refused at run time" "$cc" -DPREDATOR_REFUSE_AT_RUN
+headers_by "C++" "$cxx" -x c++ -std=c++17
+for it in $headers; do
+    echo "#include <$it>" >alone.c
+    builds "$it alone" "$cc" -Wall -Wextra -Werror -c alone.c
+done
+
+# ---- the driver
+
+cat >main.c <<'C'
+#include <math.h>
+#include <pthread.h>
+#include <stdio.h>
+int add(int, int);
+static pthread_mutex_t lock = PTHREAD_MUTEX_INITIALIZER;
+int main(int count, char **words)
+{
+    pthread_mutex_lock(&lock);
+    printf("%d %.3f\n", add(count, 2), sqrt(count));
+    pthread_mutex_unlock(&lock);
+    for (int i = 1; i < count; i++)
+        printf("[%s]\n", words[i]);
+    return 0;
+}
+C
+echo 'int add(int a, int b) { return a + b; }' >add.c
+mkdir "a folder"
+cp add.c "a folder/an add.c"
+builds "a program in one call" "$cc" main.c add.c -o one.elf
+builds "the same again" "$cc" main.c add.c -o again.elf
+is "the same bytes" cmp one.elf again.elf
+builds "an object" "$cc" -c main.c
+is "an object by its name" test -s main.o
+builds "an object of a name with a space" "$cc" -c "a folder/an add.c" -o "a folder/an add.o"
+builds "objects linked" "$cc" main.o "a folder/an add.o" -o linked.elf
+builds "an archive by ar" ar rcs liboften.a "a folder/an add.o"
+builds "linked with ar's archive" "$cc" main.o -L. -loften -o archive.elf
+rm liboften.a
+builds "an archive by llvm-ar" llvm-ar rcs liboften.a "a folder/an add.o"
+there=(-lpthread -lm -lrt -lc -latomic -lgcc)
+builds "linked with llvm-ar's archive, and what is there in any case" "$cc" -pthread main.o -L. -loften "${there[@]}" -o archive.elf
+is "the same program, however it was linked" same linked.elf archive.elf
+builds "no output's name" "$cc" main.c add.c
+is "a.out" test -s a.out
+builds "an output's name behind -o" "$cc" main.c add.c -oanother.elf
+is "another.elf" test -s another.elf
+printf -- '-O1\nmain.c "a folder/an add.c"\n-o response.elf\n' >words
+builds "a file of words" "$cc" @words
+is "response.elf" test -s response.elf
+printf -- '-c main.c\n-o response.o\n' >words
+builds "a file of words that don't link" "$cc" @words
+is "a source from standard input" bash -c 'echo "int main(void) { return 0; }" | "$0" -x c - -o from.elf && test -s from.elf' "$cc"
+builds "preprocessed" "$cc" -E main.c -o main.i
+builds "assembled" "$cc" -S main.c -o main.s
+builds "from assembly" "$cc" main.s add.c -o s.elf
+builds "position independent" "$cc" -fPIC -fPIE -pie main.c add.c -o pic.elf
+builds "another optimisation and no debug information" "$cc" -O0 -g0 main.c add.c -o o0.elf
+is "no debug information of the source then" bash -c '! llvm-dwarfdump "$0" | grep -q main.c' o0.elf
+builds "joined objects" "$cc" -r main.o "a folder/an add.o" -o joined.o
+builds "linked from joined objects" "$cc" joined.o -o joined.elf
+printf '.globl _start\n_start:\n li a7, 94\n ecall\n' >start.s
+builds "without the kit" "$cc" -nostdlib start.s -o nostdlib.elf
+builds "for Linux too" env PAGE=4096 "$cc" main.c add.c -o page.elf
+for it in --version -v -dumpmachine -print-search-dirs; do
+    is "$it" "$cc" $it
+done
+is "the machine" grep -q riscv32 <("$cc" -dumpmachine)
+refuses "no word" "no input files" "$cc"
+refuses "no such file" "no such file or directory: 'nowhere.c'" "$cc" nowhere.c
+refuses "an error in a source" "main.c" "$cc" -Dprintf=1= main.c
+refuses "an undefined name" "undefined symbol: add" "$cc" main.c
+refuses "a shared library" "there are no shared libraries" "$cc" -shared main.c -o x.so
+refuses "another machine's object" "incompatible" bash -c 'clang -c add.c -o x86.o && "$0" main.c x86.o' "$cc"
+refuses "no place to write" "nowhere/x.elf" "$cc" main.c add.c -o nowhere/x.elf
+refuses "no place to keep the kit" "can't be written" env XDG_CACHE_HOME=/dev/null "$cc" main.c add.c
+is "one kit is kept" test "$(find "$XDG_CACHE_HOME/predator/guest" -mindepth 1 -maxdepth 1 | wc -l)" = 1
+ln -s "$cc" linked-cc
+ln -s "$cxx" linked-c++
+builds "through a link" ./linked-cc main.c add.c -o link.elf
+is "the same through a link" same one.elf link.elf
+is "two first calls at once" bash -c 'export XDG_CACHE_HOME=$PWD/two
+    "$0" main.c add.c -o 1.elf & one=$!
+    "$0" main.c add.c -o 2.elf && wait "$one" && cmp 1.elf 2.elf &&
+        test "$(find two/predator/guest -mindepth 1 -maxdepth 1 | wc -l)" = 1' "$cc"
+builds "words of main" env ARGUMENTS='4 "in the.txt"' "$cc" main.c add.c -o words.elf
+builds "words of main, by build.sh" env ARGUMENTS='4 "in the.txt"' "$build" words2.elf main.c add.c
+is "the words are there" bash -c 'for it; do llvm-strings "$it" | grep -x -q "in the.txt" || exit; done' all words.elf words2.elf
+builds "by build.sh" "$build" built.elf main.c add.c
+
+# ---- C++
+
+cat >plus.cc <<'C'
+#include <pthread.h>
+#include <stdio.h>
+#include <stdlib.h>
+struct base {
+    virtual int get() = 0;
+    virtual ~base() { puts("gone"); }
+};
+struct own : base {
+    int value;
+    own(int value) : value(value) {}
+    int get() override { return value; }
+};
+template <typename T> static T *make(int value) { return new T(value); }
+static int times;
+static own &once() { static own it(++times); return it; }
+static own early(7);
+static void *run(void *) { return reinterpret_cast<void *>(static_cast<long>(once().get())); }
+int main()
+{
+    base *it = make<own>(4);
+    auto more = [&](int x) { return x + it->get(); };
+    pthread_t threads[7];
+    for (auto &thread : threads) pthread_create(&thread, nullptr, run, nullptr);
+    for (auto &thread : threads) pthread_join(thread, nullptr);
+    int *array = new int[10]();
+    printf("%d %d %d %d\n", more(1), early.get(), times, array[9]);
+    delete[] array;
+    delete it;
+}
+C
+builds "C++" "$cxx" -std=c++17 -Wall -Wextra -Werror plus.cc -o plus.elf
+builds "C++ by parts" bash -c '"$0" -c plus.cc -o plus.o && "$0" plus.o -o parts.elf' "$cxx"
+builds "C++ through a link" ./linked-c++ plus.cc -o plus2.elf
+echo 'int main() { throw 1; }' >throws.cc
+refuses "an exception" "exceptions disabled" "$cxx" throws.cc -o x.elf
+refuses "an exception that is insisted on" "can't be had: C++ has no exceptions here" "$cxx" -fexceptions throws.cc -o x.elf
+printf 'struct a { virtual ~a() {} }; struct b : a {};\nint main() { a *it = new b; return dynamic_cast<b *>(it) == nullptr; }\n' >casts.cc
+refuses "type information" "-frtti" "$cxx" casts.cc -o x.elf
+refuses "type information that is insisted on" "can't be had: C++ has no type information here" "$cxx" -frtti casts.cc -o x.elf
+printf 'struct a { int x; ~a() { x = 1; } }; thread_local a it;\nint main() { return it.x; }\n' >local.cc
+refuses "a thread's variable with a destructor" "can't be had: a thread_local variable" "$cxx" local.cc -o x.elf
+echo '#include <vector>' >vector.cc
+refuses "C++'s library" "'vector' file not found" "$cxx" -c vector.cc
+
+# ---- CMake
+
+if command -v cmake >/dev/null && command -v make >/dev/null; then
+    mkdir project
+    cp main.c add.c plus.cc project
+    cat >project/CMakeLists.txt <<'C'
+cmake_minimum_required(VERSION 3.13)
+project(tried C CXX)
+find_package(Threads REQUIRED)
+include(CheckFunctionExists)
+check_function_exists(pthread_create HAS_PTHREAD)
+check_function_exists(fork HAS_FORK)
+if(NOT HAS_PTHREAD OR HAS_FORK)
+    message(FATAL_ERROR "pthread_create is there, and fork isn't")
+endif()
+add_library(often add.c)
+add_executable(tried main.c)
+target_link_libraries(tried often Threads::Threads m)
+add_executable(plus plus.cc)
+target_link_libraries(plus Threads::Threads)
+C
+    is "CMake's first step" cmake -S project -B cmake -DCMAKE_TOOLCHAIN_FILE="$here/toolchain.cmake"
+    is "CMake's second step" cmake --build cmake
+    is "what CMake built" llvm-readelf -h cmake/tried cmake/plus
+else
+    skip 3 "CMake isn't there (Debian: cmake, make)"
+fi
+
+# ---- more threads than harts
+
+cat >many.c <<'C'
+#include <pthread.h>
+#include <stdlib.h>
+static void *wait(void *gate) { pthread_mutex_lock(gate); return NULL; }
+int main(void)
+{
+    pthread_mutex_t gate = PTHREAD_MUTEX_INITIALIZER;
+    pthread_t thread;
+    pthread_mutex_lock(&gate);
+    for (int i = 0; i < 20; i++)
+        if (pthread_create(&thread, NULL, wait, &gate) != 0)
+            abort();
+    exit(0);
+}
+C
+builds "many threads" "$build" many.elf many.c
+builds "many threads, by the driver" "$cc" many.c -o many2.elf
+builds "many threads without a C library" env PICOLIBC=/nowhere "$build" few.elf threads.c
+is "the text is there" grep -q "harts is in use" many.elf many2.elf few.elf
+is "no text in the examples" bash -c '! grep -q "harts is in use" "$@"' all $kit/built/as_is.elf $kit/built/atomics.elf
+
+# ---- what they do, where the built program is there
+
+# runs WHAT PROGRAM CODE LINE [WORD ..]: it ends by exit with this code, and puts out this line.
+runs() {
+    local what=$1 elf=$2 code=$3 line=$4
+    shift 4
+    : >put
+    if ! "$predator" run "$elf" "$@" --output put >report 2>said; then
+        wrong "$what: predator ended so" said
+    elif ! grep -q -x "outcome exit $code" report; then
+        wrong "$what: $(grep ^outcome report), and not exit $code" put
+    elif [ -n "$line" ] && ! grep -q -x -F -e "$line" put; then
+        wrong "$what: no line '$line'" put
+    else
+        pass
+    fi
+}
+if [ -x "$predator" ]; then
+    told="pthread_create: each of the 8 harts is in use, so there is none for another thread: the settings may have more, as harts = 16"
+    runs "many threads" many.elf 134 "$told"
+    runs "many threads, by the driver" many2.elf 134 "$told"
+    echo "harts = 21" >settings
+    : >put
+    is "enough harts" "$predator" run many.elf --settings settings --output put
+    is "nothing is told then" test ! -s put
+    echo "harts = 200" >settings
+    sed 's/20/250/' many.c >more.c
+    "$cc" more.c -o more.elf
+    echo "memory = 67108864" >>settings
+    told=${told/8 harts/200 harts}
+    runs "200 harts" more.elf 134 "${told/= 16/= 256}" --settings settings
+    runs "threads.h without a C library" threads.elf 0 ""
+    runs "the driver's program" one.elf 0 "3 1.000"
+    runs "words of main" words.elf 0 "[in the.txt]"
+    runs "words of main, by build.sh" words2.elf 0 "[in the.txt]"
+    runs "position independent" pic.elf 0 "3 1.000"
+    runs "without optimisation" o0.elf 0 "3 1.000"
+    runs "from joined objects" joined.elf 0 "3 1.000"
+    runs "C++" plus.elf 0 "5 7 1 0"
+    runs "C++ destructors" plus.elf 0 "gone"
+    printf '#include <unistd.h>\nint main(void) { return (int)sleep(1); }\n' >late.c
+    "$cc" -DPREDATOR_REFUSE_AT_RUN late.c -o late.elf
+    runs "what is refused at run time" late.elf 134 ""
+    at=$(sed -n "s/^the call before \(0x[0-9a-f]*\) can't be had: there is no clock: wait for another thread, not for a time\$/\1/p" put)
+    is "its reason, and the place of its call" grep -q -x main <(llvm-symbolizer --obj=late.elf "$((${at:-0} - 1))")
+    printf '#include <poll.h>\nint main(void) { return poll(0, 0, 10); }\n' >polls.c
+    "$cc" polls.c -o polls.elf
+    runs "poll as a wait" polls.elf 134 "poll: no file becomes ready, and there is no clock: wait for another thread, not for a time"
+else
+    skip 17 "the built program isn't at $predator; what programs do wants it"
+fi
+
+echo "$passed passed, $failed failed, $skipped skipped"
+[ "$failed" = 0 ]

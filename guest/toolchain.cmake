@@ -1,0 +1,15 @@
+# For CMake: cmake -DCMAKE_TOOLCHAIN_FILE=.../guest/toolchain.cmake .. builds guests of predator, by guest/cc and guest/c++.
+set(CMAKE_SYSTEM_NAME Generic)
+set(CMAKE_SYSTEM_PROCESSOR riscv32)
+set(CMAKE_C_COMPILER ${CMAKE_CURRENT_LIST_DIR}/cc)
+set(CMAKE_CXX_COMPILER ${CMAKE_CURRENT_LIST_DIR}/c++)
+set(CMAKE_AR llvm-ar)
+set(CMAKE_RANLIB llvm-ranlib)
+# The machine's own libraries aren't a guest's: those of guests are looked for below CMAKE_FIND_ROOT_PATH.
+if(NOT CMAKE_FIND_ROOT_PATH)
+    set(CMAKE_FIND_ROOT_PATH ${CMAKE_CURRENT_LIST_DIR})
+endif()
+set(CMAKE_FIND_ROOT_PATH_MODE_PROGRAM NEVER)
+set(CMAKE_FIND_ROOT_PATH_MODE_LIBRARY ONLY)
+set(CMAKE_FIND_ROOT_PATH_MODE_INCLUDE ONLY)
+set(CMAKE_FIND_ROOT_PATH_MODE_PACKAGE ONLY)
