@@ -1,0 +1,525 @@
+/* The tool: which accesses a thread makes, and where its turn ends.
+
+   Each access is noted in a buffer by a few instructions of the translated code itself: one word with its address, its size and
+   whether it writes. Before the code leaves a block it looks whether the turn's accesses are used up, and if so has valgrind believe
+   that its own count of blocks is. What is in the buffer belongs to one thread, and is written to the trace before another one runs. */
+#include "tool.h"
+
+#include "requests.h"
+
+#define ADDRESS_BITS 48
+#define SIZE_SHIFT 48
+#define WRITES (1UL << 63)
+#define SLACK 65536 /* more than one block of code can note */
+
+static ULong quantum = 100;
+static const HChar *trace_path;
+static Bool records_all, marked_only;
+
+static ULong *buffer, *noted, *limit, *most; /* the buffer, its next free word, the end of the turn, and where the buffer is full */
+static ThreadId noted_of;                    /* the thread whose accesses are in it */
+static Bool turn_is_over;
+static Bool instruments; /* code that is translated now notes its accesses */
+static UInt live, started; /* threads, and calls of PREDATOR_START without one of PREDATOR_STOP */
+static Int exit_code = -1;
+static Bool has_preload, had_threads;
+static UChar cpus[128]; /* the processors that the program may use, before it was put on one */
+static Int cpus_size;
+
+/* ---- Recording ---- */
+
+static void write_noted(void)
+{
+    ULong *it;
+    if (trace_records && noted_of > 0)
+        for (it = buffer; it < noted && trace_records; it++) {
+            ULong word = *it;
+            trace_access(noted_of - 1, word >> 63, word & ((1UL << ADDRESS_BITS) - 1), word >> SIZE_SHIFT & 0x7fff);
+        }
+    limit -= noted - buffer;
+    if (limit < buffer)
+        limit = buffer;
+    noted = buffer;
+}
+
+static void begin_turn(void)
+{
+    limit = trace_records ? noted + quantum : most;
+    turn_is_over = False;
+}
+
+static void translate_with_notes(Bool notes)
+{
+    instruments = notes;
+    VG_(discard_translations)(4096, ~0UL - 8191, "predator");
+}
+
+static void judge_recording(void)
+{
+    Bool records = trace_is_open() && (marked_only ? started > 0 : records_all || live >= 2);
+    if (records == trace_records)
+        return;
+    write_noted();
+    if (records && !instruments)
+        translate_with_notes(True);
+    trace_records = records;
+    if (records)
+        trace_resume();
+    begin_turn();
+}
+
+static void on_start(ThreadId tid, ULong blocks)
+{
+    if (noted_of != tid) {
+        write_noted();
+        noted_of = tid;
+        begin_turn();
+    } else if (turn_is_over) {
+        begin_turn();
+    }
+    if (tid > MOST_HARTS && trace_records)
+        trace_stop("more than 256 threads live at a time");
+    if (instruments && !trace_is_open()) { /* nothing is written any more: the program goes on as fast as valgrind can */
+        translate_with_notes(False);
+        begin_turn();
+    }
+}
+
+static void on_stop(ThreadId tid, ULong blocks)
+{
+    if (noted >= limit)
+        turn_is_over = True;
+    if (noted >= most)
+        write_noted();
+}
+
+/* ---- The code that notes ---- */
+
+typedef struct {
+    IRSB *out;
+    IRExpr *base; /* the next free word, as it stood when the first of `count` accesses was noted */
+    UInt count;
+} Notes;
+
+static IRExpr *number(ULong value) { return IRExpr_Const(IRConst_U64(value)); }
+
+static IRExpr *named(IRSB *out, IRType type, IRExpr *what)
+{
+    IRTemp temp = newIRTemp(out->tyenv, type);
+    addStmtToIRSB(out, IRStmt_WrTmp(temp, what));
+    return IRExpr_RdTmp(temp);
+}
+
+static IRExpr *loaded(IRSB *out, void *from) { return named(out, Ity_I64, IRExpr_Load(Iend_LE, Ity_I64, number((Addr)from))); }
+
+static void set_noted(Notes *it, IRExpr *value)
+{
+    IRSB *out = it->out;
+    IRExpr *counter, *over;
+    addStmtToIRSB(out, IRStmt_Store(Iend_LE, number((Addr)&noted), value));
+    over = named(out, Ity_I1, IRExpr_Binop(Iop_CmpLE64U, loaded(out, &limit), value));
+    counter = named(out, Ity_I32, IRExpr_Get(offsetof(VexGuestArchState, host_EvC_COUNTER), Ity_I32));
+    counter = named(out, Ity_I32, IRExpr_ITE(over, IRExpr_Const(IRConst_U32(0)), counter));
+    addStmtToIRSB(out, IRStmt_Put(offsetof(VexGuestArchState, host_EvC_COUNTER), counter));
+    it->base = NULL;
+    it->count = 0;
+}
+
+/* What was noted so far counts: before the block may be left. */
+static void settle(Notes *it)
+{
+    if (it->count > 0)
+        set_noted(it, named(it->out, Ity_I64, IRExpr_Binop(Iop_Add64, it->base, number(8 * it->count))));
+}
+
+static void note_word(Notes *it, IRExpr *word)
+{
+    IRExpr *at;
+    if (it->base == NULL)
+        it->base = loaded(it->out, &noted);
+    at = it->count == 0 ? it->base : named(it->out, Ity_I64, IRExpr_Binop(Iop_Add64, it->base, number(8 * it->count)));
+    addStmtToIRSB(it->out, IRStmt_Store(Iend_LE, at, word));
+    it->count++;
+}
+
+static ULong head(Bool writes, UInt size) { return (writes ? WRITES : 0) | (ULong)size << SIZE_SHIFT; }
+
+static void note(Notes *it, Bool writes, IRExpr *addr, UInt size)
+{
+    note_word(it, named(it->out, Ity_I64, IRExpr_Binop(Iop_Or64, addr, number(head(writes, size)))));
+}
+
+/* An access that is made where `guard` holds. */
+static void note_where(Notes *it, IRExpr *guard, Bool writes, IRExpr *addr, UInt size)
+{
+    IRExpr *from, *behind;
+    settle(it);
+    from = loaded(it->out, &noted);
+    it->base = from;
+    note(it, writes, addr, size);
+    behind = named(it->out, Ity_I64, IRExpr_Binop(Iop_Add64, from, number(8)));
+    set_noted(it, named(it->out, Ity_I64, IRExpr_ITE(guard, behind, from)));
+}
+
+/* A compare-and-swap is one write where it found what it expected, and else a read. */
+static void note_swap(Notes *it, const IRCAS *swap)
+{
+    static const IROp equals[4] = {Iop_CasCmpEQ8, Iop_CasCmpEQ16, Iop_CasCmpEQ32, Iop_CasCmpEQ64};
+    IRType type = typeOfIRExpr(it->out->tyenv, swap->dataLo);
+    UInt size = sizeofIRType(type), rank = size == 8 ? 3 : size / 2;
+    IRExpr *same = named(it->out, Ity_I1, IRExpr_Binop(equals[rank], IRExpr_RdTmp(swap->oldLo), swap->expdLo));
+    if (swap->dataHi) {
+        IRExpr *high = named(it->out, Ity_I1, IRExpr_Binop(equals[rank], IRExpr_RdTmp(swap->oldHi), swap->expdHi));
+        IRExpr *both = named(it->out, Ity_I64, IRExpr_Unop(Iop_1Uto64, high));
+        IRExpr *low = named(it->out, Ity_I64, IRExpr_Unop(Iop_1Uto64, same));
+        both = named(it->out, Ity_I64, IRExpr_Binop(Iop_And64, both, low));
+        same = named(it->out, Ity_I1, IRExpr_Unop(Iop_64to1, both));
+        size *= 2;
+    }
+    IRExpr *kind = named(it->out, Ity_I64, IRExpr_ITE(same, number(head(True, size)), number(head(False, size))));
+    note_word(it, named(it->out, Ity_I64, IRExpr_Binop(Iop_Or64, swap->addr, kind)));
+}
+
+static void note_helper(Notes *it, const IRDirty *call)
+{
+    if (call->mFx == Ifx_None)
+        return;
+    if (call->mFx == Ifx_Read || call->mFx == Ifx_Modify)
+        note_where(it, call->guard, False, call->mAddr, call->mSize);
+    if (call->mFx == Ifx_Write || call->mFx == Ifx_Modify)
+        note_where(it, call->guard, True, call->mAddr, call->mSize);
+}
+
+/* The address of the compare-and-swap of the instruction that begins at a statement, or none: an atomic operation is translated into a
+   load and a compare-and-swap, and is one access. */
+static const IRExpr *swap_of(const IRSB *in, Int from)
+{
+    Int it;
+    for (it = from + 1; it < in->stmts_used && in->stmts[it]->tag != Ist_IMark; it++)
+        if (in->stmts[it]->tag == Ist_CAS)
+            return in->stmts[it]->Ist.CAS.details->addr;
+    return NULL;
+}
+
+static Addr own_text;
+static SizeT own_size;
+
+/* The wrappers of native/tool/preload.c are no part of the program. */
+static Bool is_own(Addr addr)
+{
+    return own_size > 0 && own_text <= addr && addr < own_text + own_size;
+}
+
+static IRSB *instrument(VgCallbackClosure *closure, IRSB *in, const VexGuestLayout *layout, const VexGuestExtents *extents,
+                        const VexArchInfo *host, IRType guest_word, IRType host_word)
+{
+    Notes notes = {deepCopyIRSBExceptStmts(in), NULL, 0};
+    const IRExpr *swap = NULL;
+    Int it = 0;
+    if (!instruments || is_own(closure->readdr))
+        return in;
+    while (it < in->stmts_used && in->stmts[it]->tag != Ist_IMark)
+        addStmtToIRSB(notes.out, in->stmts[it++]);
+    for (; it < in->stmts_used; it++) {
+        IRStmt *one = in->stmts[it];
+        if (one->tag == Ist_IMark)
+            swap = swap_of(in, it);
+        if (one->tag == Ist_Exit)
+            settle(&notes);
+        addStmtToIRSB(notes.out, one);
+        switch (one->tag) {
+        case Ist_WrTmp: {
+            const IRExpr *data = one->Ist.WrTmp.data;
+            if (data->tag == Iex_Load && !(swap && eqIRAtom(swap, data->Iex.Load.addr)))
+                note(&notes, False, data->Iex.Load.addr, sizeofIRType(data->Iex.Load.ty));
+            break;
+        }
+        case Ist_Store:
+            note(&notes, True, one->Ist.Store.addr, sizeofIRType(typeOfIRExpr(in->tyenv, one->Ist.Store.data)));
+            break;
+        case Ist_LoadG: {
+            IRType whole, read;
+            typeOfIRLoadGOp(one->Ist.LoadG.details->cvt, &whole, &read);
+            note_where(&notes, one->Ist.LoadG.details->guard, False, one->Ist.LoadG.details->addr, sizeofIRType(read));
+            break;
+        }
+        case Ist_StoreG:
+            note_where(&notes, one->Ist.StoreG.details->guard, True, one->Ist.StoreG.details->addr,
+                       sizeofIRType(typeOfIRExpr(in->tyenv, one->Ist.StoreG.details->data)));
+            break;
+        case Ist_CAS:
+            note_swap(&notes, one->Ist.CAS.details);
+            break;
+        case Ist_Dirty:
+            note_helper(&notes, one->Ist.Dirty.details);
+            break;
+        default:
+            break;
+        }
+    }
+    settle(&notes);
+    return notes.out;
+}
+
+/* ---- What happens beside ---- */
+
+static Addr waits_at[MOST_THREADS + 1];  /* the word that a thread waits at, or 0 */
+static Addr ends_at[MOST_THREADS + 1];   /* the word at which the system wakes those that join the thread */
+static Addr next_word;                   /* that of the thread that is about to be made */
+
+static void on_create(ThreadId parent, ThreadId child)
+{
+    turns_expect(child);
+    ends_at[child] = parent ? next_word : 0;
+    live++;
+    had_threads = had_threads || live >= 2;
+    judge_recording();
+}
+
+static void on_exit(ThreadId tid)
+{
+    ThreadId it;
+    turns_forget(tid);
+    for (it = 1; ends_at[tid] && it <= MOST_THREADS; it++)
+        if (waits_at[it] == ends_at[tid]) {
+            turns_woke(1);
+            break;
+        }
+    live--;
+    judge_recording();
+}
+
+static Bool on_request(ThreadId tid, UWord *words, UWord *result)
+{
+    if (!VG_IS_TOOL_USERREQ('P', 'D', words[0]))
+        return False;
+    *result = 0;
+    write_noted();
+    switch (words[0]) {
+    case PREDATOR_REQUEST_START:
+        started++;
+        judge_recording();
+        break;
+    case PREDATOR_REQUEST_STOP:
+        if (started > 0)
+            started--;
+        judge_recording();
+        break;
+    case PREDATOR_REQUEST_BLOCK:
+        trace_block(tid, words[1], words[2]);
+        break;
+    case PREDATOR_REQUEST_FREE:
+        trace_free(tid, words[1]);
+        break;
+    case PREDATOR_REQUEST_REVIVE:
+        trace_revive(tid, words[1]);
+        break;
+    case PREDATOR_REQUEST_HERE:
+        has_preload = True;
+        break;
+    default:
+        return False;
+    }
+    return True;
+}
+
+static void on_map(Addr addr, SizeT size, Bool reads, Bool writes, Bool runs, ULong handle)
+{
+    if (handle == 0)
+        return;
+    trace_library();
+    if (own_size == 0) {
+        const DebugInfo *info;
+        for (info = VG_(next_DebugInfo)(NULL); info; info = VG_(next_DebugInfo)(info))
+            if (VG_(strstr)(VG_(DebugInfo_get_filename)(info), "/vgpreload_predator-")) {
+                own_text = VG_(DebugInfo_get_text_avma)(info);
+                own_size = VG_(DebugInfo_get_text_size)(info);
+            }
+    }
+}
+
+static Int pinned_to = -1, first_policy;
+
+static void set_policy(Int policy)
+{
+    Int priority = 0;
+    CALL(__NR_sched_setscheduler, 0, policy, &priority, 0);
+}
+
+static void pin(void)
+{
+    UChar one[sizeof cpus] = {0};
+    one[pinned_to / 8] = 1 << pinned_to % 8;
+    CALL(__NR_sched_setaffinity, 0, sizeof one, one, 0);
+    set_policy(3 /* SCHED_BATCH */);
+}
+
+/* As it was before the tool. */
+static void unpin(void)
+{
+    CALL(__NR_sched_setaffinity, 0, cpus_size, cpus, 0);
+    set_policy(first_policy);
+}
+
+/* One processor for all threads: two never run at a time, and what a thread wakes waits until that thread has done what it does. */
+static void take_one_processor(void)
+{
+    UInt cpu = 0;
+    SysRes got = CALL(__NR_sched_getaffinity, 0, sizeof cpus, cpus, 0);
+    if (sr_isError(got))
+        return;
+    cpus_size = sr_Res(got);
+    if (sr_isError(CALL(__NR_getcpu, &cpu, 0, 0, 0)) || cpu >= 8 * sizeof cpus)
+        return;
+    pinned_to = cpu;
+    got = CALL(__NR_sched_getscheduler, 0, 0, 0, 0);
+    first_policy = sr_isError(got) ? 0 : sr_Res(got);
+    pin();
+}
+
+static void on_fork_child(ThreadId tid)
+{
+    trace_leave();
+    noted = buffer;
+    if (pinned_to >= 0)
+        unpin();
+    pinned_to = -1;
+}
+
+enum { FUTEX_WAKE_OP = 5, FUTEX_WAIT_BITSET = 9, FUTEX_WAKE_BITSET = 10 };
+
+static Bool is_futex(UInt call, const UWord *words, UInt one, UInt other, UInt third)
+{
+    UInt what = words[1] & 127;
+    return call == __NR_futex && (what == one || what == other || what == third);
+}
+
+static Bool is_wait(UInt call, const UWord *words)
+{
+    ThreadId it;
+    if (!is_futex(call, words, VKI_FUTEX_WAIT, FUTEX_WAIT_BITSET, FUTEX_WAIT_BITSET))
+        return False;
+    if (words[1] & VKI_FUTEX_PRIVATE_FLAG)
+        return True;
+    for (it = 1; it <= MOST_THREADS; it++) /* a join; another word may be shared with another program, which wakes it when it likes */
+        if (ends_at[it] == words[0])
+            return True;
+    return False;
+}
+
+static Bool is_wake(UInt call, const UWord *words)
+{
+    return is_futex(call, words, VKI_FUTEX_WAKE, FUTEX_WAKE_OP, FUTEX_WAKE_BITSET) && (words[1] & VKI_FUTEX_PRIVATE_FLAG);
+}
+
+static void before_call(ThreadId tid, UInt call, UWord *words, UInt count)
+{
+    Bool waits = is_wait(call, words);
+    turns_call(tid, waits ? CALL_WAITS : is_wake(call, words) ? CALL_KEEPS : call == __NR_sched_yield ? CALL_YIELDS : CALL_OTHER);
+    waits_at[tid] = waits ? words[0] : 0;
+    if (call == __NR_clone)
+        next_word = words[0] & VKI_CLONE_CHILD_CLEARTID ? words[3] : 0;
+    if (call == __NR_exit_group || (call == __NR_exit && live == 1))
+        exit_code = words[0] & 0xff;
+    /* Where it works, the program is another one, and the tool is gone. */
+    if (call == __NR_execve || call == 322 /* execveat */) {
+        write_noted();
+        trace_flush();
+        if (pinned_to >= 0)
+            unpin();
+    }
+}
+
+static void after_call(ThreadId tid, UInt call, UWord *words, UInt count, SysRes result)
+{
+    if (waits_at[tid] && sr_isError(result))
+        turns_woke(1); /* it was no wake that brought it back, and was taken for one */
+    if (is_wake(call, words) && !sr_isError(result))
+        turns_woke(sr_Res(result));
+    turns_call(tid, CALL_OTHER);
+    waits_at[tid] = 0;
+    if (pinned_to < 0)
+        return;
+    if (call == __NR_execve || call == 322)
+        pin(); /* it failed */
+    if (sr_isError(result))
+        return;
+    if (call == __NR_sched_getaffinity) /* as if it weren't on one processor */
+        VG_(memcpy)((void *)words[2], cpus, sr_Res(result) < cpus_size ? sr_Res(result) : cpus_size);
+    if (call == __NR_sched_setaffinity)
+        pin();
+}
+
+static Bool on_option(const HChar *word)
+{
+    Long number;
+    if (VG_BINT_CLO(word, "--quantum", number, 1, 100000))
+        quantum = number;
+    else if (VG_BINT_CLO(word, "--most", number, 1, 1L << 40))
+        trace_most = number;
+    else if (VG_STR_CLO(word, "--trace", trace_path)) {
+    } else if (VG_BOOL_CLO(word, "--all", records_all)) {
+    } else if (VG_BOOL_CLO(word, "--marked", marked_only)) {
+    } else
+        return False;
+    return True;
+}
+
+static void print_usage(void) { VG_(printf)("    see docs/NATIVE.md of predator\n"); }
+
+static void after_options(void)
+{
+    VexControl *vex = &VG_(clo_vex_control);
+    ULong room = quantum > SLACK ? quantum : SLACK;
+    /* A turn ends at the end of a block of code, so blocks are short where turns are. */
+    vex->guest_max_insns = quantum / 4 < 1 ? 1 : quantum / 4 > 50 ? 50 : quantum / 4;
+    vex->guest_chase = False;
+    vex->iropt_unroll_thresh = 0;
+    /* No load is left out because nothing is made of it. */
+    vex->iropt_register_updates_default = VexRegUpdAllregsAtEachInsn;
+    buffer = VG_(malloc)("predator.buffer", (room + 2 * SLACK) * sizeof *buffer);
+    noted = buffer;
+    most = buffer + room;
+    begin_turn();
+    if (trace_path == NULL || !trace_begin(trace_path))
+        VG_(exit)(125);
+    instruments = records_all;
+    judge_recording();
+    take_one_processor();
+}
+
+static void at_end(Int code)
+{
+    write_noted();
+    if (trace_is_open() && trace_accesses == 0)
+        VG_(printf)("predator native: no access was recorded: %s\n",
+                    marked_only ? "no PREDATOR_START was reached"
+                    : had_threads ? "its threads made none"
+                                  : "the program had one thread all the time, and --all records that too");
+    if (trace_is_open() && !has_preload)
+        VG_(printf)("predator native: the program loads no libraries, so its blocks weren't seen\n");
+    trace_end(exit_code >= 0, exit_code);
+}
+
+static void before_options(void)
+{
+    VG_(details_name)("predator");
+    VG_(details_version)(NULL);
+    VG_(details_description)("records which thread touches which memory");
+    VG_(details_copyright_author)("part of predator");
+    VG_(details_bug_reports_to)("the repository of predator");
+    VG_(details_avg_translation_sizeB)(600);
+    VG_(basic_tool_funcs)(after_options, instrument, at_end);
+    VG_(needs_command_line_options)(on_option, print_usage, print_usage);
+    VG_(needs_client_requests)(on_request);
+    VG_(needs_syscall_wrapper)(before_call, after_call);
+    VG_(track_start_client_code)(on_start);
+    VG_(track_stop_client_code)(on_stop);
+    VG_(track_pre_thread_ll_create)(on_create);
+    VG_(track_pre_thread_ll_exit)(on_exit);
+    VG_(track_new_mem_mmap)(on_map);
+    VG_(track_new_mem_startup)(on_map);
+    VG_(atfork)(NULL, NULL, on_fork_child);
+}
+
+VG_DETERMINE_INTERFACE_VERSION(before_options)

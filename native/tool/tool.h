@@ -1,0 +1,61 @@
+/* What the parts of the tool share. The tool runs inside valgrind, with valgrind's own small library and no C library. */
+#ifndef PREDATOR_TOOL_H
+#define PREDATOR_TOOL_H
+
+#include "pub_tool_basics.h"
+#include "pub_tool_vki.h"
+#include "pub_tool_vkiscnums.h"
+#include "pub_tool_threadstate.h"
+#include "pub_tool_libcassert.h"
+#include "pub_tool_libcbase.h"
+#include "pub_tool_libcfile.h"
+#include "pub_tool_libcprint.h"
+#include "pub_tool_libcproc.h"
+#include "pub_tool_libcsignal.h"
+#include "pub_tool_mallocfree.h"
+#include "pub_tool_options.h"
+#include "pub_tool_debuginfo.h"
+#include "pub_tool_stacktrace.h"
+#include "pub_tool_machine.h"
+#include "pub_tool_oset.h"
+#include "pub_tool_guest.h"
+#include "pub_tool_tooliface.h"
+
+/* In valgrind's library, and in none of its headers. native/build looks at the version that they belong to. */
+extern SysRes VG_(do_syscall)(UWord number, UWord, UWord, UWord, UWord, UWord, UWord, UWord, UWord);
+extern Int VG_(safe_fd)(Int fd);
+extern const HChar *VG_(strerror)(UWord error);
+extern Int VG_(sigemptyset)(vki_sigset_t *);
+extern Int VG_(sigaddset)(vki_sigset_t *, Int signal);
+extern void VG_(discard_translations)(Addr start, ULong size, const HChar *who);
+extern Int VG_(DebugInfo_syms_howmany)(const DebugInfo *);
+extern void VG_(DebugInfo_syms_getidx)(const DebugInfo *, Int, Addr *addr, UInt *size, const HChar **name, const HChar ***others,
+                                       Bool *is_text, Bool *is_ifunc, Bool *is_global);
+typedef struct {
+    ThreadId tid;
+    UInt status;
+} ThreadHead; /* how each entry of valgrind's table of threads begins */
+extern ThreadHead *VG_(get_ThreadState)(ThreadId);
+extern ThreadId VG_(lwpid_to_vgtid)(Int lwp);
+enum { STATUS_RUNS = 2, STATUS_IN_CALL = 3, STATUS_YIELDS = 4 };
+
+#define CALL(number, a, b, c, d) VG_(do_syscall)(number, (UWord)(a), (UWord)(b), (UWord)(c), (UWord)(d), 0, 0, 0, 0)
+
+/* More threads than a trace has harts, so that the tool can say so and the program go on. */
+#define MOST_THREADS 2000
+
+/* turns.c: who runs, in what order. */
+typedef enum {
+    CALL_OTHER,  /* may take its time */
+    CALL_WAITS,  /* waits until another thread wakes it */
+    CALL_YIELDS, /* comes back at once, and gives the turn away */
+    CALL_KEEPS   /* comes back at once, and keeps the turn */
+} Call;
+void turns_call(ThreadId tid, Call call);         /* what the call is that a thread is about to make */
+void turns_woke(Int count);                       /* so many of those that wait come back */
+void turns_expect(ThreadId tid);                  /* a thread is about to exist: the turn is kept for it */
+void turns_forget(ThreadId tid);
+
+#include "trace.h"
+
+#endif

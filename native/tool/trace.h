@@ -1,0 +1,24 @@
+/* What native/tool/trace.c does, for the tool and for the runtime of native/lib. */
+#ifndef PREDATOR_TRACE_H
+#define PREDATOR_TRACE_H
+
+#define MOST_HARTS 256
+
+extern ULong trace_accesses;
+Bool trace_begin(const HChar *path);              /* False where the file can't be written */
+Bool trace_is_open(void);
+Bool trace_has(Int fd);                           /* one of its files */
+void trace_access(UInt hart, Bool writes, Addr addr, UInt size);
+void trace_flush(void);
+void trace_end(Bool by_exit, Int code);
+void trace_stop(const HChar *why);                /* the trace ends here; the program goes on */
+void trace_leave(void);                           /* in a child that was forked: nothing is written there any more */
+void trace_library(void);                         /* a file was mapped that has symbols */
+void trace_resume(void);                          /* recording goes on */
+void trace_block(ThreadId tid, Addr addr, SizeT size);
+void trace_free(ThreadId tid, Addr addr);
+void trace_revive(ThreadId tid, Addr addr);       /* the last block that this thread freed lives on */
+extern Bool trace_records;                        /* accesses are recorded now */
+extern ULong trace_most;                          /* the trace ends after so many, or 0 */
+
+#endif

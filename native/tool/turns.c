@@ -1,0 +1,248 @@
+/* Whose turn it is. This takes the place of valgrind's lock: one thread at a time holds it, and lets it go at the end of its turn or
+   before a call of the system that may wait. Here the threads stand in a ring, in the order of their numbers, and the turn goes to
+   the next one that wants it. A thread that only ends its turn wants the next one from that moment on, and not from when it comes to
+   ask, and so does one that is about to exist. Threads that were woken from a lock or a join are waited for, until they stand in the
+   ring. So the order is the same on every run, as far as what the system's other calls wait for is. */
+#include "tool.h"
+
+typedef struct {
+    Int lwp;     /* the system's number of the thread, or 0 */
+    Bool wants;  /* stands in the ring */
+    Bool sleeps; /* waits at `turn` */
+    UInt turn;   /* 1 once the turn was given to it */
+} Place;
+
+static Place places[MOST_THREADS + 1];
+static ThreadId owner, top; /* who holds the turn, or 0; no place above `top` is in use */
+static Int owner_lwp;
+static Bool held;
+static Int there, wanting; /* places in use, and those of them that stand in the ring */
+static volatile Int busy, due; /* `due` threads were woken and aren't there yet */
+Call turn_calls[MOST_THREADS + 1];
+static Int waiting; /* threads whose call is CALL_WAITS */
+
+static void yield(void) { CALL(__NR_sched_yield, 0, 0, 0, 0); }
+
+static void enter(void)
+{
+    while (__sync_lock_test_and_set(&busy, 1))
+        yield();
+}
+
+static void leave(void) { __sync_lock_release(&busy); }
+
+static void set_wants(Place *it, Bool wants)
+{
+    wanting += wants - it->wants;
+    it->wants = wants;
+}
+
+static void use(ThreadId tid, Int lwp)
+{
+    if (places[tid].lwp == 0)
+        there++;
+    places[tid].lwp = lwp;
+    if (tid > top)
+        top = tid;
+}
+
+static void set_call(ThreadId tid, Call call)
+{
+    waiting += (call == CALL_WAITS) - (turn_calls[tid] == CALL_WAITS);
+    turn_calls[tid] = call;
+}
+
+void turns_call(ThreadId tid, Call call)
+{
+    enter();
+    set_call(tid, call);
+    leave();
+}
+
+void turns_woke(Int count)
+{
+    enter();
+    due += count;
+    leave();
+}
+
+void turns_expect(ThreadId tid)
+{
+    enter();
+    use(tid, -1);
+    set_wants(&places[tid], True);
+    leave();
+}
+
+void turns_forget(ThreadId tid)
+{
+    enter();
+    if (places[tid].lwp != 0)
+        there--;
+    places[tid].lwp = 0;
+    places[tid].turn = 0;
+    set_wants(&places[tid], False);
+    set_call(tid, CALL_OTHER);
+    while (top > 0 && places[top].lwp == 0)
+        top--;
+    leave();
+}
+
+static ThreadId place_of(Int lwp)
+{
+    ThreadId it;
+    for (it = 1; it <= top; it++)
+        if (places[it].lwp == lwp)
+            return it;
+    return 0;
+}
+
+/* The next in the ring behind `tid`, itself last, or 0. */
+static ThreadId next_of(ThreadId tid)
+{
+    ThreadId it;
+    for (it = tid + 1; it <= top; it++)
+        if (places[it].wants)
+            return it;
+    for (it = 1; it <= tid && it <= top; it++)
+        if (places[it].wants)
+            return it;
+    return 0;
+}
+
+static void give(ThreadId tid)
+{
+    Place *it = &places[tid];
+    set_wants(it, False);
+    it->turn = 1;
+    if (it->sleeps)
+        CALL(__NR_futex, &it->turn, VKI_FUTEX_WAKE | VKI_FUTEX_PRIVATE_FLAG, 1, 0);
+}
+
+/* The names that valgrind calls, turned to these by the linker's --wrap. */
+void *__wrap_vgModuleLocal_create_sched_lock(void);
+void __wrap_vgModuleLocal_destroy_sched_lock(void *);
+Int __wrap_vgModuleLocal_get_sched_lock_owner(void *);
+void __wrap_vgModuleLocal_acquire_sched_lock(void *);
+void __wrap_vgModuleLocal_release_sched_lock(void *);
+void __wrap_vgPlain_acquire_BigLock(ThreadId, const HChar *);
+extern void __real_vgPlain_acquire_BigLock(ThreadId, const HChar *);
+
+/* The lock is made at the start, and anew in a child that was forked, which has one thread. */
+void *__wrap_vgModuleLocal_create_sched_lock(void)
+{
+    VG_(memset)(places, 0, sizeof places);
+    VG_(memset)(turn_calls, 0, sizeof turn_calls);
+    owner = top = held = there = wanting = busy = due = waiting = owner_lwp = 0;
+    return places;
+}
+
+void __wrap_vgModuleLocal_destroy_sched_lock(void *lock) {}
+
+Int __wrap_vgModuleLocal_get_sched_lock_owner(void *lock) { return held ? owner_lwp : 0; }
+
+/* Here a thread that is new says its number. */
+void __wrap_vgPlain_acquire_BigLock(ThreadId tid, const HChar *who)
+{
+    Int lwp = VG_(gettid)();
+    if (places[tid].lwp != lwp) {
+        enter();
+        use(tid, lwp);
+        leave();
+    }
+    __real_vgPlain_acquire_BigLock(tid, who);
+}
+
+void __wrap_vgModuleLocal_acquire_sched_lock(void *lock)
+{
+    Int lwp = VG_(gettid)();
+    Bool came = False;
+    enter();
+    ThreadId me = place_of(lwp);
+    if (me == 0) { /* that of a forked child */
+        me = VG_(lwpid_to_vgtid)(lwp);
+        tl_assert(me > 0 && me <= MOST_THREADS);
+        use(me, lwp);
+    }
+    Place *it = &places[me];
+    if (turn_calls[me] == CALL_WAITS) {
+        set_call(me, CALL_OTHER);
+        came = --due == 0;
+    }
+    if (it->turn == 0 && !held) {
+        set_wants(it, False);
+        held = True;
+        owner = me;
+        owner_lwp = lwp;
+        leave();
+        return;
+    }
+    if (it->turn == 0) {
+        set_wants(it, True);
+        it->sleeps = True;
+        leave();
+        if (came)
+            CALL(__NR_futex, &due, VKI_FUTEX_WAKE | VKI_FUTEX_PRIVATE_FLAG, 1, 0);
+        while (*(volatile UInt *)&it->turn == 0)
+            CALL(__NR_futex, &it->turn, VKI_FUTEX_WAIT | VKI_FUTEX_PRIVATE_FLAG, 0, 0);
+        enter();
+        it->sleeps = False;
+    }
+    it->turn = 0;
+    owner = me;
+    owner_lwp = lwp;
+    leave();
+}
+
+/* Waits until all threads that were woken stand in the ring, but not for ever. Called and left with the places entered. */
+static void await_due(void)
+{
+    struct vki_timespec most = {0, 500000000};
+    while (due > 0) {
+        UInt seen = due;
+        leave();
+        SysRes waited = CALL(__NR_futex, &due, VKI_FUTEX_WAIT | VKI_FUTEX_PRIVATE_FLAG, seen, &most);
+        enter();
+        if (sr_isError(waited) && sr_Err(waited) == 110 /* ETIMEDOUT */)
+            due = 0;
+    }
+}
+
+/* A thread alone in the ring never sleeps, so those whose call of the system is done would wait for the system to stop it. Where other
+   programs take the processor each time it is given away, that is done less often. */
+static void let_others_come(void)
+{
+    static UInt skip, skipped;
+    Int before = wanting;
+    ULong began;
+    if (skipped++ < skip)
+        return;
+    skipped = 0;
+    leave();
+    began = __builtin_ia32_rdtsc();
+    yield();
+    enter();
+    skip = wanting == before && __builtin_ia32_rdtsc() - began > 400000 ? (skip < 1000 ? 2 * skip + 1 : skip) : 0;
+}
+
+void __wrap_vgModuleLocal_release_sched_lock(void *lock)
+{
+    ThreadId me = owner, next;
+    UInt status = places[me].lwp ? VG_(get_ThreadState)(me)->status : 0;
+    Bool in_call = status == STATUS_IN_CALL, yields = status == STATUS_YIELDS;
+    enter();
+    if (in_call || yields) /* one that ends may be what the others wait for */
+        await_due();
+    if (yields && wanting == 0 && there - waiting > 1)
+        let_others_come();
+    if (yields || (in_call && (turn_calls[me] == CALL_YIELDS || turn_calls[me] == CALL_KEEPS)))
+        set_wants(&places[me], True);
+    next = in_call && turn_calls[me] == CALL_KEEPS ? me : next_of(me);
+    if (next == 0) {
+        held = False;
+        owner = owner_lwp = 0;
+    } else {
+        give(next);
+    }
+    leave();
+}

@@ -1,0 +1,118 @@
+#!/usr/bin/env python3
+"""What the tries of native/ ask of a trace of version 1, read by docs/FORMATS.md alone.
+
+    judge.py end TRACE            the end of a trace that is whole: `exit CODE` or `part`
+    judge.py accesses TRACE       the number of accesses
+    judge.py taken TRACE NAME     how many writes to the line of 64 bytes at a symbol found it in the cache of another hart
+    judge.py word TRACE NAME AT   `READS WRITES HARTS` of the word of 4 bytes, AT bytes behind a symbol; an access counts once
+    judge.py blocks TRACE NAME    the sizes of the blocks that were made by a call that a function of this name made, each with
+                                  `live` or `freed`
+    judge.py turns TRACE          the longest turn of a hart while another one has accesses before and after
+"""
+
+import struct
+import sys
+
+
+def records(trace, all_of_it):
+    with open(trace, "rb") as file:
+        data = file.read()
+    if data[:8] != b"PRDTRC01":
+        sys.exit("no trace of version 1")
+    place, accesses, access = 20, 0, struct.Struct("<HIB").unpack_from
+    harts, whole = struct.unpack_from("<H", data, 16)[0], len(data)
+    while place < whole:
+        tag = data[place]
+        if tag in (1, 2):
+            hart, addr, size = access(data, place + 1)
+            if size not in (1, 2, 4) or addr % size or hart >= harts:
+                sys.exit(f"a wrong access at {place}")
+            accesses += 1
+            if all_of_it:
+                yield "access", hart, tag == 2, addr
+            place += 8
+        elif tag == 3:
+            yield ("made", *struct.unpack_from("<II4I", data, place + 1))
+            place += 25
+        elif tag == 4:
+            yield "freed", *struct.unpack_from("<I", data, place + 1)
+            place += 5
+        elif tag == 5:
+            kind, addr, size, length = struct.unpack_from("<BIIH", data, place + 1)
+            name = data[place + 12 : place + 12 + length]
+            if kind not in (1, 2) or size == 0 or length > 1024 or 0 in name or len(name) < length:
+                sys.exit(f"a wrong symbol at {place}")
+            yield "symbol", kind, addr, size, name.decode(errors="replace")
+            place += 12 + length
+        elif tag == 6:
+            outcome, cause, hart, value, steps, told = struct.unpack_from("<BBHIQQ", data, place + 1)
+            if told != accesses or place + 25 != len(data) or (cause, hart, steps) != (0, 0, 0):
+                sys.exit(f"a wrong end at {place}")
+            yield "end", outcome, value, accesses
+            return
+        else:
+            sys.exit(f"no record at {place}")
+    sys.exit("the trace has no end")
+
+
+def place_of(all_records, name):
+    for it in all_records:
+        if it[0] == "symbol" and it[1] == 1 and it[4] == name:
+            return it[2]
+    sys.exit(f"no symbol {name}")
+
+
+def taken(all_records, name):
+    line = place_of(all_records, name) // 64 * 64
+    holders, count = set(), 0
+    for it in all_records:
+        if it[0] == "access" and line <= it[3] < line + 64:
+            if it[2]:
+                count += bool(holders - {it[1]})
+                holders = set()
+            holders.add(it[1])
+    return count
+
+
+def word(all_records, name, behind):
+    at = place_of(all_records, name) + int(behind)
+    own = [it for it in all_records if it[0] == "access" and at <= it[3] < at + 4]
+    writes = sum(it[2] for it in own)
+    return f"{len(own) - writes} {writes} {len({it[1] for it in own})}"
+
+
+def blocks(all_records, name):
+    functions = [it for it in all_records if it[0] == "symbol" and it[1] == 2 and it[4] == name]
+    found = []
+    for it in all_records:
+        if it[0] == "made" and any(own[2] <= it[3] < own[2] + own[3] for own in functions):
+            found.append([it[1], it[2], "live"])
+        if it[0] == "freed":
+            for own in found:
+                if own[0] == it[1] and own[2] == "live":
+                    own[2] = "freed"
+    return " ".join(f"{size} {state}" for _, size, state in found)
+
+
+def turns(all_records):
+    harts = [it[1] for it in all_records if it[0] == "access"]
+    longest, begin = 0, 0
+    for at in range(1, len(harts)):
+        if harts[at] != harts[at - 1]:
+            longest, begin = max(longest, at - begin if begin else 0), at
+    return longest
+
+
+def main(words):
+    if len(words) < 2:
+        sys.exit(__doc__)
+    what, *names = words[0], *words[2:]
+    if what in ("end", "accesses"):
+        *_, (_, outcome, value, accesses) = records(words[1], False)
+        print(accesses if what == "accesses" else {0: f"exit {value}", 4: "part"}[outcome])
+    else:
+        all_records = list(records(words[1], what != "blocks"))
+        print({"taken": taken, "word": word, "blocks": blocks, "turns": turns}[what](all_records, *names))
+
+
+main(sys.argv[1:])

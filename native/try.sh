@@ -1,0 +1,349 @@
+#!/usr/bin/env bash
+# Tries the tool and its launcher on good and bad input (Debian: gcc, valgrind, python3; no part of the gate).
+# Its last line is `N passed, M failed, K skipped`.
+set -u
+here=$(dirname "$(readlink -f "$0")")
+run=$here/predator-native
+judge=$here/tries/judge.py
+work=$(mktemp -d "${TMPDIR:-/tmp}/native-try.XXXXXX") || exit 1
+trap 'rm -rf "$work"' EXIT
+cd "$work" || exit 1
+passed=0 failed=0 skipped=0
+
+same() { # NAME WANTED GOT
+    if [ "$2" = "$3" ]; then
+        passed=$((passed + 1))
+    else
+        failed=$((failed + 1))
+        printf 'FAILED %s: wanted %s, got %s\n' "$1" "$2" "$3"
+    fi
+}
+has() { # NAME PART TEXT
+    case $3 in *"$2"*) passed=$((passed + 1)) ;; *) failed=$((failed + 1)); printf 'FAILED %s: no "%s" in: %s\n' "$1" "$2" "$3" ;; esac
+}
+within() { # NAME LEAST MOST GOT
+    if [[ $4 =~ ^[0-9]+$ ]] && [ "$4" -ge "$2" ] && [ "$4" -le "$3" ]; then
+        passed=$((passed + 1))
+    else
+        failed=$((failed + 1))
+        printf 'FAILED %s: wanted %s to %s, got %s\n' "$1" "$2" "$3" "$4"
+    fi
+}
+skip() { skipped=$((skipped + 1)); echo "skipped $1"; }
+
+if ! command -v gcc >/dev/null || ! command -v python3 >/dev/null || [ ! -x /usr/bin/valgrind.bin ]; then
+    skip "all: gcc, python3 and valgrind are wanted"
+    echo "0 passed, 0 failed, 1 skipped"
+    exit 0
+fi
+if [ ! -x "$here/out/predator-amd64-linux" ] && ! "$here/build" >build.log 2>&1; then
+    cat build.log
+    echo "0 passed, 1 failed, 0 skipped"
+    exit 1
+fi
+for name in counters kinds odd locks; do
+    gcc -O1 -g -pthread "$here/tries/$name.c" -o $name 2>gcc.log || { cat gcc.log; echo "0 passed, 1 failed, 0 skipped"; exit 1; }
+done
+gcc -O1 -g -pthread -DAPART "$here/tries/counters.c" -o apart
+gcc -O1 -g -pthread -static "$here/tries/counters.c" -o static 2>/dev/null
+gcc -O1 -g -pthread -DMARKS "$here/tries/odd.c" -o marked
+gcc -O1 -g -pthread "$here/tries/wide.c" -o wide
+
+# The turns, and what is taken.
+began=$SECONDS
+for row in "1 79000 80000" "10 15000 16500" "100 1500 1700" "1000 150 170"; do
+    set -- $row
+    same "counters at $1" "sum 80000" "$("$run" --quantum "$1" --trace t -- ./counters 2>&1)"
+    within "takings at $1" "$2" "$3" "$("$judge" taken t counters)"
+    same "end at $1" "exit 0" "$("$judge" end t)"
+done
+same "a word's accesses" "10000 10000 1" "$("$judge" word t counters 4)"
+"$run" --quantum 50 --trace t -- ./counters >/dev/null 2>&1
+within "longest turn" 50 300 "$("$judge" turns t)"
+"$run" --trace t -- ./apart >/dev/null 2>&1
+same "apart: nothing is taken" 0 "$("$judge" taken t counters)"
+
+# The same bytes on every run.
+for name in counters kinds; do
+    for it in 1 2 3; do "$run" --trace same$it -- ./$name >/dev/null 2>&1; done
+    same "$name: the same trace" "same same" "$(cmp -s same1 same2 && echo same) $(cmp -s same1 same3 && echo same)"
+    same "$name: the same table" "same" "$(cmp -s same1.table same3.table && cmp -s same1.names same3.names && echo same)"
+done
+
+# What is recorded of each kind of access.
+right="right 4 added 4000 swapped 4000 counted 4000 turn 200 spinning 200
+7"
+same "kinds" "$right" "$("$run" --trace t -- ./kinds 2>&1; echo $?)"
+same "kinds at 3" "$right" "$("$run" --quantum 3 --trace t3 -- ./kinds 2>&1; echo $?)"
+same "an atomic is one write" "0 4000 4" "$("$judge" word t added 0)"
+same "8 bytes are two" "0 4000 4" "$("$judge" word t added 4)"
+"$run" --trace w -- ./wide
+while read -r at want; do
+    same "wide at $at" "$want" "$("$judge" word w area "$at")"
+done <<'ROWS'
+0 0 1000 1
+4 0 1000 1
+12 0 2000 1
+16 0 1000 1
+20 0 1000 1
+64 2000 0 1
+128 0 1000 1
+140 0 1000 1
+192 1000 0 1
+220 1000 0 1
+256 1000 0 1
+512 1000 0 1
+524 1000 0 1
+576 0 1000 1
+588 0 1000 1
+640 0 1000 1
+704 0 1000 1
+768 1000 1000 1
+832 0 0 0
+2048 0 4000 1
+ROWS
+
+sums="begun 1 written 2400 right 1200 spun 1200 passed 600 late 4 signalled 4 busy 1 timed 1"
+for quantum in 1 100; do
+    same "locks at $quantum" "$sums" "$("$run" --quantum $quantum --trace t3 -- ./locks 2>&1)"
+done
+"$run" --quantum 3 --trace t3 -- ./kinds >/dev/null 2>&1
+
+# Blocks: each function that makes them, and where they lie in the source.
+has "blocks" "24 freed 24 freed 24 freed 24 freed" "$("$judge" blocks t work)"
+for size in 10 5000 128 100; do
+    has "a block of $size" "$size" "$("$judge" blocks t3 work)"
+done
+has "a refused realloc leaves the block" "100 live" "$("$judge" blocks t work)"
+has "a call site's line" "kinds.c:" "$(grep ' work ' t.names)"
+
+# What is recorded when.
+"$run" --trace part -- ./odd >/dev/null 2>&1
+"$run" --all --trace whole -- ./odd >/dev/null 2>&1
+within "--all records more" "$(($("$judge" accesses part) + 1000))" 100000000 "$("$judge" accesses whole)"
+"$run" --most 1000 --trace few -- ./odd >few.log 2>&1
+same "--most" "1000 part" "$("$judge" accesses few) $("$judge" end few)"
+has "--most says so" "that many accesses were asked for" "$(cat few.log)"
+"$run" --marked --trace marked.t -- ./marked >/dev/null 2>&1
+same "--marked" "0 0 0" "$("$judge" word marked.t shared 8)"
+same "--marked has what is marked" "20000 20000 1" "$("$judge" word marked.t shared 4)"
+has "--marked without marks" "no PREDATOR_START was reached" "$("$run" --marked --trace t -- ./odd 2>&1)"
+has "one thread" "had one thread" "$("$run" --trace t -- /bin/true 2>&1)"
+same "one thread is a whole trace" "exit 0" "$("$judge" end t)"
+
+# Programs that end or behave in odd ways: the status, what they print, and how the trace ends.
+odd() { # MODE STATUS END OUTPUT
+    local said status
+    said=$(echo hello | "$run" --trace o -- ./odd "$1" 2>o.log)
+    status=$?
+    same "$1: status" "$2" "$status"
+    same "$1: end" "$3" "$("$judge" end o)"
+    same "$1: output" "$4" "$said"
+}
+odd kill 137 part "" 2>/dev/null
+odd fault 139 part "" 2>/dev/null
+odd abort 134 part "" 2>/dev/null
+odd catch 6 "exit 6" caught
+odd fork 6 "exit 6" "child
+parent 0"
+odd system 6 "exit 6" "system 3"
+odd childless 6 "exit 6" "no child"
+odd exec 0 part "another program"
+odd close 6 "exit 6" closed
+odd closeall 6 "exit 6" ""
+odd large 6 part large
+has "large says so" "more than 4080 MiB" "$(cat o.log)"
+odd block 6 "exit 6" block
+odd detached 9 "exit 9" ""
+odd main-ends 0 "exit 0" ""
+odd limit 6 "exit 6" limited
+odd input 6 "exit 6" hello
+has "standard error" "to standard error" "$(cat o.log)"
+odd signals 6 "exit 6" ""
+odd churn 6 "exit 6" churned
+rm -f o o.*
+
+said=$("$run" --trace t -- ./odd many 300 2>t.log; echo $?)
+same "300 threads" "many 300
+6" "$said"
+has "300 threads say so" "more than 256 threads" "$(cat t.log)"
+same "300 threads: end" part "$("$judge" end t)"
+same "256 threads" "many 255 exit 6" "$("$run" --trace t -- ./odd many 255 2>&1) $("$judge" end t)"
+if [ -x static ]; then
+    said=$("$run" --trace t -- ./static 2>&1)
+    has "static" "sum 80000" "$said"
+    has "static says so" "loads no libraries" "$said"
+    within "static: takings" 1500 1700 "$("$judge" taken t counters)"
+else
+    skip "a static program: it can't be linked here"
+fi
+rm -f t t3 w same* whole part
+
+# What is refused before the program runs.
+refused() { # NAME STATUS PART WORDS ..
+    local name=$1 status=$2 part=$3 said
+    shift 3
+    said=$("$run" "$@" 2>&1 </dev/null)
+    same "$name: status" "$status" "$?"
+    has "$name" "$part" "$said"
+}
+printf 'no program\n' >text
+cp text script
+printf '#!/bin/sh\n' >script
+head -c 4 ./odd >elf32
+printf '\001\001\001\000\000\000\000\000\000\000\000\000\002\000\003\000' >>elf32
+head -c 18 ./odd >arm
+printf '\267\000' >>arm
+cp odd cut
+truncate -s 100 cut
+cp odd owned
+chmod u+s owned
+cp odd unread
+chmod +x text script elf32 arm cut
+mkdir folder
+refused "no words" 125 "no program is named"
+refused "no program" 125 "no program is named" --quantum 5 --
+refused "an unknown option" 125 "'--quick' is no option" --quick -- ./odd
+refused "no --" 125 "stands before --" ./odd
+refused "quantum 0" 125 "'--quantum' is 1 to 100000" --quantum 0 -- ./odd
+refused "quantum 100001" 125 "'--quantum' is 1 to 100000" --quantum=100001 -- ./odd
+refused "quantum x" 125 "'--quantum' is 1 to 100000" --quantum 1x -- ./odd
+refused "quantum without a value" 125 "wants a value" --quantum
+refused "most 0" 125 "'--most' is" --most 0 -- ./odd
+refused "all and marked" 125 "two ways" --all --marked -- ./odd
+refused "trace and report" 125 "there is no report" --trace t --report r -- ./odd
+refused "trace and size" 125 "has no use" --trace t --size 4 -- ./odd
+refused "not there" 127 "there is no such program" --trace t -- ./nowhere
+refused "a folder" 126 "this is no file" --trace t -- ./folder
+refused "not executable" 126 "may not be executed" --trace t -- ./gcc.log
+refused "a text" 126 "this is no program" --trace t -- ./text
+refused "a script" 126 "this is a script" --trace t -- ./script
+refused "32 bits" 126 "no program for x86-64" --trace t -- ./elf32
+refused "another machine" 126 "no program for x86-64" --trace t -- ./arm
+refused "set-user-id" 126 "another user's" --trace t -- ./owned
+refused "the trace is a folder" 125 "this is a folder" --trace folder -- ./odd
+refused "the trace is the program" 125 "this is the program" --trace odd -- ./odd
+ln -s odd odd.link
+refused "the trace is the program by a link" 125 "this is the program" --trace odd.link -- ./odd
+ln -s odd x.table
+refused "the table is the program" 125 "this is the program" --trace x -- ./odd
+refused "the trace can't be written" 125 "No such file or directory" --trace no/where -- ./odd
+refused "a cut program" 126 "ends before its header does" --trace t -- ./cut
+same "the program stays as it is" 6 "$(./odd; echo $?)"
+if [ "$(id -u)" = 0 ]; then
+    skip "a program that may not be read: root reads all"
+else
+    chmod a-r unread
+    refused "may not be read" 126 "may not be read" --trace t -- ./unread
+fi
+
+# A full disk, a limit, a pipe that nobody reads any more: the program goes on, and what stands is a whole trace where it can be.
+refused "a full device" 125 "/dev/full: No space left on device" --trace /dev/full -- ./odd
+said=$(ulimit -f 3000; "$run" --trace t -- ./odd close 2>&1)
+same "a limit: status" 6 "$?"
+has "a limit" "t: File too large" "$said"
+has "a limit: the program goes on" "closed" "$said"
+same "a limit: end" part "$("$judge" end t)"
+mkdir disk
+if mount -t tmpfs -o size=3m tmpfs disk 2>/dev/null; then
+    said=$("$run" --trace disk/t -- ./odd close 2>&1)
+    same "a full disk: status" 6 "$?"
+    has "a full disk" "disk/t: No space left on device" "$said"
+    same "a full disk: end" part "$("$judge" end disk/t)"
+    umount disk
+else
+    skip "a full disk: no file system can be mounted"
+fi
+mkfifo pipe
+head -c 100000 pipe >/dev/null &
+said=$("$run" --trace pipe -- ./odd close 2>&1)
+same "a pipe that ends: status" 6 "$?"
+has "a pipe that ends" "pipe: Broken pipe" "$said"
+has "a pipe that ends: the program goes on" "closed" "$said"
+cat pipe >from-pipe &
+"$run" --trace pipe -- ./counters >/dev/null 2>&1
+wait
+"$run" --trace file -- ./counters >/dev/null 2>&1
+same "through a pipe" same "$(cmp -s from-pipe file && echo same)"
+"$run" --trace t -- ./odd endless >/dev/null 2>&1 &
+pid=$!
+sleep 3
+kill -9 $pid
+wait $pid 2>/dev/null
+same "killed: end" part "$("$judge" end t)"
+within "killed: accesses" 1 1000000000 "$("$judge" accesses t)"
+
+# The second way: programs that are compiled with -fsanitize=thread and linked with the runtime.
+for name in counters kinds odd locks; do
+    gcc -O1 -g -fsanitize=thread -pthread "$here/tries/$name.c" -o $name.tsan -L"$here/out/lib" 2>gcc.log || cat gcc.log
+done
+for row in "1 79900 80000" "10 15900 16100" "100 1590 1620" "1000 155 170"; do
+    set -- $row
+    same "built: counters at $1" "sum 80000" "$("$run" --built --quantum "$1" --trace t -- ./counters.tsan 2>&1)"
+    within "built: takings at $1" "$2" "$3" "$("$judge" taken t counters)"
+done
+same "built: a word's accesses" "10000 10000 1" "$("$judge" word t counters 4)"
+for it in 1 2 3; do said=$("$run" --built --trace same$it -- ./kinds.tsan 2>&1; echo $?); done
+same "built: kinds" "$right" "$said"
+if setarch -R true 2>/dev/null; then
+    same "built: the same trace" "same same" "$(cmp -s same1 same2 && echo same) $(cmp -s same1 same3 && echo same)"
+else
+    skip "built: the same trace: the system doesn't let memory lie where it lay"
+fi
+for quantum in 1 100; do
+    same "built: locks at $quantum" "$sums" "$("$run" --built --quantum $quantum --trace t -- ./locks.tsan 2>&1)"
+done
+same "built: an atomic is one write" "0 4000 4" "$("$judge" word same1 added 0)"
+rm -f same*
+built() { # MODE STATUS END OUTPUT
+    local said status
+    said=$(echo hello | "$run" --built --trace o -- ./odd.tsan $1 2>o.log)
+    status=$?
+    same "built: $1: status" "$2" "$status"
+    same "built: $1: end" "$3" "$("$judge" end o)"
+    same "built: $1: output" "$4" "$said"
+}
+built kill 137 part "" 2>/dev/null
+built fault 139 part "" 2>/dev/null
+built abort 134 part "" 2>/dev/null
+built catch 6 "exit 6" caught
+built system 6 "exit 6" "system 3"
+built childless 6 "exit 6" "no child"
+built exec 0 part "another program"
+built close 6 part closed
+has "built: close says so" "the program closed the trace" "$(cat o.log)"
+built closeall 6 "exit 6" ""
+built large 6 part large
+built block 6 "exit 6" block
+built detached 9 "exit 9" ""
+built main-ends 0 "exit 0" ""
+built churn 6 "exit 6" churned
+built signals 6 "exit 6" ""
+built limit 6 "exit 6" limited
+built input 6 "exit 6" hello
+built "many 300" 6 part "many 300"
+built "many 255" 6 "exit 6" "many 255"
+same "built: fork" "6 child parent 0" "$("$run" --built --trace o -- ./odd.tsan fork >o.out 2>&1; echo $? $(sort o.out))"
+said=$(ulimit -f 3000; "$run" --built --trace t -- ./odd.tsan close 2>&1)
+same "built: a limit" 6 "$?"
+refused "built: not linked so" 126 "wasn't linked with" --built --trace t -- ./counters
+refused "built: marks" 125 "has no marks" --built --marked -- ./counters.tsan
+refused "built: the trace can't be written" 125 "No such file or directory" --built --trace no/where -- ./counters.tsan
+
+# The report, where the proved program is built.
+if [ -x "$here/../crates/predator/out/predator" ] || [ -n "${PREDATOR:-}" ]; then
+    said=$("$run" --report r -- ./counters 2>r.log)
+    same "report: output" "sum 80000" "$said"
+    has "report" "object symbol counters " "$(cat r)"
+    same "report: its last line" end "$(tail -n 1 r)"
+    same "report on standard error" "same" "$("$run" -- ./counters 2>&1 >/dev/null | cmp -s - r && echo same)"
+    has "apart: no line" "lines 0" "$("$run" -- ./apart 2>&1)"
+    "$run" --report r --settings nowhere -- ./counters >r.out 2>r.log
+    same "no settings: the program's status" 0 "$?"
+    has "no settings" "the replay ended with status" "$(cat r.log)"
+else
+    skip "reports: the program isn't built (bin/predator builds it)"
+fi
+
+echo "$passed passed, $failed failed, $skipped skipped"
+[ "$failed" -eq 0 ]
