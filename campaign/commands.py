@@ -1,0 +1,17 @@
+"""The commands that make a result again, as a user types them into bash."""
+
+import shlex
+
+
+def settings_text(record):
+    """The settings file of a run."""
+    return "".join(f"{key} = {value}\n" for key, value in {**record["settings"], "seed": record["seed"]}.items())
+
+
+def command_of(record, call="run"):
+    """The command of a run, or of a count of its trace."""
+    text = settings_text(record).replace("\n", "\\n")
+    words = f"predator run {shlex.quote(record['program']['file'])} --settings <(printf '{text}')"
+    if record["schedule"]:
+        words += f" --schedule {shlex.quote(record['schedule']['file'])}"
+    return words if call == "run" else f"{words} --trace trace >report; predator {call} -- trace"

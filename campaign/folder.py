@@ -1,0 +1,47 @@
+"""The folder of a campaign: `campaign.json`, which is what its plan asks for, written out."""
+
+import hashlib
+import json
+import os
+
+CAMPAIGN = "campaign.json"
+
+
+def campaign_of(folder):
+    with open(os.path.join(folder, CAMPAIGN), encoding="utf-8") as file:
+        return json.load(file)
+
+
+def spans(seeds):
+    """Numbers that rise by one as a first and a last each."""
+    found = []
+    for it in seeds:
+        if found and found[-1][1] == it - 1:
+            found[-1][1] = it
+        else:
+            found.append([it, it])
+    return found
+
+
+def seeds_in(batch):
+    return [it for first, last in batch["seeds"] for it in range(first, last + 1)]
+
+
+def of_group(campaign, group):
+    """What each result of a group stands on, but for its seed."""
+    program = campaign["programs"][group["program"]]
+    return {
+        "predator": campaign["predator"]["sha256"],
+        "program": program["sha256"],
+        "schedule": program["schedule"]["sha256"] if program["schedule"] else None,
+        "settings": group["settings"],
+    }
+
+
+def short(value):
+    """The beginning of a value's sum, which stands for it in a file's name."""
+    return hashlib.sha256(json.dumps(value).encode()).hexdigest()[:12]
+
+
+def written(campaign):
+    return json.dumps(campaign, indent=1, sort_keys=True) + "\n"

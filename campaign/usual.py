@@ -1,0 +1,91 @@
+#!/usr/bin/python3
+"""Sets what the usual schedule lists beside what the seeds list.
+
+usage: campaign/usual.py [--lines] FOLDER       the folder of a campaign whose seeds have 0, the usual schedule, among them
+
+Prints, for each program and settings, how many objects the usual schedule lists, by the lines that it observes, and of these how many are
+listed in every seed and in fewer than a half; then how many objects it doesn't list and some seed does, and of these how many are listed in
+a half of the seeds or more, and in one of ten or fewer. Then it names the object
+with the greatest count in most seeds, and the objects that set the two apart: those of the usual schedule that
+fewer than a half of the seeds list, and those that seeds alone list; each with its count there, in how many seeds it is listed, its counts in
+them, and the seed of the greatest. --lines takes each line by itself, and not all of an
+object as one."""
+
+import os
+import sys
+from collections import Counter
+
+HERE = os.path.dirname(os.path.abspath(__file__))
+sys.path[:0] = [HERE, os.path.join(HERE, "..", "view")]
+
+from folder import campaign_of  # noqa: E402
+from table import family, middle, own_name, read, settings_of  # noqa: E402
+
+HEADS = ("program", "settings", "seeds", "usual", "in every seed", "in fewer than half", "others", "in half or more", "in a tenth or fewer")
+APART = ("program", "settings", "object", "usual count", "seeds", "least", "middle", "greatest", "worst seed")
+
+
+def listed(part, groups, by_lines):
+    """Of each group the counts of each object, or of each line, in each seed that lists it under the run's own lines."""
+    found = {at: {} for at in groups}
+    for (group, _, kind, key), (names, seen) in part.lines.items():
+        counts = {seed: count for seed, count, _ in seen if count is not None}
+        if kind == "observed" and counts:
+            name, offset = own_name(key, sorted(names, key=lambda it: (-names[it], it)))
+            own = found[group].setdefault(f"{name} {offset:+}" if by_lines else family(name), Counter())
+            for seed, count in counts.items():
+                own[seed] = max(own[seed], count)
+    return found
+
+
+def drawn_of(counts):
+    return {seed: count for seed, count in counts.items() if seed}
+
+
+def told(name, counts):
+    """An object's count in the usual schedule, in how many seeds it is listed, its counts there, and the seed of the greatest."""
+    seeds = drawn_of(counts)
+    worst = max(seeds, key=lambda it: (seeds[it], -it)) if seeds else "-"
+    return name, counts.get(0, "-"), len(seeds), *("-" if it is None else it for it in middle(seeds.values())), worst
+
+
+def worst(objects):
+    """The object that is the worst one by the middle of its counts."""
+    return max(objects, key=lambda it: (middle(drawn_of(objects[it]).values())[1] or 0, it))
+
+
+def apart(objects, drawn):
+    """The objects that the usual schedule lists and fewer than a half of the seeds do, and those that seeds alone list."""
+    return [name for name, counts in sorted(objects.items()) if 0 not in counts or 2 * (len(counts) - 1) < drawn]
+
+
+def main(words):
+    by_lines, names = "--lines" in words, [it for it in words if it != "--lines"]
+    if len(names) != 1 or names[0].startswith("-"):
+        print(__doc__)
+        return 0 if names in (["-h"], ["--help"]) else 1
+    os.chdir(names[0])
+    campaign = campaign_of(".")
+    part, _ = read(campaign)
+    runs, first, rows = Counter(it[0] for it in part.runs), [], []
+    print(*HEADS, sep="\t")
+    for at, objects in listed(part, range(len(campaign["groups"])), by_lines).items():
+        group = campaign["groups"][at]
+        head, drawn = (group["program"], settings_of(group)), runs[at] - 1
+        usual = [len(counts) - 1 for counts in objects.values() if 0 in counts]
+        others = [len(counts) for counts in objects.values() if 0 not in counts]
+        numbers = [len(usual), sum(it == drawn for it in usual), sum(2 * it < drawn for it in usual)]
+        numbers += [len(others), sum(2 * it >= drawn for it in others), sum(10 * it <= drawn for it in others)]
+        print(*head, drawn, *numbers, sep="\t")
+        first += [(*head, *told(it, objects[it])) for it in ([worst(objects)] if objects else [])]
+        rows += [(*head, *told(it, objects[it])) for it in apart(objects, drawn)]
+    for part in (first, rows):
+        print()
+        print(*APART, sep="\t")
+        for it in part:
+            print(*it, sep="\t")
+    return 0
+
+
+if __name__ == "__main__":
+    sys.exit(main(sys.argv[1:]))
