@@ -1,0 +1,166 @@
+"""What to do about an object, in a sentence: which of its fields belong apart, or that it is shared truly."""
+
+import re
+
+# A word whose own misses are fewer than one in so many accesses is one hart's, but for looks at the start and the end.
+SELDOM = 20
+# So many fields are named; the rest are a number.
+NAMED = 4
+INDEX = re.compile(r"\[\d+\]")
+
+
+def patterns(names):
+    """The names, those of more than two elements of an array as one: `slots[..]`."""
+    names, found = list(dict.fromkeys(names)), {}
+    for it in names:
+        found.setdefault(INDEX.sub("[..]", it), []).append(it)
+    return [one for pattern, own in found.items() for one in ([pattern] if len(own) > 2 else own)]
+
+
+def listing(names):
+    """Some names in a row, and how many more there are."""
+    names = patterns(names)
+    more = len(names) - NAMED
+    if more > 1:
+        return ", ".join(names[:NAMED]) + f" and {more} more"
+    return ", ".join(names[:-1]) + " and " + names[-1] if len(names) > 1 else "".join(names)
+
+
+def is_shared(word):
+    """Whether harts hand a word to each other; a word's own misses tell, and without them its harts."""
+    if word.useful is None:
+        return word.hart == "many" and word.writes > 0
+    return word.writes > 0 and word.useful * SELDOM > word.reads + word.writes
+
+
+def arrays(names):
+    """The array in which some names first differ, or none: `stats[1].low` and `stats[2].low` differ in `stats`."""
+    heads = [[name[: it.start()] for it in INDEX.finditer(name)] for name in names]
+    indices = [INDEX.findall(name) for name in names]
+    for depth in range(min((len(it) for it in heads), default=0)):
+        if len({it[depth] for it in heads}) > 1:
+            return None
+        if len({it[depth] for it in indices}) > 1:
+            return heads[0][depth]
+    return None
+
+
+def groups(words):
+    """The words by whose they are: each hart's own, each shared one alone, and those that are only read."""
+    found = {}
+    for it in sorted(words, key=lambda it: -it.writes):
+        if is_shared(it):
+            found.setdefault(("shared", INDEX.sub("[..]", it.name)), []).append(it)
+        elif it.hart != "many":
+            found.setdefault((f"hart {it.hart}", ""), []).append(it)
+        elif it.writes:
+            found.setdefault(("one hart", it.name), []).append(it)
+    return found
+
+
+def told(key, words):
+    """A group of words, and whose it is."""
+    return f"{listing(it.name for it in words)} ({key[0]})"
+
+
+def lines(words):
+    """The words by their lines."""
+    found = {}
+    for it in words:
+        found.setdefault(it.base, []).append(it)
+    return list(found.values())
+
+
+def fought(own):
+    """The words of the first line that has words of several harts."""
+    return next((it for it in lines(own) if len(groups(it)) > 1), own and lines(own)[0])
+
+
+def groups_apart(own, thing, size):
+    """Which words of a line belong apart."""
+    found = groups(own)
+    if len(found) > 2 and not any(it.element for it in own) and all(key[0] != "shared" for key in found):
+        return f"harts have words of their own in {thing.name}: give each hart's lines of their own, with `alignas({size})` on the type of its elements"
+    if len(found) < 2:
+        return f"begin {thing.name} on a line of its own, with `alignas({size})`"
+    first = [told(key, it) for key, it in found.items()][: NAMED + 1]
+    more = len(found) - len(first)
+    return f"these belong apart, with `alignas({size})` before each: " + "; ".join(first) + (f"; and {more} more" if more else "")
+
+
+def apart(words, thing, size, element):
+    """Which of an object's words belong apart; `element` tells the type of an array's elements."""
+    own = [it for it in words if it.key == thing.key]
+    if thing.key[0] == "stack":
+        return f"other harts use variables of this stack: `alignas({size})` on these, or a place of their own"
+    if thing.key[0] == "block" and any(len({it.begin for it in line}) > 1 for line in lines(own)):
+        return f"let no two of these blocks share a line: `aligned_alloc({size}, ..)`, with sizes that are multiples of {size}"
+    own = fought(own)
+    array = arrays([it.name.partition(", ")[0] for it in own if it.writes])
+    if array is not None:
+        return f"give each element of {array or 'it'} lines of its own: `alignas({size})` on {element(array) or 'the type of an element'}"
+    return groups_apart(own, thing, size)
+
+
+def neighbours(words, thing, names):
+    """The names of the objects that another one is fought with on its worst line, as far as its words tell."""
+    if not words:
+        return list(names.values())
+    line, found = [it for it in words if it.base == words[0].base], {}
+    own = any(it.writes for it in line if it.key == thing.key)
+    for it in line:
+        if own or it.writes:
+            found[it.key] = found.get(it.key, 0) + it.reads + it.writes
+    # (what is looked at once or twice doesn't fight)
+    return [names[key] for key, much in found.items() if key in names and much * SELDOM > sum(found.values())]
+
+
+def cost(thing, words):
+    """What lines of their own would cost the words more, where they would."""
+    own = sum(it.useful or 0 for it in words if it.key == thing.key)
+    more = own - thing.useful - thing.useless
+    return f"; a line for each of its words would miss {more} times more" if more > 0 else ""
+
+
+def placing(placed, name):
+    """What `place` says of the object, or nothing; `name` tells a word's name by its address."""
+    if placed is None:
+        return ""
+    if placed.after >= placed.before:
+        return f"; `place` gains nothing: with its words put apart by their harts, lines are taken {placed.after} times in all, and {placed.before} as they lie"
+    found = {}
+    for addr, (_, hart) in placed.words.items():
+        found.setdefault("many harts" if hart == "many" else f"hart {hart}", []).append(name(addr))
+    told = [f"{listing(names)} ({whose})" for whose, names in found.items()]
+    more = len(told) - NAMED
+    where = "; ".join(told[:NAMED]) + (f"; and {more} more" if more > 0 else "")
+    return f"; `place` puts its words apart by their harts, {where}: then lines are taken {placed.after} times in all, and not {placed.before}"
+
+
+def is_true(thing, is_counted):
+    if is_counted:
+        return thing.useless < thing.useful
+    return {it.line.verdict for it in thing.spots if it.line} == {"true"}
+
+
+def sentence(thing, words, names, size, is_counted, element):
+    """What to do; the words are those of the worst line first, and `names` those of the objects beside it by their keys."""
+    total = thing.useful + thing.useless
+    if is_counted and not total:
+        return "nothing: its lines are taken, and yet no hart misses them"
+    if is_counted and not words and thing.useless:
+        return f"{thing.useless} of {total} misses bring nothing new; with a lower `report` (and `tracking`) in the settings its words are told"
+    shared = listing(it.name for it in sorted(words, key=lambda it: -it.writes) if is_shared(it) and it.key == thing.key) or thing.name
+    if is_true(thing, is_counted) and (not is_counted or thing.useless * SELDOM < thing.useful):
+        much = f" ({thing.useful} of {total} misses bring what another hart wrote)" if is_counted else ""
+        return f"the sharing of {shared} is true{much}: write it less often, or give each hart its own; padding doesn't help" + cost(thing, words)
+    beside = neighbours(words, thing, names)
+    if beside:
+        what = f"{thing.name} and {listing(beside)} share lines: put `alignas({size})` on each"
+    else:
+        what = apart(words, thing, size, element)
+    if not is_counted:
+        return what
+    if is_true(thing, is_counted):
+        return f"{thing.useful} of {total} misses bring what another hart wrote, so write {shared} less often; to save up to {thing.useless} more, {what}"
+    return f"{what}; this saves up to {thing.useless} of {total} misses" + cost(thing, words)

@@ -1,0 +1,176 @@
+"""What machines read: JSON, by view/schema.json, and SARIF 2.1.0, which editors and code hosts show at the source's line."""
+
+import json
+import os
+import urllib.parse
+
+from calls import TOP
+from naming import shown
+
+FORMAT = "predator view 1"
+SARIF = "https://raw.githubusercontent.com/oasis-tcs/sarif-spec/master/Schemata/sarif-schema-2.1.0.json"
+RULES = {
+    "false-sharing": ("Useless misses", "Harts take a line from each other although they use different words of it."),
+    "true-sharing": ("Useful misses", "Harts hand words to each other: padding doesn't help, writing less often does."),
+    "predicted-sharing": ("Predicted useless misses", "Lines would be taken falsely if data lay otherwise, or lines were longer."),
+}
+
+
+def instruction(view, addr):
+    place = view.naming.sources.place(addr) if view.naming.sources else None
+    return {
+        "address": shown(addr),
+        "function": place.function if place else "",
+        "file": place.file if place else "",
+        "line": place.line if place else 0,
+    }
+
+
+def site(view, it):
+    found = instruction(view, it.addr)
+    return {**found, "function": found["function"] or it.name}
+
+
+def line(spot, size):
+    listed, missed = spot.line, spot.missed
+    return {
+        "base": shown(spot.base),
+        "size": size,
+        "start": listed.start if listed else None,
+        "count": listed.count if listed else None,
+        "verdict": listed.verdict if listed else None,
+        "cold": missed.cold if missed else None,
+        "useful": missed.useful if missed else None,
+        "useless": missed.useless if missed else None,
+    }
+
+
+def word(it, own):
+    hart = None if it.hart == "many" else int(it.hart)
+    return {"address": shown(it.addr), "field": it.name, "own": it.key == own, "reads": it.reads, "writes": it.writes, "hart": hart, "needed": it.useful}
+
+
+def thing(view, it):
+    seen = view.seen(it)
+    explained = seen.explained
+    known = view.misses is not None
+    return {
+        "name": it.name,
+        "kind": it.key[0],
+        "key": view.keys[it.key],
+        "useless": it.useless if known else None,
+        "useful": it.useful if known else None,
+        "count": it.count,
+        "lives": len(it.lives),
+        "beside": [view.all[key].name for key in it.beside],
+        "declared": {"file": seen.declared[0], "line": seen.declared[1]} if seen.declared else None,
+        "sites": [site(view, one) for one in it.example.sites] if it.key[0] == "block" else [],
+        "todo": seen.todo,
+        "worst": seen.worst().name if seen.worst() else None,
+        "lines": [line(spot, view.report.size) for spot in it.spots],
+        "words": [word(one, it.key) for one in seen.words],
+        "fights": [
+            {"taker": instruction(view, one.taker), "victim": instruction(view, one.victim), "taken": one.taken, "same": one.same}
+            for one in (explained.pairs[:8] if explained else [])
+        ],
+        "harts": [{"from": a, "to": b, "taken": taken} for (a, b), taken in (sorted(explained.harts.items()) if explained else [])],
+    }
+
+
+def foretold(view, it):
+    return {
+        "kind": it.line.kind,
+        "base": shown(it.line.base),
+        "size": it.line.size,
+        "start": it.line.start,
+        "count": it.line.count,
+        "verdict": it.line.verdict,
+        "objects": [view.name_of(key) for key in it.keys],
+        "useless": it.useless,
+        "inside": it.inside,
+        "shown": it.is_shown,
+        "why": it.why,
+    }
+
+
+def record(view):
+    """All that was found, as schema.json has it."""
+    report, program = view.report, view.naming.program
+    return {
+        "format": FORMAT,
+        "subject": view.call.subject,
+        "program": {"file": program.path, "sha256": program.sha256} if program else None,
+        "outcome": report.outcome,
+        "steps": report.steps,
+        "accesses": report.accesses,
+        "layout": {"size": report.size, "offset": report.offset},
+        "thresholds": dict(zip(("tracking", "prediction", "report"), (None if it == "none" else int(it) for it in report.thresholds))),
+        "total": view.misses.total if view.misses else None,
+        "objects": [thing(view, it) for it in view.chosen()],
+        "predicted": [foretold(view, it) for it in view.foretold()],
+        "notes": view.notes,
+    }
+
+
+def json_text(view):
+    return json.dumps(record(view), indent=1, ensure_ascii=True) + "\n"
+
+
+def location(view, file, number):
+    """A line of a source, by its path from this folder on where it is there, and else as it was compiled."""
+    path = os.path.normpath((view.naming.sources.path(file) if view.naming.sources else None) or file)
+    below = os.path.relpath(path)
+    path = path if below.startswith("..") else below
+    uri = ("file://" if os.path.isabs(path) else "") + urllib.parse.quote(path, errors="surrogateescape")
+    return {"physicalLocation": {"artifactLocation": {"uri": uri}, "region": {"startLine": number}}}
+
+
+def told(text):
+    """A sentence."""
+    return text[:1].upper() + text[1:] + "."
+
+
+def locations(view, it):
+    """Where an object's sharing happens in the sources: the lines that fight, and else where it is declared or made."""
+    fight = view.seen(it).fight()
+    places = [view.naming.sources.place(at) for at in (fight.taker, fight.victim)] if fight and view.naming.sources else []
+    found = [location(view, place.file, place.line) for place in dict.fromkeys(places) if place]
+    declared = view.seen(it).declared
+    return found or ([location(view, *declared)] if declared else [])
+
+
+def result(view, it):
+    known = view.misses is not None
+    is_false = it.useless >= it.useful if known else any(spot.line and spot.line.verdict != "true" for spot in it.spots)
+    much = f"{it.useless} useless and {it.useful} useful misses, count {it.count}" if known else f"count {it.count}"
+    declared = view.seen(it).declared
+    return {
+        "ruleId": "false-sharing" if is_false else "true-sharing",
+        "level": "warning" if is_false else "note",
+        "message": {"text": f"{it.name}: {much}, lines: {len(it.spots)}. {told(view.seen(it).todo)}"},
+        "locations": locations(view, it)[:1],
+        "relatedLocations": [{**one, "message": {"text": "declared or made here"}} for one in ([location(view, *declared)] if declared else [])],
+        "partialFingerprints": {"object/v1": view.keys[it.key]},
+    }
+
+
+def foreseen(view, it):
+    names = ", ".join(view.name_of(key) for key in it.keys) or "memory"
+    declared = next((view.declared(view.all[key]) for key in it.keys), None)
+    return {
+        "ruleId": "predicted-sharing",
+        "level": "note",
+        "message": {"text": f"{names}: a {it.line.kind} line of {it.line.size} bytes would have {it.useless} useless misses, {it.inside} as data lies."},
+        "locations": [location(view, *declared)] if declared else [],
+    }
+
+
+def sarif_text(view):
+    """The objects, and the predicted lines that are shown, as results."""
+    top = view.call.number("top", TOP)
+    results = [result(view, it) for it in view.chosen()[:top]] + [foreseen(view, it) for it in view.foretold() if it.is_shown]
+    rules = [{"id": name, "name": title, "shortDescription": {"text": title}, "fullDescription": {"text": text}} for name, (title, text) in RULES.items()]
+    tool = {"driver": {"name": "predator", "rules": rules}}
+    ended = {"executionSuccessful": view.report.ended_well(), "exitCodeDescription": view.report.outcome}
+    run = {"tool": tool, "results": results, "invocations": [ended], "columnKind": "unicodeCodePoints"}
+    return json.dumps({"version": "2.1.0", "$schema": SARIF, "runs": [run]}, indent=1) + "\n"

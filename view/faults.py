@@ -1,0 +1,17 @@
+"""What view says where it can't go on, and how names of files come onto a terminal."""
+
+
+class Fault(Exception):
+    """Something that ends the call: the text says what and, where that helps, what to do."""
+
+    def __init__(self, text, status=2):
+        super().__init__(text)
+        self.status = status
+
+
+def plain(text):
+    """A text that a terminal shows as it is: what isn't printable becomes `\\x` or `\\u` and its digits."""
+    text = str(text)
+    if text.isprintable():
+        return text
+    return "".join(it if it.isprintable() else it.encode("unicode_escape", "surrogatepass").decode() for it in text)

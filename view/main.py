@@ -1,0 +1,240 @@
+"""From a report to the source: `predator view ..`. docs/VIEW.md tells what it shows."""
+
+import gc
+import os
+import sys
+import traceback
+
+sys.path.insert(0, os.path.dirname(os.path.abspath(__file__)))
+
+import compare
+from calls import HELP, TOP, Call
+from faults import Fault, plain
+from model import View, memory_of
+from naming import Naming
+from program import Predator
+from reports import Report
+from screen import Paint, screen
+from source_lines import Sources
+
+ABOVE, ENDED = 1, 3
+
+
+def read(path):
+    """A kept report's text, or the one on standard input."""
+    if path == "-":
+        return sys.stdin.buffer.read().decode("latin-1")
+    try:
+        with open(path, "rb") as file:
+            return file.read().decode("latin-1")
+    except OSError as error:
+        raise Fault(f"{path}: {error.strerror}") from error
+
+
+def say(text):
+    print(f"predator view: {plain(text)}", file=sys.stderr)
+
+
+def program_of(call):
+    """The program's debug information, and its lines; none where no program is named. What is missing for them ends the call here."""
+    folders, table = [it for it in [call.options.get("sources")] if it], table_of(call)
+    if table:
+        from native import Back, NativeProgram, NativeSources
+
+        program = NativeProgram(Back(table))
+        sources = NativeSources(program, folders)
+    elif call.program:
+        from fields import Program
+
+        sources = Sources(call.program, folders)
+        program = Program(call.program)
+    else:
+        return None, None
+    if program.dwarf is None:
+        say(f"{program.path} has no debug information, so fields and source lines are unknown: build it with -g")
+    for it in call.options["type"]:
+        program.type_named(it.partition("=")[2])
+    return program, sources
+
+
+def table_of(call):
+    """The table back of a program of this machine: the one that is named, or that beside the trace."""
+    if "back" in call.options or call.program or call.how != "replay":
+        return call.options.get("back")
+    from native import beside
+
+    return beside(call.subject)
+
+
+def stranger(program, report):
+    """A symbol of the report that the program hasn't, or none."""
+    if hasattr(program, "back"):
+        return program.stranger(report)
+    known = program.symbols()
+    for line in report.lines[:1000]:
+        for it in line.objects():
+            if hasattr(it, "name") and (it.addr, it.size) not in known:
+                return f"it has no symbol {it.name} of {it.size} bytes at {it.addr:#010x}"
+    return None
+
+
+def report_of(call, predator):
+    if call.how == "file":
+        return Report(read(call.subject), call.subject)
+    return predator.report([call.how, *call.words])
+
+
+def check_name(view):
+    """Refuses the name of an object that the program hasn't: a test of it would say nothing."""
+    name, program = view.call.options.get("object"), view.naming.program
+    if name is None or view.chosen() or ":" in name or " " in name:
+        return
+    if program is None:
+        if "fail-above" in view.call.options:
+            raise Fault(f"nothing is seen of '{name}', and without '--program' it can't be told whether there is such a variable")
+        return
+    if name not in {view.naming.readable(it) for it in program.symbols().values()}:
+        raise Fault(f"'{name}' is no variable of {program.path}")
+
+
+def look(call):
+    """All that is found."""
+    program, sources = program_of(call)
+    if "html" in call.options:
+        from page import templates
+
+        templates()
+    predator = Predator() if call.how != "file" else None
+    report = report_of(call, predator)
+    strange = stranger(program, report) if program and call.how != "run" else None
+    if strange:
+        named = f"{call.program} isn't the program" if call.program else f"{program.back.path} isn't the table"
+        say(f"{named} of this report: {strange}; it is left aside")
+        call.program = program = sources = None
+    memory = memory_of(call, predator)
+    view = View(call, report, Naming(report, program, sources, call.options["type"], memory))
+    view.count(predator)
+    view.arrange()
+    check_name(view)
+    first = view.chosen()[: call.number("top", TOP)]
+    view.explain(predator, first)
+    view.place(predator, first)
+    return view
+
+
+def is_above(view):
+    """Whether an object has more than the call allows, which is said."""
+    most, by = view.call.number("fail-above", 0), view.call.options.get("by", "useless")
+    if by == "useless" and view.misses is None:
+        raise Fault("useless misses are unknown here, so --fail-above can't judge them; --by count can")
+    found = False
+    for it in view.chosen():
+        if getattr(it, by) > most:
+            say(f"{it.name} has {getattr(it, by)} {'useless misses' if by == 'useless' else 'counted'}, more than {most}")
+            found = True
+    return found
+
+
+def status_of(view):
+    if "fail-above" not in view.call.options:
+        return 0
+    if not view.report.ended_well():
+        return ENDED
+    return ABOVE if is_above(view) else 0
+
+
+def write(path, text):
+    try:
+        with open(path, "w", encoding="utf-8", errors="backslashreplace") as file:
+            file.write(text)
+    except OSError as error:
+        raise Fault(f"{path}: {error.strerror}") from error
+
+
+def is_same(one, other):
+    """Whether two names are of one file, be it there or not."""
+    if os.path.exists(one) and os.path.exists(other):
+        return os.path.isfile(one) and os.path.samefile(one, other)
+    return os.path.realpath(one) == os.path.realpath(other)
+
+
+def keep_inputs(call):
+    """Refuses outputs that are a file which is read or written by the program, or one another, and those for which there is no folder."""
+    taken = [it for it in (call.subject, call.program, table_of(call), *call.words, *(word.partition("=")[2] for word in call.words)) if it and it != "-"]
+    for name in ("html", "json", "sarif"):
+        it, old = call.options.get(name), call.options.get("against") if name != "json" else None
+        if it is None:
+            continue
+        if any(is_same(it, other) for other in (*taken, *([old] if old else []))):
+            raise Fault(f"{it}: the same file is in use under another name, and stays as it is")
+        if not os.path.isdir(os.path.dirname(it) or "."):
+            raise Fault(f"{it}: No such file or directory")
+        taken.append(it)
+
+
+def outputs(view):
+    """Writes the files that the call names."""
+    options = view.call.options
+    if "json" in options:
+        from exports import json_text
+
+        write(options["json"], json_text(view))
+    if "sarif" in options:
+        from exports import sarif_text
+
+        write(options["sarif"], sarif_text(view))
+    if "html" in options:
+        from page import page
+
+        write(options["html"], page(view))
+
+
+def show(call):
+    """Does what a call asks, and gives its status."""
+    keep_inputs(call)
+    # (before --json writes to the same file)
+    old = compare.loaded(call.options["against"], call) if "against" in call.options else None
+    view = look(call)
+    outputs(view)
+    for it in screen(view, Paint()):
+        print(it)
+    if old is not None:
+        for it in compare.compared(view, old, call.options["against"]):
+            print(it)
+    sys.stdout.flush()
+    return status_of(view)
+
+
+def main(words):
+    # (millions of lines live as long as the call, and none goes round in a ring)
+    gc.disable()
+    sys.stdout.reconfigure(errors="backslashreplace")
+    sys.stderr.reconfigure(errors="backslashreplace")
+    try:
+        call = Call(words)
+        if "help" in call.options:
+            print(HELP)
+            return 0
+        return show(call)
+    except Fault as fault:
+        for it in f"predator view: {fault}".split("\n"):
+            print(plain(it), file=sys.stderr)
+        return fault.status
+    except BrokenPipeError:
+        # (who read this has seen enough)
+        os.dup2(os.open(os.devnull, os.O_WRONLY), 1)
+        return 0
+    except OSError as error:
+        os.dup2(os.open(os.devnull, os.O_WRONLY), 1)
+        say(f"{error.filename or 'standard output'}: {error.strerror}")
+    except KeyboardInterrupt:
+        return 130
+    except MemoryError:
+        say("memory ran out")
+    except Exception:  # (an uncaught one would end with 1, which says that an object is above)
+        traceback.print_exc()
+    return 2
+
+
+if __name__ == "__main__":
+    sys.exit(main(sys.argv[1:]))

@@ -1,0 +1,167 @@
+"""What objects, words and instructions are called: by the program's debug information where it is there, and else by the report."""
+
+import os
+import shutil
+import subprocess
+
+from reports import Block, Symbol
+
+# Functions of allocators: a block's name begins with the call of one, or of what calls it.
+ALLOCATORS = {
+    *("malloc", "calloc", "realloc", "reallocarray", "aligned_alloc", "memalign", "posix_memalign", "valloc", "strdup", "strndup"),
+    *("predator_alloc", "mmap", "sbrk", "_Znwj", "_Znaj", "_Znwm", "_Znam", "operator"),
+}
+# Where harts begin: callers that say nothing.
+BEGINNINGS = {
+    *("_start", "start", "predator_start", "thread_entry", "hart_entry", "predator_thread", "begin_thread", "-"),
+    # (of programs of this machine)
+    *("__libc_start_call_main", "__libc_start_main", "start_thread", "clone", "clone3"),
+}
+
+
+class Memory:
+    """What lies on a line where no object is: a hart's stack, or a page."""
+
+    def __init__(self, stacks=None, harts=0):
+        self.low, self.high = stacks or (0, 0)
+        self.each = (self.high - self.low) // harts if harts else 0
+
+    def key(self, addr):
+        if self.each and self.low <= addr < self.high:
+            return "stack", (self.high - 1 - addr) // self.each
+        return "memory", addr // 4096 * 4096
+
+    def top(self, hart):
+        return self.high - hart * self.each
+
+
+def shown(addr):
+    return f"{'-' if addr < 0 else ''}0x{abs(addr):08x}"
+
+
+class Naming:
+    """`program` and `sources` are none where no program is known; `types` has, for the place of a call site, the type of its blocks."""
+
+    def __init__(self, report, program=None, sources=None, types=(), memory=None):
+        self.where, self.program, self.sources, self.memory = report.where, program, sources, memory or Memory()
+        self.keys = {}
+        self.types = [it.partition("=")[::2] for it in types]
+
+    def prepare(self, addresses):
+        """Looks lines up for many addresses at once."""
+        if self.sources:
+            self.sources.find(addresses)
+
+    def readable(self, name):
+        """A symbol's name as its source has it, where that is C++."""
+        if not name.startswith("_Z"):
+            return name
+        if name not in self.keys:
+            tool = shutil.which("llvm-cxxfilt")
+            ran = subprocess.run([tool], input=name.encode(), capture_output=True) if tool else None
+            self.keys[name] = ran.stdout.decode("utf-8", "replace").strip() or name if ran else name
+        return self.keys[name]
+
+    def sites_key(self, sites):
+        """Call sites as another address of the same lines has them: a loop that was unrolled is one place."""
+        if sites not in self.keys:
+            self.keys[sites] = tuple(self.site_key(it) for it in sites)
+        return self.keys[sites]
+
+    def site_key(self, site):
+        frames = self.sources.frames(site.addr) if self.sources else []
+        if any(it.file and it.line for it in frames):
+            return "; ".join(f"{it.function} {it.file}:{it.line}" for it in frames)
+        return self.where.get(site.addr) or shown(site.addr)
+
+    def site(self, site):
+        """The file and line of a call site as `arena.c:78`, or an empty text; native reports bring them."""
+        if site.addr in self.where:
+            return os.path.basename(self.where[site.addr])
+        place = self.sources.place(site.addr) if self.sources else None
+        return place.short() if place else ""
+
+    def function(self, site):
+        place = self.sources.place(site.addr) if self.sources else None
+        return place.function if place and place.function else site.name
+
+    def chain(self, sites):
+        """The sites of a block from the one that wants it on: without the allocator's own, and without where harts begin."""
+        own = [it for it in sites if it.name not in ALLOCATORS] or list(sites)
+        return [it for it in own if it.name not in BEGINNINGS] or own[:1]
+
+    def functions(self, sites):
+        """The call sites by functions alone, which other builds of the program have too."""
+        return [it.name for it in self.chain(sites)]
+
+    def block(self, sites):
+        if not sites:
+            return "block without call sites"
+        chain = self.chain(sites)
+        at = self.site(chain[0])
+        rest = [it.name for it in chain[1:]]
+        first = at or ("an unknown function" if chain[0].name == "-" else chain[0].name)
+        # (a line says more with its function, unless that is named next anyway)
+        first += f" ({self.function(chain[0])})" if at and not rest and chain[0].name != "main" else ""
+        return ("block made at " if at else "block made in ") + " < ".join([first, *(rest or (["main"] if at and chain[0].name == "main" else []))])
+
+    def key_name(self, key, example):
+        """What an object is called."""
+        kind, what = key[0], key[1]
+        if kind == "symbol":
+            return self.readable(what)
+        if kind == "block":
+            return self.block(example.sites)
+        return f"stack of hart {what}" if kind == "stack" else f"memory at {shown(what)}"
+
+    def type_of_block(self, block):
+        """The type of a block's elements as the call tells it, or none."""
+        if self.program is None or not block.sites:
+            return None
+        chain = self.chain(block.sites)
+        known = {self.site(chain[0]), self.function(chain[0]), chain[0].name, shown(chain[0].addr)}
+        return next((self.program.type_named(it) for site, it in self.types if site in known), None)
+
+    def word(self, addr, thing):
+        """The name of a word of an object, the one of its element, and that of the field in it."""
+        if thing is not None:
+            name = self.readable(thing.name) if isinstance(thing, Symbol) else ""
+            offset = addr - thing.addr
+            return self.typed(thing, name, offset) or self.parts(None, name, offset)
+        kind, what = self.memory.key(addr)
+        return (f"{shown(addr)}, {self.memory.top(what) - addr} below its top" if kind == "stack" else shown(addr)), "", shown(addr)
+
+    def typed(self, thing, name, offset):
+        """The same of an object whose type is known, or none."""
+        if self.program is None:
+            return None
+        from fields import sound
+
+        return sound(lambda: self.field(thing, name, offset), None)
+
+    def field(self, thing, name, offset):
+        if isinstance(thing, Symbol):
+            variable = self.program.variable(thing.addr)
+            return self.parts(variable.type, name, offset) if variable and variable.type is not None else None
+        element = self.type_of_block(thing)
+        return None if element is None else self.element(element, "", offset, thing.size)
+
+    def parts(self, kind, name, offset):
+        if kind is None:
+            return f"{name}{offset:+d}" if offset or not name else name, "", f"{offset:+d}"
+        from fields import element_of, size_of, words_of
+
+        of = element_of(kind)
+        if of is None or not size_of(of):
+            whole = words_of(kind, name, offset)
+            return whole, "", whole
+        whole = words_of(kind, name, offset)
+        return whole, f"{name}[{offset // size_of(of)}]", words_of(of, "", offset % size_of(of)) or "itself"
+
+    def element(self, kind, name, offset, size):
+        from fields import size_of, words_of
+
+        wide = size_of(kind) or 1
+        field = words_of(kind, "", offset % wide)
+        index = f"[{offset // wide}]" if size >= 2 * wide else ""
+        return f"{name}{index}{field}" or "itself", index, field or "itself"

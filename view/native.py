@@ -1,0 +1,201 @@
+"""The names of a program of this machine: by the table back that native/ writes with a trace. Each address of the trace is one of the program
+or of a library that it loaded, and their debug information says the rest. docs/NATIVE.md has the table."""
+
+import contextlib
+import json
+import os
+import re
+import shutil
+import subprocess
+from typing import NamedTuple
+
+from faults import Fault
+from fields import Program, Variable
+from source_lines import Place, Sources
+
+from elftools.elf.elffile import ELFFile
+from elftools.elf.sections import SymbolTableSection
+
+PAGE = 4096
+# Where Debian's packages of debug information put it.
+DEBUG = "/usr/lib/debug/.build-id"
+
+
+class Site(NamedTuple):
+    """A call site as the recorder told it: its function and its line as `FILE:LINE`, each empty where it isn't known."""
+
+    function: str
+    line: str
+
+
+def known(word):
+    return "" if word == "-" else word
+
+
+class Back:
+    """A table back."""
+
+    def __init__(self, path):
+        self.path, self.program, self.pages, self.maps, self.sites = path, "", {}, [], {}
+        try:
+            with open(path, encoding="utf-8", errors="surrogateescape") as file:
+                for row in file:
+                    self.put(row.rstrip("\n"))
+        except OSError as error:
+            raise Fault(f"{path}: {error.strerror}") from error
+        except (ValueError, IndexError) as error:
+            raise Fault(f"{path}: it is no table back, which native/ writes with a trace") from error
+        if not self.program:
+            raise Fault(f"{path}: it is no table back: its first line doesn't name a program")
+
+    def put(self, row):
+        kind, _, rest = row.partition(" ")
+        if kind == "program":
+            self.program = os.path.normpath(rest)
+        elif kind == "map":
+            *_, bias, file = rest.split(" ", 3)
+            self.maps.append((int(bias, 16), file))
+        elif kind == "site":
+            addr, _, function, line = rest.split(" ")[:4]
+            self.sites[int(addr, 16)] = Site(known(function), known(line))
+        elif kind:
+            self.pages[int(kind, 16)] = int(rest, 16)
+
+    def was(self, addr):
+        """What an address of the trace was in the program, or none."""
+        page = self.pages.get(addr // PAGE * PAGE)
+        return None if page is None else page + addr % PAGE
+
+
+class File:
+    """The program or a library, with its debug information, which may stand in a file of its own."""
+
+    def __init__(self, bias, path):
+        self.bias, self.path, self.owner, self.found = bias, path, None, {}
+        self.ranges, self.debug, self.names = [], path, {}
+        with contextlib.suppress(Exception), open(path, "rb") as file:
+            elf = ELFFile(file)
+            self.ranges = [(it["p_vaddr"], it["p_memsz"]) for it in elf.iter_segments() if it["p_type"] == "PT_LOAD"]
+            self.debug = self.debug_of(elf)
+        with contextlib.suppress(Exception), open(self.debug, "rb") as file:
+            tables = [it for it in ELFFile(file).iter_sections() if isinstance(it, SymbolTableSection)]
+            for it in (symbol for table in tables for symbol in table.iter_symbols() if symbol["st_info"]["type"] == "STT_OBJECT"):
+                self.names.setdefault(it["st_value"], it.name.partition("@")[0])
+
+    def debug_of(self, elf):
+        note = elf.get_section_by_name(".note.gnu.build-id")
+        if elf.get_section_by_name(".debug_info") or note is None:
+            return self.path
+        build = next(note.iter_notes())["n_desc"]
+        path = os.path.join(DEBUG, build[:2], build[2:] + ".debug")
+        return path if os.path.exists(path) else self.path
+
+    def has(self, addr):
+        return any(low <= addr - self.bias < low + size for low, size in self.ranges)
+
+    def program(self):
+        self.owner = self.owner or Program(self.debug)
+        return self.owner
+
+    def variable(self, addr):
+        """The variable at an address of the file. (llvm-dwarfdump finds it among those of a large library at once.)"""
+        if addr not in self.found:
+            self.found[addr] = None
+            tool, name = shutil.which("llvm-dwarfdump"), self.names.get(addr)
+            if tool and name:
+                told = subprocess.run([tool, f"--name={name}", self.debug], capture_output=True).stdout.decode("utf-8", "replace")
+                for offset, own in re.findall(r"^(0x[0-9a-f]+): +DW_TAG_variable\n((?:.+\n)*)", told, re.MULTILINE):
+                    place = re.search(r"DW_AT_location\s+\(DW_OP_addr (0x[0-9a-f]+)\)", own)
+                    if place and int(place[1], 16) == addr:
+                        with contextlib.suppress(Exception):
+                            self.found[addr] = self.made(int(offset, 16))
+        return self.found[addr]
+
+    def made(self, offset):
+        die = self.program().dwarf.get_DIE_from_refaddr(offset)
+        whole = die
+        while "DW_AT_type" not in whole.attributes:
+            link = next(it for it in ("DW_AT_specification", "DW_AT_abstract_origin") if it in whole.attributes)
+            whole = whole.get_DIE_from_attribute(link)
+        found = Variable(whole)
+        found.file = self
+        return found
+
+
+class NativeProgram:
+    """The program and its libraries, asked as fields.Program is, with addresses of the trace."""
+
+    def __init__(self, back):
+        self.back, self.files = back, [File(*it) for it in back.maps]
+        self.path = back.program
+        own = next((it for it in self.files if os.path.realpath(it.path) == os.path.realpath(self.path)), None)
+        self.main = own.program() if own else Program(self.path)
+        self.dwarf, self.sha256 = self.main.dwarf, self.main.sha256
+
+    def file(self, addr):
+        """The file that an address was in, and the address there, or none."""
+        was = self.back.was(addr)
+        own = next((it for it in self.files if it.has(was)), None) if was is not None else None
+        return (own, was - own.bias) if own else None
+
+    def symbols(self):
+        return {(it.bias + addr, 0): name for it in self.files for addr, name in it.names.items()}
+
+    def variable(self, addr):
+        found = self.file(addr)
+        return found[0].variable(found[1]) if found else None
+
+    def type_named(self, text):
+        return self.main.type_named(text)
+
+    def declared(self, variable):
+        return variable.file.program().declared(variable)
+
+    def stranger(self, report):
+        """What of a report isn't in the table, or none."""
+        for line in report.lines[:1000]:
+            if line.kind == "observed" and all(self.back.was(it) is None for it in range(max(line.base, 0), line.base + line.size, 4)):
+                return f"it has no page of {line.base:#010x}"
+        return None
+
+
+class NativeSources(Sources):
+    """The lines of the program's and its libraries' addresses."""
+
+    def __init__(self, program, folders=()):
+        super().__init__(program.path, folders)
+        self.native = program
+
+    def find(self, addresses):
+        wanted = sorted({it for it in addresses if it not in self.places})
+        self.places.update({it: [] for it in wanted})
+        asked = [(it, self.native.file(it)) for it in wanted]
+        asked = [(it, *where) for it, where in asked if where]
+        if asked:
+            rows = "".join(f'"{own.debug}" {addr:#x}\n' for _, own, addr in asked)
+            words = [self.tool, "--output-style=JSON", "--inlines"]
+            ran = subprocess.run(words, input=os.fsencode(rows), stdout=subprocess.PIPE, stderr=subprocess.DEVNULL)
+            for (it, _, _), row in zip(asked, ran.stdout.decode("utf-8", "replace").splitlines()):
+                told = json.loads(row).get("Symbol", [])
+                frames = [Place(at.get("FunctionName", ""), at.get("FileName", ""), at.get("Line", 0)) for at in told]
+                self.places[it] = [at for at in frames if at.function or at.file]
+        for it in wanted:
+            if not any(at.file and at.line for at in self.places[it]) and it in self.native.back.sites:
+                self.places[it] = told_by(self.native.back.sites[it]) or self.places[it]
+
+
+def told_by(site):
+    """What the recorder has told of a call site, as frames."""
+    file, _, line = site.line.rpartition(":")
+    if file and line.isdigit():
+        return [Place(site.function, file, int(line))]
+    return [Place(site.function, "", 0)] if site.function else []
+
+
+def beside(trace):
+    """The table back that stands beside a trace, or none."""
+    path = f"{trace}.table"
+    with contextlib.suppress(OSError), open(path, "rb") as file:
+        if file.read(8) == b"program ":
+            return path
+    return None

@@ -1,0 +1,218 @@
+"""Puts the lines of a report together by the objects that are fought over, the worst first.
+
+A line's numbers are told once: under the object that most of the line's accesses went to. The others on it are told beside it."""
+
+import heapq
+from collections import Counter
+from typing import NamedTuple
+
+from reports import Block, Symbol, objects_of
+
+# So many lines of an object are looked at word by word: its first ones.
+LINES = 64
+
+
+class Spot(NamedTuple):
+    """A line of an object: as the report lists it, or none, and as its misses were counted, or none; its words, if not the report's, are
+    those of `each`, a report with no thresholds."""
+
+    base: int
+    line: object
+    missed: object
+    each: object = None
+
+    def told(self):
+        """The line with its words, or none where they aren't known."""
+        return self.line or self.each
+
+    def stands(self):
+        """The rows of what stands on the line: since its start where the report lists it."""
+        return (self.line.stands() if self.line else "") or (self.missed.stands() if self.missed else "")
+
+    def rows(self):
+        """The objects on the line."""
+        return objects_of(self.stands())
+
+
+def rank_of(spot):
+    return -spot.missed.useless if spot.missed else 0, -spot.line.count if spot.line else 0, spot.base
+
+
+class Thing:
+    """An object that is fought over: a variable, the blocks of a call site, or memory without an object."""
+
+    def __init__(self, key, example):
+        self.key, self.example, self.name = key, example, ""
+        self.spots, self.lives, self.beside = [], set(), Counter()
+        self.useless = self.useful = self.cold = self.count = 0
+        self.first = []
+
+    def add(self, spot):
+        self.spots.append(spot)
+        if spot.line:
+            self.count += spot.line.count
+        if spot.missed:
+            self.useless += spot.missed.useless
+            self.useful += spot.missed.useful
+            self.cold += spot.missed.cold
+
+    def rank(self):
+        return -self.useless, -self.useful, -self.count, self.spots[0].base
+
+    def worst_first(self):
+        """Its first lines, at most so many as are looked at, the worst first."""
+        if not self.first:
+            self.first = heapq.nsmallest(LINES, self.spots, rank_of)
+        return self.first
+
+    def worst(self):
+        return self.worst_first()[0]
+
+
+def key_of(thing, naming, addr):
+    """What an object is put together by: blocks by their call sites, as far as these have lines of a source by those."""
+    if isinstance(thing, Symbol):
+        return "symbol", thing.name, thing.addr
+    if isinstance(thing, Block):
+        return "block", naming.sites_key(thing.sites)
+    return naming.memory.key(addr)
+
+
+def holders(things, addr):
+    """The objects that a word lies in, each with its share of it: blocks before symbols, short and long-lived ones first."""
+    found = [it for it in things if it.addr < addr + 4 and addr < it.addr + it.size]
+    blocks = [it for it in found if isinstance(it, Block)]
+    if not blocks:
+        return [(it, 1 / len(found)) for it in found]
+    # (one that lives on does so beyond all that is told of the others)
+    end = max(max(it.born, it.died or 0) for it in blocks) + 1
+    shares = [max((end if it.died is None else it.died) - it.born, 1) / it.size for it in blocks]
+    return [(it, share / sum(shares)) for it, share in zip(blocks, shares)]
+
+
+def holder(things, addr):
+    """The object that a word is told under, or none."""
+    found = holders(things, addr) if things else []
+    return max(found, key=lambda it: it[1])[0] if found else None
+
+
+def shares_of(words, things, keys, naming):
+    """What each object of some has of a line's accesses, by its key, with an object of it; `keys` are theirs."""
+    found = {}
+    for word in words:
+        end, own = word.addr + 4, None
+        met = [at for at, it in enumerate(things) if it.addr < end and word.addr < it.addr + it.size]
+        if len(met) > 1:
+            # (of one block and symbols that it lies in, the block; of several blocks each by its life)
+            blocks = [at for at in met if isinstance(things[at], Block)]
+            if len(blocks) != 1:
+                own = [(keys[things.index(thing)], thing, share) for thing, share in holders(things, word.addr)]
+            met = blocks
+        if own is None:
+            own = [(keys[met[0]], things[met[0]], 1)] if met else [(naming.memory.key(word.addr), None, 1)]
+        for key, thing, share in own:
+            found[key] = thing, found.get(key, (0, 0))[1] + share * (word.reads + word.writes)
+    return found
+
+
+def parties(spot, things, naming, keys=None):
+    """The keys of the objects that are fought over on a line, each with an object of it and its share of the accesses. Where the keys of the
+    things are given, and are one, its share isn't looked for."""
+    found, is_one = {}, keys is not None and len({*keys}) < 2
+    keys = [key_of(it, naming, 0) for it in things] if keys is None else keys
+    for at, key in enumerate(keys):
+        # The first object, as long as it isn't told how the words were accessed.
+        found.setdefault(key, (things[at], -at))
+    if is_one or len(things) < 2 or spot.told() is None:
+        return found or {naming.memory.key(max(spot.base, 0)): (None, 0)}
+    return shares_of(spot.told().words(), things, keys, naming) or found
+
+
+def spots(report, misses, each=None):
+    """The lines that the report lists, in its order, and those beside them that have misses."""
+    seen, missed, words = set(), misses.lines if misses else {}, each.at() if each else {}
+    for line in report.lines:
+        if line.kind == "observed":
+            seen.add(line.base)
+            yield Spot(line.base, line, missed.get(line.base))
+    for base, it in missed.items():
+        if base not in seen:
+            yield Spot(base, None, it, words.get(base))
+
+
+class Folding:
+    """Lines as they are put under their objects."""
+
+    def __init__(self, naming):
+        self.naming, self.found, self.known = naming, {}, {}
+
+    def add(self, spot):
+        rows = spot.stands()
+        if rows in self.known:
+            # (the same one object as on a line before)
+            self.known[rows].add(spot)
+            return
+        things = objects_of(rows)
+        keys = [key_of(it, self.naming, 0) for it in things]
+        shares = parties(spot, things, self.naming, keys)
+        for key, (example, _) in shares.items():
+            if key not in self.found:
+                self.found[key] = Thing(key, example)
+        key = max(shares, key=lambda it: shares[it][1]) if len(shares) > 1 else next(iter(shares))
+        own = self.found[key]
+        own.add(spot)
+        if len(shares) > 1:
+            own.beside.update([it for it in shares if it != key])
+        elif len(things) == 1 and key[0] == "symbol":
+            self.known[rows] = own
+        for it, its in zip(things, keys):
+            if its in self.found and its[0] == "block":
+                self.found[its].lives.add(it.addr << 44 | it.born)
+
+
+def things_of(report, misses, naming, each=None):
+    """The objects that have lines, the worst first, and all by their keys, those beside them too."""
+    folding = Folding(naming)
+    for spot in spots(report, misses, each):
+        folding.add(spot)
+    found = folding.found
+    return sorted((it for it in found.values() if it.spots), key=Thing.rank), found
+
+
+class Told(NamedTuple):
+    """A word on an object's lines: its line, its names, the object and where that begins, and how it was accessed; `useful` is what is missed
+    of it on a line of its own."""
+
+    addr: int
+    base: int
+    name: str
+    element: str
+    field: str
+    key: tuple
+    begin: int
+    reads: int
+    writes: int
+    hart: str
+    useful: int | None
+
+
+def words_of(spot, naming, by_word=None):
+    """The words of a line where they are told; `by_word` is the count of misses in lines of a word each."""
+    told = spot.told()
+    if told is None:
+        return []
+    things, found = spot.rows(), []
+    for it in told.words():
+        thing = holder(things, it.addr)
+        name, element, field = naming.word(it.addr, thing)
+        useful = None
+        if by_word is not None:
+            useful = by_word.lines[it.addr].useful if it.addr in by_word.lines else 0
+        begin = thing.addr if thing else 0
+        found.append(Told(it.addr, spot.base, name, element, field, key_of(thing, naming, it.addr), begin, it.reads, it.writes, it.hart, useful))
+    return found
+
+
+def worst_word(words):
+    """The word that is written most, or else read most."""
+    return max(words, key=lambda it: (it.writes, it.reads, -it.addr)) if words else None

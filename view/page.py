@@ -1,0 +1,185 @@
+"""The page: one file of HTML that needs no network and no script. Its template, page.html, escapes every name."""
+
+import os
+
+from calls import TOP
+from faults import Fault
+from naming import shown
+from objects import Spot, words_of
+from screen import place_of
+from source_lines import PACKAGES
+
+# Colours that the colour blind tell apart (Okabe and Ito); each hart has a letter too.
+COLOURS = ("#e69f00", "#56b4e9", "#009e73", "#f0e442", "#8fb8ff", "#ff9f6b", "#e6a9c9", "#bdbdbd")
+MANY = "background:repeating-linear-gradient(45deg,#fff 0 6px,#c9c9c9 6px 9px)"
+# So many lines of an object, pairs of instructions, words in a row and lines of a source are drawn.
+LINES, PAIRS, ROW, AROUND, STRIPS = 24, 3, 16, 2, 24
+# A line that has less than one part in so many of the object's worst line isn't drawn.
+FEW = 50
+
+
+def letter(hart):
+    return ("" if hart < 26 else letter(hart // 26 - 1)) + chr(65 + hart % 26)
+
+
+def colour(hart):
+    return COLOURS[hart % len(COLOURS)]
+
+
+def cell(word, most, own, strip=""):
+    """A word's cell; `own` says whether the word is the object's."""
+    hart = None if word.hart == "many" else int(word.hart)
+    field = word.name.removeprefix(strip) or word.name
+    return {
+        "title": f"{shown(word.addr)} {word.name}: {word.reads} reads, {word.writes} writes, " + ("many harts" if hart is None else f"hart {hart}"),
+        "letter": "✱" if hart is None else letter(hart),
+        "style": MANY if hart is None else f"background:{colour(hart)}",
+        "read_height": round(100 * word.reads / most),
+        "write_height": round(100 * word.writes / most),
+        "reads": word.reads,
+        "writes": word.writes,
+        "field": field if own else word.name,
+    }
+
+
+def cells(base, size, words, thing, name):
+    """The cells of a range, in order; none where a word wasn't accessed."""
+    most = max([it.reads for it in words] + [it.writes for it in words] + [1])
+    at = {it.addr: it for it in words}
+    return [cell(at[it], most, at[it].key == thing, name) if it in at else None for it in range(base, base + size, 4)]
+
+
+def row(spot, seen, size):
+    """A line, in rows of words."""
+    words = [it for it in seen.words if spot.base <= it.addr < spot.base + size]
+    own = cells(spot.base, size, words, seen.thing.key, seen.thing.name) if spot.told() else []
+    missed = f"{spot.missed.useless} useless and {spot.missed.useful} useful misses" if spot.missed else ""
+    return {
+        "base": shown(spot.base),
+        "misses": missed,
+        "count": spot.line.count if spot.line else None,
+        "verdict": spot.line.verdict if spot.line else "",
+        "parts": [own[it : it + ROW] for it in range(0, len(own), ROW)],
+    }
+
+
+def matrix(explained):
+    """How often each hart takes the line from each."""
+    harts = sorted({it for pair in explained.harts for it in pair})
+    most = max(explained.harts.values(), default=1)
+
+    def one(victim, taker):
+        taken = explained.harts.get((victim, taker), 0)
+        return {"text": taken or "", "style": f"background:rgba(213,94,0,{0.75 * taken / most:.2f})" if taken else ""}
+
+    return {"harts": [letter(it) for it in harts], "rows": [{"hart": letter(it), "cells": [one(it, to) for to in harts]} for it in harts]}
+
+
+def side(view, addr, role):
+    """One instruction's place, with the lines of its source around it."""
+    sources = view.naming.sources
+    place = sources.place(addr) if sources else None
+    lines = []
+    if place:
+        text = sources.text(place.file)
+        for number in range(max(1, place.line - AROUND), min(len(text), place.line + AROUND) + 1):
+            lines.append({"number": number, "text": text[number - 1], "hit": number == place.line})
+    return {"role": role, "place": f"{place_of(view.naming, addr)}, {shown(addr)}", "lines": lines}
+
+
+def pairs(view, explained):
+    for it in explained.pairs[:PAIRS]:
+        sides = [side(view, it.taker, "takes the line"), side(view, it.victim, "loses it")]
+        yield {"taken": it.taken, "same": it.same, "sides": sides}
+
+
+def worth_drawing(it):
+    """The first lines of an object, those with few of the worst one's misses and counts left out."""
+
+    def much(spot):
+        return (spot.missed.useless + spot.missed.useful if spot.missed else 0) + (spot.line.count if spot.line else 0)
+
+    return [one for one in it.worst_first()[:LINES] if one.told() and much(one) * FEW >= much(it.worst())]
+
+
+def thing(view, it):
+    """One object as the template has it."""
+    seen = view.seen(it)
+    worst, fight = seen.worst(), seen.fight()
+    drawn = sorted(worth_drawing(it), key=lambda one: one.base)
+    return {
+        "name": view.label(it),
+        "useless": it.useless if view.misses else "-",
+        "useful": it.useful if view.misses else "-",
+        "count": it.count,
+        "lines": len(it.spots),
+        "lives": len(it.lives),
+        "beside": [view.all[key].name for key in it.beside],
+        "worst": worst.name if worst else "",
+        "fight": [place_of(view.naming, at) for at in (fight.taker, fight.victim)] if fight else [],
+        "declared": "{}:{}".format(*seen.declared) if seen.declared else "",
+        "todo": seen.todo,
+        "rows": [row(one, seen, view.report.size) for one in drawn],
+        "more": len(it.spots) - len(drawn),
+        "explained": shown(seen.explained.base) if seen.explained else "",
+        "matrix": matrix(seen.explained) if seen.explained and seen.explained.harts else None,
+        "pairs": list(pairs(view, seen.explained)) if seen.explained else [],
+    }
+
+
+def strip(view, foretold, observed):
+    """A predicted line as a brace over the words of the lines that it meets."""
+    line, size = foretold.line, view.report.size
+    first = (line.base - view.report.offset) // size * size + view.report.offset
+    bases = list(range(first, line.base + line.size, size))
+    own = words_of(Spot(line.base, line, None), view.naming, view.by_word)
+    beside = [word for it in bases if it in observed for word in words_of(observed[it], view.naming, view.by_word)]
+    words = own + [it for it in beside if not line.base <= it.addr < line.base + line.size]
+    name = view.name_of(next(iter(foretold.keys))) if len(foretold.keys) == 1 else ""
+    told = f"count {line.count}"
+    if foretold.useless is not None:
+        told = f"{foretold.useless} useless misses if it were one, {foretold.inside} in the lines as they lie"
+    return {
+        "name": ", ".join(view.name_of(key) for key in foretold.keys) or "memory",
+        "kind": line.kind,
+        "base": shown(line.base),
+        "told": told,
+        "words": cells(first, len(bases) * size, words, next(iter(foretold.keys), None), name),
+        "first": (line.base - first) // 4 + 1,
+        "last": (line.base + line.size - first) // 4 + 1,
+    }
+
+
+def templates():
+    """Where the page's template stands: what it is given is escaped, and what it isn't given is a fault."""
+    try:
+        import jinja2
+    except ImportError as missing:
+        raise Fault(f"python3-jinja2 isn't installed: {PACKAGES}", 127) from missing
+    folder = os.path.dirname(os.path.abspath(__file__))
+    return jinja2.Environment(loader=jinja2.FileSystemLoader(folder), autoescape=True, undefined=jinja2.StrictUndefined, trim_blocks=True)
+
+
+def page(view):
+    """The whole page."""
+    chosen, top = view.chosen(), view.call.number("top", TOP)
+    objects = [thing(view, it) for it in chosen[:top]]
+    is_all = "predicted" in view.call.options
+    observed, foretold = {spot.base: spot for it in view.things for spot in it.spots if spot.line}, view.foretold()
+    strips = [strip(view, it, observed) for it in [one for one in foretold if one.is_shown or is_all][:STRIPS]]
+    drawn = [word for it in chosen[:top] for word in view.seen(it).words] + [word for it in foretold[: len(strips)] for word in it.line.words()]
+    taking = {hart for it in chosen[:top] if view.seen(it).explained for pair in view.seen(it).explained.harts for hart in pair}
+    harts = sorted({int(it.hart) for it in drawn if it.hart != "many"} | taking)
+    return templates().get_template("page.html").render(
+        title=os.path.basename(view.call.subject),
+        report=view.report,
+        total=view.misses.total if view.misses else None,
+        notes=view.notes,
+        objects=objects,
+        more=max(0, len(chosen) - top),
+        harts=[{"hart": it, "letter": letter(it), "colour": colour(it)} for it in harts],
+        has_many=any(it.hart == "many" for it in drawn),
+        many=MANY,
+        predicted=strips,
+        folded=len(foretold) - len(strips),
+    )

@@ -1,0 +1,80 @@
+"""Which predicted lines say more than the observed ones, and could come to be."""
+
+from typing import NamedTuple
+
+from objects import key_of
+from reports import Block, Symbol
+
+# How the kit's allocator aligns blocks.
+OF_BLOCKS = 16
+
+
+class Foretold(NamedTuple):
+    """A predicted line, its objects by their keys, its useless misses, those of the observed lines that it meets, and whether it is shown."""
+
+    line: object
+    keys: dict
+    useless: int | None
+    inside: int | None
+    is_shown: bool
+    why: str
+
+
+def layout_of(line):
+    return line.size, line.base % line.size
+
+
+def layouts(report):
+    return sorted({layout_of(it) for it in report.predicted()})
+
+
+def alignment(thing, naming):
+    """How an object's declaration or its allocator aligns it, as far as that is known."""
+    if isinstance(thing, Symbol):
+        variable = naming.program.variable(thing.addr) if naming.program else None
+        return variable.alignment() if variable else 1
+    # What the allocator gives is not known beyond what its blocks show.
+    return min(OF_BLOCKS, thing.addr & -thing.addr) if thing.addr else OF_BLOCKS
+
+
+def can_lie(line, naming):
+    """Whether data aligned as they are could lie so that a line begins where this one does."""
+    if line.kind == "doubled":
+        return True
+    return all((it.addr - line.base) % min(alignment(it, naming), line.size) == 0 for it in line.objects() if isinstance(it, (Symbol, Block)))
+
+
+def inside(lines, misses):
+    """The useless misses of the observed lines that some predicted ones meet, each once."""
+    met = set()
+    for it in lines:
+        first = (it.base - misses.offset) // misses.size * misses.size + misses.offset
+        met.update(range(first, it.base + it.size, misses.size))
+    return sum(misses.lines[it].useless for it in met if it in misses.lines)
+
+
+def judged(report, misses, by_layout, naming):
+    """Each predicted line of a report, those that are shown first, the worst of them first."""
+    found = []
+    for line in report.predicted():
+        keys = {key_of(it, naming, line.base): it for it in line.objects()}
+        counted = by_layout.get(layout_of(line))
+        if misses is None or counted is None:
+            found.append(Foretold(line, keys, None, None, False, "its misses weren't counted"))
+            continue
+        own = counted.lines[line.base].useless if line.base in counted.lines else 0
+        seen = inside([line], misses)
+        if own <= seen:
+            why = "it has no more useless misses than the observed lines there"
+        else:
+            why = "" if can_lie(line, naming) else "data aligned as it is can't come to lie so"
+        found.append(Foretold(line, keys, own, seen, not why, why))
+    return sorted(found, key=lambda it: (not it.is_shown, (it.inside or 0) - (it.useless or 0), -it.line.count, it.line.base))
+
+
+def together(found):
+    """The predicted lines of one kind, layout and reason that have the same objects, in the order of their firsts."""
+    groups = {}
+    for it in found:
+        groups.setdefault((tuple(it.keys), it.line.kind, layout_of(it.line), it.why), []).append(it)
+    return list(groups.values())

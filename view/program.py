@@ -1,0 +1,175 @@
+"""Calls the proved program, which every number that is shown comes from."""
+
+import concurrent.futures
+import contextlib
+import os
+import re
+import subprocess
+import tempfile
+import threading
+from typing import NamedTuple
+
+from faults import Fault
+from reports import Explained, Misses, Placed, Report
+
+TOP = os.path.dirname(os.path.dirname(os.path.abspath(__file__)))
+# What a run or a replay ends with where its report is printed.
+REPORTED = (0, 10, 11, 12)
+PIECE = 1 << 20
+
+
+def launcher():
+    """The command `predator` of this checkout, or that of the folder where this was installed."""
+    for it in (os.environ.get("PREDATOR"), os.path.join(TOP, "bin", "predator"), os.path.join(TOP, "..", "..", "bin", "predator")):
+        if it and os.path.exists(it):
+            return it
+    raise Fault("there is no command predator beside this one", 127)
+
+
+class Refused(Fault):
+    """The program has refused a call, and said why on standard error."""
+
+
+class Predator:
+    def __init__(self):
+        self.command = launcher()
+        self.known = None
+
+    def text(self, words, good=(0,), **how):
+        """What a call prints, which must end with one of these statuses."""
+        ran = subprocess.run([self.command, *words], stdout=subprocess.PIPE, stdin=how.pop("stdin", subprocess.DEVNULL), **how)
+        text = ran.stdout.decode("latin-1")
+        if ran.returncode not in good:
+            said = text.partition("\n")[0] if text.startswith("predator: ") else f"status {ran.returncode}"
+            raise Refused(f"`predator {words[0]}` was refused: {said.removeprefix('predator: ')}")
+        return text
+
+    def has(self, command):
+        """Whether the program knows a command, by its lines of usage."""
+        if self.known is None:
+            ran = subprocess.run([self.command], stdout=subprocess.PIPE, stderr=subprocess.PIPE, stdin=subprocess.DEVNULL)
+            if ran.returncode != 1:
+                raise Fault(ran.stderr.decode("utf-8", "replace").strip() or "the command predator doesn't answer", 127)
+            self.known = set(re.findall(r"^usage: predator (\w+)", ran.stdout.decode("latin-1"), re.MULTILINE))
+        return command in self.known
+
+    def report(self, words):
+        return Report(self.text(words, REPORTED), "the report of " + words[0])
+
+    def explained(self, words):
+        return Explained(self.text(["explain", *words], REPORTED, stderr=subprocess.DEVNULL))
+
+    def placed(self, trace, name, size):
+        """Where `place` puts an object's words apart by their harts, or none where it has no such object or room."""
+        try:
+            text = self.text(["place", "--size", str(size), "--", trace, name], stderr=subprocess.DEVNULL)
+        except Refused:
+            return None
+        return Placed(text)
+
+    def counted_of_file(self, trace, readers):
+        """What readers tell of a trace, side by side."""
+
+        def one(reader):
+            return reader.told(self.text([*reader.words, "--", trace], reader.good, stderr=subprocess.DEVNULL))
+
+        with concurrent.futures.ThreadPoolExecutor(max_workers=min(4, os.cpu_count() or 1)) as pool:
+            return list(pool.map(one, readers))
+
+    def counted_of_run(self, words, readers):
+        """The same of a run's trace, which goes through pipes where the program can have it so, and else through a file that is lost."""
+        with contextlib.suppress(Refused, BrokenPipeError):
+            return self.counted_by_pipes(words, readers)
+        with tempfile.TemporaryDirectory(prefix="predator-view-") as folder:
+            trace = os.path.join(folder, "trace")
+            self.text(with_trace(words, trace), REPORTED)
+            return self.counted_of_file(trace, readers)
+
+    def counted_by_pipes(self, words, readers):
+        with concurrent.futures.ThreadPoolExecutor(max_workers=len(readers) + 1) as pool, contextlib.ExitStack() as open_ends:
+            mains, counts = [], []
+            for it in readers:
+                take, give = os.pipe()
+                counts.append(pool.submit(self.count_from, take, it))
+                mains.append(open_ends.enter_context(open(give, "wb", 0)))
+            take, give = os.pipe()
+            copying = threading.Thread(target=copy, args=(take, mains))
+            copying.start()
+            try:
+                self.text(with_trace(words, f"/dev/fd/{give}"), REPORTED, pass_fds=(give,), stderr=subprocess.DEVNULL)
+            finally:
+                os.close(give)
+                copying.join()
+                open_ends.close()
+            return [it.result() for it in counts]
+
+    def count_from(self, take, reader):
+        with open(take, "rb", 0) as trace:
+            return reader.told(self.text([*reader.words, "-"], reader.good, stdin=trace, stderr=subprocess.DEVNULL))
+
+
+class Reader(NamedTuple):
+    """A command that reads a trace: its words without that, the statuses of an answer, and what its text is."""
+
+    words: list
+    good: tuple
+    told: type
+
+
+def misses_under(layout):
+    return Reader(["misses", *layout_words(layout)], (0,), Misses)
+
+
+def each_line(layout, settings):
+    """A report of every line that was ever taken; `settings` is a file that says so."""
+    return Reader(["replay", "--settings", settings, *layout_words(layout)], REPORTED, Report)
+
+
+def layout_words(layout):
+    return ["--size", str(layout[0]), "--shift", str(layout[1])]
+
+
+def with_trace(words, name):
+    """The words of a run with one option more, before a `--`."""
+    return [words[0], "--trace", name, *words[1:]]
+
+
+def copy(take, ends):
+    """Copies a pipe to others, and closes them; one whose reader is gone is left out."""
+    with open(take, "rb", 0) as source:
+        while piece := source.read(PIECE):
+            for it in list(ends):
+                try:
+                    left = memoryview(piece)
+                    while left:
+                        left = left[it.write(left) :]
+                except OSError:
+                    ends.remove(it)
+    for it in ends:
+        it.close()
+
+
+def stacks(predator, program, words):
+    """The lowest and highest address of the stacks, or none where the program can't tell."""
+    with contextlib.suppress(Fault):
+        found = re.search(r"^stacks (0x[0-9a-f]+) (0x[0-9a-f]+)$", predator.text(["check", program, *words], stderr=subprocess.DEVNULL), re.MULTILINE)
+        if found:
+            return int(found[1], 16), int(found[2], 16)
+    return None
+
+
+def setting(words, key, usual):
+    """A setting of a call, by its file and its words; `words` are those that name settings."""
+    import tomllib
+
+    found = usual
+    for at, word in enumerate(words):
+        name, has_value, value = word.partition("=")
+        value = value if has_value else (words[at + 1] if at + 1 < len(words) else "")
+        with contextlib.suppress(OSError, ValueError):
+            if name == "--settings":
+                with open(value, "rb") as file:
+                    found = int(tomllib.load(file).get(key, found))
+            elif name == "--set":
+                found = int(dict(it.split("=", 1) for it in value.split(",")).get(key, found))
+    return found

@@ -1,0 +1,281 @@
+"""Reads what the program prints: reports, counts of misses, what explains a line, and placements. docs/FORMATS.md has these texts.
+
+A text may have millions of lines. One pattern judges each listed line with its rows, and the line knows where these stand: they are read
+when they are asked for."""
+
+import re
+import sys
+from typing import NamedTuple
+
+from faults import Fault
+
+SIZES = [1 << it for it in range(2, 11)]
+KINDS = ("observed", "shifted", "doubled")
+ANY, MANY = r"-?0x[0-9a-f]{8,16}", r"\d{1,20}"
+ADDRESS, NUMBER = f"({ANY})", f"({MANY})"
+# The rows below a listed line: what stands on it, and its words.
+STANDS = rf"(?:object (?:symbol [!-~]+ {ANY} {MANY}|block {ANY} {MANY} born {MANY} (?:live|died {MANY})(?:\nsite {ANY} [!-~]+)*)\n)*"
+WORDS = rf"(?:word {ANY} reads {MANY} writes {MANY} (?:hart \d{{1,3}}|many)\n)*"
+LINE = re.compile(rf"line (observed|shifted|doubled) {ADDRESS} {NUMBER} start {NUMBER} count {NUMBER} verdict (false|true|mixed)\n{STANDS}{WORDS}")
+MISSES = re.compile(rf"line {ADDRESS} cold {NUMBER} useful {NUMBER} useless {NUMBER}\n{STANDS}")
+OBJECT = re.compile(rf"object (?:symbol (\S+) (\S+) (\d+)|block (\S+) (\d+) born (\d+) (?:live|died (\d+)))((?:\nsite .*)*)")
+WORD = re.compile(r"word (\S+) reads (\d+) writes (\d+) (?:hart )?(\w+)")
+SITE = re.compile(r"site (\S+) (\S+)")
+SITES = re.compile(rf"\nsite {ANY} .*(?:\nsite .*)*")
+OUTCOME = re.compile(rf"exit {MANY}|budget|deadlock|part|trap hart {MANY} pc {ADDRESS} [a-z-]+")
+WHERE = re.compile(rf"^where {ADDRESS} (.*)$", re.MULTILINE)
+
+
+class Site(NamedTuple):
+    """A call site: its address, and the printed name of its function, or `-`."""
+
+    addr: int
+    name: str
+
+
+class Symbol(NamedTuple):
+    name: str
+    addr: int
+    size: int
+
+
+class Block(NamedTuple):
+    """A block of the heap; `died` is none where it lived on."""
+
+    addr: int
+    size: int
+    born: int
+    died: int | None
+    sites: tuple
+
+
+class Word(NamedTuple):
+    """A word of a line, and who accessed it: a hart's number, or `many`."""
+
+    addr: int
+    reads: int
+    writes: int
+    hart: str
+
+    def accesses(self):
+        return self.reads + self.writes
+
+
+def bytes_of(name):
+    """The bytes of a name that is printed."""
+    return re.sub(rb"\\x([0-9a-f]{2})", lambda it: bytes([int(it[1], 16)]), name.encode("latin-1"))
+
+
+class Rows:
+    """The rows of a listed line in a text."""
+
+    __slots__ = ("text", "begin", "end")
+    # The call sites of blocks by their rows: blocks are many, and chains few.
+    chains = {}
+
+    def __init__(self, text, begin, end):
+        self.text, self.begin, self.end = text, begin, end
+
+    def rows(self):
+        return self.text[self.begin : self.end].split("\n")
+
+    def stands(self):
+        """The rows that tell what stands on the line, as a text."""
+        words = self.text.find("word ", self.begin, self.begin + 5) if self.begin < self.end else self.begin
+        words = self.text.find("\nword ", self.begin, self.end) if words < 0 else words
+        return self.text[self.begin : self.end if words < 0 else words]
+
+    def objects(self):
+        """The symbols and the blocks on the line, in the report's order."""
+        return objects_of(self.stands())
+
+    def words(self):
+        return [Word(int(addr, 16), int(reads), int(writes), hart) for addr, reads, writes, hart in WORD.findall(self.text, self.begin, self.end)]
+
+
+def objects_of(rows):
+    """What some rows say that stands on a line."""
+    found = []
+    for it in OBJECT.finditer(rows):
+        name, at, size, block, length, born, died, sites = it.groups()
+        if name is not None:
+            found.append(Symbol(name, int(at, 16), int(size)))
+        else:
+            found.append(Block(int(block, 16), int(length), int(born), None if died is None else int(died), chain(sites)))
+    return found
+
+
+def chain(rows):
+    """The call sites that some rows tell."""
+    found = Rows.chains.get(rows)
+    if found is None:
+        found = Rows.chains[rows] = tuple(Site(int(addr, 16), name) for addr, name in SITE.findall(rows))
+    return found
+
+
+class Line(Rows):
+    """A listed line of a report."""
+
+    __slots__ = ("kind", "base", "size", "start", "count", "verdict")
+
+    def __init__(self, text, begin, end, fields):
+        self.text, self.begin, self.end = text, begin, end
+        kind, base, size, start, count, verdict = fields
+        # (one text for all lines)
+        self.kind, self.verdict = sys.intern(kind), sys.intern(verdict)
+        self.base, self.size, self.start, self.count = int(base, 16), int(size), int(start), int(count)
+
+
+class Missed(Rows):
+    """A line of a count of misses."""
+
+    __slots__ = ("base", "cold", "useful", "useless")
+
+    def __init__(self, text, begin, end, fields):
+        self.text, self.begin, self.end = text, begin, end
+        base, cold, useful, useless = fields
+        self.base, self.cold, self.useful, self.useless = int(base, 16), int(cold), int(useful), int(useless)
+
+
+def listed(text, pattern, kind, of):
+    """The lines that a text lists, each with its rows, and where the text goes on behind them."""
+    found, place = [], text.find("\nline ") + 1
+    if not place:
+        return found, None
+    fields = range(1, pattern.groups + 1)
+    for it in pattern.finditer(text, place):
+        if it.start() != place:
+            break
+        place = it.end()
+        found.append(kind(text, it.end(pattern.groups) + 1, place - 1, it.group(*fields)))
+    if text.startswith(("line ", "object ", "site ", "word "), place):
+        raise Fault(f"{of}: its row {text.count(chr(10), 0, place) + 1} is none that it may have: `{text[place : place + 80].partition(chr(10))[0]}`")
+    return found, place
+
+
+def head(text, of):
+    """The first lines of a text, as a word and what follows it, and whether the text is whole."""
+    fields = {}
+    for row in text[:2000].split("\n")[1:8]:
+        name, _, value = row.partition(" ")
+        fields.setdefault(name, value)
+    if "\nend\n" not in text[-2000:] and not re.search(r"^end$", text, re.MULTILINE):
+        raise Fault(f"{of}: it is cut: a whole one ends with a line `end`")
+    return fields
+
+
+def number(fields, name, of):
+    if not re.fullmatch(MANY, fields.get(name, "")):
+        raise Fault(f"{of}: it has no line `{name} N` where a report has one")
+    return int(fields[name])
+
+
+def sites_of(text):
+    """The addresses of all call sites in a text."""
+    return {it.addr for rows in {it[0] for it in SITES.finditer(text)} for it in chain(rows)}
+
+
+class Report:
+    """A report, whole."""
+
+    def __init__(self, text, of="the report"):
+        self.text = text
+        first = text.partition("\n")[0]
+        if not text.strip():
+            raise Fault(f"{of}: it is empty, and no report")
+        if first != "predator report 1":
+            what = "a report of another version" if re.fullmatch(r"predator report \d+", first) else "no report"
+            raise Fault(f"{of}: it is {what}: its first line isn't `predator report 1`")
+        fields = head(text, of)
+        self.outcome = fields.get("outcome", "")
+        if not OUTCOME.fullmatch(self.outcome):
+            raise Fault(f"{of}: it has no outcome that a report has")
+        self.steps, self.accesses = number(fields, "steps", of), number(fields, "accesses", of)
+        layout = re.fullmatch(rf"{NUMBER} {NUMBER}", fields.get("layout", ""))
+        told = re.fullmatch(rf"{NUMBER} ({MANY}|none) {NUMBER}", fields.get("thresholds", ""))
+        if not layout or not told or int(layout[1]) not in SIZES or int(layout[2]) >= int(layout[1]):
+            raise Fault(f"{of}: it has no layout or no thresholds that a report has")
+        self.size, self.offset = int(layout[1]), int(layout[2])
+        self.thresholds = told.groups()
+        self.lines, place = listed(text, LINE, Line, of)
+        if len(self.lines) != number(fields, "lines", of):
+            raise Fault(f"{of}: it tells of {fields['lines']} lines and has {len(self.lines)}")
+        if {(it.kind == "doubled", it.size) for it in self.lines} - {(False, self.size), (True, 2 * self.size)}:
+            raise Fault(f"{of}: it has lines of another size than its layout says")
+        # What native/predator-native prints behind a report: where a call site stands.
+        self.where = {int(it[1], 16): it[2] for it in WHERE.finditer(text, place or 0)}
+
+    def ended_well(self):
+        return self.outcome == "exit 0"
+
+    def sites(self):
+        return sites_of(self.text)
+
+    def observed(self):
+        return [it for it in self.lines if it.kind == "observed"]
+
+    def at(self):
+        """The observed lines by their bases."""
+        return {it.base: it for it in self.observed()}
+
+    def predicted(self):
+        return [it for it in self.lines if it.kind != "observed"]
+
+
+class Misses:
+    """What `misses` counts of a trace under one layout."""
+
+    def __init__(self, text, of="misses"):
+        found = re.match(r"misses (\d+) (\d+)\naccesses (\d+)\nlines (\d+)\n", text)
+        total = re.search(r"^total cold (\d+) useful (\d+) useless (\d+)\nend\n", text, re.MULTILINE)
+        if not found or not total:
+            raise Fault(f"{of}: it isn't what `misses` prints")
+        self.size, self.offset, self.accesses = (int(it) for it in found.groups()[:3])
+        self.text, self.lines = text, {it.base: it for it in listed(text, MISSES, Missed, of)[0]}
+        self.total = {name: int(it) for name, it in zip(("cold", "useful", "useless"), total.groups())}
+        if len(self.lines) != int(found[4]):
+            raise Fault(f"{of}: it tells of {found[4]} lines and has {len(self.lines)}")
+
+    def sites(self):
+        return sites_of(self.text)
+
+
+class Pair(NamedTuple):
+    """Two instructions: the second one takes the line from the first so often, so often for one word."""
+
+    victim: int
+    taker: int
+    taken: int
+    same: int
+
+
+class Explained:
+    """What `explain` says of a line."""
+
+    def __init__(self, text, of="explain"):
+        if not text.startswith("predator explain 1\n") or not text.endswith("\nend\n"):
+            raise Fault(f"{of}: it isn't what `explain` prints")
+        line = re.search(rf"^line {ADDRESS} (\d+) start (\d+) count (\d+)$", text, re.MULTILINE)
+        self.base, self.size, self.start, self.count = int(line[1], 16), *(int(it) for it in line.groups()[1:])
+        self.steps, self.accesses = (int(re.search(rf"^{it} (\d+)$", text, re.MULTILINE)[1]) for it in ("steps", "accesses"))
+        pairs = re.findall(rf"^pair {ADDRESS} {ADDRESS} taken (\d+) same (\d+)$", text, re.MULTILINE)
+        self.pairs = [Pair(int(a, 16), int(b, 16), int(c), int(d)) for a, b, c, d in pairs]
+        harts = re.findall(r"^from (\d+) to (\d+) taken (\d+)$", text, re.MULTILINE)
+        self.harts = {(int(a), int(b)): int(c) for a, b, c in harts}
+        sites = re.findall(rf"^site {ADDRESS} reads (\d+) writes (\d+) (hart \d+|many) (\S+)$", text, re.MULTILINE)
+        self.sites = {int(it[0], 16): (int(it[1]), int(it[2]), it[3], it[4]) for it in sites}
+
+
+class Placed:
+    """What `place` says: where an object lies, where its words go, by their old places, with whose they are, and how often all lines are
+    taken before and after."""
+
+    def __init__(self, text, of="place"):
+        head = re.match(rf"place ([!-~]+) {ADDRESS} {NUMBER} line {NUMBER}\n", text)
+        counts = re.search(rf"^before {NUMBER}\nafter {NUMBER}\nmany {NUMBER}\nend\n", text, re.MULTILINE)
+        if not head or not counts:
+            raise Fault(f"{of}: it isn't what `place` prints")
+        self.name, self.addr, self.line = head[1], int(head[2], 16), int(head[4])
+        words = re.findall(rf"^word {ADDRESS} to {ADDRESS} (?:hart )?(\w+)$", text, re.MULTILINE)
+        self.words = {int(it, 16): (int(to, 16), hart) for it, to, hart in words}
+        self.before, self.after, self.many = (int(it) for it in counts.groups())

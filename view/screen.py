@@ -1,0 +1,141 @@
+"""The first screen. Its text says all; colours on a terminal only help the eye."""
+
+import os
+import sys
+import textwrap
+
+from advice import listing
+from calls import TOP
+from faults import plain
+from predicted import inside, together
+
+BOLD, RED, DIM, END = "1", "1;31", "2", "0"
+
+
+class Paint:
+    """Colours where they are wanted."""
+
+    def __init__(self, out=sys.stdout):
+        self.is_on = out.isatty() and not os.environ.get("NO_COLOR") and os.environ.get("TERM") != "dumb"
+
+    def __call__(self, code, text):
+        return f"\033[{code}m{text}\033[{END}m" if self.is_on else text
+
+
+def place_of(naming, addr):
+    """An instruction's line in the source and its function, or its address."""
+    place = naming.sources.place(addr) if naming.sources else None
+    frames = naming.sources.frames(addr) if naming.sources else []
+    names = [it.function for it in frames if it.function]
+    if place is None:
+        return f"0x{addr:08x}" + (f" ({names[0]})" if names else "")
+    return f"{place.short()} ({' < '.join(names[:2])})" if names else place.short()
+
+
+def outcome(view, paint):
+    """How the run ended: loudly where that isn't exit 0."""
+    report, naming = view.report, view.naming
+    told = report.outcome
+    if told.startswith("trap") and naming.sources:
+        told += f", at {place_of(naming, int(told.split(' ')[4], 16))}"
+    advice = {
+        "budget": "it took all steps of its `budget`; the setting may be larger",
+        "deadlock": "no hart could run any more",
+        "part": "it is a part of a trace that was cut",
+    }
+    if not report.ended_well():
+        yield paint(RED, plain(f"!! THE RUN DIDN'T END BY EXIT 0: {told}"))
+        yield paint(RED, f"!! {advice.get(report.outcome, 'what follows is what it did until then')}")
+    layout = f"lines of {report.size} bytes" + (f" at offset {report.offset}" if report.offset else "")
+    yield plain(f"outcome {told}, {report.steps} steps, {report.accesses} accesses, {layout}")
+    if view.misses:
+        total = view.misses.total
+        yield f"misses: {total['useless']} useless, {total['useful']} useful, {total['cold']} cold"
+
+
+def owner(word):
+    return "many harts" if word.hart == "many" else f"hart {word.hart}"
+
+
+def counted(number, what):
+    return f"{number} {what}" + ("" if number == 1 else "s")
+
+
+def fold(text, first, rest, width):
+    return textwrap.wrap(plain(text), width, initial_indent=first, subsequent_indent=rest, break_long_words=False, break_on_hyphens=False)
+
+
+def row(view, place, thing, paint, width):
+    """One object: its numbers and name, and below it the worst field, the fighting lines and what to do."""
+    seen = view.seen(thing)
+    numbers = [thing.useless, thing.useful] if view.misses else ["-", "-"]
+    lives = f" ({len(thing.lives)} lives)" if thing.key[0] == "block" and len(thing.lives) > 1 else ""
+    beside = [view.all[it].name for it in thing.beside]
+    near = f", beside {', '.join(beside[:3])}" + (f" and {len(beside) - 3} more" if len(beside) > 3 else "") if beside else ""
+    cells = "".join(f" {it:>8}" for it in (*numbers, thing.count))
+    yield f"{place:>3} {cells} {len(thing.spots):>6}  " + paint(BOLD, plain(view.label(thing))) + plain(lives + near)
+    worst, fight = seen.worst(), seen.fight()
+    if worst:
+        yield from fold(f"worst field  {worst.name}: {worst.writes} writes and {worst.reads} reads by {owner(worst)}", " " * 8, " " * 21, width)
+    if fight:
+        one, other = (place_of(view.naming, it) for it in fight[:2])
+        took = f"{fight.taken} times" + (f", {fight.same} of them for the same word" if fight.same else ", never for the same word")
+        yield from fold(f"fighting     {other} takes the line from {one}, {took}", " " * 8, " " * 21, width)
+    yield from fold(f"to do        {seen.todo}", " " * 8, " " * 21, width)
+
+
+def words_table(view, thing):
+    """The words of an object's lines."""
+    for it in view.seen(thing).words:
+        needed = "" if it.useful is None else f"{it.useful:>9}"
+        other = "" if it.key == thing.key else f"  ({plain(view.all[it.key].name) if it.key in view.all else 'another object'})"
+        yield f"        0x{it.addr:08x}{it.reads:>9}{it.writes:>9}{needed}  {it.hart:<5} {plain(it.name)}{other}"
+
+
+def prediction(view, group):
+    """Some predicted lines of one kind, in a sentence."""
+    first, bases = group[0], [f"0x{it.line.base:08x}" for it in group]
+    what = ", ".join(view.name_of(key) for key in first.keys) or "memory"
+    size, where = first.line.size, listing(bases)
+    how = f"lines of {size} bytes (at {where})" if first.line.kind == "doubled" else f"lines that begin at {where}"
+    if first.useless is None:
+        much = f"count {sum(it.line.count for it in group)}"
+    else:
+        seen = inside([it.line for it in group], view.misses)
+        much = f"{sum(it.useless for it in group)} useless misses, {seen} as it lies"
+    return f"{what}: with {how}, {much}" + (f" (folded: {first.why})" if first.why else f"; `alignas({size})` keeps apart what meets there")
+
+
+def predictions(view, paint, width):
+    found, is_all = view.foretold(), "predicted" in view.call.options
+    shown = [it for it in found if it.is_shown or is_all]
+    folded = len(found) - len(shown)
+    if shown:
+        yield paint(BOLD, "Predicted: what would be so if data lay otherwise, or lines were longer")
+    for it in together(shown):
+        yield from fold(prediction(view, it), "    ", "      ", width)
+    if folded:
+        why = f"since {'it says' if folded == 1 else 'they say'} no more, or can't come to be: --predicted shows all"
+        yield paint(DIM, f"{counted(folded, 'predicted line')} folded away, {why}")
+
+
+def screen(view, paint, width=110):
+    """The whole screen, as lines."""
+    yield from outcome(view, paint)
+    for it in view.notes:
+        yield from fold(f"note: {it}", "", "      ", width)
+    chosen, top = view.chosen(), view.call.number("top", TOP)
+    name = view.call.options.get("object")
+    if not chosen:
+        yield f"nothing is fought over on {plain(name)}" if name else "no line is fought over"
+    else:
+        yield paint(DIM, "      useless   useful    count  lines  object")
+    for place, thing in enumerate(chosen[:top], 1):
+        yield from row(view, place, thing, paint, width)
+        if "words" in view.call.options and view.seen(thing).words:
+            needs = "" if view.by_word is None else "   needed"
+            yield paint(DIM, f"        {'word':<10}    reads   writes{needs}  hart  field")
+            yield from words_table(view, thing)
+    if len(chosen) > top:
+        yield paint(DIM, f"{counted(len(chosen) - top, 'more object')}: --top {len(chosen)} shows all")
+    yield from predictions(view, paint, width)

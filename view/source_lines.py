@@ -1,0 +1,79 @@
+"""Where instructions stand in the sources, by llvm-symbolizer."""
+
+import json
+import os
+import shutil
+import subprocess
+from typing import NamedTuple
+
+from faults import Fault
+
+PACKAGES = "apt-get install llvm python3-pyelftools python3-jinja2"
+
+
+class Place(NamedTuple):
+    """A line of a source, and its function; the file is empty where nothing is known, the line then 0."""
+
+    function: str
+    file: str
+    line: int
+
+    def short(self):
+        return f"{os.path.basename(self.file)}:{self.line}" if self.file and self.line else ""
+
+
+class Sources:
+    """The lines of a program's addresses, and the texts of its sources as far as they are there."""
+
+    def __init__(self, program, folders=()):
+        self.program, self.places, self.texts = program, {}, {}
+        self.folders = [*folders, "", os.path.dirname(os.path.abspath(program))]
+        self.tool = shutil.which("llvm-symbolizer")
+        if self.tool is None:
+            raise Fault(f"llvm-symbolizer isn't installed: {PACKAGES}", 127)
+
+    def find(self, addresses):
+        """Looks some addresses up in one call."""
+        wanted = sorted({it for it in addresses if it not in self.places})
+        if not wanted:
+            return
+        ran = subprocess.run(
+            [self.tool, f"--obj={self.program}", "--output-style=JSON", "--inlines"],
+            input="".join(f"{it:#x}\n" for it in wanted).encode(),
+            stdout=subprocess.PIPE,
+            stderr=subprocess.DEVNULL,
+        )
+        self.places.update({it: [] for it in wanted})
+        for row in ran.stdout.decode("utf-8", "replace").splitlines():
+            told = json.loads(row)
+            frames = [(it.get("FunctionName", ""), it.get("FileName", ""), it.get("Line", 0)) for it in told.get("Symbol", [])]
+            self.places[int(told["Address"], 16)] = [Place(*it) for it in frames if it[0] or it[1]]
+
+    def frames(self, address):
+        """The functions inlined at an address, the innermost first."""
+        self.find([address])
+        return self.places[address]
+
+    def place(self, address):
+        """The innermost line of an address that is known, or none."""
+        return next((it for it in self.frames(address) if it.file and it.line), None)
+
+    def path(self, file):
+        """Where a source is on this machine, or none."""
+        for folder in self.folders:
+            for it in (file, os.path.basename(file)):
+                path = os.path.normpath(os.path.join(folder, it)) if folder else os.path.normpath(it)
+                if os.path.isfile(path) and (folder or it == file):
+                    return path
+        return None
+
+    def text(self, file):
+        """The lines of a source, none of which are there if it isn't."""
+        if file not in self.texts:
+            path = self.path(file)
+            lines = []
+            if path and os.path.getsize(path) < 1 << 24:
+                with open(path, encoding="utf-8", errors="replace") as source:
+                    lines = source.read().split("\n")
+            self.texts[file] = lines
+        return self.texts[file]

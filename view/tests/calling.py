@@ -1,0 +1,27 @@
+"""Calls view as a user does, over the stand-in or over the program that was built."""
+
+import os
+import subprocess
+
+HERE = os.path.dirname(os.path.abspath(__file__))
+TOP = os.path.dirname(os.path.dirname(HERE))
+STAND_IN = os.path.join(HERE, "stand_in.py")
+# What a run of the small programs has turns of.
+TURNS = ("--set", "quantum=3")
+
+
+def built(name):
+    return os.path.join(HERE, "programs", name)
+
+
+def view(*words, program=STAND_IN, lacks="", cwd=None, **more):
+    """The status of a call, what it printed and what it said."""
+    own = {"PREDATOR_PROGRAM": program, "STAND_IN_LACKS": lacks, "PREDATOR_BUILD": "no", **more}
+    command = [os.path.join(TOP, "bin", "predator"), "view", *words]
+    ran = subprocess.run(command, capture_output=True, encoding="utf-8", env={**os.environ, **own}, cwd=cwd, stdin=subprocess.DEVNULL)
+    return ran.returncode, ran.stdout, ran.stderr
+
+
+def joined(text):
+    """A text without its line breaks and their indentation."""
+    return " ".join(text.split())

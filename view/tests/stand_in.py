@@ -1,0 +1,224 @@
+#!/usr/bin/python3
+"""Stands for the proved program in the tests of view, where that isn't built: `run`, `replay`, `misses`, `explain` and `check` of small
+programs and traces, by machine.py and the judges of tools/. STAND_IN_LACKS names commands that it hasn't, and `pipes` if it reads none."""
+
+import os
+import struct
+import sys
+import tomllib
+
+HERE = os.path.dirname(os.path.abspath(__file__))
+sys.path[:0] = [HERE, os.path.join(HERE, "..", "..", "tools")]
+
+import judge_report  # noqa: E402
+import recount_misses  # noqa: E402
+import traces  # noqa: E402
+
+LACKS = os.environ.get("STAND_IN_LACKS", "").split()
+USUAL = {"harts": 8, "memory": 1 << 24, "stack": 1 << 16, "tracking": 16, "report": 100, "quantum": 100, "budget": 10**8, "line": 64}
+USAGE = {
+    "run": "PROGRAM [--settings F] [--schedule F] [--trace F] [--output F]",
+    "replay": "TRACE [--settings F] [--size N] [--shift N] [--save F] [--resume F]",
+    "check": "PROGRAM [--settings F]",
+    "misses": "TRACE [--size N] [--shift N]",
+    "explain": "PROGRAM BASE SIZE START [--settings F] [--schedule F]",
+    "place": "TRACE NAME [--size N]",
+}
+
+
+def words_of(words):
+    """Names and options."""
+    names, options, at = [], {}, 0
+    while at < len(words):
+        word, at = words[at], at + 1
+        if word == "--":
+            return names + words[at:], options
+        if word.startswith("--"):
+            name, has_value, value = word.partition("=")
+            if not has_value:
+                value, at = words[at], at + 1
+            options[name] = value
+        else:
+            names.append(word)
+    return names, options
+
+
+def settings_of(options):
+    found = dict(USUAL)
+    if "--settings" in options:
+        with open(options["--settings"], "rb") as file:
+            found.update(tomllib.load(file))
+    found.update({key: int(value) for key, value in (it.split("=") for it in options.get("--set", "").split(",") if it)})
+    return found
+
+
+def read(name):
+    if name == "-" and "pipes" not in LACKS:
+        return sys.stdin.buffer.read()
+    with open(name, "rb") as file:
+        return file.read()
+
+
+def case_of(trace, settings, options):
+    """A trace as judge_report has it."""
+    accesses, records = [], []
+    for it in traces.records(trace):
+        if isinstance(it, (traces.Symbol, traces.Alloc, traces.Free)):
+            records.append((len(accesses), it))
+        else:
+            accesses.append(judge_report.Access(it[0], it[2], it[1], 1))
+    outcome, cause, hart, value, steps = struct.unpack("<BBHIQ", trace[-24:-8])
+    trap = f"trap hart {hart} pc {value:#010x} {judge_report.CAUSES[cause - 1]}"
+    ending = judge_report.Ending((f"exit {value}", "budget", "deadlock", trap, "part")[outcome], steps, (0, 0, 0, 0))
+    layout = (int(options.get("--size", 64)), int(options.get("--shift", 0))) if {"--size", "--shift"} & {*options} else None
+    return case_under(settings, accesses, records, ending, layout)
+
+
+def case_under(settings, accesses, records, ending, layout=None):
+    prediction = settings.get("prediction", max(64, settings["tracking"]))
+    harts, tracking, report, native = (settings[it] for it in ("harts", "tracking", "report", "line"))
+    return judge_report.Case(accesses, records, ending, harts, tracking, prediction, report, native, layout)
+
+
+def machine_of(name, options, runs=True):
+    from machine import Machine
+
+    machine = Machine(name, settings_of(options))
+    if runs:
+        machine.run()
+    return machine
+
+
+def ending_of(text):
+    """The fields of a trace's end."""
+    words = text.split()
+    if words[0] == "trap":
+        return 3, judge_report.CAUSES.index(words[-1]) + 1, int(words[2]), int(words[4], 16)
+    return {"exit": 0, "budget": 1, "deadlock": 2}[words[0]], 0, 0, int(words[1]) if words[0] == "exit" else 0
+
+
+def case_of_run(machine):
+    """What a run did, as judge_report has it."""
+    kinds = {"alloc": traces.Alloc, "free": traces.Free}
+    records = [(0, traces.Symbol(*it)) for it in machine.symbols] + [(at, kinds[it[0]](*it[1:])) for at, it in machine.records]
+    accesses = [judge_report.Access(hart, writes, addr, size) for hart, addr, writes, size, _ in machine.accesses]
+    fields = ending_of(machine.ending)
+    return case_under(machine.settings, accesses, records, judge_report.Ending(machine.ending, machine.steps, fields))
+
+
+def run(names, options):
+    machine = machine_of(names[0], options)
+    case = case_of_run(machine)
+    if "--trace" in options:
+        with open(options["--trace"], "wb") as file:
+            file.write(judge_report.trace_of(case))
+    yield from judge_report.report_of(case)
+
+
+def check(names, options):
+    machine = machine_of(names[0], options, runs=False)
+    yield f"stacks {machine.stacks:#010x} {machine.top:#010x}"
+
+
+def explain(names, options):
+    """By the definitions: of each taking of a line the latest access of another hart before it."""
+    machine = machine_of(names[0], options)
+    base, size, start = int(names[1], 0), int(names[2]), int(names[3])
+    inside = [(at, it) for at, it in enumerate(machine.accesses) if base <= it[1] < base + size]
+    sites, pairs, harts, held = {}, {}, {}, set()
+    for place, (position, (hart, addr, writes, _, pc)) in enumerate(inside):
+        if position >= start:
+            sites.setdefault(pc, []).append((hart, writes))
+        if writes and held - {hart} and position > start:
+            victim = next(it for _, it in reversed(inside[:place]) if it[0] != hart)
+            pair = pairs.setdefault((victim[4], pc), [0, 0])
+            pair[0] += 1
+            pair[1] += victim[1] // 4 == addr // 4
+            harts[victim[0], hart] = harts.get((victim[0], hart), 0) + 1
+        held = {hart} if writes else held | {hart}
+    yield from ("predator explain 1", f"outcome {machine.ending}", f"steps {machine.steps}", f"accesses {len(machine.accesses)}")
+    yield f"line {base:#010x} {size} start {start} count {sum(it[0] for it in pairs.values())}"
+    yield f"sites {len(sites)}"
+    for pc, own in sorted(sites.items()):
+        name = next((it[3].decode() for it in machine.symbols if it[0] == 2 and it[1] <= pc < it[1] + it[2]), "-")
+        owners = {it[0] for it in own}
+        whose = f"hart {min(owners)}" if len(owners) == 1 else "many"
+        yield f"site {pc:#010x} reads {sum(not it[1] for it in own)} writes {sum(it[1] for it in own)} {whose} {name}"
+    yield f"pairs {len(pairs)}"
+    for (victim, taker), (taken, same) in sorted(pairs.items(), key=lambda it: (-it[1][0], it[0])):
+        yield f"pair {victim:#010x} {taker:#010x} taken {taken} same {same}"
+    yield f"harts {len(harts)}"
+    for (victim, taker), taken in sorted(harts.items()):
+        yield f"from {victim} to {taker} taken {taken}"
+    yield "end"
+
+
+def replay(names, options):
+    return judge_report.report_of(case_of(read(names[0]), settings_of(options), options))
+
+
+def misses(names, options):
+    return recount_misses.told(read(names[0]), int(options.get("--size", 64)), int(options.get("--shift", 0)))
+
+
+def total(accesses, size):
+    """How often the lines were taken after their first writes."""
+    held, written, count = {}, set(), 0
+    for hart, addr, writes in accesses:
+        line = addr // size
+        harts = held.setdefault(line, set())
+        if writes:
+            count += line in written and bool(harts - {hart})
+            written.add(line)
+            harts.clear()
+        harts.add(hart)
+    return count
+
+
+def place(names, options):
+    """An object's words by their harts, each group on lines of its own."""
+    records, size = list(traces.records(read(names[0]))), int(options.get("--size", 64))
+    accesses = [it for it in records if not isinstance(it, (traces.Symbol, traces.Alloc, traces.Free))]
+    named = (it for it in records if isinstance(it, traces.Symbol) and it.kind == 1 and it.name == names[1].encode())
+    found = next(named, None)
+    if found is None:
+        raise LookupError("predator: place NoObject")
+    owners, end = {}, 0
+    for hart, addr, _ in accesses:
+        word, end = addr // 4 * 4, max(end, addr // 4 * 4 + 4)
+        if found.addr < word + 4 and word < found.addr + found.size:
+            owners[word] = 256 if owners.get(word, hart) != hart else hart
+    at, moved, first = -(-end // size) * size, {}, {}
+    for group in sorted(set(owners.values())):
+        first[group] = at
+        for number, word in enumerate(sorted(it for it in owners if owners[it] == group)):
+            moved[word] = at + 4 * number
+        at += -(-4 * list(owners.values()).count(group) // size) * size
+    yield f"place {names[1]} {found.addr:#010x} {found.size} line {size}"
+    yield from (f"word {it:#010x} to {moved[it]:#010x} {'many' if owners[it] == 256 else f'hart {owners[it]}'}" for it in sorted(owners))
+    after = [(hart, moved.get(addr // 4 * 4, addr // 4 * 4), writes) for hart, addr, writes in accesses]
+    many = [it for it in after if it[1] >= first.get(256, 2**33)]
+    yield from (f"before {total(accesses, size)}", f"after {total(after, size)}", f"many {total(many, size)}", "end")
+
+
+def main(words):
+    known = {name: told for name, told in USAGE.items() if name not in LACKS}
+    works = {"run": run, "replay": replay, "check": check, "misses": misses, "explain": explain, "place": place}
+    if not words or words[0] not in known:
+        print(*(f"usage: predator {name} {told}" for name, told in known.items()), sep="\n")
+        return 1
+    try:
+        lines = list(works[words[0]](*words_of(words[1:])))
+    except OSError:
+        print("predator: read fault")
+        return 7
+    except LookupError as error:
+        print(error.args[0])
+        return 13
+    sys.stdout.writelines(f"{it}\n" for it in lines)
+    outcome = lines[1] if len(lines) > 1 else ""
+    return {"outcome budget": 10, "outcome deadlock": 11}.get(outcome, 12 if outcome.startswith("outcome trap") else 0)
+
+
+if __name__ == "__main__":
+    sys.exit(main(sys.argv[1:]))

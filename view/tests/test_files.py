@@ -1,0 +1,184 @@
+"""The files that view writes: the page in a browser, JSON by its schema, SARIF; large reports; and the program itself, where it is built."""
+
+import json
+import os
+import re
+import resource
+import shutil
+import struct
+import subprocess
+import sys
+import tempfile
+import unittest
+import warnings
+
+from calling import HERE, TOP, built, view
+
+with warnings.catch_warnings():
+    warnings.simplefilter("ignore")
+    import jsonschema
+
+BROWSER = shutil.which("chromium")
+PROGRAM = os.environ.get("PREDATOR_PROGRAM") or os.path.join(TOP, "crates", "predator", "out", "predator")
+
+
+def has(program, *commands):
+    """Whether a program is there and knows some commands."""
+    if not os.access(program, os.X_OK):
+        return False
+    told = subprocess.run([program], capture_output=True, text=True).stdout
+    return all(f"usage: predator {it} " in told for it in commands)
+
+
+def schema():
+    with open(os.path.join(HERE, "..", "schema.json"), encoding="utf-8") as file:
+        return json.load(file)
+
+
+class Files(unittest.TestCase):
+    @classmethod
+    def setUpClass(cls):
+        cls.folder = tempfile.mkdtemp()
+        cls.paths = {it: os.path.join(cls.folder, f"page.{it}") for it in ("json", "sarif", "html")}
+        words = [f"--{it}={path}" for it, path in cls.paths.items()]
+        cls.status, _, cls.said = view("run", built("odd.elf"), "--set", "quantum=3,report=1", *words)
+
+    @classmethod
+    def tearDownClass(cls):
+        shutil.rmtree(cls.folder)
+
+    def read(self, kind):
+        with open(self.paths[kind], encoding="utf-8") as file:
+            return file.read()
+
+    def test_json(self):
+        self.assertEqual((self.status, self.said), (0, ""))
+        found = json.loads(self.read("json"))
+        jsonschema.Draft202012Validator.check_schema(schema())
+        jsonschema.validate(found, schema(), cls=jsonschema.Draft202012Validator)
+        self.assertEqual([it["kind"] for it in found["objects"]], ["symbol", "stack", "symbol"])
+        self.assertEqual(found["objects"][0]["declared"], {"file": "odd.c", "line": 22})
+        self.assertEqual(sum(it["useless"] for it in found["objects"]), found["total"]["useless"])
+        found["more"] = 1
+        with self.assertRaises(jsonschema.ValidationError):
+            jsonschema.validate(found, schema(), cls=jsonschema.Draft202012Validator)
+
+    def test_sarif(self):
+        found = json.loads(self.read("sarif"))
+        self.assertEqual(found["version"], "2.1.0")
+        run = found["runs"][0]
+        rules = {it["id"] for it in run["tool"]["driver"]["rules"]}
+        self.assertFalse(run["invocations"][0]["executionSuccessful"])
+        for it in run["results"]:
+            self.assertIn(it["ruleId"], rules)
+            self.assertIn(it["level"], ("warning", "note"))
+            self.assertTrue(it["message"]["text"])
+            for place in it["locations"]:
+                self.assertRegex(place["physicalLocation"]["artifactLocation"]["uri"], r"odd\.c$")
+                self.assertGreater(place["physicalLocation"]["region"]["startLine"], 0)
+
+    def test_page(self):
+        text = self.read("html")
+        self.assertNotIn("<script", text)
+        self.assertNotRegex(text, r"""(src|href)=(?!["']#)""")
+        self.assertNotIn("http:", text)
+        self.assertIn("parts&lt;script&gt;alert(1)&lt;/script&gt;", text)
+        self.assertIn("The run didn't end by exit 0: trap", text)
+        self.assertIn("parts.high++;", text)
+
+    def test_names_that_are_no_text(self):
+        path = os.path.join(self.folder.encode(), b"r\xff<b>&'\"")
+        with open(path, "w", encoding="ascii") as file:
+            file.write("predator report 1\noutcome exit 0\nsteps 0\naccesses 9\nlayout 64 0\nthresholds 16 64 100\nlines 1\n")
+            file.write("line observed 0x00001000 64 start 0 count 200 verdict false\nobject symbol <i>&\\x00\"' 0x00001000 8\nend\n")
+        page, report = os.path.join(self.folder, "other.html"), os.fsdecode(path)
+        status, text, said = view(report, "--html", page, f"--json={page}.json", f"--sarif={page}.sarif")
+        self.assertEqual((status, said), (0, ""))
+        self.assertIn("<i>&\\x00\"'", text)
+        with open(page, encoding="utf-8") as file:
+            told = file.read()
+        self.assertIn("<h1>r\\udcff&lt;b&gt;&amp;&#39;&#34;</h1>", told)
+        self.assertIn("&lt;i&gt;&amp;\\x00&#34;&#39;", told)
+        self.assertNotIn("<i>", told)
+
+    @unittest.skipUnless(BROWSER, "chromium isn't installed")
+    def test_page_in_a_browser(self):
+        browser = [BROWSER, "--headless", "--no-sandbox", "--disable-gpu", "--hide-scrollbars", f"--user-data-dir={self.folder}/browser"]
+        page, picture = "file://" + self.paths["html"], os.path.join(self.folder, "page.png")
+        tree = subprocess.run([*browser, "--dump-dom", page], capture_output=True, encoding="utf-8", timeout=50).stdout
+        cells = re.findall(r'<div class="who"[^>]*>(.)</div>', tree)
+        self.assertEqual("".join(cells), "ABBBAABAB")
+        self.assertIn('<div class="field">.low, .middle, .high</div>', tree)
+        subprocess.run([*browser, "--window-size=1100,900", f"--screenshot={picture}", page], capture_output=True, timeout=50)
+        with open(picture, "rb") as file:
+            self.assertEqual(struct.unpack(">II", file.read(24)[16:24]), (1100, 900))
+        self.assertGreater(os.path.getsize(picture), 30000)
+
+
+class Predicted(unittest.TestCase):
+    def test_shown_where_more_would_be_missed(self):
+        with tempfile.TemporaryDirectory() as folder:
+            path = os.path.join(folder, "json")
+            _, text, _ = view("run", built("apart.elf"), "--set", "quantum=3", "--explain", "0", "--json", path, "--predicted")
+            with open(path, encoding="utf-8") as file:
+                found = json.load(file)["predicted"]
+            self.assertTrue(found)
+            for it in found:
+                self.assertEqual(it["shown"], it["useless"] > it["inside"] and not it["why"])
+            self.assertEqual({it["kind"] for it in found if it["shown"]}, {"doubled"})
+            self.assertTrue(any("can't come to lie so" in it["why"] for it in found))
+            self.assertIn("with lines of 128 bytes", text)
+
+
+class Large(unittest.TestCase):
+    def write(self, path, lines):
+        """A report of so many lines: most are of one array, one in eight has two blocks of some call sites that came and went."""
+        with open(path, "w", encoding="ascii") as file:
+            file.write(f"predator report 1\noutcome exit 0\nsteps 5\naccesses 5\nlayout 64 0\nthresholds 16 64 100\nlines {lines}\n")
+            for at in range(lines):
+                base = 0x10000 + 64 * at
+                rows = [f"line observed 0x{base:08x} 64 start 5 count {10**6 - at + 100} verdict false"]
+                if at % 8:
+                    rows.append(f"object symbol table 0x00010000 {64 * lines}")
+                else:
+                    for it in range(2):
+                        rows.append(f"object block 0x{base + 32 * it:08x} 32 born {at} died {at + 9}")
+                        rows += [f"site 0x{0x10400 + 4 * (it + at // 8 % 10):08x} work", "site 0x00010ab8 begin"]
+                rows += [f"word 0x{base + 32 * it:08x} reads 10 writes {it + 1} hart {it}" for it in range(2)]
+                file.write("\n".join(rows) + "\n")
+            file.write("end\n")
+
+    def test_a_million_lines(self):
+        lines = 10**6
+        with tempfile.TemporaryDirectory() as folder:
+            path = os.path.join(folder, "report")
+            self.write(path, lines)
+            code = "import sys; sys.argv[0:1] = []; sys.path.insert(0, sys.argv[0]); import main; main.main(sys.argv[1:])"
+            before = resource.getrusage(resource.RUSAGE_CHILDREN)
+            ran = subprocess.run([sys.executable, "-c", code, os.path.join(HERE, ".."), path], capture_output=True, text=True)
+            after = resource.getrusage(resource.RUSAGE_CHILDREN)
+            self.assertIn(f"{7 * lines // 8}  table", ran.stdout)
+            self.assertIn("block made in work < begin, by 0x00010408 (25000 lives)", ran.stdout)
+            self.assertLess(after.ru_utime - before.ru_utime, 20)
+            self.assertLess(after.ru_maxrss, 1 << 20)
+
+
+@unittest.skipUnless(has(PROGRAM, "misses"), "the program isn't built, or has no misses")
+class Program(unittest.TestCase):
+    def test_shows_what_the_stand_in_shows(self):
+        explains = [] if has(PROGRAM, "explain") else ["--explain", "0"]
+        with tempfile.TemporaryDirectory() as folder:
+            for name in ("ring", "arena", "shards", "anderson", "odd", "apart"):
+                with open(os.path.join(folder, "s"), "w", encoding="utf-8") as file:
+                    file.write("quantum = 3\n")
+                texts = []
+                for more in ({}, {"program": PROGRAM}):
+                    path = os.path.join(folder, "json")
+                    status, text, _ = view("run", built(f"{name}.elf"), "--settings", os.path.join(folder, "s"), "--words", "--json", path, *explains, **more)
+                    with open(path, encoding="utf-8") as file:
+                        texts.append((status, text, file.read()))
+                self.assertEqual(*texts, name)
+
+
+if __name__ == "__main__":
+    unittest.main()

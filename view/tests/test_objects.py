@@ -1,0 +1,185 @@
+"""How lines are put together by objects, and what is advised."""
+
+import io
+import os
+import sys
+import unittest
+from types import SimpleNamespace
+
+HERE = os.path.dirname(os.path.abspath(__file__))
+sys.path.insert(0, os.path.dirname(HERE))
+
+import advice  # noqa: E402
+from calls import Call  # noqa: E402
+from model import View  # noqa: E402
+from naming import Memory, Naming  # noqa: E402
+from objects import holder  # noqa: E402
+from predicted import can_lie, judged, together  # noqa: E402
+from reports import Block, Line, Misses, Report, Symbol  # noqa: E402
+from screen import Paint, screen  # noqa: E402
+
+HEAD = "predator report 1\noutcome exit 0\nsteps 9\naccesses 900\nlayout 64 0\nthresholds 16 64 100\n"
+
+
+def report_of(rows):
+    lines = sum(it.startswith("line ") for it in rows)
+    return Report(HEAD + f"lines {lines}\n" + "".join(f"{it}\n" for it in rows) + "end\n")
+
+
+def view_of(rows, misses=None, memory=None, each=None):
+    """What is seen of a report of these rows."""
+    report = report_of(rows)
+    view = View(Call(["r"]), report, Naming(report, memory=memory))
+    view.misses = Misses(misses) if misses else None
+    view.each = report_of(each) if each else None
+    view.by_word = None
+    view.arrange()
+    return view
+
+
+def word(addr, reads, writes, hart):
+    return f"word 0x{addr:08x} reads {reads} writes {writes} {hart}"
+
+
+class Objects(unittest.TestCase):
+    def test_a_line_of_two_variables_is_told_once(self):
+        rows = ["line observed 0x00001000 64 start 0 count 200 verdict false", "object symbol head 0x00001000 4", "object symbol tail 0x00001004 4"]
+        view = view_of([*rows, word(0x1000, 1, 50, "hart 0"), word(0x1004, 9, 80, "hart 1")])
+        (thing,) = view.things
+        self.assertEqual((thing.name, thing.count, [view.name_of(it) for it in thing.beside]), ("tail", 200, ["head"]))
+        self.assertEqual(view.seen(thing).todo, "tail and head share lines: put `alignas(64)` on each")
+        self.assertIn("head", view.names_of(thing))
+
+    def test_lines_that_only_have_misses_count(self):
+        rows = ["line observed 0x00001000 64 start 0 count 200 verdict false", "object symbol a 0x00001000 64", word(0x1000, 1, 50, "hart 0")]
+        counted = "misses 64 0\naccesses 900\nlines 2\n"
+        counted += "line 0x00001040 cold 2 useful 1 useless 500\nobject symbol b 0x00001040 64\n"
+        counted += "line 0x00001000 cold 2 useful 0 useless 300\nobject symbol a 0x00001000 64\n"
+        view = view_of(rows, counted + "total cold 4 useful 1 useless 800\nend\n")
+        self.assertEqual([(it.name, it.useless, it.useful, it.count) for it in view.things], [("b", 500, 1, 0), ("a", 300, 0, 200)])
+
+    def test_words_of_lines_that_are_not_listed(self):
+        counted = "misses 64 0\naccesses 900\nlines 1\nline 0x00001000 cold 2 useful 1 useless 500\nobject symbol a 0x00001000 8\n"
+        counted += "object symbol b 0x00001008 8\ntotal cold 2 useful 1 useless 500\nend\n"
+        self.assertEqual(view_of([], counted).seen(view_of([], counted).things[0]).words, [])
+        words = [word(0x1000, 9, 1, "hart 0"), word(0x1008, 30, 40, "hart 1")]
+        each = ["line observed 0x00001000 64 start 3 count 40 verdict false", "object symbol a 0x00001000 8", "object symbol b 0x00001008 8", *words]
+        view = view_of([], counted, each=each)
+        (thing,) = view.things
+        self.assertEqual((thing.name, thing.count, thing.useless), ("b", 0, 500))
+        self.assertEqual([(it.name, it.reads, it.writes, it.hart) for it in view.seen(thing).words], [("a", 9, 1, "0"), ("b", 30, 40, "1")])
+        self.assertEqual(view.seen(thing).todo, "b and a share lines: put `alignas(64)` on each; this saves up to 500 of 501 misses")
+
+    def test_one_row_for_a_call_site_that_makes_and_frees(self):
+        rows = []
+        for at in range(40):
+            rows += [f"line observed 0x{0x2000 + 64 * at:08x} 64 start 0 count {300 - at} verdict false"]
+            for born in range(0, 900, 30):
+                rows += [f"object block 0x{0x2000 + 64 * at:08x} 64 born {born} died {born + 29}", "site 0x00000100 malloc", "site 0x00000200 make"]
+            rows += [word(0x2000 + 64 * at, 5, 50, "many")]
+        view = view_of(rows)
+        (thing,) = view.things
+        self.assertEqual((thing.name, len(thing.spots), len(thing.lives), thing.count), ("block made in make", 40, 1200, 40 * 300 - 780))
+        (shown,) = [it for it in screen(view, Paint(io.StringIO())) if "lives)" in it]
+        self.assertEqual(shown.split(), "1 - - 11220 40 block made in make (1200 lives)".split())
+
+    def test_objects_of_one_name_are_told_apart(self):
+        rows = []
+        for at in (0x1000, 0x2000):
+            rows += [f"line observed 0x{at:08x} 64 start 0 count 200 verdict true", f"object symbol lock 0x{at:08x} 4", word(at, 5, 50, "many")]
+        view = view_of(rows)
+        self.assertEqual([view.label(it) for it in view.things], ["lock, at 0x00001000", "lock, at 0x00002000"])
+        self.assertEqual({it.name for it in view.things}, {"lock"})
+
+    def test_large_numbers_stand_apart(self):
+        rows = ["line observed 0x00001000 64 start 0 count 123456789012 verdict true", "object symbol lock 0x00001000 4", word(0x1000, 5, 50, "many")]
+        self.assertIn(" 123456789012 ", "\n".join(screen(view_of(rows), Paint(io.StringIO()))))
+
+    def test_blocks_of_one_call_site_are_one_object(self):
+        rows = ["line observed 0x00002000 64 start 0 count 300 verdict false"]
+        for at in range(0x2000, 0x2040, 16):
+            rows += [f"object block 0x{at:08x} 16 born 1 live", "site 0x00000100 malloc", "site 0x00000200 make", "site 0x00000300 _start"]
+        rows += [word(at, 5, 50, f"hart {at // 16 % 4}") for at in range(0x2000, 0x2040, 16)]
+        (thing,) = view_of(rows).things
+        self.assertEqual((thing.name, len(thing.lives)), ("block made in make", 4))
+
+    def test_the_small_and_the_long_lived_block_has_the_word(self):
+        arena, node = Block(0x1000, 4096, 0, None, ()), Block(0x1010, 16, 5, 900, ())
+        self.assertEqual(holder([arena, node], 0x1014), node)
+        self.assertEqual(holder([arena, node], 0x1020), arena)
+        short = Block(0x1010, 16, 1, 4, ())
+        self.assertEqual(holder([Symbol("heap", 0x1000, 4096), short, node], 0x1010), node)
+        self.assertIsNone(holder([node], 0x2000))
+
+    def test_stacks_have_names(self):
+        memory = Memory((0xF90000, 0x1010000), 8)
+        self.assertEqual([memory.key(it) for it in (0x100FFFC, 0x1000000, 0xFFFFFC, 0xF90000)], [("stack", 0), ("stack", 0), ("stack", 1), ("stack", 7)])
+        self.assertEqual(memory.key(0x1010000), ("memory", 0x1010000))
+        rows = ["line observed 0x0100ffc0 64 start 0 count 300 verdict true", word(0x100FFC0, 5, 50, "many")]
+        self.assertEqual(view_of(rows, memory=memory).things[0].name, "stack of hart 0")
+
+    def test_keys_have_no_addresses(self):
+        rows = []
+        for base, site in ((0x2000, 0x204), (0x2040, 0x200), (0x2080, 0x300)):
+            name = "make" if site < 0x300 else "other"
+            rows += [f"line observed 0x{base:08x} 64 start 0 count 300 verdict false", f"object block 0x{base:08x} 64 born 1 live"]
+            rows += [f"site 0x{site:08x} {name}", word(base, 5, 50, "many")]
+        view = view_of(rows)
+        self.assertEqual(sorted(view.keys.values()), ["block make", "block make #2", "block other"])
+
+    def test_predictions(self):
+        rows = ["line shifted 0x00001020 64 start 3 count 150 verdict false", "object symbol a 0x00001000 128"]
+        rows += ["line shifted 0x00001060 64 start 3 count 140 verdict false", "object symbol a 0x00001000 128"]
+        view = view_of(rows)
+        native = Misses("misses 64 0\naccesses 9\nlines 1\nline 0x00001040 cold 2 useful 0 useless 9\ntotal cold 2 useful 0 useless 9\nend\n")
+        text = "misses 64 32\naccesses 9\nlines 2\nline 0x00001020 cold 2 useful 0 useless 10\nline 0x00001060 cold 2 useful 0 useless 9\n"
+        own = Misses(text + "total cold 4 useful 0 useless 19\nend\n")
+        found = judged(view.report, native, {(64, 32): own}, view.naming)
+        self.assertEqual([(it.line.base, it.useless, it.inside, it.is_shown) for it in found], [(0x1020, 10, 9, True), (0x1060, 9, 9, False)])
+        self.assertEqual(len(together(found)), 2)
+
+    def judge(self, kind, base, rows, native, own, naming=None):
+        """Whether a predicted line is shown, by the misses of observed lines and its own, and why not."""
+        size = 128 if kind == "doubled" else 64
+        view = view_of([f"line {kind} 0x{base:08x} {size} start 3 count 150 verdict false", *rows])
+        lines = "".join(f"line 0x{at:08x} cold 2 useful 0 useless {much}\n" for at, much in native)
+        observed = Misses(f"misses 64 0\naccesses 9\nlines {len(native)}\n{lines}total cold 2 useful 0 useless 0\nend\n")
+        text = f"misses {size} {base % size}\naccesses 9\nlines 1\nline 0x{base:08x} cold 2 useful 0 useless {own}\ntotal cold 2 useful 0 useless {own}\nend\n"
+        (found,) = judged(view.report, observed, {(size, base % size): Misses(text)}, naming or view.naming)
+        return found.is_shown, found.why
+
+    def test_what_says_nothing_new_is_folded(self):
+        no_more = (False, "it has no more useless misses than the observed lines there")
+        ring = ["object symbol ring 0x00001000 256"]
+        # A pad that was cleared once, beside words that are fought over anyway; a doubled line around one that is observed.
+        self.assertEqual(self.judge("shifted", 0x1020, ring, [(0x1000, 300)], 300), no_more)
+        self.assertEqual(self.judge("doubled", 0x1000, ring, [(0x1000, 300)], 300), no_more)
+        self.assertEqual(self.judge("doubled", 0x1000, ring, [(0x1000, 300), (0x1040, 9)], 309), no_more)
+        # One more miss there is something new.
+        self.assertEqual(self.judge("doubled", 0x1000, ring, [(0x1000, 300)], 301), (True, ""))
+        self.assertEqual(self.judge("shifted", 0x1020, ring, [], 1), (True, ""))
+
+    def test_what_no_placement_reaches_is_folded(self):
+        unreachable = (False, "data aligned as it is can't come to lie so")
+        for alignment, base, wanted in ((8, 0x1024, unreachable), (8, 0x1028, (True, "")), (64, 0x1020, unreachable), (4, 0x1024, (True, ""))):
+            variable = SimpleNamespace(alignment=lambda alignment=alignment: alignment, type=None)
+            naming = Naming(view_of([]).report)
+            naming.program = SimpleNamespace(variable=lambda _, it=variable: it)
+            self.assertEqual(self.judge("shifted", base, ["object symbol counters 0x00001000 512"], [], 900, naming), wanted)
+
+    def test_what_alignment_allows(self):
+        block = "object block 0x00002010 64 born 0 live\n"
+        for base, wanted in ((0x2020, True), (0x2018, False), (0x2010, True)):
+            line = Line(block, 0, len(block) - 1, ("shifted", hex(base), 64, 0, 100, "false"))
+            self.assertEqual(can_lie(line, view_of([]).naming), wanted)
+
+    def test_names_in_a_sentence(self):
+        self.assertEqual(advice.listing(["a[0]", "a[1]", "a[2]", "b"]), "a[..] and b")
+        self.assertEqual(advice.listing("abcdef"), "a, b, c, d and 2 more")
+        self.assertEqual(advice.arrays(["s[0].x[1]", "s[0].x[2]"]), "s[0].x")
+        self.assertIsNone(advice.arrays(["s.x[1]", "s.y[2]"]))
+        self.assertEqual(Naming(view_of([]).report).readable("_ZN4ring5firstE"), "ring::first")
+
+
+if __name__ == "__main__":
+    unittest.main()

@@ -1,0 +1,214 @@
+"""The first screen, as a user of each kind of program meets it, and what calls end with."""
+
+import json
+import os
+import pty
+import subprocess
+import tempfile
+import unittest
+
+from calling import STAND_IN, TOP, TURNS, built, joined, view
+
+
+class Screens(unittest.TestCase):
+    def shows(self, text, *parts):
+        for it in parts:
+            self.assertIn(it, joined(text))
+
+    def test_ring_with_statistics(self):
+        status, text, said = view("run", built("ring.elf"), *TURNS)
+        self.assertEqual((status, said), (0, ""))
+        self.shows(text, "1 298 0 284 1 stats", "worst field stats[2].seen[0].high")
+        self.shows(text, "give each element of stats lines of its own: `alignas(64)` on `struct stats`")
+        self.shows(text, "ring.c:34 (note < consumer) takes the line from ring.c:34 (note < producer), 142 times, never for the same word")
+        self.shows(text, "2 44 314 331 2 ring", "314 of 358 misses bring what another hart wrote")
+
+    def test_arena(self):
+        _, text, _ = view("run", built("arena.elf"), *TURNS, "--type", "arena.c:17=node", "--words")
+        self.shows(text, "1 1187 1 794 1 block made at arena.c:17 < main (4 lives)", "let no two of these blocks share a line: `aligned_alloc(64, ..)`")
+        self.shows(text, "0x00011014 199 200 0 2 .count")
+
+    def test_shards_and_packed_slots(self):
+        _, text, _ = view("run", built("shards.elf"), *TURNS, "--explain", "0")
+        self.shows(text, "give each element of shards lines of its own: `alignas(64)` on `struct shard`; this saves up to 2147 of 2147 misses")
+        _, text, _ = view("run", built("anderson.elf"), *TURNS, "--explain", "0")
+        self.shows(text, "1 478 98 184 1 lock", "give each element of lock.slots lines of its own", "the sharing of guarded is true")
+        # (a line that the report doesn't list)
+        self.shows(text, "2 0 97 0 1 guarded worst field guarded: 100 writes and 100 reads by many harts")
+
+    def test_what_the_screen_says_mends_it(self):
+        for name, thing in (("ring", "stats"), ("arena", "block"), ("shards", "shards"), ("anderson", "lock")):
+            with tempfile.TemporaryDirectory() as folder:
+                path = os.path.join(folder, "json")
+                view("run", built(f"{name}-repaired.elf"), *TURNS, "--explain", "0", "--json", path)
+                with open(path, encoding="utf-8") as file:
+                    left = [it["useless"] for it in json.load(file)["objects"] if it["name"].startswith(thing)]
+                self.assertEqual(sum(left), 0, name)
+
+    def test_a_trap_is_loud(self):
+        _, text, _ = view("run", built("odd.elf"), *TURNS, "--explain=0", "--object", "stack of hart 0")
+        self.shows(text, "!! THE RUN DIDN'T END BY EXIT 0: trap hart 0", "store-outside, at odd.c:48 (main)", "1 77 0 0 1 stack of hart 0")
+        self.assertNotIn("flags", text)
+
+    def test_statuses(self):
+        words = ("run", built("ring.elf"), *TURNS, "--explain", "0", "--fail-above")
+        self.assertEqual(view(*words, "298")[0], 0)
+        status, _, said = view(*words, "297")
+        self.assertEqual((status, said), (1, "predator view: stats has 298 useless misses, more than 297\n"))
+        self.assertEqual(view(*words, "297", "--object", "ring")[0], 0)
+        self.assertEqual(view("run", built("odd.elf"), *TURNS, "--explain", "0", "--fail-above", "9999")[0], 3)
+
+    def test_without_misses_and_explain(self):
+        status, text, _ = view("run", built("ring.elf"), *TURNS, lacks="misses explain")
+        self.assertEqual(status, 0)
+        self.shows(text, "note: this program has no command `misses`", "note: this program has no command `explain`", "1 - - 331 1 ring")
+        words = ("run", built("ring.elf"), *TURNS, "--fail-above", "300")
+        self.assertEqual(view(*words, lacks="misses explain")[0], 2)
+        self.assertEqual(view(*words, "--by", "count", lacks="misses explain")[0], 1)
+
+    def test_without_pipes_it_is_the_same(self):
+        words = ("run", built("ring.elf"), *TURNS, "--explain", "0")
+        self.assertEqual(view(*words, lacks="pipes"), view(*words))
+
+    def test_a_trace_and_its_program(self):
+        with tempfile.TemporaryDirectory() as folder:
+            trace, report = os.path.join(folder, "t"), os.path.join(folder, "r")
+            subprocess.run([STAND_IN, "run", built("ring.elf"), *TURNS, "--trace", trace], check=True, stdout=subprocess.DEVNULL)
+            _, text, said = view("replay", trace, "--program", built("ring.elf"), *TURNS)
+            self.shows(text, "1 298 0 284 1 stats", "stats[2].seen[0].high", "ring.c:34 (note < consumer)")
+            self.shows(text, "`place` puts its words apart by their harts, stats[1].seen[0].high and stats[1].seen[1].high (hart 1);")
+            self.shows(text, "then lines are taken 359 times in all, and not 658", "`place` gains nothing")
+            self.assertEqual(said, "")
+            _, text, said = view("replay", trace, "--program", built("ring.elf"), *TURNS, "--explain=0", lacks="place")
+            self.assertEqual(("place" in text, said), (False, ""))
+            _, text, _ = view("replay", trace, "--program", built("ring.elf"))
+            self.shows(text, "doesn't make this trace, so `explain` says nothing of 0x00011200")
+            _, text, said = view("replay", trace, "--program", built("odd.elf"))
+            self.shows(said, "odd.elf isn't the program of this report: it has no symbol", "it is left aside")
+            self.shows(text, "1 298 0 284 1 stats worst field stats+")
+            with open(report, "wb") as file:
+                file.write(subprocess.run([STAND_IN, "replay", trace], check=True, capture_output=True).stdout)
+            _, text, _ = view(report, "--program", built("ring.elf"), "--object", "sum")
+            self.shows(text, "nothing is fought over on sum")
+            status, _, said = view(report, "--program", built("ring.elf"), "--object", "stat")
+            self.assertEqual(status, 2)
+            self.assertIn("'stat' is no variable of", said)
+            status, _, said = view(report, "--object", "stat", "--by", "count", "--fail-above", "0")
+            self.assertEqual((status, "nothing is seen of 'stat'" in said), (2, True))
+            _, text, _ = view(report)
+            self.shows(text, "note: a report alone doesn't tell misses", "1 - - 331 1 ring")
+            _, text, _ = view(report, "--program", built("ring.elf"), "--words")
+            self.shows(text, "0x00011004 579 145 many ring.tail")
+
+    def test_a_report_with_its_lines_behind_it(self):
+        rows = "line observed 0x00001000 64 start 0 count 200 verdict false\nobject block 0x00001000 24 born 0 live\nsite 0x000100b0 work\n"
+        text = "predator report 1\noutcome exit 0\nsteps 0\naccesses 9\nlayout 64 0\nthresholds 16 64 100\nlines 1\n"
+        with tempfile.TemporaryDirectory() as folder:
+            report = os.path.join(folder, "r")
+            with open(report, "w", encoding="utf-8") as file:
+                file.write(f"{text}{rows}word 0x00001008 reads 1 writes 9 hart 3\nend\nwhere 0x000100b0 /home/me/kinds.c:59\n")
+            _, text, _ = view(report, "--object", "kinds.c:59")
+            self.shows(text, "1 - - 200 1 block made at kinds.c:59 (work)", "worst field +8: 9 writes and 1 reads by hart 3")
+
+    def test_refusals(self):
+        for words, said in (
+            (("missing",), "missing: No such file or directory"),
+            (("run", "missing.elf"), "missing.elf: No such file or directory"),
+            (("replay", built("ring.elf")), "`predator replay` was refused"),
+            ((__file__,), "it is no report"),
+            (("run", built("ring.elf"), "--html", "/no/where"), "/no/where: No such file or directory"),
+            (("run", built("ring.elf"), "--html", built("../programs/ring.elf")), "the same file is in use under another name"),
+            (("run", built("ring.elf"), "--html", "/tmp/a", "--json", "/tmp/a"), "the same file is in use under another name"),
+            (("run", built("ring.elf"), "--settings=/etc/hosts", "--sarif", "/etc/hosts"), "the same file is in use under another name"),
+            (("run", built("ring.elf"), "--trace", "/tmp/none", "--sarif", "/tmp/../tmp/none"), "the same file is in use under another name"),
+            (("run", built("ring.elf"), "--against", "/etc/hosts", "--html", "/etc/hosts"), "the same file is in use under another name"),
+        ):
+            status, _, told = view(*words, *(TURNS if words[0] == "run" else ()))
+            self.assertEqual(status, 2)
+            self.assertIn(said, told)
+
+    def test_no_room_for_the_screen(self):
+        env = {**os.environ, "PREDATOR_BUILD": "no"}
+        with tempfile.TemporaryDirectory() as folder, open("/dev/full", "w", encoding="utf-8") as full:
+            report = os.path.join(folder, "r")
+            with open(report, "w", encoding="utf-8") as file:
+                file.write("predator report 1\noutcome budget\nsteps 0\naccesses 0\nlayout 64 0\nthresholds 16 64 100\nlines 0\nend\n")
+            command = [os.path.join(TOP, "bin", "predator"), "view", report]
+            ran = subprocess.run(command, stdout=full, stderr=subprocess.PIPE, text=True, env=env)
+            self.assertEqual((ran.returncode, ran.stderr), (2, "predator view: standard output: No space left on device\n"))
+
+    def test_missing_packages(self):
+        with tempfile.TemporaryDirectory() as folder:
+            for name in ("elftools", "jinja2"):
+                with open(os.path.join(folder, f"{name}.py"), "w", encoding="utf-8") as file:
+                    file.write("raise ImportError\n")
+            status, _, said = view("run", built("ring.elf"), *TURNS, PYTHONPATH=folder, lacks="misses explain")
+            self.assertEqual(status, 127)
+            self.assertRegex(said, r"^predator view: python3-pyelftools isn't installed: apt-get install .*\n$")
+            report = os.path.join(folder, "r")
+            with open(report, "w", encoding="utf-8") as file:
+                file.write("predator report 1\noutcome exit 0\nsteps 0\naccesses 0\nlayout 64 0\nthresholds 16 64 100\nlines 0\nend\n")
+            status, text, _ = view(report, PYTHONPATH=folder)
+            self.assertEqual(status, 0)
+            self.shows(text, "outcome exit 0, 0 steps, 0 accesses, lines of 64 bytes note: a report alone", "no line is fought over")
+            self.assertEqual(view(report, "--html", os.path.join(folder, "h"), PYTHONPATH=folder)[0], 127)
+
+    def test_help(self):
+        for words in (["view", "--help"], ["help", "view"], ["view", "run", "-h"]):
+            env = {**os.environ, "PREDATOR_BUILD": "no"}
+            ran = subprocess.run([os.path.join(TOP, "bin", "predator"), *words], capture_output=True, text=True, env=env)
+            self.assertEqual(ran.returncode, 0)
+            self.assertIn("--fail-above", ran.stdout)
+
+    def test_colours_on_a_terminal_only(self):
+        command = [os.path.join(TOP, "bin", "predator"), "view", "run", built("odd.elf"), *TURNS, "--explain", "0"]
+        texts = []
+        for more in ({}, {"NO_COLOR": "1"}):
+            main, end = pty.openpty()
+            env = {**os.environ, "TERM": "xterm", "PREDATOR_PROGRAM": STAND_IN, "STAND_IN_LACKS": "misses explain", **more}
+            child = subprocess.Popen(command, stdout=end, stdin=subprocess.DEVNULL, env=env)
+            os.close(end)
+            text = b""
+            while True:
+                try:
+                    piece = os.read(main, 4096)
+                except OSError:
+                    break
+                if not piece:
+                    break
+                text += piece
+            child.wait()
+            os.close(main)
+            texts.append(text)
+        self.assertIn(b"\033[1;31m!! THE RUN", texts[0])
+        self.assertNotIn(b"\033", texts[1])
+
+
+class Against(unittest.TestCase):
+    def test_better_and_worse(self):
+        with tempfile.TemporaryDirectory() as folder:
+            old = os.path.join(folder, "old.json")
+            view("run", built("ring.elf"), "--set", "quantum=7", "--explain", "0", "--json", old)
+            _, text, _ = view("run", built("ring.elf"), *TURNS, "--explain", "0", "--against", old)
+            with open(old, encoding="utf-8") as file:
+                before = {it["name"]: it["useless"] for it in json.load(file)["objects"]}
+            told = joined(text.partition("by useless misses:")[2])
+            self.assertIn("stats: the same", told)
+            self.assertIn(f"ring: less: {before['ring']} before, 44 now", told)
+            _, text, _ = view("run", built("shards.elf"), *TURNS, "--explain", "0", "--against", old)
+            told = joined(text.partition("by useless misses:")[2])
+            self.assertIn("shards: new: 2147", told)
+            self.assertIn(f"stats: gone: {before['stats']} before", told)
+            status, text, _ = view("run", built("shards.elf"), *TURNS, "--explain", "0", "--against", old, "--json", old)
+            self.assertEqual((status, "stats: gone" in text), (0, True))
+            head = '{"format": "predator view 1", "outcome": "exit 0", "objects": '
+            things = ("3", "[3]", '[{"key": "symbol a"}]', '[{"key": [], "name": "a", "useless": 1, "count": 1, "beside": [], "words": []}]')
+            for bad in ("{}", "[", "{" * 99999, '{"format": "predator view 2"}', '{"a":' * 99999, *(f"{head}{it}}}" for it in things)):
+                with open(old, "w", encoding="utf-8") as file:
+                    file.write(bad)
+                status, _, said = view("run", built("shards.elf"), "--explain", "0", "--against", old, lacks="misses explain")
+                self.assertEqual((status, said.count("\n"), said.startswith("predator view: ")), (2, 1, True), bad[:99])
+
+
+if __name__ == "__main__":
+    unittest.main()

@@ -1,0 +1,157 @@
+"""What is read: reports, counts of misses, what explains a line, the words of a call, and what is said of bad ones."""
+
+import os
+import sys
+import unittest
+
+HERE = os.path.dirname(os.path.abspath(__file__))
+sys.path.insert(0, os.path.dirname(HERE))
+
+from calls import Call  # noqa: E402
+from faults import Fault, plain  # noqa: E402
+from reports import Explained, Misses, Report  # noqa: E402
+
+HEAD = "predator report 1\noutcome exit 0\nsteps 3\naccesses 3\nlayout 64 0\nthresholds 1 64 1\n"
+ROWS = """line observed 0x00001000 64 start 0 count 2 verdict false
+object symbol a\\x20b 0x00001000 8
+object block 0x00001008 24 born 0 died 2
+site 0x000100b0 worker
+site 0x000100c0 -
+object block 0x00001020 24 born 1 live
+word 0x00001000 reads 0 writes 2 hart 0
+word 0x00001008 reads 1 writes 1 many
+line shifted -0x0000001c 64 start 1 count 1 verdict true
+"""
+WHOLE = HEAD + "lines 2\n" + ROWS + "end\n"
+MISSES = "misses 64 0\naccesses 4\nlines 1\nline 0x00001000 cold 2 useful 0 useless 2\nobject symbol a 0x00001000 8\ntotal cold 5 useful 0 useless 2\nend\n"
+EXPLAINED = """predator explain 1
+outcome exit 0
+steps 75
+accesses 19
+line 0x00011000 64 start 0 count 9
+sites 3
+site 0x00010004 reads 0 writes 1 hart 0 -
+site 0x0001003c reads 9 writes 0 many work
+site 0x00010044 reads 0 writes 9 many work
+pairs 3
+pair 0x00010044 0x00010044 taken 5 same 2
+pair 0x0001003c 0x00010044 taken 3 same 0
+pair 0x00010004 0x00010044 taken 1 same 0
+harts 2
+from 0 to 1 taken 1
+from 0 to 2 taken 8
+end
+"""
+
+
+class Texts(unittest.TestCase):
+    def fault(self, text, said):
+        with self.assertRaises(Fault) as it:
+            Report(text, "r")
+        self.assertIn(said, str(it.exception))
+
+    def test_report(self):
+        report = Report(WHOLE)
+        first, second = report.lines
+        self.assertEqual((first.kind, first.base, first.count, first.verdict), ("observed", 0x1000, 2, "false"))
+        self.assertEqual((second.kind, second.base, second.words()), ("shifted", -0x1C, []))
+        symbol, block, other = first.objects()
+        self.assertEqual((symbol.name, symbol.size), ("a\\x20b", 8))
+        self.assertEqual((block.died, [it.name for it in block.sites]), (2, ["worker", "-"]))
+        self.assertEqual((other.died, other.sites), (None, ()))
+        self.assertEqual([(it.addr, it.reads, it.writes, it.hart) for it in first.words()], [(0x1000, 0, 2, "0"), (0x1008, 1, 1, "many")])
+
+    def test_report_behind_which_sites_are_told(self):
+        self.assertEqual(Report(WHOLE + "where 0x000100b0 /home/me/kinds.c:59\n").where, {0x100B0: "/home/me/kinds.c:59"})
+
+    def test_report_without_lines(self):
+        self.assertEqual(Report(HEAD + "lines 0\nend\n").lines, [])
+
+    def test_bad_reports(self):
+        self.fault("", "empty")
+        self.fault("\n", "empty")
+        self.fault("predator report 2\nend\n", "another version")
+        self.fault("\x7fELF", "no report")
+        self.fault("predator: trace BadMagic\n", "no report")
+        for cut in range(30, len(WHOLE) - 4, 11):
+            self.fault(WHOLE[:cut], "r: ")
+        self.fault(HEAD + "lines 3\n" + ROWS + "end\n", "tells of 3 lines and has 2")
+        self.fault(WHOLE.replace("exit 0", "exit well"), "no outcome")
+        self.fault(WHOLE.replace("layout 64 0", "layout 64"), "no layout")
+        self.fault(WHOLE.replace("layout 64 0", "layout 63 0"), "no layout")
+        self.fault(WHOLE.replace("layout 64 0", "layout 64 64"), "no layout")
+        self.fault(WHOLE.replace("steps 3", "steps \xb2"), "no line `steps N`")
+        self.fault(WHOLE.replace("0x00001000 64 start", "0x00001000 32 start"), "lines of another size")
+        for row, bad in ((9, "object symbol a 0x00001000"), (11, "site 0x000100b0"), (14, "word 0x00001000 reads 0 writes 2 hart"), (12, "word up")):
+            rows = WHOLE.split("\n")
+            rows[row - 1] = bad
+            self.fault("\n".join(rows), f"its row {row} is none that it may have: `{bad}`")
+        self.fault(WHOLE.replace("count 2", f"count {'9' * 5000}"), "r: ")
+
+    def test_where_rows_end(self):
+        for row, wanted in (("object symbol word 0x00001000 8\nword 0x00001000 reads 0 writes 2 hart 0\n", 1), ("word 0x00001000 reads 0 writes 2 many\n", 0), ("", 0)):
+            line = Report(f"{HEAD}lines 1\nline observed 0x00001000 64 start 0 count 2 verdict false\n{row}end\n").lines[0]
+            self.assertEqual((len(line.objects()), len(line.words())), (wanted, row.count("\nword ") or row.count("word 0")))
+
+    def test_misses(self):
+        misses = Misses(MISSES)
+        self.assertEqual((misses.size, misses.accesses, misses.total), (64, 4, {"cold": 5, "useful": 0, "useless": 2}))
+        self.assertEqual(misses.lines[0x1000].useless, 2)
+        self.assertEqual([it.name for it in misses.lines[0x1000].objects()], ["a"])
+        for bad in ("", MISSES[:-5], MISSES.replace("lines 1", "lines 2")):
+            with self.assertRaises(Fault):
+                Misses(bad)
+
+    def test_explained(self):
+        found = Explained(EXPLAINED)
+        self.assertEqual((found.base, found.count, found.accesses), (0x11000, 9, 19))
+        self.assertEqual(tuple(found.pairs[0]), (0x10044, 0x10044, 5, 2))
+        self.assertEqual(found.harts, {(0, 1): 1, (0, 2): 8})
+        self.assertEqual(found.sites[0x10004], (0, 1, "hart 0", "-"))
+        with self.assertRaises(Fault):
+            Explained(EXPLAINED[:-4])
+
+    def test_names_on_a_terminal(self):
+        self.assertEqual(plain("a\x1b[31mb\nc"), "a\\x1b[31mb\\nc")
+        self.assertEqual(plain("héap"), "héap")
+
+
+class Words(unittest.TestCase):
+    def refused(self, *words):
+        with self.assertRaises(Fault) as it:
+            Call(words)
+        return str(it.exception)
+
+    def test_run(self):
+        call = Call(["run", "p.elf", "--settings", "s", "--top", "3", "--trace=t", "--set", "quantum=1", "--words"])
+        self.assertEqual((call.how, call.subject, call.program), ("run", "p.elf", "p.elf"))
+        self.assertEqual(call.words, ["p.elf", "--settings", "s", "--trace=t", "--set", "quantum=1"])
+        self.assertEqual(call.settings_words(), ["--settings", "s", "--set", "quantum=1"])
+        self.assertEqual(call.words_to_run(), ["run", "p.elf", "--settings", "s", "--set", "quantum=1"])
+        self.assertEqual((call.number("top", 10), call.value_of("--trace"), "words" in call.options), (3, "t", True))
+
+    def test_others(self):
+        self.assertEqual(Call(["replay", "t", "--program", "p"]).program, "p")
+        self.assertEqual(Call(["r.report"]).how, "file")
+        self.assertEqual(Call(["run", "--", "-p.elf"]).subject, "-p.elf")
+        self.assertEqual(Call(["run", "p", "--type", "a.c:7=node", "--type=b=c"]).options["type"], ["a.c:7=node", "b=c"])
+
+    def test_refusals(self):
+        self.assertIn("a report is wanted", self.refused())
+        self.assertIn("a program is wanted", self.refused("run", "--top", "3"))
+        self.assertIn("'b' is one word more", self.refused("a", "b"))
+        self.assertIn("'--top' is a number", self.refused("a", "--top", "many"))
+        self.assertIn("stands twice", self.refused("a", "--top=1", "--top=2"))
+        self.assertIn("a value is required", self.refused("a", "--top"))
+        self.assertIn("'--fast=1' is no option", self.refused("a", "--fast=1"))
+        self.assertIn("`useless` or `count`", self.refused("a", "--by", "size"))
+        self.assertIn("SITE=TYPE", self.refused("a", "--type", "node"))
+        self.assertIn("wants the types of a program", self.refused("a", "--type", "a.c:7=node"))
+        self.assertIn("'--fail-above' is a number", self.refused("a", "--fail-above", "9" * 5000))
+        self.assertIn("'--fail-above' is a number", self.refused("a", "--fail-above", "\u0663"))
+        self.assertIn("is for '--fail-above'", self.refused("a", "--by", "count"))
+        self.assertIn("named already", self.refused("run", "p", "--program", "q"))
+
+
+if __name__ == "__main__":
+    unittest.main()

@@ -1,0 +1,32 @@
+#!/usr/bin/env bash
+# Tries `predator view` over small programs: with the program where it is built and knows `misses` and `explain`, and with a stand-in that
+# counts by the rules alone. Without Debian's packages it skips itself: the status is 77, and the last line says which are missing.
+set -u
+here=$(cd "$(dirname "$(readlink -f "$0")")" && pwd)
+python=/usr/bin/python3
+lacks=()
+for it in elftools:python3-pyelftools jinja2:python3-jinja2 jsonschema:python3-jsonschema; do
+    "$python" -c "import ${it%:*}" 2>/dev/null || lacks+=("${it#*:}")
+done
+for it in llvm-symbolizer llvm-objcopy; do
+    command -v "$it" >/dev/null || lacks+=(llvm)
+done
+if ((${#lacks[@]} > 0)); then
+    echo "${lacks[*]} missing: apt-get install python3-pyelftools python3-jinja2 python3-jsonschema llvm"
+    exit 77
+fi
+cd "$here/tests" || exit 1
+export PYTHONDONTWRITEBYTECODE=1
+work=$(mktemp -d)
+trap 'rm -rf "$work"' EXIT
+failed=0 children=()
+for it in test_texts test_fields test_objects test_screens.Screens test_screens.Against test_files test_builds; do
+    "$python" -W ignore -m unittest "$it" >"$work/$it" 2>&1 &
+    children+=("$!:$it")
+done
+"$python" "$here/../tools/recount_misses.py" --try || failed=1
+for it in "${children[@]}"; do
+    wait "${it%%:*}" || { failed=1 && cat "$work/${it#*:}"; }
+    echo "${it#*:}: $(tail -n 1 "$work/${it#*:}")"
+done
+exit "$failed"
