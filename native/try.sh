@@ -41,7 +41,7 @@ if [ ! -x "$here/out/predator-amd64-linux" ] && ! "$here/build" >build.log 2>&1;
     echo "0 passed, 1 failed, 0 skipped"
     exit 1
 fi
-for name in counters kinds odd locks; do
+for name in counters kinds odd locks heap; do
     gcc -O1 -g -pthread "$here/tries/$name.c" -o $name 2>gcc.log || { cat gcc.log; echo "0 passed, 1 failed, 0 skipped"; exit 1; }
 done
 gcc -O1 -g -pthread -DAPART "$here/tries/counters.c" -o apart
@@ -67,7 +67,7 @@ same "apart: nothing is taken" 0 "$("$judge" taken t counters)"
 for name in counters kinds; do
     for it in 1 2 3; do "$run" --trace same$it -- ./$name >/dev/null 2>&1; done
     same "$name: the same trace" "same same" "$(cmp -s same1 same2 && echo same) $(cmp -s same1 same3 && echo same)"
-    same "$name: the same table" "same" "$(cmp -s same1.table same3.table && cmp -s same1.names same3.names && echo same)"
+    same "$name: the same table" "same" "$(cmp -s same1.table same3.table && echo same)"
 done
 
 # What is recorded of each kind of access.
@@ -115,7 +115,9 @@ for size in 10 5000 128 100; do
     has "a block of $size" "$size" "$("$judge" blocks t3 work)"
 done
 has "a refused realloc leaves the block" "100 live" "$("$judge" blocks t work)"
-has "a call site's line" "kinds.c:" "$(grep ' work ' t.names)"
+has "a call site's line" "kinds.c:" "$(grep ' work ' t.table)"
+same "the table's program" "program $PWD/kinds" "$(sed -n '1s|/\./|/|p' t.table)"
+has "the table's files" "/libc.so.6" "$(grep '^map ' t.table)"
 
 # What is recorded when.
 "$run" --trace part -- ./odd >/dev/null 2>&1
@@ -213,6 +215,11 @@ refused "most 0" 125 "'--most' is" --most 0 -- ./odd
 refused "all and marked" 125 "two ways" --all --marked -- ./odd
 refused "trace and report" 125 "there is no report" --trace t --report r -- ./odd
 refused "trace and size" 125 "has no use" --trace t --size 4 -- ./odd
+refused "the table is the trace" 125 "it is named twice" --trace t --table t -- ./odd
+refused "the table is the program's" 125 "this is the program" --table odd -- ./odd
+refused "a mend and a program" 125 "stands alone" --mend t -- ./odd
+refused "a mend without its trace" 1 "No such file or directory" --mend nowhere
+same "--help" "  predator native [OPTIONS] -- PROGRAM [ARGUMENTS ..]" "$("$run" --help | sed -n 3p)"
 refused "not there" 127 "there is no such program" --trace t -- ./nowhere
 refused "a folder" 126 "this is no file" --trace t -- ./folder
 refused "not executable" 126 "may not be executed" --trace t -- ./gcc.log
@@ -265,21 +272,129 @@ cat pipe >from-pipe &
 wait
 "$run" --trace file -- ./counters >/dev/null 2>&1
 same "through a pipe" same "$(cmp -s from-pipe file && echo same)"
+rm -f t
 "$run" --trace t -- ./odd endless >/dev/null 2>&1 &
 pid=$!
-sleep 3
+longer() { # FILE BYTES: waits until it is longer, two minutes at most
+    for _ in $(seq 1 600); do
+        if [ "$(stat -c %s "$1" 2>/dev/null || echo 0)" -gt "$2" ]; then return; fi
+        sleep 0.2
+    done
+}
+longer t 3000000
 kill -9 $pid
 wait $pid 2>/dev/null
-# (where the kill came while a piece was written, the file ends in it)
-if "$judge" end t >ended 2>/dev/null; then
-    same "killed: end" part "$(cat ended)"
-    within "killed: accesses" 1 1000000000 "$("$judge" accesses t)"
+# (where the kill came while a piece was written, the file ends in it, and is mended)
+"$judge" end t >ended 2>/dev/null || "$run" --mend t >/dev/null
+same "killed: end" part "$("$judge" end t)"
+within "killed: accesses" 250000 1000000000 "$("$judge" accesses t)"
+rm -f t
+# (words of the environment move the stack)
+export KEPT=$work/from-pipe PREDATOR=$work/keeps
+"$run" --quantum 10 --trace whole -- ./kinds >/dev/null 2>&1
+unset PREDATOR
+for at in 20 27 1000 1000003; do
+    head -c $at whole >cut.t
+    has "mended at $at" "where it ends now" "$("$run" --mend cut.t)"
+    same "mended at $at: end" part "$("$judge" end cut.t)"
+    same "mended at $at: the same records" same "$(cmp -s -n $((at - 24 > 20 ? at - 24 : 20)) cut.t whole && echo same)"
+done
+cp whole kept
+has "mended: a whole one stays" "it stays as it is" "$("$run" --mend kept)"
+same "mended: the same bytes" same "$(cmp -s kept whole && echo same)"
+for it in odd cut; do
+    cp $it kept
+    has "mended: no trace" "this is no trace" "$("$run" --mend kept 2>&1)"
+    same "mended: no trace stays" same "$(cmp -s kept $it && echo same)"
+done
+
+# Through the pipe, without a file: here to what stands for `predator` and keeps what it reads, counts it, or goes away.
+printf '#!/bin/sh\n[ $# -gt 0 ] || exit 1\n[ "$1 $2" = "replay -" ] || exit 9\ncat >"$KEPT"\necho read\n' >keeps
+printf '#!/bin/sh\n[ $# -gt 0 ] || exit 1\nwc -c\n' >counts
+printf '#!/bin/sh\n[ $# -gt 0 ] || exit 1\nhead -c 100000 >/dev/null\nkill -9 $$\n' >dies
+printf '#!/bin/sh\n[ $# -gt 0 ] || exit 1\necho refused\nexit 4\n' >refuses
+printf '#!/bin/sh\necho not built >&2\nexit 127\n' >unbuilt
+chmod +x keeps counts dies refuses unbuilt
+pass() { PREDATOR=$work/$1 "$run" "${@:2}"; }
+said=$(pass keeps --quantum 10 -- ./kinds 2>pipe.log; echo $?)
+same "pipe: output and status" "$right" "$said"
+same "pipe: the report" read "$(cat pipe.log)"
+same "pipe: the trace of --trace" same "$(cmp -s from-pipe whole && echo same)"
+pass keeps --quantum 10 --table back --report r -- ./kinds >/dev/null 2>&1
+same "pipe: the table of --trace" same "$(cmp -s back whole.table && echo same)"
+same "pipe: the report's file" read "$(cat r)"
+# (valgrind itself keeps the words of the call in a file, for a moment)
+said=$(ulimit -f 1; pass counts -- ./counters 2>&1)
+has "pipe: no file has it" "sum 80000" "$said"
+within "pipe: all goes through" 1000000 3000000 "$(tail -n 1 <<<"$said")"
+piped() { # MODE STATUS END OUTPUT
+    local said status
+    rm -f from-pipe
+    said=$(echo hello | pass keeps -- ./odd $1 2>o.log)
+    status=$?
+    same "pipe: $1: status" "$2" "$status"
+    same "pipe: $1: end" "$3" "$("$judge" end from-pipe 2>&1)"
+    same "pipe: $1: output" "$4" "$said"
+    has "pipe: $1: the report" read "$(cat o.log)"
+}
+piped kill 137 part "" 2>/dev/null
+piped fault 139 part "" 2>/dev/null
+piped abort 134 part "" 2>/dev/null
+piped fork 6 "exit 6" "child
+parent 0"
+piped system 6 "exit 6" "system 3"
+piped childless 6 "exit 6" "no child"
+piped exec 0 part "another program"
+piped close 6 "exit 6" closed
+piped large 6 part large
+piped detached 9 "exit 9" ""
+piped main-ends 0 "exit 0" ""
+piped limit 6 "exit 6" limited
+piped input 6 "exit 6" hello
+piped "many 300" 6 part "many 300"
+rm -f vgcore.*
+# (it closes standard error too, and the report's place is the launcher's)
+said=$(pass keeps -- ./odd closeall 2>&1; echo $?)
+same "pipe: closes all" "read
+6" "$said"
+said=$(pass dies -- ./odd close 2>&1; echo $?)
+has "pipe: the replay is killed" "the replay ended with status 137" "$said"
+has "pipe: the replay is killed: the trace" "the trace's pipe: Broken pipe" "$said"
+has "pipe: the replay is killed: the program goes on" "closed" "$said"
+same "pipe: the replay is killed: status" 6 "$(tail -n 1 <<<"$said")"
+said=$(pass refuses -- ./odd close 2>&1; echo $?)
+has "pipe: the replay refuses" "refused" "$said"
+has "pipe: the replay refuses: its status" "the replay ended with status 4" "$said"
+same "pipe: the replay refuses: status" 6 "$(tail -n 1 <<<"$said")"
+said=$(pass unbuilt -- ./counters 2>&1; echo $?)
+has "pipe: no predator" "doesn't run" "$said"
+same "pipe: no predator: status" 126 "$(tail -n 1 <<<"$said")"
+said=$(pass nowhere -- ./counters 2>&1; echo $?)
+same "pipe: predator isn't there" 126 "$(tail -n 1 <<<"$said")"
+mkdir -p disk
+if mount -t tmpfs -o size=64k tmpfs disk 2>/dev/null; then
+    head -c 100000 /dev/zero >disk/full 2>/dev/null
+    said=$(pass keeps --table disk/table --report disk/r -- ./counters 2>&1; echo $?)
+    has "pipe: a full disk" "No space left on device" "$said"
+    same "pipe: a full disk: status" 0 "$(tail -n 1 <<<"$said")"
+    same "pipe: a full disk: end" "exit 0" "$("$judge" end from-pipe)"
+    umount disk
 else
-    skip "killed: the kill came while a piece was written, which leaves a trace that is cut"
+    skip "pipe: a full disk: no file system can be mounted"
 fi
+rm -f from-pipe
+PREDATOR=$work/keeps "$run" -- ./odd endless >/dev/null 2>pipe.log &
+pid=$!
+longer from-pipe 3000000
+for child in $(cat /proc/$pid/task/$pid/children); do
+    if tr '\0' ' ' <"/proc/$child/cmdline" | grep -q '/odd endless $'; then kill -9 "$child"; fi
+done
+wait $pid 2>/dev/null
+same "pipe: killed" "137 part" "$? $("$judge" end from-pipe)"
+within "pipe: killed: accesses" 300000 1000000000 "$("$judge" accesses from-pipe)"
 
 # The second way: programs that are compiled with -fsanitize=thread and linked with the runtime.
-for name in counters kinds odd locks; do
+for name in counters kinds odd locks heap; do
     gcc -O1 -g -fsanitize=thread -pthread "$here/tries/$name.c" -o $name.tsan -L"$here/out/lib" 2>gcc.log || cat gcc.log
 done
 for row in "1 79900 80000" "10 15900 16100" "100 1590 1620" "1000 155 170"; do
@@ -335,19 +450,79 @@ refused "built: not linked so" 126 "wasn't linked with" --built --trace t -- ./c
 refused "built: marks" 125 "has no marks" --built --marked -- ./counters.tsan
 refused "built: the trace can't be written" 125 "No such file or directory" --built --trace no/where -- ./counters.tsan
 
+built_pipe() {
+    rm -f from-pipe
+    said=$(pass keeps --built --table back -- ./$1.tsan ${2:-} 2>o.log; echo $?)
+}
+built_pipe kinds
+same "built: pipe: output and status" "$right" "$said"
+same "built: pipe: end" "exit 7" "$("$judge" end from-pipe)"
+same "built: pipe: the table's program" "program $PWD/kinds.tsan" "$(head -n 1 back)"
+built_pipe odd kill 2>/dev/null
+same "built: pipe: killed" "137 part" "$said $("$judge" end from-pipe)"
+built_pipe odd childless
+same "built: pipe: childless" "no child 6" "${said//
+/ }"
+
 # The report, where the proved program is built.
-if [ -x "$here/../crates/predator/out/predator" ] || [ -n "${PREDATOR:-}" ]; then
+PREDATOR_BUILD=no "$here/../bin/predator" >/dev/null 2>&1
+if [ $? = 1 ]; then
+    export PREDATOR_BUILD=no
     said=$("$run" --report r -- ./counters 2>r.log)
     same "report: output" "sum 80000" "$said"
     has "report" "object symbol counters " "$(cat r)"
     same "report: its last line" end "$(tail -n 1 r)"
     same "report on standard error" "same" "$("$run" -- ./counters 2>&1 >/dev/null | cmp -s - r && echo same)"
+    same "report: by the launcher" "same" "$("$here/../bin/predator" native -- ./counters 2>&1 >/dev/null | cmp -s - r && echo same)"
+    "$run" --trace t -- ./counters >/dev/null 2>&1
+    same "report: that of the trace" "same" "$("$here/../bin/predator" replay t | cmp -s - r && echo same)"
     has "apart: no line" "lines 0" "$("$run" -- ./apart 2>&1)"
+    has "blocks: a line of the source" "heap.c:13" "$("$run" -- ./heap 2>&1 | grep "^where ")"
+    has "blocks: a line of the source, built" "heap.c:13" "$("$run" --built -- ./heap.tsan 2>&1 | grep "^where ")"
     "$run" --report r --settings nowhere -- ./counters >r.out 2>r.log
     same "no settings: the program's status" 0 "$?"
     has "no settings" "the replay ended with status" "$(cat r.log)"
+    head -c 100000 t >cut.t
+    has "a cut trace" "Truncated 100000" "$("$here/../bin/predator" replay cut.t 2>&1)"
+    "$run" --mend cut.t >/dev/null
+    has "a cut trace, mended" "outcome part" "$("$here/../bin/predator" replay cut.t 2>&1)"
+    has "killed by itself: a report" "outcome part" "$("$run" -- ./odd kill 2>&1)"
+    # The examples of guest/ by the second way, beside their builds for RV32.
+    mkdir guest
+    if setarch -R true 2>/dev/null; then
+        while read -r line; do
+            has "guest: ${line%%:*}" ", the same" "$line"
+        done < <("$here/tries/guest.py" guest 2>&1)
+    else
+        skip "guest's examples: the system doesn't let memory lie where it lay"
+    fi
 else
-    skip "reports: the program isn't built (bin/predator builds it)"
+    skip "reports, and guest's examples: the program isn't built (bin/predator builds it)"
+    export PREDATOR_PROGRAM=$here/../view/tests/stand_in.py STAND_IN_LACKS=place
+fi
+
+# `view` with the names of the program, over the program or what stands for it.
+if /usr/bin/python3 -c 'import elftools, jinja2' 2>/dev/null && command -v llvm-symbolizer llvm-dwarfdump >/dev/null; then
+    view() { PYTHONDONTWRITEBYTECODE=1 "$here/../bin/predator" view "$@" 2>&1; }
+    "$run" --quantum 1000 --most 60000 --trace t -- ./counters >/dev/null 2>&1
+    said=$(echo "report = 10" >few; view replay t --settings few --words --explain 0)
+    has "view: an object" "counters" "$said"
+    has "view: a field" "counters[1].count" "$said"
+    has "view: its type" "on \`struct own\`" "$said"
+    "$run" --trace h -- ./heap
+    said=$(view replay h --explain 0)
+    has "view: a block" "block made at heap.c:13 < main" "$said"
+    "$run" --built --trace b -- ./heap.tsan
+    has "view: a block, built" "block made at heap.c:13 < main" "$(view replay b --explain 0)"
+    has "view: a block's fields" ".sum" "$(view replay h --explain 0 --type heap.c:13=tally --words)"
+    has "view: another table" "isn't the table of this report" "$(view replay h --back b.table --explain 0)"
+    said=$(view replay t --back few)
+    same "view: no table: status" 2 "$?"
+    has "view: no table" "it is no table back" "$said"
+    has "view: a table that isn't there" "No such file" "$(view replay t --back nowhere)"
+    has "view: a run has no table" "'--back' is for" "$(view run x --back t.table)"
+else
+    skip "view: its packages aren't installed (Debian: python3-pyelftools python3-jinja2 llvm)"
 fi
 
 echo "$passed passed, $failed failed, $skipped skipped"

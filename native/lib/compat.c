@@ -304,16 +304,20 @@ static void read_symbols(DebugInfo *it)
             it->count = at;
 }
 
+const HChar *predator_program(void)
+{
+    static HChar own[PATH_MAX];
+    if (!own[0] && readlink("/proc/self/exe", own, sizeof own - 1) < 0)
+        return "-";
+    return own;
+}
+
 static int add_info(struct dl_phdr_info *about, size_t size, void *none)
 {
     DebugInfo *it, **last = &infos;
-    HChar own[PATH_MAX];
     const HChar *path = about->dlpi_name;
-    if (!path || !path[0]) { /* the program itself */
-        long length = readlink("/proc/self/exe", own, sizeof own - 1);
-        own[length > 0 ? length : 0] = 0;
-        path = own;
-    }
+    if (!path || !path[0])
+        path = predator_program();
     for (it = infos; it; it = it->next) {
         if (it->base == about->dlpi_addr)
             return 0;
@@ -342,6 +346,7 @@ const DebugInfo *predator_next_DebugInfo(const DebugInfo *it)
 
 Addr predator_DebugInfo_get_text_avma(const DebugInfo *it) { return it->text; }
 SizeT predator_DebugInfo_get_text_size(const DebugInfo *it) { return it->text_size; }
+Word predator_DebugInfo_get_text_bias(const DebugInfo *it) { return it->base; }
 const HChar *predator_DebugInfo_get_filename(const DebugInfo *it) { return it->path; }
 Int predator_DebugInfo_syms_howmany(const DebugInfo *it) { return it->count; }
 

@@ -46,6 +46,7 @@ SysRes predator_do_syscall(UWord number, UWord, UWord, UWord, UWord, UWord, UWor
 #define VKI_O_TRUNC O_TRUNC
 #define VKI_SEEK_SET SEEK_SET
 #define VKI_SEEK_CUR SEEK_CUR
+#define VKI_F_GETFD F_GETFD
 #define VKI_EINTR EINTR
 #define VKI_ENOSPC ENOSPC
 #define VKI_SIGPIPE SIGPIPE
@@ -57,6 +58,9 @@ typedef siginfo_t vki_siginfo_t;
 #define predator_sigaddset(set, number) (*(set) |= 1UL << ((number)-1))
 
 #define predator_open(path, flags, mode) CALL(SYS_open, path, (flags) | O_CLOEXEC, mode, 0)
+const HChar *predator_program(void);
+#define PROGRAM_PATH predator_program()
+#define predator_get_startup_wd() ""
 Int predator_safe_fd(Int fd); /* the same file under a high number */
 /* A program that closes what isn't its own may get the number for a file of its own: nothing is written there. */
 void predator_keep(Int fd);
@@ -100,6 +104,7 @@ typedef struct DebugInfo DebugInfo;
 const DebugInfo *predator_next_DebugInfo(const DebugInfo *);
 Addr predator_DebugInfo_get_text_avma(const DebugInfo *);
 SizeT predator_DebugInfo_get_text_size(const DebugInfo *);
+Word predator_DebugInfo_get_text_bias(const DebugInfo *);
 const HChar *predator_DebugInfo_get_filename(const DebugInfo *);
 Int predator_DebugInfo_syms_howmany(const DebugInfo *);
 void predator_DebugInfo_syms_getidx(const DebugInfo *, Int, Addr *, UInt *, const HChar **, const HChar ***, Bool *, Bool *, Bool *);

@@ -13,7 +13,7 @@
 #define SLACK 65536 /* more than one block of code can note */
 
 static ULong quantum = 100;
-static const HChar *trace_path;
+static const HChar *trace_path, *table_path;
 static Bool records_all, marked_only;
 
 static ULong *buffer, *noted, *limit, *most; /* the buffer, its next free word, the end of the turn, and where the buffer is full */
@@ -458,6 +458,7 @@ static Bool on_option(const HChar *word)
     else if (VG_BINT_CLO(word, "--most", number, 1, 1L << 40))
         trace_most = number;
     else if (VG_STR_CLO(word, "--trace", trace_path)) {
+    } else if (VG_STR_CLO(word, "--table", table_path)) {
     } else if (VG_BOOL_CLO(word, "--all", records_all)) {
     } else if (VG_BOOL_CLO(word, "--marked", marked_only)) {
     } else
@@ -481,7 +482,7 @@ static void after_options(void)
     noted = buffer;
     most = buffer + room;
     begin_turn();
-    if (trace_path == NULL || !trace_begin(trace_path))
+    if (trace_path == NULL || !trace_begin(trace_path, table_path))
         VG_(exit)(125);
     instruments = records_all;
     judge_recording();

@@ -15,6 +15,7 @@
 #include "pub_tool_mallocfree.h"
 #include "pub_tool_options.h"
 #include "pub_tool_debuginfo.h"
+#include "pub_tool_clientstate.h"
 #include "pub_tool_stacktrace.h"
 #include "pub_tool_machine.h"
 #include "pub_tool_oset.h"

@@ -1,11 +1,12 @@
-/* What native/tool/trace.c does, for the tool and for the runtime of native/lib. */
+/* What native/tool/trace.c and objects.c do, for the tool and for the runtime of native/lib. */
 #ifndef PREDATOR_TRACE_H
 #define PREDATOR_TRACE_H
 
 #define MOST_HARTS 256
 
 extern ULong trace_accesses;
-Bool trace_begin(const HChar *path);              /* False where the file can't be written */
+/* False where a file can't be written. Without a table's path it is that of the trace with `.table`; a path /dev/fd/N is taken over. */
+Bool trace_begin(const HChar *path, const HChar *table);
 Bool trace_is_open(void);
 Bool trace_has(Int fd);                           /* one of its files */
 void trace_access(UInt hart, Bool writes, Addr addr, UInt size);

@@ -1,0 +1,335 @@
+/* What has a name in a trace: symbols of data, call sites with the functions that they lie in, and blocks. They are told for the regions
+   that have a place: where a region gets one, those that lie in it, and from then on each block that is made in it. What reaches over
+   several regions is told in pieces. */
+#include "parts.h"
+
+#define NAME_MOST 1024
+
+/* ---- Symbols ---- */
+
+typedef struct {
+    Addr addr;
+    UInt size;
+    const HChar *name;
+} Symbol;
+
+static Symbol *symbols;
+static UInt symbol_count, symbol_room;
+Bool libraries_came;
+
+/* How long a name is without the version of a library behind it. */
+static UInt plain_length(const HChar *name)
+{
+    UInt length = 0;
+    while (name[length] && name[length] != '@')
+        length++;
+    return length > 0 ? length : VG_(strlen)(name);
+}
+
+static void put_symbol(UInt kind, UInt addr, UInt size, const HChar *name)
+{
+    UChar bytes[12 + NAME_MOST];
+    UInt length = plain_length(name);
+    if (length > NAME_MOST)
+        length = NAME_MOST;
+    bytes[0] = 5;
+    bytes[1] = kind;
+    spell(bytes + 2, addr, 4);
+    spell(bytes + 6, size, 4);
+    spell(bytes + 10, length, 2);
+    VG_(memcpy)(bytes + 12, name, length);
+    trace_put(bytes, 12 + length);
+}
+
+static void tell_symbol(const Region *region, const Symbol *it)
+{
+    Addr first;
+    SizeT size = part_of(region->region, it->addr, it->size, &first);
+    if (size > 0)
+        put_symbol(1, folded(region - regions, first), size, it->name);
+}
+
+void symbols_of(const Region *region)
+{
+    UInt it;
+    for (it = 0; it < symbol_count; it++)
+        tell_symbol(region, &symbols[it]);
+}
+
+typedef struct {
+    Addr text;
+    const HChar *path;
+} Library;
+
+static Library libraries[4096];
+static UInt library_count;
+
+static Bool is_known(Addr text, const HChar *path)
+{
+    UInt it;
+    for (it = 0; it < library_count; it++)
+        if (libraries[it].text == text && VG_(strcmp)(libraries[it].path, path) == 0)
+            return True;
+    return library_count == 4096;
+}
+
+void trace_library(void) { libraries_came = True; }
+
+void read_libraries(void)
+{
+    const DebugInfo *info;
+    libraries_came = False;
+    for (info = VG_(next_DebugInfo)(NULL); info; info = VG_(next_DebugInfo)(info)) {
+        Addr text = VG_(DebugInfo_get_text_avma)(info);
+        const HChar *path = VG_(DebugInfo_get_filename)(info);
+        Int count = VG_(DebugInfo_syms_howmany)(info), it;
+        SizeT text_size = VG_(DebugInfo_get_text_size)(info);
+        UInt from = symbol_count, region;
+        if (is_known(text, path) || VG_(strstr)(path, "/predator-amd64-linux"))
+            continue;
+        libraries[library_count].text = text;
+        libraries[library_count++].path = VG_(strdup)("predator.library", path);
+        table_text("map 0x%lx 0x%lx 0x%lx %s\n", text, text + text_size, (UWord)VG_(DebugInfo_get_text_bias)(info), path);
+        for (it = 0; it < count; it++) {
+            Addr addr;
+            UInt size;
+            const HChar *name, **others;
+            Bool is_text, is_ifunc, is_global;
+            VG_(DebugInfo_syms_getidx)(info, it, &addr, &size, &name, &others, &is_text, &is_ifunc, &is_global);
+            if (is_text || is_ifunc || size == 0 || (text <= addr && addr < text + text_size))
+                continue;
+            if (symbol_count == symbol_room) {
+                symbol_room = symbol_room ? 2 * symbol_room : 4096;
+                symbols = VG_(realloc)("predator.symbols", symbols, symbol_room * sizeof *symbols);
+            }
+            symbols[symbol_count].addr = addr;
+            symbols[symbol_count].size = size;
+            symbols[symbol_count++].name = VG_(strdup)("predator.symbol", name);
+        }
+        for (region = 0; region < region_count; region++)
+            for (it = from; it < symbol_count; it++)
+                tell_symbol(&regions[region], &symbols[it]);
+    }
+}
+
+/* ---- Call sites ---- */
+
+static OSet *sites; /* the addresses of those that were told */
+
+/* The site's address in the trace. The function that it lies in is told once, and where it stands in its source. */
+static UInt site_of(Addr addr)
+{
+    DiEpoch now = VG_(current_DiEpoch)();
+    const HChar *name = "-", *file, *folder, *object;
+    const DebugInfo *info;
+    UInt line;
+    Int index = region_of(addr, True);
+    if (index < 0)
+        return 0;
+    UInt place = folded(index, addr);
+    if (VG_(OSetWord_Contains)(sites, addr))
+        return place;
+    VG_(OSetWord_Insert)(sites, addr);
+    info = VG_(find_DebugInfo)(now, addr);
+    if (info) {
+        Int count = VG_(DebugInfo_syms_howmany)(info), it;
+        for (it = 0; it < count; it++) {
+            Addr from;
+            UInt size;
+            const HChar **others;
+            Bool is_text, is_ifunc, is_global;
+            VG_(DebugInfo_syms_getidx)(info, it, &from, &size, &name, &others, &is_text, &is_ifunc, &is_global);
+            if (is_text && from <= addr && addr < from + size) {
+                Addr first;
+                SizeT part = part_of(regions[index].region, from, size, &first);
+                put_symbol(2, folded(index, first), part, name);
+                break;
+            }
+            name = "-";
+        }
+    }
+    table_text("site 0x%08x 0x%lx %.*s ", place, addr, (Int)plain_length(name), name);
+    if (VG_(get_filename_linenum)(now, addr, &file, &folder, &line))
+        table_text("%s%s%s:%u", folder, folder[0] ? "/" : "", file, line);
+    else
+        table_text("-");
+    table_text(" %s\n", VG_(get_objname)(now, addr, &object) ? object : "-");
+    return place;
+}
+
+/* ---- Blocks ---- */
+
+typedef struct {
+    Addr addr;
+    SizeT size;
+    Addr sites[4];
+    Bool told; /* in the regions that have a place */
+} Block;
+
+static OSet *blocks;
+static Block *large[1024]; /* those of more than a region */
+static UInt large_count;
+static Addr *untold; /* where blocks were made while nothing was recorded */
+static UInt untold_count, untold_room;
+static Block last_freed[MOST_THREADS + 1];
+
+static void put_block(const Block *it, UInt index)
+{
+    UChar bytes[25];
+    Addr first;
+    UInt site;
+    SizeT size = part_of(regions[index].region, it->addr, it->size, &first);
+    if (it->size == 0 && regions[index].region == (it->addr & ~(REGION - 1)))
+        first = it->addr;
+    else if (size == 0)
+        return;
+    bytes[0] = 3;
+    spell(bytes + 1, folded(index, first), 4);
+    spell(bytes + 5, size, 4);
+    for (site = 0; site < 4; site++)
+        spell(bytes + 9 + 4 * site, it->sites[site] ? site_of(it->sites[site]) : 0, 4);
+    trace_put(bytes, 25);
+}
+
+/* The regions that the block lies in and that have a place, one after the other, from `from` on; or -1. */
+static Int next_region(const Block *it, Addr *from)
+{
+    Addr last = it->addr + (it->size ? it->size - 1 : 0);
+    for (; *from <= last; *from += REGION) {
+        Int index = region_of(*from, False);
+        if (index >= 0) {
+            *from += REGION;
+            return index;
+        }
+    }
+    return -1;
+}
+
+static void tell_block(Block *it)
+{
+    Addr from = it->addr & ~(REGION - 1);
+    Int index;
+    it->told = True;
+    while ((index = next_region(it, &from)) >= 0)
+        put_block(it, index);
+}
+
+static void tell_end(const Block *it)
+{
+    Addr from = it->addr & ~(REGION - 1), first;
+    Int index;
+    while (it->told && (index = next_region(it, &from)) >= 0) {
+        UChar bytes[5] = {4};
+        part_of(regions[index].region, it->addr, it->size, &first);
+        spell(bytes + 1, folded(index, first), 4);
+        trace_put(bytes, 5);
+    }
+}
+
+void blocks_of(const Region *region)
+{
+    Addr from = region->region - REGION;
+    Block *it;
+    UInt large_one;
+    Block *found[256];
+    UInt count;
+    for (large_one = 0; large_one < large_count; large_one++)
+        if (large[large_one]->told)
+            put_block(large[large_one], region - regions);
+    /* Telling a block may give a place to the region of a call site, whose blocks are told then: so the search begins anew. */
+    do {
+        count = 0;
+        VG_(OSetGen_ResetIterAt)(blocks, &from);
+        while (count < 256 && (it = VG_(OSetGen_Next)(blocks)) && it->addr < region->region + REGION) {
+            if (it->told && it->size <= REGION)
+                found[count++] = it;
+            from = it->addr + 1;
+        }
+        for (large_one = 0; large_one < count; large_one++)
+            put_block(found[large_one], region - regions);
+    } while (count == 256);
+}
+
+static void drop_large(const Block *block)
+{
+    UInt it;
+    for (it = 0; it < large_count; it++)
+        if (large[it] == block)
+            large[it] = large[--large_count];
+}
+
+static void make_block(Addr addr, SizeT size, const Addr *own)
+{
+    Block *it = VG_(OSetGen_AllocNode)(blocks, sizeof *it);
+    it->addr = addr;
+    it->size = size;
+    it->told = False;
+    VG_(memcpy)(it->sites, own, sizeof it->sites);
+    VG_(OSetGen_Insert)(blocks, it);
+    if (size > REGION) {
+        if (large_count < 1024)
+            large[large_count++] = it;
+    }
+    if (trace_records) {
+        tell_block(it);
+        return;
+    }
+    if (untold_count == untold_room) {
+        untold_room = untold_room ? 2 * untold_room : 4096;
+        untold = VG_(realloc)("predator.untold", untold, untold_room * sizeof *untold);
+    }
+    untold[untold_count++] = addr;
+}
+
+void trace_block(ThreadId tid, Addr addr, SizeT size)
+{
+    Addr calls[5], own[4] = {0, 0, 0, 0};
+    UInt count, it;
+    if (!trace_is_open())
+        return;
+    count = VG_(get_StackTrace)(tid, calls, 5, NULL, NULL, 0);
+    for (it = 1; it < count; it++)
+        own[it - 1] = calls[it];
+    trace_free(tid, addr);
+    make_block(addr, size, own);
+}
+
+void trace_free(ThreadId tid, Addr addr)
+{
+    Block *it;
+    if (!trace_is_open())
+        return;
+    it = VG_(OSetGen_Lookup)(blocks, &addr);
+    last_freed[tid].addr = 0;
+    if (it == NULL)
+        return;
+    tell_end(it);
+    last_freed[tid] = *it;
+    if (it->size > REGION)
+        drop_large(it);
+    VG_(OSetGen_Remove)(blocks, &addr);
+    VG_(OSetGen_FreeNode)(blocks, it);
+}
+
+void trace_revive(ThreadId tid, Addr addr)
+{
+    if (trace_is_open() && last_freed[tid].addr == addr)
+        make_block(addr, last_freed[tid].size, last_freed[tid].sites);
+}
+
+void tell_untold(void)
+{
+    UInt it;
+    for (it = 0; it < untold_count; it++) {
+        Block *block = VG_(OSetGen_Lookup)(blocks, &untold[it]);
+        if (block && !block->told)
+            tell_block(block);
+    }
+    untold_count = 0;
+}
+
+void objects_begin(void)
+{
+    blocks = VG_(OSetGen_Create)(0, NULL, VG_(malloc), "predator.blocks", VG_(free));
+    sites = VG_(OSetWord_Create)(VG_(malloc), "predator.sites", VG_(free));
+}

@@ -1,0 +1,35 @@
+/* What trace.c, which writes, and objects.c, which knows symbols, call sites and blocks, have of each other. */
+#ifndef PREDATOR_PARTS_H
+#define PREDATOR_PARTS_H
+
+#ifdef PREDATOR_RUNTIME
+#include "../lib/compat.h"
+#else
+#include "tool.h"
+#endif
+
+#define REGION (1UL << 20)
+
+typedef struct {
+    Addr region;    /* its first address */
+    UInt place;     /* its first address in the trace */
+    ULong pages[4]; /* those that stand in the table */
+} Region;
+
+extern Region regions[];
+extern UInt region_count;
+Int region_of(Addr addr, Bool places);            /* the region's index, or -1 where it has no place and gets none */
+UInt folded(UInt index, Addr addr);               /* what the address is in the trace */
+SizeT part_of(Addr region, Addr addr, SizeT size, Addr *first); /* of a range, in a region: its first address and its size */
+void spell(UChar *at, ULong value, UInt bytes);
+void trace_put(const UChar *bytes, UInt count);   /* a record that is no access */
+void table_text(const HChar *format, ...) PRINTF_CHECK(1, 2);
+
+extern Bool libraries_came;
+void objects_begin(void);
+void read_libraries(void);                        /* the symbols of the files that were mapped since */
+void symbols_of(const Region *);                  /* tells those that lie in a region */
+void blocks_of(const Region *);
+void tell_untold(void);                           /* the blocks that were made while nothing was recorded */
+
+#endif
