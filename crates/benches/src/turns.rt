@@ -92,7 +92,7 @@ fn steps_of(alloc: Global, settings: RunSettings, running: u16) -> Result<u64, N
     requires running { 1 ≤ running }
     requires few { running ≤ 256 }
 {
-    let Ok(schedule) = Schedule::read(alloc, b"", settings.harts, settings.quantum) else {
+    let Ok(schedule) = Schedule::read(alloc, b"", settings.harts, settings.quantum, 0) else {
         return Err(NoMemory);
     };
     let memory = memory_of(alloc, settings.harts, running)?;

@@ -32,5 +32,5 @@ pub use files::{Judge, read_judged};
 pub use program_file::{PROGRAM_LIMIT, Program, judge_program};
 pub use saving::save;
 pub use settings_file::{native_layout, read_settings, thresholds_of};
-pub use start::{exit_code, give_up, words_of};
+pub use start::{TraceToRead, exit_code, give_up, trace_to_read, words_of};
 pub use status::{StateFault, Status};

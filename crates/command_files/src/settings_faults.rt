@@ -36,6 +36,7 @@ fn range_of(key: Key) -> &'static str {
         Key::Quantum => "`quantum` is a whole number from 1 to 1048576",
         Key::Budget => "`budget` is a whole number from 1 to 68719476736",
         Key::Line => "`line` is 32, 64, 128 or 256",
+        Key::Seed => "`seed` is a whole number from 0 to 4294967295",
     }
 }
 
@@ -45,7 +46,8 @@ pub fn settings_advice(fault: &SettingsFault) -> Option<&'static str> {
         SettingsFault::TooLong => Some("a settings file has at most 64 KiB"),
         SettingsFault::BadToml => Some("a line is a key and a whole number, as `quantum = 1`"),
         SettingsFault::UnknownKey(_) => Some(
-            "the keys are harts, memory, stack, tracking, prediction, report, quantum, budget, line",
+            "the keys are harts, memory, stack, tracking, prediction, report, quantum, budget, line, \
+             seed",
         ),
         SettingsFault::OutOfRange(key) => Some(range_of(*key)),
         SettingsFault::NoMemory => None,

@@ -1,3 +1,4 @@
 pub mod AppLemmas
 pub mod AskedLemmas
 pub mod NumberLemmas
+pub mod ShapeLemmas

@@ -9,7 +9,7 @@ abbrev pub layout_at : ℕ → ℕ → Option Grid
 layout_at size shift = if is_layout size shift then Some (record { size = size; offset = shift })
     else None
 
--- the layout where one option is given: a missing size is 64, a missing shift 0
+-- the layout of a size and a shift: a missing size is 64, a missing shift 0
 abbrev pub given_layout : Option (List ℕ) → Option (List ℕ) → Option Grid
 given_layout size shift = option_and_then (λ n. option_and_then (layout_at n) (number_or 0 shift))
     (number_or 64 size)

@@ -1,13 +1,17 @@
 pub mod Apps
 pub mod Asked
+pub mod Caches
 pub mod Check
 pub mod Convert
 pub mod Demands
+pub mod Explain
 pub mod Gen
 pub mod Layouts
+pub mod Misses
 pub mod Names
 pub mod Numbers
 pub mod Replay
 pub mod Run
 pub mod Split
+pub mod Sweep
 pub mod Words

@@ -1,7 +1,7 @@
 -- What the words of the command line ask for. What a command refuses, and what each of its
 -- arguments gets, is what `clap` says.
 use Rattle.std.specs.Prelude.{Bool, false, if◌then◌else◌, List, [], ◌∷◌, map, flat_map, Option}
-use Rattle.std.specs.Prelude.{Some, None, ◌≤◌, ◌^◌, option_map, option_and_then, codes}
+use Rattle.std.specs.Prelude.{Some, None, IsTrue, ◌≤◌, ◌^◌, option_map, option_and_then, codes}
 use Rattle.std.specs.Str.{bytes_eq}
 use Rattle.clap.specs.Words.{Text}
 use Rattle.command_line.specs.Names.{are_apart, is_named}
@@ -17,6 +17,14 @@ use Rattle.command_line.specs.Gen.{gen_usage, GenDemand, asked_of_gen, gen_input
 use Rattle.command_line.specs.Gen.{gen_outputs}
 use Rattle.command_line.specs.Convert.{convert_usage, ConvertDemand, asked_of_convert}
 use Rattle.command_line.specs.Convert.{convert_inputs, convert_meaning, convert_outputs}
+use Rattle.command_line.specs.Sweep.{sweep_usage, SweepDemand, asked_of_sweep, is_swept_size}
+use Rattle.command_line.specs.Sweep.{sweep_inputs, sweep_meaning, sweep_outputs}
+use Rattle.command_line.specs.Caches.{asked_of_caches, caches_inputs, caches_meaning}
+use Rattle.command_line.specs.Caches.{CachesDemand, caches_outputs, caches_usage}
+use Rattle.command_line.specs.Misses.{misses_usage, MissesDemand, asked_of_misses, misses_inputs}
+use Rattle.command_line.specs.Misses.{misses_meaning, misses_outputs}
+use Rattle.command_line.specs.Explain.{explain_usage, ExplainDemand, asked_of_explain}
+use Rattle.command_line.specs.Explain.{explain_inputs, explain_meaning, explain_outputs}
 use Rattle.command_line.specs.declared.demand.Demand as code
 use Rattle.command_line.specs.declared.demand.Demand.TheVariants as code_demand
 
@@ -30,6 +38,10 @@ pub data Demand : Type 0 where
   split : SplitDemand → Demand
   gen : GenDemand → Demand
   convert : ConvertDemand → Demand
+  sweep : SweepDemand → Demand
+  caches : CachesDemand → Demand
+  misses : MissesDemand → Demand
+  explain : ExplainDemand → Demand
 
 abbrev pub meaning : code.Demand → Demand
 meaning (code_demand.Replay options) = replay (replay_meaning options)
@@ -38,6 +50,10 @@ meaning (code_demand.Run options) = run (run_meaning options)
 meaning (code_demand.Split options) = split (split_meaning options)
 meaning (code_demand.Gen options) = gen (gen_meaning options)
 meaning (code_demand.Convert options) = convert (convert_meaning options)
+meaning (code_demand.Sweep options) = sweep (sweep_meaning options)
+meaning (code_demand.Caches options) = caches (caches_meaning options)
+meaning (code_demand.Misses options) = misses (misses_meaning options)
+meaning (code_demand.Explain options) = explain (explain_meaning options)
 
 -- a command as words name it: its name, its usage line, and what words ask of it
 pub record Named : Type 0 where
@@ -57,6 +73,10 @@ commands =
     ∷ named (codes "split") split_usage asked_of_split split
     ∷ named (codes "gen") gen_usage asked_of_gen gen
     ∷ named (codes "convert") convert_usage asked_of_convert convert
+    ∷ named (codes "sweep") sweep_usage asked_of_sweep sweep
+    ∷ named (codes "caches") caches_usage asked_of_caches caches
+    ∷ named (codes "misses") misses_usage asked_of_misses misses
+    ∷ named (codes "explain") explain_usage asked_of_explain explain
     ∷ []
 
 -- the files that a demand has read, in the order in which they are, those that it has written, in
@@ -78,6 +98,12 @@ terms_of (split demand) = terms (split_inputs demand) (split_outputs demand)
 terms_of (gen demand) =
     record (terms (gen_inputs demand) (gen_outputs demand)) { IsWithin = demand.count ≤ 10 ^ 9 }
 terms_of (convert demand) = terms (convert_inputs demand) (convert_outputs demand)
+terms_of (sweep demand) = record (terms (sweep_inputs demand) (sweep_outputs demand)) {
+  IsWithin = IsTrue (is_swept_size demand.size);
+}
+terms_of (caches demand) = terms (caches_inputs demand) (caches_outputs demand)
+terms_of (misses demand) = terms (misses_inputs demand) (misses_outputs demand)
+terms_of (explain demand) = terms (explain_inputs demand) (explain_outputs demand)
 
 -- ---- what follows from the rows
 

@@ -1,13 +1,17 @@
 // What words ask for, and why they are refused.
 ghost use Rattle.std.specs.Prelude.{◌≡◌};
 
+use crate::caches::CachesOptions;
 use crate::check::CheckOptions;
 use crate::convert::ConvertOptions;
+use crate::explain::ExplainOptions;
 use crate::generate::GenOptions;
+use crate::misses::MissesOptions;
 use crate::reason::Reason;
 use crate::replay::ReplayOptions;
 use crate::run::RunOptions;
 use crate::split::SplitOptions;
+use crate::sweep::SweepOptions;
 use std::alloc::AllocError;
 
 /// What the words ask for: a command, with its options.
@@ -28,6 +32,14 @@ pub enum Demand<'a> {
     /// Write a trace in the other version, and tell of it. The file has another name than the
     /// trace.
     Convert(ConvertOptions<'a>),
+    /// Count every shift of a line size in a trace, and tell which counts least.
+    Sweep(SweepOptions<'a>),
+    /// Tell what is left of a trace's invalidations in private caches of a shape.
+    Caches(CachesOptions<'a>),
+    /// Tell what the sharing of each line costs in a trace.
+    Misses(MissesOptions<'a>),
+    /// Run a program, and tell which instructions take one line from each other.
+    Explain(ExplainOptions<'a>),
 }
 
 /// Why words give no demand.

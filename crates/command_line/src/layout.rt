@@ -56,7 +56,7 @@ fn given_or(given: Option<&str>, usual: u64) -> Option<u64>
 }
 
 // The layout of a size and a shift, where it is allowed.
-fn allowed_layout(size: u64, shift: u64) -> Option<Layout>
+pub fn allowed_layout(size: u64, shift: u64) -> Option<Layout>
     ensures { result ≡ layout_at size shift }
 {
     let size = u32::try_from(size).ok()?;
@@ -64,8 +64,8 @@ fn allowed_layout(size: u64, shift: u64) -> Option<Layout>
     Layout::new(size, shift)
 }
 
-// The layout of two options of which one is given, or both.
-fn given_layout(size: Option<&str>, shift: Option<&str>) -> Option<Layout>
+// The layout of a size and a shift, each the usual one where it isn't given.
+pub fn given_layout(size: Option<&str>, shift: Option<&str>) -> Option<Layout>
     ensures { result ≡ Rattle.command_line.specs.Layouts.given_layout (text_of size.entry)
         (text_of shift.entry) }
 {

@@ -9,25 +9,34 @@
 //! each table: `read_command`, [`USAGE`], [`Demand`], and those of specs/Words.antt.
 #![tactic(auto)]
 
+mod address;
+mod caches;
 mod check;
 mod convert;
 mod demand;
+mod explain;
 mod forms;
 mod generate;
 mod layout;
+mod misses;
 mod names;
 mod reason;
 mod replay;
 mod run;
 mod split;
+mod sweep;
 mod words;
 
+pub use caches::CachesOptions;
 pub use check::CheckOptions;
 pub use convert::ConvertOptions;
 pub use demand::{Demand, WordsFault};
+pub use explain::ExplainOptions;
 pub use generate::GenOptions;
+pub use misses::MissesOptions;
 pub use reason::Reason;
 pub use replay::ReplayOptions;
 pub use run::RunOptions;
 pub use split::SplitOptions;
+pub use sweep::SweepOptions;
 pub use words::{USAGE, read_words};

@@ -7,6 +7,18 @@ use std::alloc::{AllocError, Global};
 const ALLOWED: &str =
     "--size is a power of two from 4 to 1024, --shift a multiple of 4 below the size";
 
+const LINES: &str = concat!(
+    "BASE is a multiple of 4 below 2^32, SIZE a power of two from 4 to 1024, ",
+    "START a number below 2^40",
+);
+
+const SWEPT: &str = "it is a power of two from 4 to 256";
+
+const SHAPES: &str = concat!(
+    "--size is a power of two from 4 to 1024, --sets one from 1 to 1024, --ways from 1 to 64, ",
+    "and sets times ways at most 4096"
+);
+
 /// Why words are refused.
 #[derive(Debug, Drop)]
 pub enum Reason<'a> {
@@ -25,8 +37,28 @@ pub enum Reason<'a> {
         /// The word for the shift, if there is one.
         shift: Option<&'a str>,
     },
+    /// No line of an allowed layout begins at the base, or the start is no number below 2^40.
+    Line {
+        /// The word for the base, if there is one.
+        base: Option<&'a str>,
+        /// The word for the size, if there is one.
+        size: Option<&'a str>,
+        /// The word for the start, if there is one.
+        start: Option<&'a str>,
+    },
+    /// The size, the sets and the ways are no shape of caches, or not all of them are given.
+    Shape {
+        /// The word for the size, if there is one.
+        size: Option<&'a str>,
+        /// The word for the number of sets, if there is one.
+        sets: Option<&'a str>,
+        /// The word for the number of ways, if there is one.
+        ways: Option<&'a str>,
+    },
     /// The word for a number of accesses is no number that a trace may be asked to have.
     Count(Option<&'a str>),
+    /// The word for the size is none that a sweep takes; None where it is missing.
+    SweptSize(Option<&'a str>),
     /// The word for the place of a cut is no number.
     Place(Option<&'a str>),
     /// A file that is written has this name, and so has another one.
@@ -65,6 +97,36 @@ fn layout_text(
     format!(in alloc; "'--size {size} --shift {shift}' is no layout: {ALLOWED}")
 }
 
+// What is wrong with a base, a size and a start.
+fn line_text(
+    alloc: Global,
+    base: Option<&str>,
+    size: Option<&str>,
+    start: Option<&str>,
+) -> Result<String, AllocError> {
+    let base = base.unwrap_or("");
+    let size = size.unwrap_or("");
+    let start = start.unwrap_or("");
+    format!(in alloc; "'{base} {size} {start}' is no line and start: {LINES}")
+}
+
+// What is wrong with the shape of caches, or which part of it is missing.
+fn shape_text(
+    alloc: Global,
+    size: Option<&str>,
+    sets: Option<&str>,
+    ways: Option<&str>,
+) -> Result<String, AllocError> {
+    match (size, sets, ways) {
+        (None, _, _) => String::from_str(alloc, "--size is missing"),
+        (_, None, _) => String::from_str(alloc, "--sets is missing"),
+        (_, _, None) => String::from_str(alloc, "--ways is missing"),
+        (Some(size), Some(sets), Some(ways)) => format!(in alloc;
+            "'--size {size} --sets {sets} --ways {ways}' is no shape of caches: {SHAPES}"
+        ),
+    }
+}
+
 impl Reason<'_> {
     /// What is wrong, in one line without its line feed.
     pub fn text(&self, alloc: Global) -> Result<String, AllocError> {
@@ -79,10 +141,16 @@ impl Reason<'_> {
             Reason::Words(error) => said_by(alloc, error),
             Reason::Missing(name) => format!(in alloc; "{name} is missing"),
             Reason::Layout { size, shift } => layout_text(alloc, *size, *shift),
+            Reason::Line { base, size, start } => line_text(alloc, *base, *size, *start),
+            Reason::Shape { size, sets, ways } => shape_text(alloc, *size, *sets, *ways),
             Reason::Count(word) => {
                 let word = word.unwrap_or("");
                 format!(in alloc; "'{word}' is no count: N is a whole number up to 1000000000")
             }
+            Reason::SweptSize(Some(size)) => {
+                format!(in alloc; "'--size {size}' is no size to sweep: {SWEPT}")
+            }
+            Reason::SweptSize(None) => format!(in alloc; "--size is missing: {SWEPT}"),
             Reason::Place(word) => {
                 let word = word.unwrap_or("");
                 format!(in alloc;

@@ -5,14 +5,18 @@ ghost use Rattle.command_line.specs.Demands.{texts, IsUsage, UnlessMemory};
 ghost use Rattle.command_line.specs.Words.{IsBounded, asked_of, demand_of, is_command, meaning};
 ghost use Rattle.command_line.specs.Words.{with_names_apart};
 
+use crate::caches::read_caches;
 use crate::check::read_check;
 use crate::convert::read_convert;
 use crate::demand::{Demand, WordsFault};
+use crate::explain::read_explain;
 use crate::generate::read_gen;
+use crate::misses::read_misses;
 use crate::reason::Reason;
 use crate::replay::read_replay;
 use crate::run::read_run;
 use crate::split::read_split;
+use crate::sweep::read_sweep;
 use std::alloc::Global;
 
 /// A line for each command.
@@ -23,6 +27,10 @@ pub const USAGE: &str = concat!(
     "usage: predator split TRACE K A B\n",
     "usage: predator gen N FILE\n",
     "usage: predator convert TRACE FILE\n",
+    "usage: predator sweep TRACE --size N\n",
+    "usage: predator caches TRACE --size N --sets S --ways W\n",
+    "usage: predator misses TRACE [--size N] [--shift N]\n",
+    "usage: predator explain PROGRAM BASE SIZE START [--settings F] [--schedule F]\n",
 );
 
 // What the words ask of the command that the first of them names.
@@ -45,6 +53,10 @@ fn read_command<'a>(
         "split" => read_split(alloc, words),
         "gen" => read_gen(alloc, words),
         "convert" => read_convert(alloc, words),
+        "sweep" => read_sweep(alloc, words),
+        "caches" => read_caches(alloc, words),
+        "misses" => read_misses(alloc, words),
+        "explain" => read_explain(alloc, words),
         _ => Err(WordsFault::Usage(Reason::UnknownCommand(command))),
     }
 }
@@ -53,7 +65,7 @@ fn read_command<'a>(
 ///
 /// Usage comes exactly where they name no command, the command refuses the words after it, a number
 /// is not decimal digits without leading zeros, below 2^64, the layout isn't allowed, a trace of
-/// more than 10^9 accesses is asked for, or the name of an output equals the name of another output
+/// more than 10^9 accesses is asked for, a size to sweep is none, or the name of an output equals the name of another output
 /// or of an input. Want of memory may come before any of them but the first.
 pub fn read_words<'a>(alloc: Global, words: &'a [String]) -> Result<Demand<'a>, WordsFault<'a>>
     ensures accepted { IfOk result (λ demand. demand_of (texts words.now) ≡ Some (meaning demand)) }

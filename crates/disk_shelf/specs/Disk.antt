@@ -35,6 +35,10 @@ after_fault before NoMemory = before
 abbrev pub is_file : FileId → FileId → Bool
 is_file a b = (a.device == b.device) && (a.number == b.number)
 
+-- one of them is this file
+abbrev pub has_file : FileId → List KnownFile → Bool
+has_file id files = list_any (λ file. is_file file.id id) files
+
 -- one of them is this file under another name
 abbrev pub has_other_name : FileId → List ℕ → List KnownFile → Bool
 has_other_name id name files =

@@ -1,22 +1,35 @@
 // Real files and standard output: the trusted edge, of whose content nothing is told.
 //
 // Each call that fails says so on standard error, with the file's name and the system's reason.
-ghost use Rattle.std.specs.Prelude.{◌≡◌, ◌≤◌, ◌↔◌, IfOk, OnOk, false, length};
+ghost use Rattle.std.specs.Prelude.{◌≡◌, ◌≢◌, ◌≤◌, ◌↔◌, IfOk, OnOk, Some, false, length};
 ghost use Rattle.std.specs.IoError.{error_kind};
 ghost use Rattle.disk_shelf.specs.Disk.{after_fault, has_other_name};
 
 use crate::known_files::{FileId, KnownFiles};
 use crate::meter::Meter;
+use crate::open_files::{OpenFiles, ReadBytes};
 use crate::reasons::tell_fault;
 use shelf::{Shelf, ShelfError};
-use std::alloc::Global;
+use std::alloc::{AllocError, Global};
 use std::fs::{self, OpenFile, OpenOptions};
-use std::io::{self, ErrorKind, Print, Read, Seek, SeekFrom, Write};
+use std::io::{self, ErrorKind, Print, Read, Seek, Write};
 use std::marker::Model;
 use std::rt::{Clock, Files};
 
-// What standard output is called where it fails.
+// What standard output and standard input are called where they fail, and their paths.
 const STANDARD_OUTPUT: &str = "standard output";
+
+const OUTPUT_PATH: &str = "/dev/stdout";
+
+const STANDARD_INPUT: &str = "standard input";
+
+const INPUT_PATH: &str = "/dev/stdin";
+
+// The three streams that a process begins with, in the order of their numbers.
+const STREAMS: [&str; 3] = [INPUT_PATH, OUTPUT_PATH, "/dev/stderr"];
+
+// The name of a trace that is standard input.
+const INPUT: &str = "-";
 
 // Why a file isn't begun that is read or written under another name.
 const IN_USE: &str = "the same file is in use under another name, and stays as it is";
@@ -24,13 +37,16 @@ const IN_USE: &str = "the same file is in use under another name, and stays as i
 /// The files of the system and its standard output, as a shelf.
 ///
 /// It tells nothing of content. It counts the errors of each kind, for all names alike, want of
-/// memory aside: contracts see these numbers. A regular file that it has read or begun is not begun
-/// under another name: that fails, and the file stays as it is. It says on standard error why a
-/// call failed, and shows there how far long work is where that is asked for.
+/// memory aside: contracts see these numbers. Each file is opened once for reading and once for
+/// writing, and kept open, so that pipes and terminals serve where they are read, or written, from
+/// the front to the end. A regular file that it has read or begun is not begun under another name,
+/// nor is one that standard output is, and nothing is printed over one: that fails, and the file
+/// stays as it is. It says on standard error why a call failed, and shows there how far long work
+/// is where that is asked for.
 #[derive(Drop)]
 pub struct DiskShelf<'a, R: Files + Print + Eprint + Clock + AllocGlobal> {
     runtime: &'a R,
-    known: KnownFiles,
+    files: Opened<R::File>,
     meter: Meter,
     reads: u64,
     writes: u64,
@@ -76,73 +92,179 @@ fn tell_and_count<R: Eprint + AllocGlobal>(
     fault_of(count, &error)
 }
 
-// How many bytes a call has read, and how many the file has.
-#[derive(Clone, Copy)]
-struct ReadBytes {
-    count: usize,
-    length: u64,
+// What is expected of the reading of a trace.
+#[derive(Drop)]
+struct Expected {
+    name: String,
+    again: bool,
 }
 
-// Some bytes of a file from a place on. From now on it is known.
-fn read_from<R: Files + AllocGlobal>(
-    runtime: &R,
-    known: &mut KnownFiles,
-    name: &str,
-    at: u64,
-    into: &mut [u8],
-) -> io::Result<ReadBytes>
-    ensures { IfOk result (λ read. read.count ≤ length into.new) }
-{
-    let mut file = fs::open(runtime, name)?;
-    let metadata = file.metadata()?;
-    if let Some(id) = FileId::of(&metadata) {
-        known.note(runtime.alloc(), id, name)?;
+// The files of a call, as the system has them: what stands for streams that were closed, the files
+// that are open, those that are known, and the regular file that standard output is, where it is
+// one.
+#[derive(Drop)]
+struct Opened<F: Drop> {
+    closed: Vec<F>,
+    read: OpenFiles<F>,
+    written: OpenFiles<F>,
+    known: KnownFiles,
+    printed: Option<FileId>,
+    expected: Option<Expected>,
+}
+
+impl<F: Read + Write + Seek + OpenFile + Drop> Opened<F> {
+    // None is open yet.
+    fn new<R: Files<File = F> + AllocGlobal>(runtime: &R) -> Self {
+        Opened {
+            closed: stand_ins(runtime),
+            read: OpenFiles::new(runtime.alloc()),
+            written: OpenFiles::new(runtime.alloc()),
+            known: KnownFiles::new(runtime.alloc()),
+            printed: printed_file(runtime),
+            expected: None,
+        }
     }
-    file.seek(SeekFrom::Start(at))?;
-    let count = file.read(into)?;
-    Ok(ReadBytes {
-        count,
-        length: metadata.len(),
-    })
+
+    // Whether a name is that of a trace that is read so.
+    fn is_expected(&self, name: &str, again: bool) -> bool {
+        match &self.expected {
+            Some(expected) => expected.name.as_str() == name && expected.again == again,
+            None => false,
+        }
+    }
+
+    // Whether a name is that of standard input.
+    fn is_input(&self, name: &str) -> bool {
+        name == INPUT && self.is_expected(name, false)
+    }
+
+    // What a file is called in a message.
+    fn called<'n>(&self, name: &'n str) -> &'n str {
+        if self.is_input(name) {
+            STANDARD_INPUT
+        } else {
+            name
+        }
+    }
+
+    // Opens the file of a name to be read, unless it is open. From now on it is known.
+    fn open_to_read<R: Files<File = F> + AllocGlobal>(
+        &mut self,
+        runtime: &R,
+        name: &str,
+    ) -> io::Result<()> {
+        if self.read.has(name) {
+            return Ok(());
+        }
+        let path = if self.is_input(name) {
+            INPUT_PATH
+        } else {
+            name
+        };
+        let file = fs::open(runtime, path)?;
+        let metadata = file.metadata()?;
+        if let Some(id) = FileId::of(&metadata) {
+            self.known.note(runtime.alloc(), id, name)?;
+        }
+        self.read.keep(runtime.alloc(), name, file, metadata.len())?;
+        Ok(())
+    }
+
+    // Some bytes of a file from a place on.
+    fn read_at<R: Files<File = F> + AllocGlobal>(
+        &mut self,
+        runtime: &R,
+        name: &str,
+        at: u64,
+        into: &mut [u8],
+    ) -> io::Result<ReadBytes>
+        ensures { IfOk result (λ read. read.count ≤ length into.new) }
+    {
+        self.open_to_read(runtime, name)?;
+        if self.is_expected(name, true) {
+            self.read.want_again(name)?;
+        }
+        self.read.read_at(name, at, into)
+    }
+
+    // Makes a file empty. It is opened as it stands, once, and emptied once it is seen to be no
+    // other one.
+    fn begin<R: Files<File = F> + AllocGlobal>(
+        &mut self,
+        runtime: &R,
+        name: &str,
+    ) -> io::Result<()> {
+        if !self.written.has(name) {
+            let file = OpenOptions::new()
+                .write(true)
+                .create(true)
+                .open(runtime, name)?;
+            let metadata = file.metadata()?;
+            if let Some(id) = FileId::of(&metadata) {
+                claim(&mut self.known, self.printed, runtime.alloc(), id, name)?;
+            }
+            self.written.keep(runtime.alloc(), name, file, 0)?;
+        }
+        self.written.empty(name)
+    }
+
+    // Whether standard output is a file that is read or written.
+    fn prints_over(&self) -> bool {
+        match self.printed {
+            Some(id) => self.known.has(id),
+            None => false,
+        }
+    }
 }
 
-// Knows a file that is to be written, unless it is known under another name.
-fn claim(known: &mut KnownFiles, alloc: Global, id: FileId, name: &str) -> io::Result<()>
-    ensures { OnOk result (has_other_name id name.now known.old.files.items ≡ false) }
+// Knows a file that is to be written, unless it is known under another name, or is standard output.
+fn claim(
+    known: &mut KnownFiles,
+    printed: Option<FileId>,
+    alloc: Global,
+    id: FileId,
+    name: &str,
+) -> io::Result<()>
+    ensures other { OnOk result (has_other_name id name.now known.old.files.items ≡ false) }
+    ensures printed { OnOk result (printed ≢ Some id) }
 {
-    if known.has_other_name(id, name) {
+    if known.has_other_name(id, name) || printed == Some(id) {
         return Err(io::Error::new(ErrorKind::InvalidInput, IN_USE));
     }
     known.note(alloc, id, name)?;
     Ok(())
 }
 
-// Makes a file empty. It is opened as it stands and emptied once it is seen to be no other one.
-fn create<R: Files + AllocGlobal>(
-    runtime: &R,
-    known: &mut KnownFiles,
-    name: &str,
-) -> io::Result<()> {
-    let file = OpenOptions::new()
-        .write(true)
-        .create(true)
-        .open(runtime, name)?;
-    let metadata = file.metadata()?;
-    match FileId::of(&metadata) {
-        Some(id) => {
-            claim(known, runtime.alloc(), id, name)?;
-            file.set_len(0)
+// A file for each stream that was closed before the program began, which can't be written. Else
+// the next file that is opened would have the stream's number, and get what is printed.
+fn stand_ins<R: Files + AllocGlobal>(runtime: &R) -> Vec<R::File> {
+    let mut files = Vec::new(runtime.alloc());
+    for path in &STREAMS {
+        if fs::metadata(runtime, path).is_err() {
+            if let Ok(file) = fs::open(runtime, "/dev/null") {
+                let _ = files.push(file);
+            }
         }
-        None => Ok(()),
     }
+    files
 }
 
-// Adds bytes at a file's end, and answers how many it has then.
-fn append_to<R: Files>(runtime: &R, name: &str, piece: &[u8]) -> io::Result<u64> {
-    let mut file = OpenOptions::new().append(true).open(runtime, name)?;
-    file.write_all(piece)?;
-    let metadata = file.metadata()?;
-    Ok(metadata.len())
+// The regular file that standard output is, where it is one.
+fn printed_file<R: Files>(runtime: &R) -> Option<FileId> {
+    let metadata = fs::metadata(runtime, OUTPUT_PATH).ok()?;
+    FileId::of(&metadata)
+}
+
+// Prints a piece, unless standard output is a file that is read or written.
+fn print_to<R: Files + Print>(
+    runtime: &R,
+    files: &Opened<R::File>,
+    piece: &[u8],
+) -> io::Result<()> {
+    if files.prints_over() {
+        return Err(io::Error::new(ErrorKind::InvalidInput, IN_USE));
+    }
+    runtime.write_all(piece)
 }
 
 impl<'a, R: Files + Print + Eprint + Clock + AllocGlobal> DiskShelf<'a, R> {
@@ -151,7 +273,7 @@ impl<'a, R: Files + Print + Eprint + Clock + AllocGlobal> DiskShelf<'a, R> {
     {
         DiskShelf {
             runtime,
-            known: KnownFiles::new(runtime.alloc()),
+            files: Opened::new(runtime),
             meter,
             reads: 0,
             writes: 0,
@@ -173,6 +295,18 @@ impl<'a, R: Files + Print + Eprint + Clock + AllocGlobal> DiskShelf<'a, R> {
     {
         DiskShelf::with_meter(runtime, Meter::shown(runtime))
     }
+
+    /// Hears how a trace will be read: once from its front to its end, or again. Where it is read
+    /// once, the name `-` is standard input. Where it is read again, one that can't be sought, as a
+    /// pipe, is refused at its first reading. Nothing that contracts see changes.
+    pub fn expect(&mut self, name: &str, again: bool)
+        ensures { self.new ≡ self.old }
+    {
+        self.files.expected = match String::from_str(self.runtime.alloc(), name) {
+            Ok(name) => Some(Expected { name, again }),
+            Err(AllocError) => None,
+        };
+    }
 }
 
 impl<R: Files + Print + Eprint + Clock + AllocGlobal> Shelf for DiskShelf<'_, R> {
@@ -181,7 +315,7 @@ impl<R: Files + Print + Eprint + Clock + AllocGlobal> Shelf for DiskShelf<'_, R>
     ghost outside = { disk_outside };
 
     fn read_at(&mut self, name: &str, at: u64, into: &mut [u8]) -> Result<usize, ShelfError> {
-        match read_from(self.runtime, &mut self.known, name, at, into) {
+        match self.files.read_at(self.runtime, name, at, into) {
             Ok(read) => {
                 self.meter.show_read(self.runtime, at, read.length);
                 Ok(read.count)
@@ -190,14 +324,14 @@ impl<R: Files + Print + Eprint + Clock + AllocGlobal> Shelf for DiskShelf<'_, R>
                 self.runtime,
                 &mut self.meter,
                 &mut self.reads,
-                name,
+                self.files.called(name),
                 error,
             )),
         }
     }
 
     fn begin(&mut self, name: &str) -> Result<(), ShelfError> {
-        match create(self.runtime, &mut self.known, name) {
+        match self.files.begin(self.runtime, name) {
             Ok(()) => Ok(()),
             Err(error) => Err(tell_and_count(
                 self.runtime,
@@ -210,7 +344,7 @@ impl<R: Files + Print + Eprint + Clock + AllocGlobal> Shelf for DiskShelf<'_, R>
     }
 
     fn append(&mut self, name: &str, piece: &[u8]) -> Result<(), ShelfError> {
-        match append_to(self.runtime, name, piece) {
+        match self.files.written.add(name, piece) {
             Ok(length) => {
                 self.meter.show_written(self.runtime, length);
                 Ok(())
@@ -227,7 +361,7 @@ impl<R: Files + Print + Eprint + Clock + AllocGlobal> Shelf for DiskShelf<'_, R>
 
     fn print(&mut self, piece: &[u8]) -> Result<(), ShelfError> {
         self.meter.clear(self.runtime);
-        match self.runtime.write_all(piece) {
+        match print_to(self.runtime, &self.files, piece) {
             Ok(()) => Ok(()),
             Err(error) => {
                 tell_fault(self.runtime, STANDARD_OUTPUT, &error);

@@ -1,6 +1,6 @@
 // The regular files that a shelf has read or begun, each under the name that it had.
 ghost use Rattle.std.specs.Prelude.{◌≡◌, ℕ, List, [], OnErr, OnOk, IsTrue};
-ghost use Rattle.disk_shelf.specs.Disk.{has_name, has_other_name};
+ghost use Rattle.disk_shelf.specs.Disk.{has_file, has_name, has_other_name};
 
 use std::alloc::{AllocError, Global};
 use std::fs::Metadata;
@@ -57,6 +57,13 @@ impl KnownFiles {
         self.files
             .iter()
             .any(|file| file.id == id && file.name.as_str() != name)
+    }
+
+    /// Whether a file is known, under whichever name.
+    pub fn has(&self, id: FileId) -> bool
+        ensures { result ≡ has_file id self.now.files.items }
+    {
+        self.files.iter().any(|file| file.id == id)
     }
 
     // Whether a file is known under this name.

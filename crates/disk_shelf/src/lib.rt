@@ -9,6 +9,7 @@
 mod disk;
 mod known_files;
 mod meter;
+mod open_files;
 mod reasons;
 
 pub use disk::DiskShelf;

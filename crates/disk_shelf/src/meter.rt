@@ -49,13 +49,18 @@ impl Meter {
         }
     }
 
-    /// Shows how many bytes of a file are read, if it is time to.
+    /// Shows how many bytes of a file are read, of `length` or of how many is unknown where that is
+    /// less, if it is time to.
     pub fn show_read<R: Eprint + Clock>(&mut self, runtime: &R, done: u64, length: u64) {
         if self.is_due(runtime) {
             self.clear(runtime);
             let read = done / MIB;
             let all = length / MIB;
-            self.stands = eprint!(runtime; "\rpredator: {read} of {all} MiB read").is_ok();
+            self.stands = if length < done {
+                eprint!(runtime; "\rpredator: {read} MiB read").is_ok()
+            } else {
+                eprint!(runtime; "\rpredator: {read} of {all} MiB read").is_ok()
+            };
         }
     }
 

@@ -92,7 +92,8 @@ fn a_real_file_is_written_read_and_replayed(rt: HostRuntime) -> Result<(), Fail>
     fs::remove_file(&rt, NAME)?;
     assert!(rt; is_held);
     assert_eq!(rt; status, 0);
-    assert!(rt; is_missing(rt.alloc(), &mut shelf)?);
+    // in a call of its own, since a file that is open stays
+    assert!(rt; is_missing(rt.alloc(), &mut DiskShelf::new(&rt))?);
     Ok(())
 }
 
@@ -175,14 +176,14 @@ fn a_file_that_was_begun_is_not_begun_under_another_name(rt: HostRuntime) -> Res
     Ok(())
 }
 
-// Whether a device is read as empty, begun under a second name and written under a third one.
+// Whether a device is read as empty, and begun and written under a second name.
 fn is_known_by_no_name<R: Files + Print + Eprint + Clock + AllocGlobal>(
     alloc: Global,
     shelf: &mut DiskShelf<'_, R>,
 ) -> Result<bool, Fail> {
     let is_empty = holds(alloc, shelf, "/dev/null", b"")?;
     shelf.begin("/dev/./null")?;
-    shelf.append("/dev/../dev/null", b"lost")?;
+    shelf.append("/dev/./null", b"lost")?;
     Ok(is_empty)
 }
 

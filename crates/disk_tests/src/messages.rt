@@ -27,7 +27,11 @@ fn is_wrong(alloc: Global, line: &str, wanted: &str) -> Result<bool, AllocError>
 const LAYOUT_48: &str = "'--size 48 --shift 0' is no layout: --size is a power of two from 4 to \
     1024, --shift a multiple of 4 below the size";
 
-const WRONG_WORDS: [(&str, &str); 27] = [
+const SHAPE_3: &str = "'--size 64 --sets 3 --ways 8' is no shape of caches: --size is a power of \
+    two from 4 to 1024, --sets one from 1 to 1024, --ways from 1 to 64, and sets times ways at \
+    most 4096";
+
+const WRONG_WORDS: [(&str, &str); 30] = [
     ("", "the command is missing; see predator --help"),
     ("reply t", "'reply' is no command; see predator --help"),
     ("run p --fast=1", "unexpected argument '--fast' found"),
@@ -87,8 +91,17 @@ const WRONG_WORDS: [(&str, &str); 27] = [
         "convert t t",
         "'t' stands twice; each file that is written wants its own name",
     ),
+    (
+        "explain p 2 64 0",
+        concat!(
+            "'2 64 0' is no line and start: BASE is a multiple of 4 below 2^32, ",
+            "SIZE a power of two from 4 to 1024, START a number below 2^40",
+        ),
+    ),
     ("replay t --size 48", LAYOUT_48),
     ("replay t --size 48 --save t", LAYOUT_48),
+    ("caches t --size 64 --sets 4", "--ways is missing"),
+    ("caches t --size 64 --sets 3 --ways 8", SHAPE_3),
     (
         "run p --trace p",
         "'p' stands twice; each file that is written wants its own name",

@@ -1,7 +1,7 @@
 -- After each call there is still one entry for each hart.
 use Rattle.std.proofs.Common.{◌≡◌, ℕ, ◌∙◌, Bool, true, false, List, [], length, Option, Some, None}
 use Rattle.std.proofs.Common.{Result, Ok, Err, refl, set}
-use Rattle.std.specs.Prelude.{if◌then◌else◌, nat_eq, ◌||◌, ◌&&◌, ◌%◌, min}
+use Rattle.std.specs.Prelude.{if◌then◌else◌, nat_eq, ◌||◌, ◌&&◌, ◌/◌, ◌%◌, ◌^◌, min}
 use Rattle.std.proofs.lemmas.List.{length-set}
 use Rattle.rv32_hart.specs.Space.{Space, page_at}
 use Rattle.rv32_hart.specs.Faults.{loaded}
@@ -22,12 +22,14 @@ use Rattle.guest.specs.declared.setup.Setup.{Setup}
 use Rattle.guest.specs.declared.turn.Turn.{Turn}
 use Rattle.guest.specs.declared.turn.Turn.TheVariants.{Ran, Ended}
 use Rattle.guest.specs.Configs.{Config, Fits, stack_end, state_of, value_in, with_state, passed}
-use Rattle.guest.specs.Configs.{answered, counted}
+use Rattle.guest.specs.Configs.{answered, counted, with_value}
 use Rattle.guest.specs.GuestCalls.{RunTurn, ran, over, quietly, minus, refused, are_mapped, written}
 use Rattle.guest.specs.GuestCalls.{write_turn, block_answered, alloc_turn}
 use Rattle.guest.specs.GuestCalls.{free_turn, given_to, exit_turn, started_with, spawn_turn}
 use Rattle.guest.specs.GuestCalls.{joined_with, join_turn, looked, wait_turn}
-use Rattle.guest.specs.GuestCalls.{wake_turn, call_turn}
+use Rattle.guest.specs.GuestCalls.{wake_turn, steps_turn, call_turn, noted_unless, note_fault}
+use Rattle.guest.specs.GuestCalls.{block_turn, unblock_turn}
+use Rattle.guest.specs.Notes.{Noted, after_noting, after_dying, is_noted}
 use Rattle.std.specs.Option.{option_map_or}
 use Rattle.hart_scheduler.specs.Choices.{Plan, choice, plan_with}
 use Rattle.guest.specs.Turns.{chosen, runnable_in}
@@ -210,6 +212,41 @@ fits_wake h hart c f =
     (fits_phases h (woken c.phases addr most) c (length-woken c.phases addr most)
     f)) (fits_refused h hart 22 c f)
 
+fits_noting : (h : ℕ) (noted : Noted) (c : Config) → Fits h c → Fits h (record c { notes = noted })
+fits_noting h noted c f = record {
+  states = f.states;
+  held = f.held;
+  phases = f.phases;
+  calls = f.calls;
+  plan = f.plan;
+}
+
+fits_noted : (h hart addr size : ℕ) (c : Config) (o : Option ℕ) → Fits h c
+    → FitsTurn h (noted_unless hart addr size c o)
+fits_noted h hart addr size c None f =
+    let noted : Noted = after_noting c.notes addr in
+    fits_answered h hart 0 (record c { notes = noted }) (fits_noting h noted c f)
+fits_noted h hart addr size c (Some fault) f = fits_refused h hart fault c f
+
+fits_block_call : (h hart : ℕ) (c : Config) → Fits h c → FitsTurn h (block_turn hart c)
+fits_block_call h hart c f =
+    let addr = value_in c hart 10 in
+    let size = value_in c hart 11 in
+    fits_noted h hart addr size c (note_fault c addr size) f
+
+fits_unblock : (h hart : ℕ) (c : Config) → Fits h c → FitsTurn h (unblock_turn hart c)
+fits_unblock h hart c f =
+    let noted : Noted = after_dying c.notes (value_in c hart 10) in
+    either (is_noted c.notes (value_in c hart 10)) h _ (refused hart 22 c)
+    (fits_answered h hart 0 (record c { notes = noted }) (fits_noting h noted c f))
+    (fits_refused h hart 22 c f)
+
+fits_steps : (h hart : ℕ) (c : Config) → Fits h c → FitsTurn h (steps_turn hart c)
+fits_steps h hart c f =
+    let d : Config = with_value hart 11 (c.steps / 2 ^ 32) c in
+    fits_answered h hart (c.steps % 2 ^ 32) d
+    (fits_state h hart (with_reg (state_of c hart) 11 (c.steps / 2 ^ 32)) c f)
+
 pub fits_call : (h hart : ℕ) (s : Setup) (c : Config) → Fits h c → FitsTurn h (call_turn s hart c)
 fits_call h hart s c f =
     let number = value_in c hart 17 in
@@ -222,8 +259,11 @@ fits_call h hart s c f =
     (either (nat_eq number 1027) h _ _ (fits_join h hart c f)
     (either (nat_eq number 1028) h _ _ (fits_wait h hart c f)
     (either (nat_eq number 1029) h _ _ (fits_wake h hart c f)
-    (either (nat_eq number 1030) h _ (refused hart 38 c) (fits_answered h hart hart c f)
-    (fits_refused h hart 38 c f))))))))))
+    (either (nat_eq number 1030) h _ _ (fits_answered h hart hart c f)
+    (either (nat_eq number 1031) h _ _ (fits_block_call h hart c f)
+    (either (nat_eq number 1032) h _ _ (fits_unblock h hart c f)
+    (either (nat_eq number 1033) h _ (refused hart 38 c) (fits_steps h hart c f)
+    (fits_refused h hart 38 c f)))))))))))))
 
 fits-of : (h : ℕ) (t : Turn) (c : Config) → FitsTurn h (turn_seen t c) → Fits h c
 fits-of h (Ran e) c f = f

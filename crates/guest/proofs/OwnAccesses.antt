@@ -109,9 +109,9 @@ own_below : (hart harts : ℕ) (x y : Machine) (i : Instr) (a : Touch) → outco
 own_below hart harts x y i a h below = rw (own_access hart x y i a h) below
 
 -- what is seen of a step is an access of its hart, or nothing
-pub own_seen : (hart harts : ℕ) (x y : Machine) (i : Instr) (o : Option Touch) (c : Config)
+pub own_seen : (hart harts pc : ℕ) (x y : Machine) (i : Instr) (o : Option Touch) (c : Config)
     → outcome (Next i o) y ≡ stepped hart x
     → hart < harts
-    → IsSeen harts (Ran (option_map_or Touched o Quiet)) c
-own_seen hart harts x y i None c h below = tt
-own_seen hart harts x y i (Some a) c h below = own_below hart harts x y i a h below
+    → IsSeen harts (Ran (option_map_or (λ a. Touched a pc) o Quiet)) c
+own_seen hart harts pc x y i None c h below = tt
+own_seen hart harts pc x y i (Some a) c h below = own_below hart harts x y i a h below

@@ -27,6 +27,8 @@ use Rattle.guest.specs.GuestCalls.{are_mapped, put_out, written, write_turn}
 use Rattle.guest.specs.GuestCalls.{block_answered, alloc_turn, free_turn, given_to, exit_turn}
 use Rattle.guest.specs.GuestCalls.{started_with, spawn_turn, joined_with}
 use Rattle.guest.specs.GuestCalls.{join_turn, looked, wait_turn, wake_turn, call_turn}
+use Rattle.guest.specs.GuestCalls.{noted_unless, note_fault, block_turn, unblock_turn}
+use Rattle.guest.specs.Notes.{is_noted}
 use Rattle.guest.specs.Turns.{machine_of, with_machine, made, after_step, hart_turn, runnable_in}
 use Rattle.guest.specs.Turns.{chosen, turn_with, turn_unless}
 use Rattle.guest.specs.Turns.{turn_of}
@@ -170,6 +172,25 @@ wake_one hart s c room =
     either (nat_eq (value_in c hart 10 % 4) 0) s c _ (refused hart 22 c)
     (record { room = room; steps = refl; accesses = omega arith }) (refused_one hart 22 s c room)
 
+noted_one : (hart addr size : ℕ) (s : Setup) (c : Config) (o : Option ℕ) → c.steps < s.budget
+    → Counted s c (noted_unless hart addr size c o)
+noted_one hart addr size s c None room =
+    record { room = room; steps = refl; accesses = omega arith }
+noted_one hart addr size s c (Some fault) room = refused_one hart fault s c room
+
+block_call_one : (hart : ℕ) (s : Setup) (c : Config) → c.steps < s.budget
+    → Counted s c (block_turn hart c)
+block_call_one hart s c room =
+    let addr = value_in c hart 10 in
+    let size = value_in c hart 11 in
+    noted_one hart addr size s c (note_fault c addr size) room
+
+unblock_one : (hart : ℕ) (s : Setup) (c : Config) → c.steps < s.budget
+    → Counted s c (unblock_turn hart c)
+unblock_one hart s c room =
+    either (is_noted c.notes (value_in c hart 10)) s c _ (refused hart 22 c)
+    (record { room = room; steps = refl; accesses = omega arith }) (refused_one hart 22 s c room)
+
 pub call_one : (hart : ℕ) (s : Setup) (c : Config) → c.steps < s.budget
     → Counted s c (call_turn s hart c)
 call_one hart s c room =
@@ -184,15 +205,19 @@ call_one hart s c room =
     (either (nat_eq number 1027) s c _ _ (join_one hart s c room)
     (either (nat_eq number 1028) s c _ _ (wait_one hart s c room)
     (either (nat_eq number 1029) s c _ _ (wake_one hart s c room)
-    (either (nat_eq number 1030) s c _ (refused hart 38 c)
+    (either (nat_eq number 1030) s c _ _
     (record { room = room; steps = refl; accesses = omega arith })
-    (refused_one hart 38 s c room))))))))))
+    (either (nat_eq number 1031) s c _ _ (block_call_one hart s c room)
+    (either (nat_eq number 1032) s c _ _ (unblock_one hart s c room)
+    (either (nat_eq number 1033) s c _ (refused hart 38 c)
+    (record { room = room; steps = refl; accesses = omega arith })
+    (refused_one hart 38 s c room)))))))))))))
 
-made_one : (a : Option Touch) (s : Setup) (c d : Config) → c.steps < s.budget → d.steps ≡ c.steps
+made_one : (pc : ℕ) (a : Option Touch) (s : Setup) (c d : Config) → c.steps < s.budget → d.steps ≡ c.steps
     → d.accesses ≡ c.accesses
-    → Counted s c (made a d)
-made_one None s c d room steps accesses = quiet_one s c d room steps accesses
-made_one (Some a) s c d room steps accesses =
+    → Counted s c (made pc a d)
+made_one pc None s c d room steps accesses = quiet_one s c d room steps accesses
+made_one pc (Some a) s c d room steps accesses =
     record { room = room; steps = omega arith; accesses = omega arith }
 
 -- a config with another plan counts the same
@@ -208,7 +233,7 @@ moved_to s c (over o x) h = record {
 
 step_one : (hart : ℕ) (s : Setup) (c : Config) (e : StepEnd) (x : Machine) → c.steps < s.budget
     → Counted s c (after_step s hart c e x)
-step_one hart s c (Next i a) x room = made_one a s c
+step_one hart s c (Next i a) x room = made_one (state_of c hart).pc a s c
     (noted hart i (state_of c hart).pc (with_machine hart x c)) room refl refl
 step_one hart s c Call x room = call_one hart s c room
 step_one hart s c (Trap cause) x room =

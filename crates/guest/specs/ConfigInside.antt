@@ -11,6 +11,7 @@ config_of x = record {
       x.threads;
   calls = x.calls.items;
   heap = x.heap;
+  notes = x.notes;
   plan = x.schedule;
   steps = x.steps;
   accesses =

@@ -7,13 +7,15 @@ use Rattle.guest.specs.declared.phase.HartPhase.{HartPhase}
 use Rattle.guest.specs.declared.phase.HartPhase.TheVariants.{Runnable}
 use Rattle.guest.specs.Phases.{first_phases, phase_of}
 use Rattle.guest.specs.Heaps.{Heap}
+use Rattle.guest.specs.Notes.{Noted, none_noted}
 use Rattle.guest.specs.CallLists.{calls_after}
 use Rattle.rv32_decode.specs.declared.instruction.Instr.{Instr}
 use Rattle.hart_scheduler.specs.Choices.{Plan}
 use Rattle.guest.specs.declared.setup.Setup.{Setup}
 
--- The memory; the registers, the reservation, the phase and the call list of each hart; the heap;
--- what the schedule has still to say; and the steps and the accesses so far.
+-- The memory; the registers, the reservation, the phase and the call list of each hart; the heap,
+-- and the blocks that are noted beside it; what the schedule has still to say; and the steps and the
+-- accesses so far.
 pub record Config : Type 0 where
   pub memory : Space
   pub states : List Registers
@@ -21,6 +23,7 @@ pub record Config : Type 0 where
   pub phases : List HartPhase
   pub calls : List (List ℕ)
   pub heap : Heap
+  pub notes : Noted
   pub plan : Plan
   pub steps : ℕ
   pub accesses : ℕ
@@ -43,6 +46,7 @@ first_config s memory heap entry plan = record {
   phases = first_phases s.harts;
   calls = replicate s.harts [];
   heap = heap;
+  notes = none_noted;
   plan = plan;
   steps = 0;
   accesses = 0;
@@ -60,9 +64,13 @@ value_in c hart r = reg (state_of c hart) r
 abbrev pub with_state : ℕ → Registers → Config → Config
 with_state hart s c = record c { states = slice_set c.states hart s }
 
+-- a value in a hart's register
+abbrev pub with_value : ℕ → ℕ → ℕ → Config → Config
+with_value hart r v c = with_state hart (with_reg (state_of c hart) r v) c
+
 -- a value in x10 of a hart
 abbrev pub given : ℕ → ℕ → Config → Config
-given hart v c = with_state hart (with_reg (state_of c hart) 10 v) c
+given hart v c = with_value hart 10 v c
 
 -- a hart goes on behind its ECALL
 abbrev pub passed : ℕ → Config → Config

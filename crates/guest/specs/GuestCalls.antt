@@ -1,7 +1,7 @@
 -- The calls of a guest. A call's number stands in x17, what it is given in x10, x11 and x12, and
 -- its answer in x10.
-use Rattle.std.specs.Prelude.{ℕ, ◌-◌, ◌%◌, ◌^◌, Bool, ◌&&◌, ◌||◌, if◌then◌else◌, nat_eq, min, List}
-use Rattle.std.specs.Prelude.{[], ◌∷◌, Option, None, Some, Result, Ok, Err, slice_set}
+use Rattle.std.specs.Prelude.{ℕ, ◌-◌, ◌/◌, ◌%◌, ◌^◌, Bool, not, ◌&&◌, ◌||◌, nat_eq, nat_lt, min, List}
+use Rattle.std.specs.Prelude.{if◌then◌else◌, [], ◌∷◌, Option, None, Some, Result, Ok, Err, slice_set}
 use Rattle.std.specs.List.{list_all, list_any, range_with_len}
 use Rattle.base.specs.Touch.{Touch}
 use Rattle.base.specs.declared.ending.Outcome.{Outcome}
@@ -20,16 +20,17 @@ use Rattle.guest.specs.ThreadCalls.{woken, woken_count}
 use Rattle.guest.specs.declared.setup.Setup.{Setup}
 use Rattle.guest.specs.Heaps.{after_alloc, after_free, lives_at}
 use Rattle.guest.specs.CallLists.{last_four}
+use Rattle.guest.specs.Notes.{most_noted, after_noting, after_dying, is_noted}
 use Rattle.guest.specs.LeastPlaces.{least_place}
 use Rattle.guest.specs.Configs.{Config, stack_end, value_in, calls_of, given, passed, answered}
-use Rattle.guest.specs.Configs.{counted}
+use Rattle.guest.specs.Configs.{counted, with_value}
 
--- What is seen of a step: nothing, the access that it made, the block that it made, by its address,
--- its size and the last calls of its hart, the block that it freed, or the bytes that it put out,
--- from an address on.
+-- What is seen of a step: nothing, the access that it made, with the pc of its instruction, the
+-- block that it made, by its address, its size and the last calls of its hart, the block that it
+-- freed, or the bytes that it put out, from an address on.
 pub data RunEvent : Type 0 where
   quiet : RunEvent
-  touch : Touch → RunEvent
+  touch : Touch → ℕ → RunEvent
   alloc : ℕ → ℕ → List ℕ → RunEvent
   free : ℕ → RunEvent
   output : ℕ → List ℕ → RunEvent
@@ -184,6 +185,48 @@ wake_turn hart c =
     (record c { phases = woken c.phases addr most }))
     else refused hart 22 c
 
+-- ---- block and unblock
+
+-- a block that isn't the heap's is noted
+abbrev pub noted_turn : ℕ → ℕ → ℕ → Config → RunTurn
+noted_turn hart addr size c =
+    ran (alloc addr size (last_four (calls_of c hart)))
+    (counted (answered hart 0 (record c { notes = after_noting c.notes addr })))
+
+-- why a block can't be noted: it has no bytes, or not all of them are in memory; or as many were
+-- noted as ever are
+abbrev pub note_fault : Config → ℕ → ℕ → Option ℕ
+note_fault c addr size =
+    if not (nat_eq size 0) && are_mapped c.memory addr size
+    then (if nat_lt c.notes.made most_noted then None else Some 12)
+    else Some 22
+
+abbrev pub noted_unless : ℕ → ℕ → ℕ → Config → Option ℕ → RunTurn
+noted_unless hart addr size c None = noted_turn hart addr size c
+noted_unless hart addr size c (Some fault) = refused hart fault c
+
+abbrev pub block_turn : ℕ → Config → RunTurn
+block_turn hart c =
+    let addr = value_in c hart 10 in
+    let size = value_in c hart 11 in
+    noted_unless hart addr size c (note_fault c addr size)
+
+-- the noted block at an address dies
+abbrev pub unblock_turn : ℕ → Config → RunTurn
+unblock_turn hart c =
+    let addr = value_in c hart 10 in
+    if is_noted c.notes addr
+    then ran (free addr)
+    (counted (answered hart 0 (record c { notes = after_dying c.notes addr })))
+    else refused hart 22 c
+
+-- ---- steps
+
+-- how many steps were made before this one: the low word in x10, the high one in x11
+abbrev pub steps_turn : ℕ → Config → RunTurn
+steps_turn hart c =
+    quietly (answered hart (c.steps % 2 ^ 32) (with_value hart 11 (c.steps / 2 ^ 32) c))
+
 -- ---- all calls
 
 abbrev pub call_turn : Setup → ℕ → Config → RunTurn
@@ -199,4 +242,7 @@ call_turn s hart c =
     else if nat_eq number 1028 then wait_turn hart c
     else if nat_eq number 1029 then wake_turn hart c
     else if nat_eq number 1030 then quietly (answered hart hart c)
+    else if nat_eq number 1031 then block_turn hart c
+    else if nat_eq number 1032 then unblock_turn hart c
+    else if nat_eq number 1033 then steps_turn hart c
     else refused hart 38 c

@@ -6,6 +6,7 @@ pub mod GuestInside
 pub mod HeapLayout
 pub mod Heaps
 pub mod LeastPlaces
+pub mod Notes
 pub mod Phases
 pub mod Runs
 pub mod SeenTurns

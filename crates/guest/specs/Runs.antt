@@ -49,7 +49,7 @@ run_of s c = run_for s (s.budget - c.steps) c
 -- the accesses, in their order
 abbrev pub touch_in : RunEvent → List Touch
 touch_in quiet = []
-touch_in (touch a) = a ∷ []
+touch_in (touch a pc) = a ∷ []
 touch_in (alloc at size sites) = []
 touch_in (free at) = []
 touch_in (output at bytes) = []
@@ -61,10 +61,25 @@ touches_in (e ∷ events) = touch_in e ++ touches_in events
 abbrev pub touches_of : Run → List Touch
 touches_of r = touches_in r.events
 
+-- the same, each with the pc of its instruction
+abbrev pub sited_in : RunEvent → List (Touch × ℕ)
+sited_in quiet = []
+sited_in (touch a pc) = (a, pc) ∷ []
+sited_in (alloc at size sites) = []
+sited_in (free at) = []
+sited_in (output at bytes) = []
+
+abbrev pub sited_among : List RunEvent → List (Touch × ℕ)
+sited_among [] = []
+sited_among (e ∷ events) = sited_in e ++ sited_among events
+
+abbrev pub sited_of : Run → List (Touch × ℕ)
+sited_of r = sited_among r.events
+
 -- the bytes that are put out, in their order
 abbrev pub bytes_in : RunEvent → List ℕ
 bytes_in quiet = []
-bytes_in (touch a) = []
+bytes_in (touch a pc) = []
 bytes_in (alloc at size sites) = []
 bytes_in (free at) = []
 bytes_in (output at bytes) = bytes

@@ -16,7 +16,7 @@ use Rattle.guest.specs.Runs.{Run, ending_with, led_by, ended_run, Progress, rest
 -- what is seen of a step that leaves this memory
 abbrev pub seen : Space → Event → RunEvent
 seen m Quiet = quiet
-seen m (Touch a) = touch a
+seen m (Touch a pc) = touch a pc
 seen m (Alloc addr size sites) = alloc addr size sites
 seen m (Free addr) = free addr
 seen m (Output addr len) = output addr (bytes_at m addr len)
@@ -38,7 +38,7 @@ ending_after (Ended o) c = Some (ending_with o c)
 
 abbrev pub accesses_in : Event → ℕ
 accesses_in Quiet = 0
-accesses_in (Touch a) = 1
+accesses_in (Touch a pc) = 1
 accesses_in (Alloc addr size sites) = 0
 accesses_in (Free addr) = 0
 accesses_in (Output addr len) = 0
@@ -66,7 +66,7 @@ IsEndOf harts Part = ⊥
 -- memory
 abbrev pub IsSeen : ℕ → Turn → Config → Type 0
 IsSeen harts (Ran Quiet) c = Unit {0}
-IsSeen harts (Ran (Touch a)) c = a.hart < harts
+IsSeen harts (Ran (Touch a pc)) c = a.hart < harts
 IsSeen harts (Ran (Alloc addr size sites)) c = Unit {0}
 IsSeen harts (Ran (Free addr)) c = Unit {0}
 IsSeen harts (Ran (Output addr len)) c = (1 ≤ len) × (len ≤ 4096) × AllMapped c.memory addr len

@@ -26,15 +26,16 @@ with_machine hart x c = record c {
   held = x.held;
 }
 
--- a step with its access, if it made one
-abbrev pub made : Option Touch → Config → RunTurn
-made None c = quietly c
-made (Some a) c = ran (touch a) (counted (record c { accesses = c.accesses + 1 }))
+-- a step of an instruction with its access, if it made one
+abbrev pub made : ℕ → Option Touch → Config → RunTurn
+made pc None c = quietly c
+made pc (Some a) c = ran (touch a pc) (counted (record c { accesses = c.accesses + 1 }))
 
 -- the hart's call list sees each instruction that is made; a trap ends the run, and is no step
 abbrev pub after_step : Setup → ℕ → Config → StepEnd → Machine → RunTurn
 after_step s hart c (Next instr a) x =
-    made a (noted hart instr (state_of c hart).pc (with_machine hart x c))
+    made (state_of c hart).pc a
+    (noted hart instr (state_of c hart).pc (with_machine hart x c))
 after_step s hart c Call x = call_turn s hart c
 after_step s hart c (Trap cause) x = over (Trapped hart (state_of c hart).pc cause) c
 
@@ -70,10 +71,10 @@ turn_unless s c None = turn_with s c (choice (runnable_in c) c.plan)
 unfoldable pub turn_of : Setup → Config → RunTurn
 turn_of s c = turn_unless s c (finished_code c.phases)
 
--- whether a turn makes a heap block, which no turn does that ends the run
+-- whether a turn makes a block, which no turn does that ends the run
 abbrev pub is_block : RunEvent → Bool
 is_block quiet = false
-is_block (touch a) = false
+is_block (touch a pc) = false
 is_block (alloc at size sites) = true
 is_block (free at) = false
 is_block (output at bytes) = false

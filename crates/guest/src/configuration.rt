@@ -6,10 +6,11 @@ ghost use Rattle.rv32_hart.specs.Registers.{started};
 ghost use Rattle.guest.specs.Phases.{first_phases, phase_of};
 ghost use Rattle.guest.specs.declared.phase.HartPhase.TheVariants.{Runnable};
 ghost use Rattle.guest.specs.Configs.{answered, first_config, given, noted, passed, state_of};
-ghost use Rattle.guest.specs.Configs.{stack_end, unused, value_in};
+ghost use Rattle.guest.specs.Configs.{stack_end, unused, value_in, with_value};
 ghost use Rattle.guest.specs.Turns.{IsNext, chosen, runnable_in};
 ghost use Rattle.guest.specs.ConfigInside.{config_of};
 
+use crate::notes::NotedBlocks;
 use crate::setup::Setup;
 use crate::{CallList, GuestHeap, Threads};
 use base::{Hart, NoMemory};
@@ -18,8 +19,8 @@ use rv32_decode::{Instr, Reg};
 use rv32_hart::{HartState, Memory, Reservations};
 use std::alloc::Global;
 
-/// The memory, the registers, reservation, phase and calls of each hart, the heap, what the
-/// schedule has still to say, and the counts.
+/// The memory, the registers, reservation, phase and calls of each hart, the heap, the blocks that
+/// are noted beside it, what the schedule has still to say, and the counts.
 #[derive(Drop)]
 pub struct Configuration {
     pub memory: Memory,
@@ -28,6 +29,7 @@ pub struct Configuration {
     pub threads: Threads,
     pub calls: Vec<CallList>,
     pub heap: GuestHeap,
+    pub notes: NotedBlocks,
     pub schedule: Schedule,
     pub steps: u64,
     pub accesses: u64,
@@ -138,6 +140,7 @@ impl Configuration {
             threads,
             calls,
             heap,
+            notes: NotedBlocks::new(alloc),
             schedule,
             steps: 0,
             accesses: 0,
@@ -208,6 +211,15 @@ impl Configuration {
     {
         let state = &mut self.states[usize::from(hart.number())];
         state.set_reg(register(10), value);
+    }
+
+    /// Puts a value into a hart's x11.
+    pub fn give_second(&mut self, hart: Hart, value: u32)
+        requires { hart < length self.old.states.items }
+        ensures { config_of self.new ≡ with_value hart 11 value (config_of self.old) }
+    {
+        let state = &mut self.states[usize::from(hart.number())];
+        state.set_reg(register(11), value);
     }
 
     /// Lets a hart go on behind its ECALL.

@@ -1,15 +1,18 @@
 // The calls of a guest, each a counted step.
 ghost use Rattle.std.specs.Prelude.{◌≡◌, ◌≢◌, ℕ, ◌+◌, ◌<◌, ◌≤◌, ◌%◌, ◌^◌, length, IfOk, IsOk};
-ghost use Rattle.std.specs.Prelude.{IsFalse, OnErr};
+ghost use Rattle.std.specs.Prelude.{IsFalse, OnErr, IfSome, None};
 ghost use Rattle.std.specs.Bool.{OnTrue};
 ghost use Rattle.rv32_hart.specs.Space.{AllMapped};
 ghost use Rattle.guest.specs.ThreadCalls.{lowest_free};
-ghost use Rattle.guest.specs.Configs.{CanStep, answered, value_in};
+ghost use Rattle.guest.specs.Configs.{CanStep, answered, calls_of, counted, value_in};
 ghost use Rattle.guest.specs.Turns.{IsNext, chosen, makes_block};
-ghost use Rattle.guest.specs.GuestCalls.{alloc_turn, are_mapped, block_answered, call_turn};
+ghost use Rattle.guest.specs.GuestCalls.{alloc, alloc_turn, are_mapped, block_answered};
+ghost use Rattle.guest.specs.GuestCalls.{block_turn, call_turn, note_fault, ran, unblock_turn};
 ghost use Rattle.guest.specs.GuestCalls.{exit_group_turn, exit_turn, free_turn, join_turn, minus};
-ghost use Rattle.guest.specs.GuestCalls.{quietly, refused, spawn_turn, started_with, wait_turn};
-ghost use Rattle.guest.specs.GuestCalls.{wake_turn, write_turn, written};
+ghost use Rattle.guest.specs.GuestCalls.{quietly, refused, spawn_turn, started_with, steps_turn};
+ghost use Rattle.guest.specs.GuestCalls.{wait_turn, wake_turn, write_turn, written};
+ghost use Rattle.guest.specs.CallLists.{last_four};
+ghost use Rattle.guest.specs.Notes.{most_noted};
 ghost use Rattle.guest.specs.ConfigInside.{config_of};
 ghost use Rattle.guest.specs.SeenTurns.{IsSeen, turn_seen};
 
@@ -32,11 +35,15 @@ const A7: u8 = 17;
 // The global pointer.
 const GP: u8 = 3;
 
-// The number of the call that makes a block.
+// The numbers of the calls that make a block of the heap, and that note another one.
 const MAKE_BLOCK: u32 = 1024;
+
+const NOTE_BLOCK: u32 = 1031;
 
 // The faults that calls answer with.
 const AGAIN: u32 = 11;
+
+const NO_ROOM: u32 = 12;
 
 const FAULT: u32 = 14;
 
@@ -320,10 +327,98 @@ impl Configuration {
         }
     }
 
+    // 1031: notes a block that isn't the heap's, and then the hart has its turn.
+    fn note_block(&mut self, hart: Hart) -> Result<Turn, NoMemory>
+        requires ready { CanStep hart (config_of self.old) }
+        requires plan { self.old.schedule.harts ≡ length self.old.threads }
+        requires next { IsNext hart (config_of self.old) }
+        ensures turn { IfOk result (λ turn. turn_seen turn (config_of self.new) ≡ block_turn hart
+            (chosen (config_of self.old))) }
+        ensures seen { IfOk result (λ turn. (harts : ℕ) → IsSeen harts turn (config_of self.new)) }
+        ensures refused { OnErr result (config_of self.new ≡ config_of self.old) }
+        ensures settled { IsFalse (makes_block (block_turn hart (chosen (config_of self.old))))
+            → IsOk result }
+    {
+        let addr = self.value_in(hart, A0);
+        let size = self.value_in(hart, A1);
+        if let Some(fault) = self.note_fault(addr, size) {
+            self.take_turn(hart);
+            return Ok(self.refuse(hart, fault));
+        }
+        match self.notes.note(addr) {
+            Ok(()) => {
+                self.take_turn(hart);
+                Ok(self.answer_noted(hart, addr, size))
+            }
+            Err(refused) => Err(refused),
+        }
+    }
+
+    // Why a block can't be noted.
+    fn note_fault(&self, addr: u32, size: u32) -> Option<u32>
+        ensures value { result ≡ note_fault (config_of self.now) addr size }
+        ensures fault { IfSome result (λ fault. 1 ≤ fault) }
+        ensures room { result ≡ None → self.now.notes.made < most_noted }
+    {
+        if size == 0 || !are_mapped(&self.memory, addr, size) {
+            Some(INVALID)
+        } else if self.notes.is_spent() {
+            Some(NO_ROOM)
+        } else {
+            None
+        }
+    }
+
+    // The answer to a hart that had a block noted.
+    fn answer_noted(&mut self, hart: Hart, addr: u32, size: u32) -> Turn
+        requires there { hart < length self.old.states.items }
+        requires calls { hart < length self.old.calls.items }
+        requires few { self.old.steps + 1 < 2 ^ 64 }
+        ensures turn { turn_seen result (config_of self.new) ≡ ran
+            (alloc addr size (last_four (calls_of (config_of self.old) hart)))
+            (counted (answered hart 0 (config_of self.old))) }
+        ensures seen { (harts : ℕ) → IsSeen harts result (config_of self.new) }
+    {
+        let sites = self.calls[usize::from(hart.number())].last_four();
+        self.answer(hart, 0);
+        self.steps += 1;
+        Turn::Ran(Event::Alloc { addr, size, sites })
+    }
+
+    // 1032: lets the noted block at an address die.
+    fn end_block(&mut self, hart: Hart) -> Turn
+        requires { CanStep hart (config_of self.old) }
+        ensures turn { turn_seen result (config_of self.new) ≡ unblock_turn hart
+            (config_of self.old) }
+        ensures seen { (harts : ℕ) → IsSeen harts result (config_of self.new) }
+    {
+        let addr = self.value_in(hart, A0);
+        if self.notes.end(addr) {
+            self.answer(hart, 0);
+            self.steps += 1;
+            Turn::Ran(Event::Free { addr })
+        } else {
+            self.refuse(hart, INVALID)
+        }
+    }
+
+    // 1033: how many steps were made before this one.
+    fn count_steps(&mut self, hart: Hart) -> Turn
+        requires { CanStep hart (config_of self.old) }
+        ensures turn { turn_seen result (config_of self.new) ≡ steps_turn hart
+            (config_of self.old) }
+        ensures quiet { result ≡ Turn.Ran Event.Quiet }
+    {
+        let steps = self.steps;
+        self.give_second(hart, (steps >> 32) as u32);
+        self.answer_quietly(hart, (steps % (1 << 32)) as u32)
+    }
+
     // A call that takes no memory.
     fn other_call(&mut self, setup: &Setup, hart: Hart) -> Turn
         requires ready { CanStep hart (config_of self.old) }
-        requires other { value_in (config_of self.old) hart 17 ≢ 1024 }
+        requires heap { value_in (config_of self.old) hart 17 ≢ 1024 }
+        requires noted { value_in (config_of self.old) hart 17 ≢ 1031 }
         ensures turn { turn_seen result (config_of self.new) ≡ call_turn setup.now hart
             (config_of self.old) }
         ensures seen { (harts : ℕ) → IsSeen harts result (config_of self.new) }
@@ -338,6 +433,8 @@ impl Configuration {
             1028 => self.wait(hart),
             1029 => self.wake(hart),
             1030 => self.answer_quietly(hart, u32::from(hart.number())),
+            1032 => self.end_block(hart),
+            1033 => self.count_steps(hart),
             _ => self.refuse(hart, NO_CALL),
         }
     }
@@ -358,11 +455,13 @@ impl Configuration {
         ensures settled { IsFalse
             (makes_block (call_turn setup.now hart (chosen (config_of self.old)))) → IsOk result }
     {
-        if self.value_in(hart, A7) == MAKE_BLOCK {
-            self.make_block(hart)
-        } else {
-            self.take_turn(hart);
-            Ok(self.other_call(setup, hart))
+        match self.value_in(hart, A7) {
+            MAKE_BLOCK => self.make_block(hart),
+            NOTE_BLOCK => self.note_block(hart),
+            _ => {
+                self.take_turn(hart);
+                Ok(self.other_call(setup, hart))
+            }
         }
     }
 }

@@ -12,7 +12,8 @@
 //!   join, wait for, wake and end one another (`specs/ThreadCalls.antt`);
 //! - calls of functions: a [`CallList`] keeps the last 256 that a hart made and hasn't returned from
 //!   (`specs/CallLists.antt` says which instruction calls and which returns);
-//! - the heap: a [`GuestHeap`] gives each block the least free place (`specs/Heaps.antt`).
+//! - the heap: a [`GuestHeap`] gives each block the least free place (`specs/Heaps.antt`);
+//! - the blocks of a guest's own allocator, which it notes: `notes` (`specs/Notes.antt`).
 #![tactic(auto)]
 
 mod call_list;
@@ -20,6 +21,7 @@ mod configuration;
 mod guest;
 mod guest_calls;
 mod heap;
+mod notes;
 mod one_turn;
 mod phase;
 mod setup;

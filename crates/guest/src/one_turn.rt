@@ -48,11 +48,12 @@ impl Configuration {
         requires accesses { self.old.accesses ≤ self.old.steps }
         requires plan { self.old.schedule.harts ≡ length self.old.threads }
         requires next { IsNext hart (config_of self.old) }
-        ensures turn { turn_seen result (config_of self.new) ≡ made access
+        ensures turn { turn_seen result (config_of self.new) ≡ made pc access
             (noted hart instr pc (chosen (config_of self.old))) }
         ensures fits { (harts : ℕ) → Fits harts (config_of self.old)
             → Fits harts (config_of self.new) }
-        ensures seen { result ≡ Turn.Ran (option_map_or Event.Touch access Event.Quiet) }
+        ensures seen { result ≡ Turn.Ran
+            (option_map_or (λ a. Event.Touch a pc) access Event.Quiet) }
     {
         self.note_call(hart, instr, pc);
         match access {
@@ -63,7 +64,7 @@ impl Configuration {
             Some(access) => {
                 self.count_step(hart);
                 self.accesses += 1;
-                Turn::Ran(Event::Touch(access))
+                Turn::Ran(Event::Touch { access, pc })
             }
         }
     }

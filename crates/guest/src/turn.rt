@@ -7,8 +7,11 @@ use base::{Access, Outcome};
 pub enum Event {
     /// Nothing.
     Quiet,
-    /// It made this access.
-    Touch(Access),
+    /// It made this access, by the instruction at `pc`.
+    Touch {
+        access: Access,
+        pc: u32,
+    },
     /// It made a heap block at `addr` of `size` bytes; the last four calls of its hart were at
     /// `sites`, the newest first, 0 where there is none.
     Alloc {

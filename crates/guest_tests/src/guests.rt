@@ -59,6 +59,6 @@ pub(crate) fn guest_of(
         budget,
     };
     let file = file_of(alloc, program)?;
-    let schedule = Schedule::read(alloc, schedule, harts, 100)?;
+    let schedule = Schedule::read(alloc, schedule, harts, 100, 0)?;
     placed(alloc, &file, schedule, settings)
 }

@@ -28,7 +28,7 @@ fn see_bytes(seen: &mut Vec<Seen>, bytes: &[u8]) -> Result<(), AllocError> {
 fn see(seen: &mut Vec<Seen>, guest: &Guest, event: Event) -> Result<(), AllocError> {
     match event {
         Event::Quiet => Ok(()),
-        Event::Touch(access) => Ok(seen.push(Seen::Access(access.hart().number()))?),
+        Event::Touch { access, .. } => Ok(seen.push(Seen::Access(access.hart().number()))?),
         Event::Alloc { addr, size, .. } => Ok(seen.push(Seen::Made(addr, size))?),
         Event::Free { addr } => Ok(seen.push(Seen::Freed(addr))?),
         Event::Output { addr, len } => see_bytes(seen, guest.bytes(addr, len).unwrap_or(&[])),

@@ -16,7 +16,7 @@ fn empty_lines(alloc: Global, count: usize) -> Result<Vec<u8>, AllocError>
 
 fn fault_of_empty_lines(alloc: Global, count: usize) -> Result<Option<ScheduleFault>, AllocError> {
     let text = empty_lines(alloc, count)?;
-    Ok(Schedule::read(alloc, text.as_slice(), 8, 100).err())
+    Ok(Schedule::read(alloc, text.as_slice(), 8, 100, 0).err())
 }
 
 const REFUSED: [(&[u8], ScheduleFault); 6] = [
@@ -31,7 +31,7 @@ const REFUSED: [(&[u8], ScheduleFault); 6] = [
 #[test]
 fn a_schedule_is_refused_at_its_first_bad_line(rt: HostRuntime) {
     for (text, fault) in &REFUSED {
-        assert!(rt; Schedule::read(rt.alloc(), text, 8, 100).err() == Some(*fault));
+        assert!(rt; Schedule::read(rt.alloc(), text, 8, 100, 0).err() == Some(*fault));
     }
 }
 
@@ -47,6 +47,56 @@ fn chosen(schedule: &mut Schedule, runnable: [bool; 3]) -> Option<u16>
     ensures { schedule.new.harts ≡ 3 }
 {
     schedule.next(&runnable).map(Hart::number)
+}
+
+// Whether so many choices, where all can run, are these: a digit each.
+fn follows(schedule: &mut Schedule, choices: &[u8]) -> bool
+    requires { schedule.old.harts ≡ 3 }
+{
+    for choice in choices {
+        let hart = u16::from(choice.saturating_sub(b'0'));
+        if chosen(schedule, [true, true, true]) != Some(hart) {
+            return false;
+        }
+    }
+    true
+}
+
+// A seed, a quantum, and the first choices of three harts.
+const DRAWN: [(u32, u32, &[u8]); 9] = [
+    (1, 1, b"1101001120010112020021002010220022102200"),
+    (1, 3, b"1111101000000000112200110001111220200000"),
+    (1, 100, b"1111111111111111111111111111111111111111"),
+    (2, 1, b"0021110011122220112112020011111111211122"),
+    (2, 3, b"0000022221111111100000000001111112222222"),
+    (2, 100, b"0000000000000000000000000000000000000000"),
+    (
+        4_294_967_295,
+        1,
+        b"0212212022220110010001200212211111010200",
+    ),
+    (
+        4_294_967_295,
+        3,
+        b"0002221111122212222002222222222011111111",
+    ),
+    (
+        4_294_967_295,
+        100,
+        b"0000000000000000000000000000000000000000",
+    ),
+];
+
+#[test]
+fn a_seed_draws_the_turns(rt: HostRuntime) -> Result<(), Fail> {
+    for (seed, quantum, choices) in &DRAWN {
+        let mut schedule = Schedule::read(rt.alloc(), b"", 3, *quantum, *seed)?;
+        assert!(rt;
+            follows(&mut schedule, choices),
+            "seed {seed} quantum {quantum}"
+        );
+    }
+    Ok(())
 }
 
 // Who is chosen where none can run, twice where all can, where the last alone can, and where all
@@ -75,7 +125,7 @@ fn follow(rt: &impl Abort, schedule: &mut Schedule)
 
 #[test]
 fn the_list_comes_first_and_then_turns(rt: HostRuntime) -> Result<(), Fail> {
-    let mut schedule = Schedule::read(rt.alloc(), b"2 1\n\n1 4294967295\n0 1", 3, 2)?;
+    let mut schedule = Schedule::read(rt.alloc(), b"2 1\n\n1 4294967295\n0 1", 3, 2, 0)?;
     follow(&rt, &mut schedule);
     Ok(())
 }

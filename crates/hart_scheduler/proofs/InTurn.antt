@@ -1,4 +1,5 @@
--- Choices in turn: where there is none, no hart is runnable, and the one that is made is runnable.
+-- Choices after the list: where there is none, no hart is runnable, and the one that is made is
+-- runnable.
 use Rattle.std.proofs.Common.{◌≡◌, ℕ, zero, suc, ◌+◌, ◌-◌, ◌<◌, ◌≤◌, Bool, true, false, List, []}
 use Rattle.std.proofs.Common.{◌∷◌, length, Option, Some, None, refl}
 use Rattle.std.proofs.Common.{sym, ap, subst, ◌∙◌, inl, inr, arith}
@@ -8,11 +9,13 @@ use Rattle.std.proofs.lemmas.List.Folds.{find-append}
 use Rattle.std.proofs.lemmas.Option.{none-some}
 use Rattle.std.specs.Prelude.{◌↔◌, IsTrue}
 use Rattle.std.specs.List.{find, range_with_len}
-use Rattle.std.specs.Option.{option_or, IfSome}
+use Rattle.std.specs.Option.{option_or, option_map_or, IfSome}
 use Rattle.hart_scheduler.specs.ScheduleParts.{AStreak}
 use Rattle.hart_scheduler.specs.Choices.{Plan, is_runnable, IsLone, NoneRunnable, harts_after}
-use Rattle.hart_scheduler.specs.Choices.{goes_on, choice_after, choice_in_turn}
-use Rattle.hart_scheduler.specs.Choices.{choice}
+use Rattle.hart_scheduler.specs.Choices.{goes_on, choice_after, harts_in_order, going_on}
+use Rattle.hart_scheduler.specs.Choices.{drawn_hart, choice}
+use Rattle.hart_scheduler.specs.Draws.{next_state, number_in}
+use Rattle.hart_scheduler.proofs.Drawn.{no_hart-found, no_hart-drawn, drawn_runs}
 
 option_or-none : (first second : Option ℕ) → option_or first second ≡ None → (first ≡ None)
     × (second ≡ None)
@@ -105,39 +108,81 @@ none-after-streak runnable harts streak all none =
       | inr off ↦ none-after runnable harts streak.hart all (rw off at none)
     ]
 
-none-in-turn : (runnable : List Bool) (harts quantum : ℕ) (listed : List ℕ)
-    (streak : Option AStreak) → length runnable ≡ harts
-    → choice_in_turn runnable
-    (record { listed = listed; streak = streak; harts = harts; quantum = quantum }) ≡ None
-    → NoneRunnable runnable
-none-in-turn runnable harts quantum listed None all none = none-in-order runnable harts all none
-none-in-turn runnable harts quantum listed (Some streak) all none = none-after-streak runnable harts
-    streak all none
+abbrev first_in_turn : List Bool → ℕ → Option AStreak → Option ℕ
+first_in_turn runnable harts streak =
+    option_map_or (choice_after runnable harts) streak
+    (find (is_runnable runnable) (harts_in_order harts))
+
+none-in-turn : (runnable : List Bool) (harts : ℕ) (streak : Option AStreak)
+    → length runnable ≡ harts → first_in_turn runnable harts streak ≡ None → NoneRunnable runnable
+none-in-turn runnable harts None all none = none-in-order runnable harts all none
+none-in-turn runnable harts (Some streak) all none = none-after-streak runnable harts streak all
+    none
 
 -- and there is none where no hart is runnable
 off-where-none : (runnable : List Bool) (streak : AStreak) → NoneRunnable runnable
     → goes_on runnable streak ≡ false
 off-where-none runnable streak none = and_left _ _ (none streak.hart)
 
-in-turn-none : (runnable : List Bool) (harts quantum : ℕ) (listed : List ℕ)
-    (streak : Option AStreak) → NoneRunnable runnable
-    → choice_in_turn runnable
-    (record { listed = listed; streak = streak; harts = harts; quantum = quantum }) ≡ None
-in-turn-none runnable harts quantum listed None none = find-none (is_runnable runnable)
-    (range_with_len 0 harts) none
-in-turn-none runnable harts quantum listed (Some streak) none =
+in-turn-none : (runnable : List Bool) (harts : ℕ) (streak : Option AStreak) → NoneRunnable runnable
+    → first_in_turn runnable harts streak ≡ None
+in-turn-none runnable harts None none = find-none (is_runnable runnable) (range_with_len 0 harts)
+    none
+in-turn-none runnable harts (Some streak) none =
     let off : goes_on runnable streak ≡ false = off-where-none runnable streak none in
     rw off (find-none (is_runnable runnable) (harts_after harts streak.hart) none)
+
+-- the same where turns are drawn
+abbrev first_drawn : List Bool → ℕ → Option AStreak → ℕ → Option ℕ
+first_drawn runnable harts streak state =
+    option_map_or (λ s. Some s.hart) (going_on runnable streak)
+    (drawn_hart runnable harts (number_in (next_state state)))
+
+none-drawn : (runnable : List Bool) (harts : ℕ) (streak : Option AStreak) (state : ℕ)
+    → length runnable ≡ harts → first_drawn runnable harts streak state ≡ None
+    → NoneRunnable runnable
+none-drawn runnable harts None state all none = none-in-order runnable harts all
+    (no_hart-found runnable harts _ none)
+none-drawn runnable harts (Some streak) state all none =
+    elim (cases_Bool (goes_on runnable streak)) [
+      | inl on ↦ absurd (none-some streak.hart (sym (rw on at none)))
+      | inr off ↦ none-in-order runnable harts all (no_hart-found runnable harts _ (rw off at none))
+    ]
+
+drawn-none : (runnable : List Bool) (harts : ℕ) (streak : Option AStreak) (state : ℕ)
+    → NoneRunnable runnable → first_drawn runnable harts streak state ≡ None
+drawn-none runnable harts None state none = no_hart-drawn runnable harts _ none
+drawn-none runnable harts (Some streak) state none =
+    let off : goes_on runnable streak ≡ false = off-where-none runnable streak none in
+    rw off (no_hart-drawn runnable harts (number_in (next_state state)) none)
+
+-- and so after the list
+abbrev first_after_list : List Bool → ℕ → Option AStreak → Option ℕ → Option ℕ
+first_after_list runnable harts streak draws =
+    option_map_or (first_drawn runnable harts streak) draws (first_in_turn runnable harts streak)
+
+none-after-list : (runnable : List Bool) (harts : ℕ) (streak : Option AStreak) (draws : Option ℕ)
+    → length runnable ≡ harts → first_after_list runnable harts streak draws ≡ None
+    → NoneRunnable runnable
+none-after-list runnable harts streak None all none = none-in-turn runnable harts streak all none
+none-after-list runnable harts streak (Some state) all none = none-drawn runnable harts streak state
+    all none
+
+after-list-none : (runnable : List Bool) (harts : ℕ) (streak : Option AStreak) (draws : Option ℕ)
+    → NoneRunnable runnable → first_after_list runnable harts streak draws ≡ None
+after-list-none runnable harts streak None none = in-turn-none runnable harts streak none
+after-list-none runnable harts streak (Some state) none = drawn-none runnable harts streak state
+    none
 
 pub choice_none : (runnable : List Bool) (plan : Plan) → length runnable ≡ plan.harts
     → (choice runnable plan ≡ None)
     ↔ NoneRunnable runnable
 choice_none runnable plan all = (
-  (λ none. none-in-turn runnable plan.harts plan.quantum plan.listed plan.streak all
+  (λ none. none-after-list runnable plan.harts plan.streak plan.draws all
       (option_or-none _ _ none).1),
   (λ none. let listed : find (is_runnable runnable) plan.listed
       ≡ None = find-none (is_runnable runnable) plan.listed none in
-      rw listed (in-turn-none runnable plan.harts plan.quantum plan.listed plan.streak none)),
+      rw listed (after-list-none runnable plan.harts plan.streak plan.draws none)),
 )
 
 -- what is chosen is runnable
@@ -150,14 +195,26 @@ able-after runnable harts streak =
       | inr off ↦ rw off (found-passes (is_runnable runnable) (harts_after harts streak.hart))
     ]
 
-able-in-turn : (runnable : List Bool) (harts quantum : ℕ) (listed : List ℕ)
-    (streak : Option AStreak)
-    → IfSome (choice_in_turn runnable
-    (record { listed = listed; streak = streak; harts = harts; quantum = quantum }))
+able-in-turn : (runnable : List Bool) (harts : ℕ) (streak : Option AStreak)
+    → IfSome (first_in_turn runnable harts streak) (λ hart. IsTrue (is_runnable runnable hart))
+able-in-turn runnable harts None = found-passes (is_runnable runnable) (range_with_len 0 harts)
+able-in-turn runnable harts (Some streak) = able-after runnable harts streak
+
+able-drawn : (runnable : List Bool) (harts : ℕ) (streak : Option AStreak) (state : ℕ)
+    → IfSome (first_drawn runnable harts streak state)
     (λ hart. IsTrue (is_runnable runnable hart))
-able-in-turn runnable harts quantum listed None = found-passes (is_runnable runnable)
-    (range_with_len 0 harts)
-able-in-turn runnable harts quantum listed (Some streak) = able-after runnable harts streak
+able-drawn runnable harts None state = drawn_runs runnable harts _
+able-drawn runnable harts (Some streak) state =
+    elim (cases_Bool (goes_on runnable streak)) [
+      | inl on ↦ rw on (and_parts _ _ on).0
+      | inr off ↦ rw off (drawn_runs runnable harts (number_in (next_state state)))
+    ]
+
+able-after-list : (runnable : List Bool) (harts : ℕ) (streak : Option AStreak) (draws : Option ℕ)
+    → IfSome (first_after_list runnable harts streak draws)
+    (λ hart. IsTrue (is_runnable runnable hart))
+able-after-list runnable harts streak None = able-in-turn runnable harts streak
+able-after-list runnable harts streak (Some state) = able-drawn runnable harts streak state
 
 either : (first second : Option ℕ) (P : ℕ → Type 0) → IfSome first P → IfSome second P
     → IfSome (option_or first second) P
@@ -169,7 +226,7 @@ pub choice_able : (runnable : List Bool) (plan : Plan) → IfSome (choice runnab
 choice_able runnable plan =
     either _ _ (λ hart. IsTrue (is_runnable runnable hart))
     (found-passes (is_runnable runnable) plan.listed)
-    (able-in-turn runnable plan.harts plan.quantum plan.listed plan.streak)
+    (able-after-list runnable plan.harts plan.streak plan.draws)
 
 pub chosen_inside : (runnable : List Bool) (plan : Plan) (hart : ℕ) → length runnable ≡ plan.harts
     → choice runnable plan ≡ Some hart

@@ -7,29 +7,29 @@ use Rattle.hart_scheduler.specs.Numbers.{number_of}
 use Rattle.hart_scheduler.specs.Texts.{entry_of, schedule_of}
 
 listing : List ℕ → Plan
-listing listed = record { listed = listed; streak = None; harts = 8; quantum = 3 }
+listing listed = record { listed = listed; streak = None; harts = 8; quantum = 3; draws = None }
 
 -- `0 5` and `x`
-bad_line : schedule_of 8 3 (48 ∷ 32 ∷ 53 ∷ 10 ∷ 120 ∷ []) ≡ Err (BadLine 2)
+bad_line : schedule_of 8 3 0 (48 ∷ 32 ∷ 53 ∷ 10 ∷ 120 ∷ []) ≡ Err (BadLine 2)
 unfolding entry_of number_of
 bad_line = refl
 
 -- `8 1`
-out_of_range : schedule_of 8 3 (56 ∷ 32 ∷ 49 ∷ []) ≡ Err (HartOutOfRange 1)
+out_of_range : schedule_of 8 3 0 (56 ∷ 32 ∷ 49 ∷ []) ≡ Err (HartOutOfRange 1)
 unfolding entry_of number_of
 out_of_range = refl
 
 -- two empty lines and `0 0`
-zero_count : schedule_of 8 3 (10 ∷ 10 ∷ 48 ∷ 32 ∷ 48 ∷ 10 ∷ []) ≡ Err (ZeroCount 3)
+zero_count : schedule_of 8 3 0 (10 ∷ 10 ∷ 48 ∷ 32 ∷ 48 ∷ 10 ∷ []) ≡ Err (ZeroCount 3)
 unfolding entry_of number_of
 zero_count = refl
 
-empty : schedule_of 8 3 [] ≡ Ok (listing [])
+empty : schedule_of 8 3 0 [] ≡ Ok (listing [])
 unfolding entry_of number_of listing
 empty = refl
 
 -- `1 2`, an empty line and `0 1`
-accepted : schedule_of 8 3 (49 ∷ 32 ∷ 50 ∷ 10 ∷ 10 ∷ 48 ∷ 32 ∷ 49 ∷ [])
+accepted : schedule_of 8 3 0 (49 ∷ 32 ∷ 50 ∷ 10 ∷ 10 ∷ 48 ∷ 32 ∷ 49 ∷ [])
     ≡ Ok (listing (1 ∷ 1 ∷ 0 ∷ []))
 unfolding entry_of number_of listing
 accepted = refl
@@ -62,7 +62,7 @@ above = refl
 
 -- after the list 1, 0, 2 with a quantum of 2, while hart 1 is blocked
 before : Plan
-before = record { listed = 1 ∷ 0 ∷ 2 ∷ []; streak = None; harts = 3; quantum = 2 }
+before = record { listed = 1 ∷ 0 ∷ 2 ∷ []; streak = None; harts = 3; quantum = 2; draws = None }
 
 in_turn : List ℕ → ℕ → ℕ → Plan
 in_turn listed hart left =
@@ -72,19 +72,20 @@ in_turn listed hart left =
       harts =
           3;
       quantum = 2;
+      draws = None;
     }
 
 passes_over : plan_after (true ∷ false ∷ true ∷ []) before
-    ≡ record { listed = 2 ∷ []; streak = None; harts = 3; quantum = 2 }
+    ≡ record { listed = 2 ∷ []; streak = None; harts = 3; quantum = 2; draws = None }
 unfolding before
 passes_over = refl
 
 drops_all : choice (false ∷ false ∷ true ∷ [])
-    (record { listed = 1 ∷ 0 ∷ []; streak = None; harts = 3; quantum = 2 }) ≡ Some 2
+    (record { listed = 1 ∷ 0 ∷ []; streak = None; harts = 3; quantum = 2; draws = None }) ≡ Some 2
 drops_all = refl
 
 starts_lowest : plan_after (false ∷ true ∷ true ∷ [])
-    (record { listed = 0 ∷ []; streak = None; harts = 3; quantum = 2 }) ≡ in_turn [] 1 1
+    (record { listed = 0 ∷ []; streak = None; harts = 3; quantum = 2; draws = None }) ≡ in_turn [] 1 1
 unfolding in_turn
 starts_lowest = refl
 

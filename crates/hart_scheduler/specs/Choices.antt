@@ -1,17 +1,22 @@
--- Which hart runs next: the one that the list names, and in turn after the list.
-use Rattle.std.specs.Prelude.{◌≢◌, ℕ, ◌+◌, ◌-◌, Bool, false, ◌&&◌, nat_eq, nat_lt, if◌then◌else◌}
-use Rattle.std.specs.Prelude.{List, ◌++◌, Option, Some, is_some, slice_index_or, IsFalse, IsTrue}
-use Rattle.std.specs.List.{find, after_first, range_with_len}
-use Rattle.std.specs.Option.{option_or, option_map_or}
+-- Which hart runs next: the one that the list names, and after the list the one that is in turn, or
+-- the one that is drawn.
+use Rattle.std.specs.Prelude.{◌≢◌, ℕ, ◌+◌, ◌-◌, ◌*◌, ◌%◌, max, Bool, false, ◌&&◌, nat_eq, nat_lt}
+use Rattle.std.specs.Prelude.{if◌then◌else◌, List, ◌++◌, length, slice_get, Option, None, Some}
+use Rattle.std.specs.Prelude.{is_some, slice_index_or, IsFalse, IsTrue}
+use Rattle.std.specs.List.{find, filter, after_first, range_with_len}
+use Rattle.std.specs.Option.{option_or, option_map, option_map_or}
 use Rattle.hart_scheduler.specs.ScheduleParts.{AStreak}
+use Rattle.hart_scheduler.specs.Draws.{next_state, number_in}
 
--- What a schedule has still to say: the harts that its list still names, in their order, and who is
--- in turn after them, from the first such choice on.
+-- What a schedule has still to say: the harts that its list still names, in their order, who is in
+-- turn after them, from the first such choice on, and the state of the numbers that turns are drawn
+-- by, None where they aren't drawn.
 pub record Plan : Type 0 where
   pub listed : List ℕ
   pub streak : Option AStreak
   pub harts : ℕ
   pub quantum : ℕ
+  pub draws : Option ℕ
 
 abbrev pub is_runnable : List Bool → ℕ → Bool
 is_runnable runnable hart = slice_index_or runnable hart false
@@ -54,9 +59,40 @@ choice_in_turn runnable plan =
 abbrev pub choice_listed : List Bool → Plan → Option ℕ
 choice_listed runnable plan = find (is_runnable runnable) plan.listed
 
--- the hart that runs next: the choice from the list, or else the choice in turn
+-- the runnable harts of so many, from the lowest on
+abbrev pub runnable_harts : List Bool → ℕ → List ℕ
+runnable_harts runnable harts = filter (is_runnable runnable) (harts_in_order harts)
+
+-- The hart that a number draws: of m runnable harts the one below which there are as many of them
+-- as the number leaves divided by m.
+abbrev pub drawn_hart : List Bool → ℕ → ℕ → Option ℕ
+drawn_hart runnable harts number =
+    slice_get (runnable_harts runnable harts) (number % length (runnable_harts runnable harts))
+
+-- how many turns in a row a number draws: from 1 to twice the quantum less 1
+abbrev pub drawn_turns : ℕ → ℕ → ℕ
+drawn_turns quantum number = 1 + number % max 1 (2 * quantum - 1)
+
+-- the streak that goes on, if one does
+abbrev pub going_on : List Bool → Option AStreak → Option AStreak
+going_on runnable streak =
+    option_map_or (λ s. if goes_on runnable s then Some s else None) streak None
+
+-- The choice by drawn numbers whose state is this: the hart in turn while it goes on, or else one
+-- that is drawn by the next number.
+abbrev pub choice_drawn : List Bool → Plan → ℕ → Option ℕ
+choice_drawn runnable plan state =
+    option_map_or (λ s. Some s.hart) (going_on runnable plan.streak)
+    (drawn_hart runnable plan.harts (number_in (next_state state)))
+
+-- the choice after the list: in turn where no numbers are drawn
+abbrev pub choice_after_list : List Bool → Plan → Option ℕ
+choice_after_list runnable plan =
+    option_map_or (choice_drawn runnable plan) plan.draws (choice_in_turn runnable plan)
+
+-- the hart that runs next: the choice from the list, or else the choice after it
 abbrev pub choice : List Bool → Plan → Option ℕ
-choice runnable plan = option_or (choice_listed runnable plan) (choice_in_turn runnable plan)
+choice runnable plan = option_or (choice_listed runnable plan) (choice_after_list runnable plan)
 
 -- How many turns in a row a hart has left once it was chosen: of a hart that follows itself one
 -- less, and of another one less than the quantum. Where none is left, none is.
@@ -72,13 +108,35 @@ streak_with hart plan =
           (plan.quantum - 1);
     }
 
+-- The streak once a hart was chosen by drawn numbers: it goes on with one turn less, or the number
+-- after that which drew the hart draws how many turns it has, of which this is one.
+abbrev pub streak_drawn : List Bool → Plan → ℕ → ℕ → AStreak
+streak_drawn runnable plan hart state =
+    option_map_or (λ s. record { hart = s.hart; left = s.left - 1 }) (going_on runnable plan.streak)
+    (record {
+      hart = hart;
+      left = drawn_turns plan.quantum (number_in (next_state (next_state state))) - 1;
+    })
+
+-- the state of the drawn numbers once a hart was chosen by them: two are drawn where none goes on
+abbrev pub state_drawn : List Bool → Plan → ℕ → ℕ
+state_drawn runnable plan state =
+    option_map_or (λ s. state) (going_on runnable plan.streak) (next_state (next_state state))
+
+-- the streak once a hart was chosen after the list
+abbrev pub streak_after_list : List Bool → Plan → ℕ → AStreak
+streak_after_list runnable plan hart =
+    option_map_or (streak_drawn runnable plan hart) plan.draws (streak_with hart plan)
+
 -- The plan once a hart was chosen: what the list names up to its first runnable hart is used up,
--- and all of it where none is runnable. Only a hart that was chosen in turn has a streak.
+-- and all of it where none is runnable. A choice from the list leaves the streak and draws nothing.
 abbrev pub plan_with : List Bool → Plan → ℕ → Plan
 plan_with runnable plan hart = record plan {
   listed = after_first (is_runnable runnable) plan.listed;
   streak = if is_some (choice_listed runnable plan) then plan.streak
-      else Some (streak_with hart plan);
+      else Some (streak_after_list runnable plan hart);
+  draws = if is_some (choice_listed runnable plan) then plan.draws
+      else option_map (state_drawn runnable plan) plan.draws;
 }
 
 -- the plan after a choice: where there is none it stays

@@ -1,4 +1,5 @@
 pub mod Choices
+pub mod Draws
 pub mod Laws
 pub mod Listed
 pub mod Numbers

@@ -65,13 +65,18 @@ entries_of content = filter_map entry_of (lines_of content)
 abbrev pub harts_of : List ListEntry → List ℕ
 harts_of entries = flat_map (λ entry. replicate entry.count entry.hart) entries
 
--- the plan of a list of entries, with no choice in turn made yet
-abbrev pub plan_of : ℕ → ℕ → List ListEntry → Plan
-plan_of harts quantum entries = record {
+-- the state before the first draw of a seed: a seed of 0 draws nothing
+abbrev pub draws_of : ℕ → Option ℕ
+draws_of seed = if nat_eq seed 0 then None else Some seed
+
+-- the plan of a list of entries, with no choice made yet
+abbrev pub plan_of : ℕ → ℕ → ℕ → List ListEntry → Plan
+plan_of harts quantum seed entries = record {
   listed = harts_of entries;
   streak = None;
   harts = harts;
   quantum = quantum;
+  draws = draws_of seed;
 }
 
 -- the plan unless there is a fault, which is the first
@@ -81,10 +86,10 @@ plan_unless plan (fault ∷ faults) = Err fault
 
 -- the plan that the content of a schedule file gives, or its first fault; its lines are numbered
 -- from 1
-abbrev pub schedule_of : ℕ → ℕ → List ℕ → Result Plan ScheduleFault
-schedule_of harts quantum content =
+abbrev pub schedule_of : ℕ → ℕ → ℕ → List ℕ → Result Plan ScheduleFault
+schedule_of harts quantum seed content =
     if nat_lt longest_content (length content) then Err TooLong
-    else plan_unless (plan_of harts quantum (entries_of content)) (faults_from harts 1 content)
+    else plan_unless (plan_of harts quantum seed (entries_of content)) (faults_from harts 1 content)
 
 -- the fact holds unless the fault is want of memory
 abbrev pub UnlessMemory : ScheduleFault → Type 0 → Type 0

@@ -66,8 +66,9 @@ fn read_entries(alloc: Global, content: &[u8], harts: u16) -> Result<Vec<Entry>,
 
 impl Schedule {
     /// The schedule of a file's content, for harts 0 to `harts` - 1 and turns in a row of
-    /// `quantum`, or its first fault. `harts` is from 1 to 256, `quantum` any number. With a
-    /// quantum of 0 no hart goes on by itself, and each turn goes to the next runnable one.
+    /// `quantum`, or its first fault. `harts` is from 1 to 256, `quantum` and `seed` any numbers.
+    /// With a quantum of 0 no hart goes on by itself. A `seed` other than 0 draws the turns after
+    /// the list; with 0 none is drawn.
     ///
     /// Lines end at a line feed, which the last may lack, and empty lines are skipped. Each other
     /// line is a hart, one space and a count, in decimal without leading zeros. `TooLong` comes
@@ -78,12 +79,15 @@ impl Schedule {
         content: &[u8],
         harts: u16,
         quantum: u32,
+        seed: u32,
     ) -> Result<Schedule, ScheduleFault>
         requires some { 1 ≤ harts }
         requires bound { harts ≤ 256 }
-        ensures accepted { IfOk result (λ plan. schedule_of harts quantum content.now ≡ Ok plan) }
+        ensures accepted { IfOk result (λ plan. schedule_of harts quantum seed content.now
+            ≡ Ok plan) }
         ensures refused { IfErr result
-            (λ fault. UnlessMemory fault (schedule_of harts quantum content.now ≡ Err fault)) }
+            (λ fault. UnlessMemory fault
+            (schedule_of harts quantum seed content.now ≡ Err fault)) }
         // A line is a hart and a count just where it is written as `{hart} {count}`.
         ensures written { LinesAreWritten }
         ensures harts { IfOk result (λ plan. plan.harts ≡ harts) }
@@ -95,7 +99,7 @@ impl Schedule {
             return Err(ScheduleFault::TooLong);
         }
         match read_entries(alloc, content, harts) {
-            Ok(entries) => Ok(Schedule::of_entries(entries, harts, quantum)),
+            Ok(entries) => Ok(Schedule::of_entries(entries, harts, quantum, seed)),
             Err(fault) => Err(fault),
         }
     }

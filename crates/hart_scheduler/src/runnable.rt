@@ -1,7 +1,7 @@
 // Which harts are runnable, by a slice with one entry for each hart.
-ghost use Rattle.std.specs.Prelude.{◌≡◌, ◌≤◌, ◌<◌, ◌-◌, length};
+ghost use Rattle.std.specs.Prelude.{◌≡◌, ◌≤◌, ◌<◌, ◌-◌, length, slice_get};
 ghost use Rattle.std.specs.List.{find, range_with_len};
-ghost use Rattle.hart_scheduler.specs.Choices.{is_runnable};
+ghost use Rattle.hart_scheduler.specs.Choices.{is_runnable, runnable_harts};
 
 use base::Hart;
 
@@ -36,6 +36,38 @@ pub(crate) fn lowest_runnable(runnable: &[bool], from: u16, end: u16) -> Option<
     for number in from..end {
         if runnable[usize::from(number)] {
             return Some(hart_at(number));
+        }
+    }
+    None
+}
+
+// How many harts below `end` are runnable.
+pub(crate) fn count_runnable(runnable: &[bool], end: u16) -> u16
+    requires { end ≤ length runnable.now }
+    ensures { result ≡ length (runnable_harts runnable.now end) }
+{
+    let mut count = 0;
+    for number in 0..end {
+        if runnable[usize::from(number)] {
+            count += 1;
+        }
+    }
+    count
+}
+
+// The runnable hart below `end` below which so many are runnable.
+pub(crate) fn runnable_at(runnable: &[bool], end: u16, place: u16) -> Option<Hart>
+    requires bound { end ≤ 256 }
+    requires inside { end ≤ length runnable.now }
+    ensures { result ≡ slice_get (runnable_harts runnable.now end) place }
+{
+    let mut left = place;
+    for number in 0..end {
+        if runnable[usize::from(number)] {
+            if left == 0 {
+                return Some(hart_at(number));
+            }
+            left -= 1;
         }
     }
     None

@@ -1,22 +1,27 @@
 // A schedule, and the choices that it makes.
 ghost use Rattle.std.specs.Prelude.{◌≡◌, ◌≤◌, ◌<◌, ◌↔◌, length, None, Some, IfSome, IsTrue};
-ghost use Rattle.hart_scheduler.specs.Choices.{is_runnable, NoneRunnable, choice, choice_in_turn};
-ghost use Rattle.hart_scheduler.specs.Choices.{plan_after, streak_with};
+ghost use Rattle.std.specs.Option.{option_map};
+ghost use Rattle.hart_scheduler.specs.Choices.{is_runnable, NoneRunnable, choice, plan_after};
+ghost use Rattle.hart_scheduler.specs.Choices.{choice_after_list, streak_drawn, state_drawn};
+ghost use Rattle.hart_scheduler.specs.Choices.{streak_after_list};
 ghost use Rattle.hart_scheduler.specs.Texts.{plan_of};
 
+use crate::draws::Draws;
 use crate::entry::Entry;
 use crate::listed::Listed;
 use crate::runnable::lowest_runnable;
 use crate::streak::Streak;
+use crate::turns::{Turns, going_on};
 use base::Hart;
 use std::marker::Model;
 
-/// Which hart runs next. Contracts see the harts that its list still names, in their order, and the
-/// hart that was last chosen in turn, with how many harts there are and the quantum.
+/// Which hart runs next. Contracts see the harts that its list still names, in their order, the
+/// hart that was last chosen after the list, how many harts there are, the quantum, and the state
+/// of the drawn numbers.
 #[derive(Drop)]
 pub struct Schedule {
     listed: Listed,
-    streak: Option<Streak>,
+    turns: Turns,
     harts: u16,
     quantum: u32,
 }
@@ -34,48 +39,82 @@ impl Model for Schedule {
 }
 
 impl Schedule {
-    pub(crate) fn of_entries(entries: Vec<Entry>, harts: u16, quantum: u32) -> Schedule
+    pub(crate) fn of_entries(entries: Vec<Entry>, harts: u16, quantum: u32, seed: u32) -> Schedule
         requires { harts ≤ 256 }
-        ensures { result ≡ plan_of harts quantum entries.items }
+        ensures { result ≡ plan_of harts quantum seed entries.items }
     {
         Schedule {
             listed: Listed::of_entries(entries),
-            streak: None,
+            turns: Turns::of_seed(seed),
             harts,
             quantum,
         }
     }
 
-    // The hart that is chosen in turn.
-    fn choice_in_turn(&self, runnable: &[bool]) -> Option<Hart>
+    // The hart that is chosen after the list.
+    fn choice_after_list(&self, runnable: &[bool]) -> Option<Hart>
         requires { length runnable.now ≡ self.now.harts }
-        ensures { result ≡ choice_in_turn runnable.now self.now }
+        ensures { result ≡ choice_after_list runnable.now self.now }
     {
-        match self.streak {
-            Some(streak) => streak.successor(runnable, self.harts),
-            None => lowest_runnable(runnable, 0, self.harts),
+        match self.turns {
+            Turns::InTurn(streak) => streak.successor(runnable, self.harts),
+            Turns::First => lowest_runnable(runnable, 0, self.harts),
+            Turns::Drawn(streak, draws) => match going_on(streak, runnable) {
+                Some(streak) => Some(streak.hart()),
+                None => draws.hart(runnable, self.harts),
+            },
         }
     }
 
-    // A hart that was chosen in turn has its turn.
-    fn take_in_turn(&mut self, hart: Hart)
+    // A hart that was chosen by drawn numbers has its turn.
+    fn take_drawn(&mut self, runnable: &[bool], hart: Hart, streak: Option<Streak>, draws: Draws)
+        requires inside { hart < self.old.harts }
+        requires streak { self.old.streak ≡ streak }
+        requires draws { self.old.draws ≡ Some draws }
+        ensures { self.new ≡ record self.old {
+          streak = Some (streak_drawn runnable.now self.old hart draws);
+          draws = Some (state_drawn runnable.now self.old draws);
+        } }
+    {
+        match going_on(streak, runnable) {
+            Some(streak) => self.turns = Turns::Drawn(Some(streak.shorter()), draws),
+            None => {
+                let drawn = draws.next().next();
+                let streak = Streak::new(hart, drawn.further_turns(self.quantum));
+                self.turns = Turns::Drawn(Some(streak), drawn);
+            }
+        }
+    }
+
+    // A hart that was chosen after the list has its turn.
+    fn take_after_list(&mut self, runnable: &[bool], hart: Hart)
         requires { hart < self.old.harts }
-        ensures { self.new ≡ record self.old { streak = Some (streak_with hart self.old) } }
+        ensures { self.new ≡ record self.old {
+          streak = Some (streak_after_list runnable.now self.old hart);
+          draws = option_map (state_drawn runnable.now self.old) self.old.draws;
+        } }
     {
-        match &mut self.streak {
-            Some(streak) => streak.take_turn(hart, self.quantum),
-            None => self.streak = Some(Streak::new(hart, self.quantum.saturating_sub(1))),
+        match &mut self.turns {
+            Turns::InTurn(streak) => streak.take_turn(hart, self.quantum),
+            Turns::First => {
+                let streak = Streak::new(hart, self.quantum.saturating_sub(1));
+                self.turns = Turns::InTurn(streak);
+            }
+            Turns::Drawn(streak, draws) => {
+                let (streak, draws) = (*streak, *draws);
+                self.take_drawn(runnable, hart, streak, draws);
+            }
         }
     }
 
-    // The hart that is chosen: from the list, or else in turn.
+    // The hart that is chosen: from the list, or else after it.
     fn choice(&self, runnable: &[bool]) -> Option<Hart>
         requires { length runnable.now ≡ self.now.harts }
         ensures { result ≡ choice runnable.now self.now }
     {
         match self.listed.first(runnable) {
             Some(hart) => Some(hart),
-            None => self.choice_in_turn(runnable),
+            None => self.choice_after_list(runnable),
         }
     }
 
@@ -97,8 +136,14 @@ impl Schedule {
     /// list is passed over for good. Once the list is used up, or none of its harts is runnable,
     /// harts are chosen in turn: at first the lowest runnable one, later the one chosen last while
     /// it is runnable and has had fewer turns in a row than the quantum, else the first runnable
-    /// one after it in cyclic order, itself last. None exactly where no hart is runnable, and then
-    /// nothing changes.
+    /// one after it in cyclic order, itself last.
+    ///
+    /// With a seed the one chosen last goes on while it is runnable and has turns left, else two
+    /// numbers are drawn. Of m runnable harts the first one, divided by m, leaves how many of them
+    /// are below the hart that is chosen; the second one, divided by twice the quantum less 1,
+    /// leaves how many turns it has after this one.
+    ///
+    /// None exactly where no hart is runnable, and then nothing changes.
     #[inline]
     pub fn next(&mut self, runnable: &[bool]) -> Option<Hart>
         requires { length runnable.now ≡ self.old.harts }
@@ -126,7 +171,7 @@ impl Schedule {
         ensures quantum { self.new.quantum ≡ self.old.quantum }
     {
         if !self.listed.take(runnable) {
-            self.take_in_turn(hart);
+            self.take_after_list(runnable, hart);
         }
     }
 }

@@ -1,5 +1,5 @@
 // Whose turn it is after the list.
-ghost use Rattle.std.specs.Prelude.{◌≡◌, ◌≤◌, ◌<◌, length};
+ghost use Rattle.std.specs.Prelude.{◌≡◌, ◌≤◌, ◌<◌, ◌-◌, length};
 ghost use Rattle.hart_scheduler.specs.Choices.{goes_on, choice_after, left_with};
 
 use crate::runnable::{is_runnable, lowest_runnable};
@@ -31,7 +31,13 @@ impl Streak {
         Streak { hart, left }
     }
 
-    fn goes_on(self, runnable: &[bool]) -> bool
+    pub(crate) fn hart(self) -> Hart
+        ensures { result ≡ self.hart }
+    {
+        self.hart
+    }
+
+    pub(crate) fn goes_on(self, runnable: &[bool]) -> bool
         ensures { result ≡ goes_on runnable.now self }
     {
         self.left > 0 && is_runnable(runnable, self.hart)
@@ -52,6 +58,16 @@ impl Streak {
         match lowest_runnable(runnable, next, harts) {
             Some(after) => Some(after),
             None => lowest_runnable(runnable, 0, next),
+        }
+    }
+
+    // The same with one turn less.
+    pub(crate) fn shorter(self) -> Streak
+        ensures { result ≡ record { hart = self.hart; left = self.left - 1 } }
+    {
+        Streak {
+            hart: self.hart,
+            left: self.left.saturating_sub(1),
         }
     }
 

@@ -4,7 +4,8 @@ use Rattle.base.specs.Touch.{Touch}
 use Rattle.base.specs.Lines.{line_number}
 use Rattle.base.specs.declared.access.Kind.TheVariants.{Read, Write}
 use Rattle.sharing_rules.specs.Places.{count_places}
-use Rattle.misses.specs.Misses.{cold, copies, useful, useless}
+use Rattle.misses.specs.Misses.{cold, copies, is_miss, useful, useless}
+use Rattle.misses.specs.WordsApart.{came_along, misses_apart}
 
 abbrev wr : ℕ → ℕ → Touch
 wr h a = record { hart = h; addr = a; kind = Write; size = 4 }
@@ -49,6 +50,26 @@ needed_later : costs 64 65
     (wr 0 0x1000 ∷ (rd 1 0x1004 ∷ (wr 0 0x1000 ∷ (rd 1 0x1004 ∷ (rd 1 0x1000 ∷ []))))) ≡ (2, 1, 0)
 unfolding count_places copies
 needed_later = refl
+
+-- the misses of the line of address 0x1000, those of its words' own lines, and the words that came
+-- along
+abbrev beside : List Touch → ℕ × ℕ × ℕ
+beside t = (
+  count_places (is_miss (line_number 64 0) 65) t,
+  misses_apart (line_number 64 0) 65 t,
+  came_along (line_number 64 0) 65 t,
+)
+
+-- a line for each word saves the two writers what they miss for nothing
+all_saved : beside apart ≡ (4, 2, 0)
+unfolding count_places copies
+all_saved = refl
+
+-- of two words that are handed on together the second comes along, to the writer and to the reader
+two_words : beside (wr 0 0x1000 ∷ (wr 0 0x1004 ∷ (rd 1 0x1000 ∷ (rd 1 0x1004 ∷ []))))
+    ≡ (2, 4, 2)
+unfolding count_places copies
+two_words = refl
 
 -- the useless ones are neither fewer nor more, and none of them is useful
 not_otherwise : (useless (line_number 64 0) 65 apart ≡ 1 → ⊥)

@@ -13,3 +13,4 @@ pub mod Served
 pub mod Sums
 pub mod Totals
 pub mod WordLines
+pub mod WordsApart

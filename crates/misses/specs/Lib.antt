@@ -5,3 +5,4 @@ pub mod Laws
 pub mod Misses
 pub mod Rows
 pub mod WordLines
+pub mod WordsApart

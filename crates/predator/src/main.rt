@@ -3,7 +3,7 @@
 
 use base::NoMemory;
 use disk_shelf::DiskShelf;
-use predator_cli::{advise, exit_code, give_up, predator, words_of};
+use predator_cli::{advise, exit_code, give_up, predator, trace_to_read, words_of};
 use std::env;
 use std::io::IsTerminal;
 use std::process::ExitCode;
@@ -16,6 +16,9 @@ fn main(rt: HostRuntime) -> ExitCode {
     };
     let status = match words_of(rt.alloc(), env::args(&rt)) {
         Ok(words) => {
+            if let Some(trace) = trace_to_read(rt.alloc(), &words) {
+                shelf.expect(trace.name, trace.again);
+            }
             let status = predator(rt.alloc(), &words, &mut shelf);
             advise(&rt, &words, &status);
             status

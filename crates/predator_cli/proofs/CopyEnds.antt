@@ -36,6 +36,7 @@ use Rattle.predator_cli.specs.Convert.{convert_text}
 use Rattle.predator_cli.specs.Copies.{copied_reading, copy_of, copy_with}
 use Rattle.predator_cli.specs.Meets.{EndsAs, IsCaused, IsFaulty, IsPrintable, IsWorked}
 use Rattle.predator_cli.specs.Meets.{ReadsInPeace}
+use Rattle.predator_cli.specs.Parts.{SplitRepeats}
 use Rattle.predator_cli.specs.Replay.{refuses_trace}
 use Rattle.predator_cli.specs.Split.{split_text}
 use Rattle.predator_cli.specs.TraceFaults.{status_of_copy, status_of_refusal}
@@ -95,15 +96,14 @@ is_convert d = record {
   again = λ files. tt;
 }
 
-pub is_split : (d : SplitDemand) → IsCopying (split d) d.trace (split_text d.at)
-    (halves d.at d.first d.second)
-is_split d = record {
+pub is_split : (d : SplitDemand) → ((files : Files) → SplitRepeats d files)
+    → IsCopying (split d) d.trace (split_text d.at) (halves d.at d.first d.second)
+is_split d again = record {
   reads = refl;
   works = λ files. refl;
   named = λ t. refl;
   copies = refl;
-  again =
-      λ files. tt;
+  again = again;
 }
 
 -- what is known of a call that gave up

@@ -4,7 +4,7 @@ use Rattle.std.proofs.Common.{◌≡◌, ℕ, List, [], ◌∷◌, ◌++◌, len
 use Rattle.std.specs.Prelude.{flat_map}
 use Rattle.std.proofs.Common.{append_assoc}
 use Rattle.std.proofs.lemmas.List.{append-nil}
-use Rattle.std.proofs.lemmas.List.Elements.{filter_map-append}
+use Rattle.std.proofs.lemmas.List.Elements.{All-cons, All-nil, filter_map-append}
 use Rattle.objects.specs.Objects.{Objects, no_objects}
 use Rattle.saved_state.specs.ObjectSpelling.{spell_objects}
 use Rattle.base.specs.Levels.{Levels}
@@ -21,7 +21,8 @@ use Rattle.trace_format.specs.declared.record.TraceRecord.{TraceRecord}
 use Rattle.trace_format.specs.declared.record.TraceRecord.TheVariants as records
 use Rattle.trace_files.specs.Copies.{first_half, second_half}
 use Rattle.trace_passes.specs.Passes.{Trace, all_records}
-use Rattle.predator_cli.specs.GoesOn.{IsCutIn, work_of_both}
+use Rattle.trace_parts.specs.Halves.{AreHalves}
+use Rattle.predator_cli.specs.GoesOn.{IsCutIn, TellsItsCount, work_of_both}
 use Rattle.predator_cli.specs.Replay.{ended_at, shown, work_after}
 use Rattle.predator_cli.specs.States.{state_of_records}
 
@@ -61,7 +62,25 @@ module _ {X : Type 0} (shows : List TraceRecord → X)
         ∙ last (bare ++ final.items) final.ending
         ∙ ap shows (sym items) ∙ sym (last whole.items whole.ending)
 
-touches_last : (xs : List TraceRecord) (e : Ending)
+    -- one part behind what comes before it, and the rest of the whole
+    same_behind : (before : List TraceRecord) (whole first final : Trace)
+        → whole.items ≡ first.items ++ final.items
+        → shows ((before ++ all_records first) ++ all_records final)
+        ≡ shows (before ++ all_records whole)
+    same_behind before whole first final items =
+        let end : List TraceRecord = records.End first.ending ∷ [] in
+        let last_end : List TraceRecord = records.End final.ending ∷ [] in
+        ap (λ (xs : List TraceRecord). shows (xs ++ all_records final))
+        (sym (append_assoc before first.items end))
+        ∙ amid (before ++ first.items) (all_records final) first.ending
+        ∙ ap shows (sym (append_assoc (before ++ first.items) final.items last_end))
+        ∙ last ((before ++ first.items) ++ final.items) final.ending
+        ∙ ap shows (append_assoc before first.items final.items)
+        ∙ ap (λ (xs : List TraceRecord). shows (before ++ xs)) (sym items)
+        ∙ sym (last (before ++ whole.items) whole.ending)
+        ∙ ap shows (append_assoc before whole.items (records.End whole.ending ∷ []))
+
+pub touches_last : (xs : List TraceRecord) (e : Ending)
     → touches_in (xs ++ records.End e ∷ []) ≡ touches_in xs
 touches_last xs e = filter_map-append touch_in xs (records.End e ∷ []) ∙ append-nil (touches_in xs)
 
@@ -107,14 +126,48 @@ module _ (objects : (before items : List TraceRecord)
         λ i. shown save (report_of (ending i) g v (things i) (touches i))
         (state_of_list g v whole.header.harts (touches i) ++ spell_objects (things i))
 
+    -- what comes before a trace and its first half, and then its second half, give what the whole
+    -- gives behind that
+    pub joined : (save : Option (List ℕ)) (g : Grid) (v : Levels) (harts : ℕ)
+        (before : List TraceRecord) (whole first final : Trace) → AreHalves whole first final
+        → work_of_both save g v harts (before ++ all_records first) final
+        ≡ work_of_both save g v harts before whole
+    unfolding report_of_records state_of_records
+    joined save g v harts before whole first final halves =
+        let cut : List TraceRecord = (before ++ all_records first) ++ all_records final in
+        let all : List TraceRecord = before ++ all_records whole in
+        let touches : touches_in cut ≡ touches_in all =
+        same_behind touches_in touches_last touches_amid before whole first final halves.items in
+        let things : objects_of cut ≡ objects_of all =
+        same_behind objects_of objects_last objects_amid before whole first final halves.items in
+        let ending : ended_at (length (touches_in cut)) final.ending
+        ≡ ended_at (length (touches_in all)) whole.ending =
+        ap (λ (t : AccessList). ended_at (length t) final.ending) touches
+        ∙ ap (ended_at (length (touches_in all))) halves.ending in
+        λ i. shown save (report_of (ending i) g v (things i) (touches i))
+        (state_of_list g v harts (touches i) ++ spell_objects (things i))
+
+-- a trace is cut in no earlier parts and itself
+pub uncut : (whole : Trace) → whole.ending.accesses ≡ length (touches_in whole.items)
+    → IsCutIn whole [] whole
+uncut whole counted = record {
+  items = refl;
+  ending = ap (λ (n : ℕ). record whole.ending { accesses = n }) counted;
+  told = All-cons TellsItsCount whole [] counted (All-nil TellsItsCount);
+}
+
 -- the halves of a trace are such parts of it
 pub halves_cut : (at : ℕ) (whole : Trace)
-    → (first_half at whole).items ++ (second_half at whole).items ≡ whole.items
+    → AreHalves whole (first_half at whole) (second_half at whole)
     → whole.ending.accesses ≡ length (touches_in whole.items)
     → IsCutIn whole (first_half at whole ∷ []) (second_half at whole)
-halves_cut at whole records counted = record {
-  items = sym records
+halves_cut at whole halves counted = record {
+  items = halves.items
       ∙ ap (λ (xs : List TraceRecord). xs ++ (second_half at whole).items)
       (sym (append-nil (first_half at whole).items));
   ending = ap (λ (n : ℕ). record whole.ending { accesses = n }) counted;
+  told = All-cons TellsItsCount (first_half at whole) (second_half at whole ∷ [])
+      halves.first_is.good.good.counted
+      (All-cons TellsItsCount (second_half at whole) [] halves.second_is.good.good.counted
+      (All-nil TellsItsCount));
 }

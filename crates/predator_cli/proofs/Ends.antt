@@ -4,7 +4,7 @@ use Rattle.std.proofs.Common.{sym, ◌∙◌, ap, refl, inl, inr, ◌⊎◌}
 use Rattle.shelf.specs.Shelf.{Files, Outside, Told, Goes, Rose, OnlyPrints, OnlyReads, Adds}
 use Rattle.shelf.specs.Shelf.{AddsFront}
 use Rattle.command_line.specs.Words.{Demand, outputs as outputs_of}
-use Rattle.command_files.specs.Readings.{IsStopped, first_refusal}
+use Rattle.command_files.specs.Readings.{IsAccepted, IsStopped, first_refusal}
 use Rattle.command_files.specs.Works.{Work, done_with}
 use Rattle.command_files.specs.Statuses.{Kind, kind_of, done, refusal, read_fault, write_fault}
 use Rattle.command_files.specs.Statuses.{no_memory, hides_no_memory}
@@ -384,24 +384,30 @@ module _ (o : Option Files) (work : Files → Work) (w : Work)
         no_outputs files names is =
             rw (ap (λ (x : Work). x.outputs) is ∙ none) (λ name. refl)
 
-pub answered_worked : (demand : Demand) (a b : Outside) (text : List ℕ) → IsAnswered demand a b text
-    → IsWorked demand a b status.Done text
-answered_worked demand a b text answered =
-    let same = answered.accepted.same in
+-- so a command that has a text alone, with whatever status
+pub told_worked : (demand : Demand) (a b : Outside) (w : Work) → w.outputs ≡ []
+    → IsAccepted (readings_of demand) a b → Told a.held (λ files. work_of demand files ≡ w)
+    → ((files : Files) → RepeatsReport demand files) → IsWorked demand a b w.status w.text
+told_worked demand a b w none accepted works again =
+    let same = accepted.same in
     let written = ap (λ (o : Outside). o.written) same in
     record {
-      accepts = answered.accepted.accepts;
-      ends = told_status a.held (work_of demand) (done_with text) answered.work;
-      same_text = told_text a.held (work_of demand) (done_with text) answered.work;
-      whole = rw written
-          (none_written a.held (work_of demand) (done_with text) answered.work refl a.written);
+      accepts = accepted.accepts;
+      ends = told_status a.held (work_of demand) w works;
+      same_text = told_text a.held (work_of demand) w works;
+      whole = rw written (none_written a.held (work_of demand) w works none a.written);
       only = only_same_names (outputs_of demand) a b written;
-      again = told a.held answered.again;
+      again = told a.held again;
       reads = ap (λ (o : Outside). o.read_faults) same;
       held = ap (λ (o : Outside). o.held) same;
       printed = ap (λ (o : Outside). o.printed) same;
       print_faults = ap (λ (o : Outside). o.print_faults) same;
     }
+
+pub answered_worked : (demand : Demand) (a b : Outside) (text : List ℕ) → IsAnswered demand a b text
+    → IsWorked demand a b status.Done text
+answered_worked demand a b text answered =
+    told_worked demand a b (done_with text) refl answered.accepted answered.work answered.again
 
 -- ---- where nothing is read, or the reading stopped
 

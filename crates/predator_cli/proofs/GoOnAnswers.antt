@@ -55,7 +55,7 @@ module _ (w : Wanted) (t : Trace) (unrefused : header_refusal w (Some t.header) 
   wanted_at all None (Ok e) is = absurd (none-some t is)
   wanted_at all None (Err fault) is = absurd (none-some t is)
 
-  trace_accepted : (bytes : List ℕ) → trace_of bytes ≡ Some t → refuses w bytes ≡ None
+  pub trace_accepted : (bytes : List ℕ) → trace_of bytes ≡ Some t → refuses w bytes ≡ None
   trace_accepted bytes is =
       let now = reading_of bytes in
       wanted_at now.0 now.1.progress (ending_of now.1) is

@@ -56,12 +56,12 @@ module _ (harts : ℕ) (items : List TraceRecord) (good : All (IsGoodRecord hart
       subst (IsGoodSymbol s.addr s.size)
       (sym (of.name ∙ take_all longest_name of.told_name told.short)) told
 
-  pub savable : length items < 2 ^ 64 → All (IsBlockOf items) (objects_of items).blocks
+  pub savable : length (objects_of items).symbols < 2 ^ 64
+      → length (objects_of items).blocks < 2 ^ 64 → All (IsBlockOf items) (objects_of items).blocks
       → All (IsSymbolOf items) (objects_of items).symbols → NoTwoLive (objects_of items).blocks
-      → NoTwoAlike (objects_of items).symbols → length (objects_of items).blocks ≤ length items
-      → length (objects_of items).symbols ≤ length items
+      → NoTwoAlike (objects_of items).symbols
       → IsSavable (length (touches_in items)) (objects_of items)
-  savable short blocks symbols lone apart few_blocks few_symbols = record {
+  savable few_symbols few_blocks blocks symbols lone apart = record {
     each = record {
       symbols = All-weaker (IsSymbolOf items) IsSavedSymbol saved_symbol (objects_of items).symbols
           symbols;
@@ -70,8 +70,8 @@ module _ (harts : ℕ) (items : List TraceRecord) (good : All (IsGoodRecord hart
     };
     apart = each_apart (objects_of items).symbols apart;
     lone = lone;
-    few_symbols = omega (arith, few_symbols, short);
-    few_blocks = omega (arith, few_blocks, short);
+    few_symbols = few_symbols;
+    few_blocks = few_blocks;
   }
 
 -- ---- the accesses

@@ -1,10 +1,15 @@
+pub mod AllowedLaws
 pub mod CopyEnds
+pub mod CountingEnds
 pub mod CutLaws
 pub mod Ends
+pub mod ExplainEnds
 pub mod GenEnds
 pub mod GoOnAnswers
 pub mod GoOnLaws
 pub mod GoodLaws
+pub mod ListedCounts
+pub mod PartLaws
 pub mod ReplayEnds
 pub mod ReplayLaws
 pub mod Rows
@@ -14,6 +19,7 @@ pub mod Sound
 pub mod SpelledAgain
 pub mod Standing
 pub mod StateFiles
+pub mod StateSizes
 pub mod SteadyLaws
 pub mod SummaryLaws
 pub mod SymbolLaws

@@ -1,18 +1,25 @@
 -- What a command is to the top call, and the table of the commands, a row each. The names of the
 -- files that a command writes stand in the table of its words, in `command_line`.
 use Rattle.std.specs.Prelude.{Bool, true, false, List, Option, Some, None}
-use Rattle.command_line.specs.Words.{Demand, replay, check, run, split, gen, convert}
+use Rattle.command_line.specs.Words.{Demand, replay, check, run, split, gen, convert, sweep}
+use Rattle.command_line.specs.Words.{caches, misses, explain}
 use Rattle.shelf.specs.Shelf.{Files}
 use Rattle.command_files.specs.Readings.{Reading}
 use Rattle.command_files.specs.Works.{Work}
 use Rattle.predator_cli.specs.Again.{RunRepeats}
+use Rattle.predator_cli.specs.Caches.{caches_readings, caches_work}
 use Rattle.predator_cli.specs.Check.{check_readings, check_work}
 use Rattle.predator_cli.specs.Convert.{convert_readings, convert_work}
+use Rattle.predator_cli.specs.Explain.{explain_readings, explain_work}
 use Rattle.predator_cli.specs.Gen.{gen_readings, gen_work}
+use Rattle.predator_cli.specs.ListedCounts.{TellsListedCount}
+use Rattle.predator_cli.specs.Misses.{misses_readings, misses_work}
+use Rattle.predator_cli.specs.Parts.{SplitRepeats}
 use Rattle.predator_cli.specs.Recounts.{ReplayIsRecounted, RunIsRecounted}
 use Rattle.predator_cli.specs.Replay.{replay_readings, replay_work}
 use Rattle.predator_cli.specs.Run.{RunStaysWithin, run_readings, run_work}
 use Rattle.predator_cli.specs.Split.{split_readings, split_work}
+use Rattle.predator_cli.specs.Sweep.{sweep_readings, sweep_work}
 
 -- what is asked of a command
 pub record Command : Type 1 where
@@ -22,7 +29,7 @@ pub record Command : Type 1 where
   pub work : Files → Work
   -- it reads its trace a second time, once its outputs are begun
   pub is_copy : Bool
-  -- what another command repeats of it, once its work is done
+  -- what other commands repeat of it or of its files, or tell alike, once its work is done
   pub repeats : Files → Type 0
   -- it makes at most as many steps as its budget has
   pub within : Files → Type 0
@@ -54,9 +61,17 @@ command_of (replay demand) =
       recounts = ReplayIsRecounted demand;
     }
 command_of (check demand) = plain (check_readings demand) (check_work demand)
-command_of (split demand) = copy (split_readings demand) (split_work demand)
+command_of (split demand) =
+    record (copy (split_readings demand) (split_work demand)) { repeats = SplitRepeats demand }
 command_of (gen demand) = plain (gen_readings demand) (λ files. gen_work demand)
 command_of (convert demand) = copy (convert_readings demand) (convert_work demand)
+command_of (sweep demand) = plain (sweep_readings demand) (sweep_work demand)
+command_of (caches demand) = plain (caches_readings demand) (caches_work demand)
+command_of (misses demand) = plain (misses_readings demand) (misses_work demand)
+command_of (explain demand) =
+    record (plain (explain_readings demand) (explain_work demand)) {
+      repeats = TellsListedCount demand;
+    }
 
 -- ---- what follows from the rows
 

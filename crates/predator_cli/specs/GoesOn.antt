@@ -1,5 +1,6 @@
 -- What a replay gives that goes on from the saved state of some records.
-use Rattle.std.specs.Prelude.{◌≡◌, ℕ, ◌≤◌, ◌^◌, List, ◌++◌, length, flat_map, Option, Some}
+use Rattle.std.specs.Prelude.{◌≡◌, ℕ, ◌≤◌, ◌^◌, List, [], ◌∷◌, ◌++◌, length, flat_map, Option, Some}
+use Rattle.std.specs.List.{All}
 use Rattle.command_line.specs.Replay.{ReplayDemand}
 use Rattle.saved_state.specs.Resuming.{kept_of_list}
 use Rattle.saved_state.specs.ObjectRules.{IsSavable}
@@ -60,8 +61,13 @@ pub record HoldsBoth (demand : ReplayDemand) (files : Files) (harts : ℕ) (befo
   pub same_harts : t.header.harts ≡ harts
   pub first : t.header.first ≡ length (touches_in before)
 
--- a trace was cut: its records are those of the earlier parts and then those of the last one, which
--- ends as the whole
+-- its end tells how many accesses it has
+abbrev pub TellsItsCount : Trace → Type 0
+TellsItsCount t = t.ending.accesses ≡ length (touches_in t.items)
+
+-- A trace was cut: its records are those of the earlier parts and then those of the last one, which
+-- ends as the whole. Each part tells how many accesses it has itself.
 pub record IsCutIn (whole : Trace) (earlier : List Trace) (last : Trace) : Type 0 where
   pub items : whole.items ≡ flat_map (λ t. t.items) earlier ++ last.items
   pub ending : whole.ending ≡ ended_at (length (touches_in whole.items)) last.ending
+  pub told : All TellsItsCount (earlier ++ last ∷ [])

@@ -41,10 +41,14 @@ use Rattle.predator_cli.specs.declared.run.Loading.{Loading}
 
 -- ---- the schedule
 
+-- what the bytes of a schedule give under settings
+abbrev pub schedule_under : Settings → List ℕ → Result Plan ScheduleFault
+schedule_under settings bytes = schedule_of settings.harts settings.quantum settings.seed bytes
+
 -- what the file of the schedule gives; an empty list where none is named
 abbrev pub schedule_in : Settings → Option (List ℕ) → Files → Result Plan ScheduleFault
 schedule_in settings name files =
-    schedule_of settings.harts settings.quantum (option_map_or (content files) name [])
+    schedule_under settings (option_map_or (content files) name [])
 
 abbrev pub schedule_refusal : Result Plan ScheduleFault → Option Status
 schedule_refusal (Ok plan) = None
@@ -61,7 +65,8 @@ schedule_readings settings name = option_map_or (λ n. schedule_reading settings
 -- the plan that holds where the schedule is not refused
 abbrev pub plan_unless_refused : Settings → Result Plan ScheduleFault → Plan
 plan_unless_refused settings (Ok plan) = plan
-plan_unless_refused settings (Err fault) = plan_of settings.harts settings.quantum []
+plan_unless_refused settings (Err fault) =
+    plan_of settings.harts settings.quantum settings.seed []
 
 abbrev pub plan_in : Settings → Option (List ℕ) → Files → Plan
 plan_in settings name files = plan_unless_refused settings (schedule_in settings name files)

@@ -15,10 +15,14 @@ ghost use Rattle.shelf.specs.Shelf.{Told};
 use crate::check::check;
 use crate::convert::convert;
 use crate::endings::{refuse, refuse_words};
+use crate::explain::explain;
 use crate::generate::generate;
 use crate::replay::replay;
 use crate::run::run;
 use crate::split::split;
+use crate::sweep::sweep;
+use crate::tell_caches::tell_caches;
+use crate::tell_misses::tell_misses;
 use command_files::Status;
 use command_line::{Demand, WordsFault, read_words};
 use guest::runs_are_short;
@@ -37,6 +41,10 @@ fn obey<S: Shelf>(alloc: Global, words: &[String], shelf: &mut S) -> Status
         Ok(Demand::Split(options)) => split(alloc, &options, shelf),
         Ok(Demand::Gen(options)) => generate(alloc, &options, shelf),
         Ok(Demand::Convert(options)) => convert(alloc, &options, shelf),
+        Ok(Demand::Sweep(options)) => sweep(alloc, &options, shelf),
+        Ok(Demand::Caches(options)) => tell_caches(alloc, &options, shelf),
+        Ok(Demand::Misses(options)) => tell_misses(alloc, &options, shelf),
+        Ok(Demand::Explain(options)) => explain(alloc, &options, shelf),
         Err(WordsFault::Usage(_)) => refuse_words(shelf),
         Err(WordsFault::NoMemory) => refuse(alloc, shelf, Status::NoMemory),
     }
@@ -61,7 +69,10 @@ fn obey<S: Shelf>(alloc: Global, words: &[String], shelf: &mut S) -> Status
 /// `split` cuts a trace in two before one of its accesses, and prints how many accesses each half
 /// has; `convert` writes a trace in the other version, and prints which version that is and how
 /// many accesses there are. Both read a trace of at most 2^44 bytes to its end and judge it, and
-/// write under their names as they read it again.
+/// write under their names as they read it again. `sweep`, `caches` and `misses` pass over a whole
+/// trace: `sweep` prints what every shift of a line size counts, `caches` how many of each line's
+/// invalidations are left in private caches of a shape, and `misses` what the sharing of each of its
+/// lines costs.
 pub fn predator<S: Shelf>(alloc: Global, words: &[String], shelf: &mut S) -> Status
     // Where the held files are told, it ends as the words and the files ask, or by a fault of the
     // outside before which nothing is refused.
@@ -92,7 +103,11 @@ pub fn predator<S: Shelf>(alloc: Global, words: &[String], shelf: &mut S) -> Sta
     ensures writes { Writes (demand_of (texts words.now))
         (S.outside shelf.old) (S.outside shelf.new) (kind_of result) }
     // Where a run is done, the replay of the trace that it wrote, under the same settings and with
-    // no layout named, is done and prints the same text.
+    // no layout named, is done and prints the same text. Where a split is done, the replays of its
+    // halves, one behind the other, give what the replay of the whole gives, and so do those of
+    // more parts. Where `explain` is done, and a run of the same program under the same settings and
+    // schedule lists a line with the base, the size and the start that it was asked about, the
+    // count that it prints is the one that is listed.
     ensures again { Told (S.outside shelf.old).held
         (λ files. WhereDone RepeatsReport (demand_of (texts words.now)) files (kind_of result)) }
     // The run that is asked for makes at most as many steps as its budget has.

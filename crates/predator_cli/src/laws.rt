@@ -1,10 +1,11 @@
-// The law of replays that go on, for whoever reads contracts alone. The call does nothing.
+// The laws of replays that go on, for whoever reads contracts alone. The calls do nothing.
 ghost use Rattle.std.specs.Prelude.{◌≡◌, ℕ, ◌<◌, ◌^◌, List, [], ◌∷◌, length, flat_map, None, Ok};
 ghost use Rattle.std.specs.Prelude.{Option, Some};
 ghost use Rattle.std.specs.List.{All};
 ghost use Rattle.command_files.specs.Readings.{first_refusal};
 ghost use Rattle.command_files.specs.SettingsFiles.{settings_readings};
 ghost use Rattle.command_line.specs.Replay.{ReplayDemand};
+ghost use Rattle.command_line.specs.Split.{SplitDemand};
 ghost use Rattle.command_line.specs.Words.{replay};
 ghost use Rattle.saved_state.specs.ObjectRules.{IsSavable};
 ghost use Rattle.base.specs.Levels.{Levels};
@@ -19,12 +20,13 @@ ghost use Rattle.trace_passes.specs.Passes.{Trace, all_records, trace_of};
 ghost use Rattle.predator_cli.specs.Answer.{answer_of};
 ghost use Rattle.predator_cli.specs.GoesOn.{HoldsBoth, IsCutIn, MayStand, begun_of};
 ghost use Rattle.predator_cli.specs.GoesOn.{work_of_both};
+ghost use Rattle.predator_cli.specs.Parts.{SplitRepeats};
 ghost use Rattle.predator_cli.specs.Replay.{grid_in, levels_in, replay_work, work_after};
 ghost use Rattle.predator_cli.specs.States.{judged_state, state_of_records};
 
 use saved_state::{the_state_of_a_list_is_taken_up, what_is_resumed_was_saved};
 use sightings::{what_is_noted_is_seen, what_stands_was_noted};
-use trace_files::the_halves_have_the_accesses_of_the_whole;
+use trace_parts::the_halves_are_traces;
 use trace_passes::a_trace_is_its_spelling;
 
 /// A replay that goes on from the state of some records gives the report, and saves the state, of
@@ -76,5 +78,16 @@ pub fn a_replay_goes_on_from_a_list()
     what_is_noted_is_seen();
     what_stands_was_noted();
     a_trace_is_its_spelling();
-    the_halves_have_the_accesses_of_the_whole();
+    the_halves_are_traces();
+}
+
+/// However often a trace is cut by `split`, its parts, each replayed from the saved state of those
+/// before it, give at last what the replay of the whole gives. Nothing is done.
+pub fn a_trace_counts_in_parts()
+    ensures { (demand : SplitDemand) (files : Files) → SplitRepeats demand files }
+{
+    a_replay_goes_on_from_a_list();
+    the_halves_are_traces();
+    what_is_noted_is_seen();
+    what_stands_was_noted();
 }

@@ -1,7 +1,8 @@
 //! The program `predator`, as one call over a shelf of files: `run` runs a program and `replay`
 //! reads a recorded trace, and both print the cache lines that harts took from each other; `check`
-//! tells of a program file, `gen` makes a trace, `split` cuts one in two, and `convert` writes one
-//! in the other version.
+//! tells of a program file, `gen` makes a trace, `split` cuts one in two, `convert` writes one in
+//! the other version, `sweep` counts one under every shift of a line size, `caches` tells what is
+//! left of its invalidations in caches of a shape, and `misses` what the sharing of each line costs.
 //!
 //! The call says what it answers by `answer_of` (specs/Answer.antt), over the definitions of
 //! `sharing_rules` and of `guest`; what it prints, writes and excuses at each end is `Meets`
@@ -12,7 +13,9 @@ mod check;
 mod command;
 mod convert;
 mod copies;
+mod counting;
 mod endings;
+mod explain;
 mod generate;
 mod laws;
 mod replay;
@@ -20,10 +23,15 @@ mod run;
 mod split;
 mod state_file;
 mod steady;
+mod sweep;
 mod symbols;
+mod tell_caches;
+mod tell_misses;
 mod trace_faults;
 
 pub use command::predator;
-pub use command_files::{StateFault, Status, advice_on, advise, exit_code, give_up, words_of};
-pub use laws::a_replay_goes_on_from_a_list;
+pub use command_files::{
+    StateFault, Status, advice_on, advise, exit_code, give_up, trace_to_read, words_of,
+};
+pub use laws::{a_replay_goes_on_from_a_list, a_trace_counts_in_parts};
 pub use steady::predator_steady;

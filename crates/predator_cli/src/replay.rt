@@ -9,10 +9,7 @@ ghost use Rattle.sharing_rules.specs.Listed.{may_predict};
 ghost use Rattle.shelf.specs.Shelf.{Outside};
 ghost use Rattle.sightings.specs.Seen.{HasSeen, begins_at, report_of_records};
 ghost use Rattle.sightings.specs.Sights.{nothing_sighted, report_of_sighted};
-ghost use Rattle.trace_format.specs.Rules.{IsGoodHeader};
-ghost use Rattle.trace_format.specs.declared.record.Header.{Header as Head};
 ghost use Rattle.trace_format.specs.declared.record.TraceRecord.{TraceRecord as Record};
-ghost use Rattle.trace_passes.specs.Passes.{HasPassed, IsWanted};
 ghost use Rattle.command_files.specs.Readings.{IsAccepted, IsReadFrom, IsStopped};
 ghost use Rattle.command_files.specs.Works.{output_for};
 ghost use Rattle.predator_cli.specs.Meets.{Meets};
@@ -20,9 +17,9 @@ ghost use Rattle.predator_cli.specs.Replay.{IsCounted, IsToShow, replay_readings
 ghost use Rattle.predator_cli.specs.Replay.{trace_reading, wanted_after};
 ghost use Rattle.predator_cli.specs.States.{state_of_records, state_of_sighted};
 
+use crate::counting::{WHOLE, see_trace};
 use crate::endings::{finish, refuse, stop};
 use crate::state_file::{Begun, read_state};
-use crate::trace_faults::status_of_pass;
 use base::{Ending, Layout, NoMemory, Thresholds};
 use command_files::{Status, native_layout, read_settings, save, thresholds_of};
 use command_line::ReplayOptions;
@@ -30,13 +27,7 @@ use saved_state::{save_detector, save_objects};
 use shelf::Shelf;
 use sightings::Sightings;
 use std::alloc::Global;
-use trace_passes::{Passed, Wanted, pass};
-
-// A whole trace: of any number of harts, from position 0 on.
-const WHOLE: Wanted = Wanted {
-    harts: None,
-    first: Some(0),
-};
+use trace_passes::Wanted;
 
 // What a replay gives: its report, and its state, where one is saved.
 #[derive(Drop)]
@@ -99,30 +90,6 @@ fn counted_of(
     let text = sightings.report(alloc, ending)?;
     let state = state_for(alloc, name, sightings, harts)?;
     Ok(Counted { text, state })
-}
-
-// Sees the trace of a name, or says why it is not taken.
-fn see_trace<S: Shelf>(
-    alloc: Global,
-    shelf: &mut S,
-    name: &str,
-    wanted: &Wanted,
-    sightings: &mut Sightings,
-) -> Result<Passed, Status>
-    requires begins { (header : Head) → IsGoodHeader header → IsWanted wanted.now header
-        → begins_at sightings.old header.first }
-    requires fresh { HasSeen sightings.old sightings.old [] }
-    ensures passed { IfOk result (λ passed. HasPassed (S.outside shelf.old).held name.now passed
-        (HasSeen sightings.old sightings.new)) }
-    ensures accepted { OnOk result (IsAccepted (trace_reading (λ _. wanted.now) name.now ∷ [])
-        (S.outside shelf.old) (S.outside shelf.new)) }
-    ensures stopped { IfErr result (IsStopped (trace_reading (λ _. wanted.now) name.now ∷ [])
-        (S.outside shelf.old) (S.outside shelf.new)) }
-{
-    match pass(alloc, shelf, name, wanted, sightings) {
-        Ok(passed) => Ok(passed),
-        Err(fault) => Err(status_of_pass(fault)),
-    }
 }
 
 // What the replay of a whole trace gives, which is seen from nothing on.

@@ -44,8 +44,8 @@ use sightings::Sightings;
 use std::alloc::Global;
 use trace_format::TraceRecord;
 
-// How the program ends after a run with this outcome.
-fn status_of(outcome: Outcome) -> Status
+/// How the program ends after a run with this outcome.
+pub fn status_of(outcome: Outcome) -> Status
     ensures value { result ≡ status_for outcome }
     ensures done { kind_of result ≡ done }
 {
@@ -114,8 +114,7 @@ struct ScheduleUnder {
 }
 
 impl Judge for ScheduleUnder {
-    ghost use Rattle.hart_scheduler.specs.Texts.{schedule_of};
-    ghost use Rattle.predator_cli.specs.Run.{schedule_refusal};
+    ghost use Rattle.predator_cli.specs.Run.{schedule_refusal, schedule_under};
 
     type Given = Schedule;
 
@@ -123,11 +122,9 @@ impl Judge for ScheduleUnder {
 
     ghost most = { λ _. 2 ^ 20 };
 
-    ghost refusal = { λ j bytes. schedule_refusal (schedule_of j.settings.harts j.settings.quantum
-        bytes) };
+    ghost refusal = { λ j bytes. schedule_refusal (schedule_under j.settings bytes) };
 
-    ghost gives = { λ j bytes plan. (schedule_of j.settings.harts j.settings.quantum bytes
-        ≡ Ok plan) × (plan.harts ≡ j.settings.harts) × (plan.quantum ≡ j.settings.quantum) };
+    ghost gives = { λ j bytes plan. (schedule_under j.settings bytes ≡ Ok plan) × (plan.harts ≡ j.settings.harts) × (plan.quantum ≡ j.settings.quantum) };
 
     fn limit(&self) -> u64 {
         1 << 20
@@ -139,7 +136,13 @@ impl Judge for ScheduleUnder {
 
     fn judge(&self, alloc: Global, bytes: &[u8]) -> Result<Schedule, Status> {
         let settings = self.settings;
-        Ok(Schedule::read(alloc, bytes, settings.harts, settings.quantum)?)
+        Ok(Schedule::read(
+            alloc,
+            bytes,
+            settings.harts,
+            settings.quantum,
+            settings.seed,
+        )?)
     }
 }
 
@@ -180,12 +183,12 @@ fn read_schedule<S: Shelf>(
     }
 }
 
-// A guest before its first step, the symbols of its program, and the settings that it has.
+/// A guest before its first step, the symbols of its program, and the settings that it has.
 #[derive(Drop)]
-struct Loaded {
-    guest: Guest,
-    symbols: Vec<TraceRecord>,
-    settings: Settings,
+pub struct Loaded {
+    pub guest: Guest,
+    pub symbols: Vec<TraceRecord>,
+    pub settings: Settings,
 }
 
 // The guest of a program and a schedule under settings.
@@ -222,9 +225,9 @@ fn make_guest(
     })
 }
 
-// The guest of a program under the settings and the schedule of their names, or why the command
-// stops.
-fn load_guest<S: Shelf>(
+/// The guest of a program under the settings and the schedule of their names, or why the command
+/// stops.
+pub fn load_guest<S: Shelf>(
     alloc: Global,
     shelf: &mut S,
     options: &RunOptions<'_>,

@@ -7,6 +7,7 @@ ghost use Rattle.predator_cli.specs.Meets.{Meets};
 
 use crate::copies::tell;
 use crate::endings::refuse;
+use crate::laws::a_trace_counts_in_parts;
 use crate::trace_faults::status_of_copy;
 use command_files::Status;
 use command_line::SplitOptions;
@@ -21,6 +22,7 @@ pub fn split<S: Shelf>(alloc: Global, options: &SplitOptions<'_>, shelf: &mut S)
     ensures { Meets (Some (asks (split_meaning options.now)))
         (S.outside shelf.old) (S.outside shelf.new) result }
 {
+    a_trace_counts_in_parts();
     match split_trace(
         alloc,
         shelf,

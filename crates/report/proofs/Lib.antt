@@ -1,5 +1,4 @@
 pub mod ChunkLaws
 pub mod ShownLaws
-pub mod StableLaws
 pub mod StandingLaws
 pub mod TextLaws

@@ -1,2 +1,3 @@
 pub mod OfLists
 pub mod Shown
+pub mod Stable

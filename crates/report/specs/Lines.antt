@@ -121,12 +121,15 @@ abbrev pub standing_lines : List Symbol → Range → ℕ → ℕ → List Block
 standing_lines symbols r start end blocks =
     flat_map (block_lines symbols) (filter (block_stands r start end) blocks)
 
--- the object symbols on a line, in table order, and the blocks, in order of making; `end` is where
--- the accesses end
+-- the object symbols on a range, in table order, and the blocks that stand on it between a start
+-- and an end, in order of making
+abbrev pub lines_on : Objects → Range → ℕ → ℕ → List TextLine
+lines_on objects r start end =
+    symbol_lines r objects.symbols ++ standing_lines objects.symbols r start end objects.blocks
+
+-- the same of a line; `end` is where the accesses end
 abbrev pub object_lines : Objects → ℕ → ShownLine → List TextLine
-object_lines objects end l =
-    symbol_lines l.range objects.symbols
-    ++ standing_lines objects.symbols l.range l.start end objects.blocks
+object_lines objects end l = lines_on objects l.range l.start end
 
 -- one hart, or many
 abbrev pub owner_words : Owner → TextLine

@@ -12,12 +12,16 @@ use Rattle.report.specs.Lines.{word_lines}
 use Rattle.report.specs.declared.findings.Findings.{Findings}
 
 -- how it ended, after how many steps and accesses
-abbrev pub ending_lines : Ending → List TextLine
-ending_lines ending =
-    (codes "predator" ∷ codes "report" ∷ codes "1" ∷ [])
-    ∷ (codes "outcome" ∷ outcome_words ending.outcome)
+abbrev pub outcome_lines : Ending → List TextLine
+outcome_lines ending =
+    (codes "outcome" ∷ outcome_words ending.outcome)
     ∷ (codes "steps" ∷ decimal ending.steps ∷ [])
     ∷ (codes "accesses" ∷ decimal ending.accesses ∷ []) ∷ []
+
+-- the same behind the first line of a report
+abbrev pub ending_lines : Ending → List TextLine
+ending_lines ending =
+    (codes "predator" ∷ codes "report" ∷ codes "1" ∷ []) ∷ outcome_lines ending
 
 abbrev pub threshold_line : Levels → TextLine
 threshold_line v =

@@ -3,7 +3,7 @@ ghost use Rattle.std.specs.Prelude.{◌∷◌, [], codes, OnOk};
 ghost use Rattle.std.specs.Fmt.{decimal};
 ghost use Rattle.report.specs.Added.{AddsLine, AddsLines};
 ghost use Rattle.report.specs.Lines.{outcome_words};
-ghost use Rattle.report.specs.Reports.{ending_lines, setting_lines, threshold_line};
+ghost use Rattle.report.specs.Reports.{ending_lines, outcome_lines, setting_lines, threshold_line};
 
 use crate::words::cause_name;
 use base::{Cause, Ending, Hart, Layout, Outcome, Thresholds, push_address};
@@ -57,15 +57,22 @@ fn push_layout(text: &mut String, layout: Layout) -> Result<(), AllocError>
     writeln!(text, "layout {size} {offset}")
 }
 
-/// The lines of how it ended.
-pub fn push_ending(text: &mut String, ending: &Ending) -> Result<(), AllocError>
-    ensures { OnOk result (AddsLines text.old text.new (ending_lines ending.now)) }
+/// The lines of how it ended, after how many steps and accesses.
+pub fn push_outcome_lines(text: &mut String, ending: &Ending) -> Result<(), AllocError>
+    ensures { OnOk result (AddsLines text.old text.new (outcome_lines ending.now)) }
 {
     let steps = ending.steps;
     let accesses = ending.accesses;
-    text.push_str("predator report 1\n")?;
     push_outcome(text, ending.outcome)?;
     writeln!(text, "steps {steps}\naccesses {accesses}")
+}
+
+/// The first line of a report, and those of how it ended.
+pub fn push_ending(text: &mut String, ending: &Ending) -> Result<(), AllocError>
+    ensures { OnOk result (AddsLines text.old text.new (ending_lines ending.now)) }
+{
+    text.push_str("predator report 1\n")?;
+    push_outcome_lines(text, ending)
 }
 
 /// The lines of the layout, of the thresholds and of how many lines are listed.

@@ -13,6 +13,10 @@ mod report;
 mod standing;
 mod words;
 
+pub use chunks::Chunk;
 pub use findings::Findings;
+pub use head::push_outcome_lines;
+pub use near_blocks::{chunks_of, push_objects};
+pub use object_lines::push_function;
 pub use report::write_report;
 pub use standing::{block_on, symbol_on};

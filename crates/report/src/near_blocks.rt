@@ -2,10 +2,10 @@
 ghost use Rattle.std.specs.Prelude.{◌≡◌, IfOk, OnOk, flat_map};
 ghost use Rattle.report.specs.Added.{AddsLines};
 ghost use Rattle.report.specs.Chunks.{blocks_in, bounds_meet};
-ghost use Rattle.report.specs.Lines.{standing_lines};
+ghost use Rattle.report.specs.Lines.{lines_on, standing_lines};
 
 use crate::chunks::{Chunk, chunk_of};
-use crate::object_lines::push_blocks;
+use crate::object_lines::{push_blocks, push_symbols};
 use base::{NoMemory, Range};
 use objects::{Block, ObjectTable};
 use std::alloc::{AllocError, Global};
@@ -54,9 +54,9 @@ fn push_chunk(
     Ok(())
 }
 
-/// The lines of the blocks on a line whose track starts at `start`, where the accesses end at
-/// `end`. Chunks whose addresses are elsewhere are passed over.
-pub fn push_near(
+// The lines of the blocks on a line whose track starts at `start`, where the accesses end at
+// `end`. Chunks whose addresses are elsewhere are passed over.
+fn push_near(
     text: &mut String,
     chunks: &[Chunk<'_>],
     objects: &ObjectTable,
@@ -71,4 +71,21 @@ pub fn push_near(
         push_chunk(text, chunk, objects, range, start, end)?;
     }
     Ok(())
+}
+
+/// The lines of the symbols on a range, and of the blocks that stand on it at some position from
+/// `start` up to `end`; the chunks are those of all blocks of the table.
+pub fn push_objects(
+    text: &mut String,
+    chunks: &[Chunk<'_>],
+    objects: &ObjectTable,
+    range: Range,
+    start: u64,
+    end: u64,
+) -> Result<(), AllocError>
+    requires { flat_map blocks_in chunks.now ≡ objects.now.blocks }
+    ensures { OnOk result (AddsLines text.old text.new (lines_on objects.now range start end)) }
+{
+    push_symbols(text, objects, range)?;
+    push_near(text, chunks, objects, range, start, end)
 }

@@ -54,8 +54,8 @@ fn push_block(text: &mut String, block: &Block) -> Result<(), AllocError>
     push_death(text, block.died)
 }
 
-// The name of a function, or `-`, and the end of the line.
-fn push_function(text: &mut String, function: Option<&Name>) -> Result<(), AllocError>
+/// The name of a function, or `-`.
+pub fn push_function(text: &mut String, function: Option<&Name>) -> Result<(), AllocError>
     ensures { OnOk result (AddsText text.old text.new
         (function_word (option_map (λ name. name.now) function.entry))) }
 {

@@ -14,8 +14,7 @@ use crate::findings::Findings;
 use crate::head::{push_ending, push_settings};
 use crate::lines::{push_head, push_words};
 use crate::listing::{ListedTrack, listed};
-use crate::near_blocks::{chunks_of, push_near};
-use crate::object_lines::push_symbols;
+use crate::near_blocks::{chunks_of, push_objects};
 use base::NoMemory;
 use objects::ObjectTable;
 use std::alloc::{AllocError, Global};
@@ -34,8 +33,7 @@ fn push_listed(
 {
     let range = row.track.range();
     push_head(text, row.track, row.start)?;
-    push_symbols(text, objects, range)?;
-    push_near(text, chunks, objects, range, row.start, end)?;
+    push_objects(text, chunks, objects, range, row.start, end)?;
     push_words(text, row.track.shadow())
 }
 

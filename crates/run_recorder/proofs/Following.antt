@@ -83,7 +83,7 @@ follows_start given start first files one outside begun = record {
 
 touches-seen : (d : Config) (e : Event) → length (touch_in (seen d.memory e)) ≡ accesses_in e
 touches-seen d Quiet = refl
-touches-seen d (Touched a) = refl
+touches-seen d (Touched a pc) = refl
 touches-seen d (Alloc addr size sites) = refl
 touches-seen d (Free addr) = refl
 touches-seen d (Output addr len) = refl
@@ -124,7 +124,7 @@ given_more given first now later xs ys one two begun earlier so =
 -- an event has at most one access
 one_touch : (e : RunEvent) → length (touches_among (record_in e)) ≤ 1
 one_touch quiet = omega arith
-one_touch (touch a) = omega arith
+one_touch (touch a pc) = omega arith
 one_touch (alloc at size sites) = omega arith
 one_touch (free at) = omega arith
 one_touch (output at bytes) = omega arith

@@ -113,7 +113,7 @@ symbols_short (item ∷ symbols) all =
 
 event_inner : (e : RunEvent) → All IsInner (record_in e)
 event_inner quiet = All-nil IsInner
-event_inner (touch a) = All-cons IsInner (records.Touch a) [] tt (All-nil IsInner)
+event_inner (touch a pc) = All-cons IsInner (records.Touch a) [] tt (All-nil IsInner)
 event_inner (alloc at size sites) = All-cons IsInner (records.Alloc at size sites) [] tt
     (All-nil IsInner)
 event_inner (free at) = All-cons IsInner (records.Free at) [] tt (All-nil IsInner)
@@ -160,7 +160,7 @@ item_alone item = ap length (traced-one item)
 event_short : (harts : ℕ) (e : RunEvent) → All (IsGoodRecord harts) (record_in e)
     → length (traced (record_in e)) ≤ 25
 event_short harts quiet good = omega arith
-event_short harts (touch a) good = omega (arith, item_alone (records.Touch a), touch_long a)
+event_short harts (touch a pc) good = omega (arith, item_alone (records.Touch a), touch_long a)
 event_short harts (alloc at size sites) good =
     let is = All-head (IsGoodRecord harts) (records.Alloc at size sites) [] good in
     omega (
@@ -177,7 +177,7 @@ good_front : (harts : ℕ) (e : RunEvent) (events : List RunEvent)
     → All (IsGoodRecord harts) (record_in e ++ records_in events)
     → All (IsGoodRecord harts) (record_in e) × All (IsGoodRecord harts) (records_in events)
 good_front harts quiet events good = (All-nil (IsGoodRecord harts), good)
-good_front harts (touch a) events good =
+good_front harts (touch a pc) events good =
     let h = All-head (IsGoodRecord harts) (records.Touch a) (records_in events) good in (
       All-cons (IsGoodRecord harts) (records.Touch a) [] h (All-nil (IsGoodRecord harts)),
       All-tail (IsGoodRecord harts) (records.Touch a)
@@ -215,7 +215,7 @@ events_short harts (e ∷ events) good =
 
 few_touch : (e : RunEvent) → length (touch_in e) ≤ 1
 few_touch quiet = omega arith
-few_touch (touch a) = omega arith
+few_touch (touch a pc) = omega arith
 few_touch (alloc at size sites) = omega arith
 few_touch (free at) = omega arith
 few_touch (output at bytes) = omega arith

@@ -48,7 +48,7 @@ output-more events e =
 
 touch-in : (e : RunEvent) → touches_among (record_in e) ≡ touch_in e
 touch-in quiet = refl
-touch-in (touch a) = refl
+touch-in (touch a pc) = refl
 touch-in (alloc at size sites) = refl
 touch-in (free at) = refl
 touch-in (output at bytes) = refl

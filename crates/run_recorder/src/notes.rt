@@ -141,7 +141,7 @@ pub(crate) fn note_event<S: Shelf, O: Observer>(
 {
     match event {
         Event::Quiet => Ok(()),
-        Event::Touch(access) => {
+        Event::Touch { access, .. } => {
             note_record(shelf, files, outputs, observer, &touch_record(access))
         }
         Event::Alloc { addr, size, sites } => {

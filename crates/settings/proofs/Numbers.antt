@@ -4,7 +4,7 @@ use Rattle.std.specs.Prelude.{unwrap_or}
 use Rattle.toml.specs.Data.{Members}
 use Rattle.settings.specs.declared.key.Key.{Key}
 use Rattle.settings.specs.declared.key.Key.TheVariants.{Harts, Memory, Stack, Tracking, Prediction}
-use Rattle.settings.specs.declared.key.Key.TheVariants.{Report, Quantum, Budget, Line}
+use Rattle.settings.specs.declared.key.Key.TheVariants.{Report, Quantum, Budget, Line, Seed}
 use Rattle.settings.specs.Tables.{number_beside, number_of}
 
 -- but for prediction, the tracking threshold makes no difference
@@ -20,6 +20,7 @@ number_of-alone table Report h = refl
 number_of-alone table Quantum h = refl
 number_of-alone table Budget h = refl
 number_of-alone table Line h = refl
+number_of-alone table Seed h = refl
 
 pub number_of-prediction : (table : Members) (tracking : ℕ) → number_of table Tracking
     ≡ Some tracking

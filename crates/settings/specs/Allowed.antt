@@ -1,6 +1,6 @@
 -- What is true of all settings that are read.
 use Rattle.settings.specs.declared.key.Key.TheVariants.{Harts, Memory, Stack, Tracking, Prediction}
-use Rattle.settings.specs.declared.key.Key.TheVariants.{Report, Quantum, Budget, Line}
+use Rattle.settings.specs.declared.key.Key.TheVariants.{Report, Quantum, Budget, Line, Seed}
 use Rattle.settings.specs.declared.values.Settings.{Settings}
 use Rattle.settings.specs.Keys.{form_of, HasForm}
 
@@ -15,3 +15,4 @@ pub record IsAllowed (s : Settings) : Type 0 where
   pub quantum : HasForm (form_of s.tracking Quantum) s.quantum
   pub budget : HasForm (form_of s.tracking Budget) s.budget
   pub line : HasForm (form_of s.tracking Line) s.line
+  pub seed : HasForm (form_of s.tracking Seed) s.seed

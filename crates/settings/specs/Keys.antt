@@ -1,11 +1,11 @@
 -- The keys of a settings file, and the whole numbers that each may have.
-use Rattle.std.specs.Prelude.{◌≡◌, ℕ, ◌^◌, ◌%◌, ◌==◌, ◌≤◌, Bool, ◌&&◌, eqb, max, List, [], ◌∷◌}
+use Rattle.std.specs.Prelude.{◌≡◌, ℕ, ◌^◌, ◌-◌, ◌%◌, ◌==◌, ◌≤◌, Bool, ◌&&◌, eqb, max, List, [], ◌∷◌}
 use Rattle.std.specs.Prelude.{IsTrue, codes}
 use Rattle.std.specs.List.{list_any}
 use Rattle.base.specs.Levels.{is_from_to}
 use Rattle.settings.specs.declared.key.Key.{Key}
 use Rattle.settings.specs.declared.key.Key.TheVariants.{Harts, Memory, Stack, Tracking, Prediction}
-use Rattle.settings.specs.declared.key.Key.TheVariants.{Report, Quantum, Budget, Line}
+use Rattle.settings.specs.declared.key.Key.TheVariants.{Report, Quantum, Budget, Line, Seed}
 use Rattle.settings.specs.declared.key.Form.{Form}
 use Rattle.settings.specs.declared.key.Form.TheVariants.{FromTo, Pages, LineSize}
 use Rattle.settings.specs.declared.key.Rule.{Rule}
@@ -13,7 +13,7 @@ use Rattle.settings.specs.declared.key.Rule.{Rule}
 -- the keys, in the order in which they are judged
 abbrev pub keys_in_order : List Key
 keys_in_order = Harts ∷ Memory ∷ Stack ∷ Tracking ∷ Prediction ∷ Report ∷ Quantum ∷ Budget ∷ Line
-    ∷ []
+    ∷ Seed ∷ []
 
 -- a key as it is written in the file
 abbrev pub key_name : Key → List ℕ
@@ -26,6 +26,7 @@ key_name Report = codes "report"
 key_name Quantum = codes "quantum"
 key_name Budget = codes "budget"
 key_name Line = codes "line"
+key_name Seed = codes "seed"
 
 -- the native line sizes
 abbrev pub line_sizes : List ℕ
@@ -65,6 +66,7 @@ rule_of tracking Report = rule (FromTo 1 (2 ^ 40)) 100
 rule_of tracking Quantum = rule (FromTo 1 (2 ^ 20)) 100
 rule_of tracking Budget = rule (FromTo 1 (2 ^ 36)) 100000000
 rule_of tracking Line = rule LineSize 64
+rule_of tracking Seed = rule (FromTo 0 (2 ^ 32 - 1)) 0
 
 -- the form of a key's values beside a tracking threshold
 abbrev pub form_of : ℕ → Key → Form

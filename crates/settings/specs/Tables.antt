@@ -9,7 +9,7 @@ use Rattle.std.specs.Cmp.Lexicographic.{slice_cmp}
 use Rattle.toml.specs.Data.{Data, Members, no_members, member, get_member, as_integer}
 use Rattle.settings.specs.declared.key.Key.{Key}
 use Rattle.settings.specs.declared.key.Key.TheVariants.{Harts, Memory, Stack, Tracking, Prediction}
-use Rattle.settings.specs.declared.key.Key.TheVariants.{Report, Quantum, Budget, Line}
+use Rattle.settings.specs.declared.key.Key.TheVariants.{Report, Quantum, Budget, Line, Seed}
 use Rattle.settings.specs.declared.key.Form.{Form}
 use Rattle.settings.specs.declared.key.Rule.{Rule}
 use Rattle.settings.specs.declared.values.Settings.{Settings}
@@ -60,6 +60,7 @@ values_of table =
       quantum = value_of table Quantum;
       budget = value_of table Budget;
       line = value_of table Line;
+      seed = value_of table Seed;
     }
 
 -- the names of a table

@@ -10,7 +10,7 @@ pub enum SettingsFault {
     TooLong,
     /// It is no TOML, or no UTF-8.
     BadToml,
-    /// The least key in byte order that is none of the nine.
+    /// The least key in byte order that is none of the ten.
     UnknownKey(Name),
     /// The first key, in the order of `Key`, whose value is no whole number that it may have.
     OutOfRange(Key),

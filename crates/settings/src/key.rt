@@ -22,6 +22,8 @@ pub enum Key {
     Budget,
     /// How many bytes a line has where no layout is named: 32, 64, 128 or 256.
     Line,
+    /// What the turns after the schedule's list are drawn from, below 2^32; 0 where none is drawn.
+    Seed,
 }
 
 // What a value may be.
@@ -72,7 +74,7 @@ impl Key {
     ghost use Rattle.settings.specs.Keys.{keys_in_order, key_name, rule_of, HasForm};
 
     // The keys in the order in which they are judged.
-    pub(crate) fn all() -> [Key; 9]
+    pub(crate) fn all() -> [Key; 10]
         ensures { result ≡ keys_in_order }
     {
         [
@@ -85,6 +87,7 @@ impl Key {
             Key::Quantum,
             Key::Budget,
             Key::Line,
+            Key::Seed,
         ]
     }
 
@@ -102,6 +105,7 @@ impl Key {
             Key::Quantum => "quantum",
             Key::Budget => "budget",
             Key::Line => "line",
+            Key::Seed => "seed",
         }
     }
 
@@ -128,6 +132,7 @@ impl Key {
             Key::Quantum => Rule::new(Form::FromTo(1, 1 << 20), 100),
             Key::Budget => Rule::new(Form::FromTo(1, 1 << 36), 100_000_000),
             Key::Line => Rule::new(Form::LineSize, 64),
+            Key::Seed => Rule::new(Form::FromTo(0, 0xffff_ffff), 0),
         }
     }
 }

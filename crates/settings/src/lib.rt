@@ -1,4 +1,4 @@
-//! The settings file: TOML with nine keys at its root, all optional, each a whole number in a range
+//! The settings file: TOML with ten keys at its root, all optional, each a whole number in a range
 //! or of a list.
 //!
 //! A key that is absent has its usual value. A file is read once and untyped, by `toml`, and

@@ -107,6 +107,9 @@ fn judge_values(table: &Table) -> Result<Settings, SettingsFault>
     let Some(line) = number_alone(table, Key::Line) else {
         return Err(SettingsFault::OutOfRange(Key::Line));
     };
+    let Some(seed) = number_alone(table, Key::Seed) else {
+        return Err(SettingsFault::OutOfRange(Key::Seed));
+    };
     Ok(Settings {
         harts: harts as u16,
         memory: memory as u32,
@@ -117,6 +120,7 @@ fn judge_values(table: &Table) -> Result<Settings, SettingsFault>
         quantum: quantum as u32,
         budget,
         line: line as u32,
+        seed: seed as u32,
     })
 }
 
@@ -127,7 +131,7 @@ fn is_among(keys: &[Key], name: &str) -> bool
     keys.iter().any(|key| key.is_written(name))
 }
 
-// Whether a name is none of the nine keys.
+// Whether a name is none of the ten keys.
 fn is_unknown_name(name: &str) -> bool
     ensures { result ≡ is_unknown name.now }
 {
@@ -176,6 +180,7 @@ impl Settings {
             quantum: 100,
             budget: 100_000_000,
             line: 64,
+            seed: 0,
         }
     }
 

@@ -22,6 +22,8 @@ pub struct Settings {
     pub budget: u64,
     /// How many bytes a line has where no layout is named: the native line size.
     pub line: u32,
+    /// What the turns after the schedule's list are drawn from: 0 where none is drawn.
+    pub seed: u32,
 }
 
 impl Settings {

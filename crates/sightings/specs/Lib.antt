@@ -1,5 +1,7 @@
 pub mod Laws
 pub mod Lives
+pub mod MissSights
+pub mod MissTexts
 pub mod Origins
 pub mod Seen
 pub mod SightedCode

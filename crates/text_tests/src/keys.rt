@@ -38,6 +38,7 @@ const USUAL: Settings = Settings {
     quantum: 100,
     budget: 100_000_000,
     line: 64,
+    seed: 0,
 };
 
 const RAISED: Settings = Settings {
@@ -53,8 +54,8 @@ fn an_absent_key_has_its_usual_value(rt: HostRuntime) {
     assert!(rt; gives(rt.alloc(), b"tracking = 70\n", &RAISED));
 }
 
-const ALL_KEYS: &str = "# all keys\nline = 128\nbudget = 68_719_476_736\nquantum = 1\n\
-    report = 0x1\nprediction = 2\ntracking = 2\nstack = 4096\nmemory = 65536\n\"harts\" = 256\n";
+const ALL_KEYS: &str = "# all keys\nseed = 4294967295\nline = 128\nbudget = 68_719_476_736\n\
+    quantum = 1\nreport = 0x1\nprediction = 2\ntracking = 2\nstack = 4096\nmemory = 65536\n\"harts\" = 256\n";
 
 const OTHERS: Settings = Settings {
     harts: 256,
@@ -66,6 +67,7 @@ const OTHERS: Settings = Settings {
     quantum: 1,
     budget: 68_719_476_736,
     line: 128,
+    seed: 4_294_967_295,
 };
 
 #[test]
@@ -114,7 +116,7 @@ fn is_out_of_range(alloc: Global, text: &str, key: Key) -> bool {
     }
 }
 
-const OUT_OF_RANGE: [(&str, Key); 15] = [
+const OUT_OF_RANGE: [(&str, Key); 17] = [
     ("line = 96", Key::Line),
     ("line = 0", Key::Line),
     ("line = 512", Key::Line),
@@ -128,6 +130,8 @@ const OUT_OF_RANGE: [(&str, Key); 15] = [
     ("tracking = 16.0", Key::Tracking),
     ("report = -1", Key::Report),
     ("quantum = 1048577", Key::Quantum),
+    ("seed = 4294967296", Key::Seed),
+    ("seed = -1", Key::Seed),
     ("budget = [1]\nharts = 0", Key::Harts),
     ("line = 48\nbudget = 0", Key::Budget),
 ];

@@ -15,7 +15,7 @@ use Rattle.sharing_rules.specs.Laws.Lists.{by_push}
 use Rattle.sharing_rules.specs.Laws.Places.{count_places-empty, count_places-push}
 use Rattle.sharing_rules.specs.Places.{Question, count_places}
 use Rattle.misses.specs.Kept.{Kept, LineEntry, StandsFor, accessed_lines, all_counted}
-use Rattle.misses.specs.Kept.{kept_line, kept_of, lines_of}
+use Rattle.misses.specs.Kept.{kept_line, lines_of}
 use Rattle.misses.specs.Laws.Costs.{costs-ordered}
 use Rattle.misses.specs.Laws.Entered.{AgreeBut, none-of}
 use Rattle.misses.specs.Laws.KeptOf.{lines-push, never-accessed}
@@ -36,12 +36,17 @@ rows-mapped : (g : Grid) (t : List Touch) (ks : List ℕ)
 rows-mapped g t [] = refl
 rows-mapped g t (k ∷ ks) = ap (λ rs. row_of g (k, kept_line g t k) ∷ rs) (rows-mapped g t ks)
 
+-- what is told of all lines, and of one
+pub rows-stand : (k : Kept) (t : List Touch) → StandsFor t k
+    → map (row_of k.grid) k.lines ≡ rows_of k.grid t
+rows-stand k t stands =
+    ap (map (row_of k.grid)) (ap (λ (x : Kept). x.lines) stands)
+    ∙ rows-mapped k.grid t (accessed_lines k.grid t)
+
 pub row-stands : (k : Kept) (t : List Touch) (i : ℕ) → StandsFor t k
     → option_map (row_of k.grid) (slice_get k.lines i) ≡ slice_get (rows_of k.grid t) i
 row-stands k t i stands =
-    ap (λ es. option_map (row_of k.grid) (slice_get es i)) (ap (λ (x : Kept). x.lines) stands)
-    ∙ mapped-at (row_of k.grid) (kept_of k.grid t).lines i
-    ∙ ap (λ rs. slice_get rs i) (rows-mapped k.grid t (accessed_lines k.grid t))
+    mapped-at (row_of k.grid) k.lines i ∙ ap (λ rs. slice_get rs i) (rows-stand k t stands)
 
 -- a sum in which one number's part grows
 sum-same : (f g : ℕ → ℕ) (x : ℕ) (ks : List ℕ) → AgreeBut x f g → list_any (eqb x) ks ≡ false
@@ -86,7 +91,7 @@ sum-noted f g x n ks d agree grows new =
     ]
 
 -- counted at each access's own line it is the sum over the lines
-own-sum : (g : Grid) (asked : ℕ → Question)
+pub own-sum : (g : Grid) (asked : ℕ → Question)
     → ((r : ℕ) (t : List Touch) (a : Touch) → is_in (lines_of g) r a ≡ false → asked r t a ≡ false)
     → ((r : ℕ) (t : List Touch) → list_any (eqb r) (accessed_lines g t) ≡ false
     → count_places (asked r) t ≡ 0) → (t : List Touch)

@@ -1,4 +1,4 @@
-use Rattle.std.proofs.Common.{length}
+use Rattle.std.proofs.Common.{arith, length}
 use Rattle.sightings.specs.Lives.{objects_of}
 use Rattle.trace_format.specs.Rules.{touches_in}
 use Rattle.predator_cli.specs.Replay.{grid_in, levels_in}
@@ -52,16 +52,17 @@ returns-clause-carried c = λ save g v whole final earlier cut.
 pub returns-clause-halves : goal.returns-clause-halves
 returns-clause-halves c = λ at bytes whole small is.
     halves_cut at whole
-    (c.the_halves_have_the_accesses_of_the_whole.ensures.records at bytes whole is)
+    (c.the_halves_are_traces.ensures.halves at whole
+    (c.the_halves_are_traces.ensures.whole bytes whole small is))
     (c.a_trace_is_its_spelling.ensures bytes whole small is).good.counted
 
 pub returns-clause-good : goal.returns-clause-good
 returns-clause-good c = λ harts before good short.
-    savable harts before good short (c.what_stands_was_noted.ensures.lives before)
-    (c.what_stands_was_noted.ensures.symbols before) (c.what_stands_was_noted.ensures.lone before)
-    (c.what_is_noted_is_seen.ensures.apart before)
-    (c.what_stands_was_noted.ensures.few_blocks before)
-    (c.what_stands_was_noted.ensures.few_symbols before)
+    savable harts before good
+    (omega (arith, c.what_stands_was_noted.ensures.few_symbols before, short))
+    (omega (arith, c.what_stands_was_noted.ensures.few_blocks before, short))
+    (c.what_stands_was_noted.ensures.lives before) (c.what_stands_was_noted.ensures.symbols before)
+    (c.what_stands_was_noted.ensures.lone before) (c.what_is_noted_is_seen.ensures.apart before)
 
 pub returns-clause-of_harts : goal.returns-clause-of_harts
 returns-clause-of_harts c = of_harts

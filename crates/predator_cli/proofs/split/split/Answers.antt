@@ -20,7 +20,7 @@ returns-in-Ok g c =
     let all = length (touches_in copied.trace.items) in
     c.tell.ensures (split d) a
     (copy_worked (split d) d.trace (split_text d.at) (halves d.at d.first d.second)
-    (is_split d) a b _ copied
+    (is_split d (c.a_trace_counts_in_parts.ensures d)) a b _ copied
     (ap (copy_text (codes "split") c.in-Ok.made.cut) copied.told.1
     ∙ ap (λ (cut : ℕ). copy_text (codes "split") cut (all - cut)) copied.told.0))
 
@@ -33,7 +33,7 @@ returns-in-Err g c =
     c.refuse.ensures (Some (split d)) a
     (rw c.status_of_copy.ensures
     (copy_faulty (split d) d.trace (split_text d.at) (halves d.at d.first d.second)
-    (is_split d) a b c.in-Err.fault (record {
+    (is_split d (c.a_trace_counts_in_parts.ensures d)) a b c.in-Err.fault (record {
       refused = λ r is. failed.refused r (ap Err is);
       stays = λ r is. failed.stays r (ap Err is);
       memory = λ is. failed.memory (ap Err is);

@@ -5,7 +5,7 @@ use Rattle.report.specs.ListedTracks.{track_shown}
 use Rattle.report.specs.Shown.{is_shown_before}
 use Rattle.report.specs.declared.listing.ListedTrack.{ListedTrack}
 use Rattle.report.specs.Laws.Shown.{by_shown-ranks, in_order-map}
-use Rattle.report.proofs.StableLaws.{in_order-from_stable}
+use Rattle.report.specs.Laws.Stable.{in_order-from_stable}
 use Rattle.report.proofs.listing.listed.Goals as goal
 
 -- which of two rows comes first

@@ -11,7 +11,7 @@ use Rattle.guest.proofs.configuration.Configuration.run.Goals as goal
 pub returns-in-Next-clause-seen : goal.returns-in-Next-clause-seen
 returns-in-Next-clause-seen c =
     rw c.go_on.ensures.seen
-    (own_seen c.args.hart _ _ _ c.in-Next.instr c.in-Next.access _ c.in-Next.ensures.effect
+    (own_seen c.args.hart _ c.pc-pc.result _ _ c.in-Next.instr c.in-Next.access _ c.in-Next.ensures.effect
     c.requires.ready.inside)
 
 pub returns-in-Call-clause-turn : goal.returns-in-Call-clause-turn

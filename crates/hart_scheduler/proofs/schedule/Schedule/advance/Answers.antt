@@ -3,8 +3,8 @@ use Rattle.hart_scheduler.specs.Choices.{Plan}
 use Rattle.hart_scheduler.proofs.InTurn.{chosen_inside}
 use Rattle.hart_scheduler.proofs.schedule.Schedule.advance.Goals as goal
 
-pub take_in_turn-requires : goal.take_in_turn-requires
-take_in_turn-requires c =
+pub take_after_list-requires : goal.take_after_list-requires
+take_after_list-requires c =
     let harts : c.self.inside.harts ≡ c.args.self.now.harts = ap (λ (plan : Plan). plan.harts)
     c.self.view_is in
     let inside = chosen_inside c.args.runnable.now c.args.self.now c.args.hart c.requires.all

@@ -1,0 +1,126 @@
+// The command `explain`.
+ghost use Rattle.std.specs.Prelude.{◌≡◌, ◌^◌, ◌%◌, IfOk, IfErr, Some, None, option_and_then};
+ghost use Rattle.std.specs.Prelude.{option_map};
+ghost use Rattle.clap.specs.Words.{found_of, rows_of};
+ghost use Rattle.command_line.specs.Demands.{texts, text_of, UnlessMemory};
+ghost use Rattle.command_line.specs.Explain.{asked_of_explain, below, explain_meaning};
+ghost use Rattle.command_line.specs.Explain.{explain_of};
+ghost use Rattle.command_line.specs.Layouts.{layout_at};
+ghost use Rattle.command_line.specs.Numbers.{address_of, number_of};
+ghost use Rattle.command_line.specs.Words.{IsBounded, explain, given_apart, meaning};
+
+use crate::address::address;
+use crate::demand::{Demand, WordsFault};
+use crate::forms::{matches_of, value_of};
+use crate::layout::{allowed_layout, number};
+use crate::reason::Reason;
+use base::Layout;
+use clap::ArgMatches;
+use std::alloc::Global;
+
+/// What an `explain` is asked for. A name is a text as it stands in the words.
+#[derive(Clone, Copy, PartialEq, Eq, Debug)]
+pub struct ExplainOptions<'a> {
+    /// The name of the program file.
+    pub program: &'a str,
+    /// The layout of the line: its size, and where it begins modulo that.
+    pub layout: Layout,
+    /// Where the line begins.
+    pub base: u32,
+    /// The start, below 2^40.
+    pub start: u64,
+    /// The name of the settings file, where one is given.
+    pub settings: Option<&'a str>,
+    /// The name of the schedule, where one is given.
+    pub schedule: Option<&'a str>,
+}
+
+// The base of a line: an address below 2^32.
+fn base_in(word: Option<&str>) -> Option<u32>
+    ensures { result ≡ below (2 ^ 32) (option_and_then address_of (text_of word.entry)) }
+{
+    u32::try_from(address(word?)?).ok()
+}
+
+// The size of a line.
+fn size_in(word: Option<&str>) -> Option<u64>
+    ensures { result ≡ option_and_then number_of (text_of word.entry) }
+{
+    number(word?)
+}
+
+// The start: a number below 2^40.
+fn start_in(word: Option<&str>) -> Option<u64>
+    ensures { result ≡ below (2 ^ 40) (option_and_then number_of (text_of word.entry)) }
+{
+    let start = number(word?)?;
+    if start < 1 << 40 { Some(start) } else { None }
+}
+
+// The layout of a size whose lines begin where a base is.
+fn layout_from(base: u32, size: u64) -> Option<Layout>
+    ensures { result ≡ layout_at size (base % size) }
+{
+    match u64::from(base).checked_rem(size) {
+        Some(shift) => allowed_layout(size, shift),
+        None => None,
+    }
+}
+
+// What the values of an `explain` ask for.
+fn options_in<'a>(matches: &ArgMatches<'a>) -> Option<ExplainOptions<'a>>
+    ensures { option_map explain_meaning result ≡ explain_of (rows_of (found_of matches.now)) }
+{
+    let program = value_of(matches, "program")?;
+    let base = base_in(value_of(matches, "base"))?;
+    let size = size_in(value_of(matches, "size"))?;
+    let start = start_in(value_of(matches, "start"))?;
+    let layout = layout_from(base, size)?;
+    Some(ExplainOptions {
+        program,
+        layout,
+        base,
+        start,
+        settings: value_of(matches, "settings"),
+        schedule: value_of(matches, "schedule"),
+    })
+}
+
+// The same as a demand.
+fn demand_in<'a>(matches: &ArgMatches<'a>) -> Result<Demand<'a>, WordsFault<'a>>
+    ensures accepted { IfOk result (λ demand.
+        given_apart explain (explain_of (rows_of (found_of matches.now)))
+        ≡ Some (meaning demand)) }
+    ensures refused { IfErr result (λ fault. UnlessMemory fault
+        (given_apart explain (explain_of (rows_of (found_of matches.now))) ≡ None)) }
+    ensures bounded { IfOk result IsBounded }
+{
+    match options_in(matches) {
+        Some(options) => Ok(Demand::Explain(options)),
+        None => Err(WordsFault::Usage(Reason::Line {
+            base: value_of(matches, "base"),
+            size: value_of(matches, "size"),
+            start: value_of(matches, "start"),
+        })),
+    }
+}
+
+// What the words of an `explain` ask for, the command's own name first.
+pub fn read_explain<'a>(alloc: Global, words: &'a [String]) -> Result<Demand<'a>, WordsFault<'a>>
+    ensures accepted { IfOk result (λ demand.
+        given_apart explain (asked_of_explain (texts words.now)) ≡ Some (meaning demand)) }
+    ensures refused { IfErr result (λ fault. UnlessMemory fault
+        (given_apart explain (asked_of_explain (texts words.now)) ≡ None)) }
+    ensures bounded { IfOk result IsBounded }
+{
+    match matches_of(
+        alloc,
+        "explain",
+        &["program", "base", "size", "start"],
+        &["settings", "schedule"],
+        words,
+    ) {
+        Ok(matches) => demand_in(&matches),
+        Err(fault) => Err(fault),
+    }
+}

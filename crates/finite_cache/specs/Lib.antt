@@ -1,0 +1,10 @@
+pub mod Bounded
+pub mod Counts
+pub mod Fits
+pub mod Kept
+pub mod KeptParts
+pub mod Laws
+pub mod Rows
+pub mod Seen
+pub mod Sweeps
+pub mod Texts

@@ -1,0 +1,38 @@
+// Caches see the accesses of a trace.
+ghost use Rattle.std.specs.Prelude.{◌≤◌, OnOk};
+ghost use Rattle.trace_format.specs.Reading.{counted_after};
+ghost use Rattle.trace_format.specs.Rules.{last_position};
+ghost use Rattle.finite_cache.specs.Laws.Seen.{SeesNext};
+
+use crate::caches::Caches;
+use base::NoMemory;
+use trace_format::TraceRecord;
+use trace_passes::Observer;
+
+// A record, where it is an access, at the position that is next.
+#[inline]
+fn see(caches: &mut Caches, item: &TraceRecord) -> Result<(), NoMemory>
+    requires { counted_after caches.old.position item.now ≤ last_position }
+    ensures { OnOk result (SeesNext caches.old caches.new item.now) }
+{
+    match item {
+        TraceRecord::Touch(access) => caches.on_access(access),
+        TraceRecord::Alloc { .. } => Ok(()),
+        TraceRecord::Free { .. } => Ok(()),
+        TraceRecord::Symbol { .. } => Ok(()),
+        TraceRecord::End(_) => Ok(()),
+    }
+}
+
+impl Observer for Caches {
+    ghost use Rattle.finite_cache.specs.Seen.{HasSeen, begins_at};
+
+    ghost given = { HasSeen };
+
+    ghost begins = { begins_at };
+
+    #[inline]
+    fn note(&mut self, item: &TraceRecord) -> Result<(), NoMemory> {
+        see(self, item)
+    }
+}

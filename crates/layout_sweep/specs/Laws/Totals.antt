@@ -1,0 +1,217 @@
+-- What one access more makes of the total of a layout and of its number of lines.
+use Rattle.std.proofs.Common.{◌≡◌, ℕ, ◌+◌, ◌%◌, ◌<◌, Bool, true, false, cond, eqb, ltb, List}
+use Rattle.std.proofs.Common.{[], ◌∷◌, ◌++◌, Some, None, refl, sym, ap, ◌∙◌, subst, arith}
+use Rattle.std.proofs.Common.{inl, inr}
+use Rattle.std.proofs.lemmas.Bool.{cases_Bool, eqb-true, false≢true, or_parts}
+use Rattle.std.proofs.lemmas.Bool.Decides.{nat_tests}
+use Rattle.std.proofs.lemmas.List.Sums.{sum_by-cons, sum_by_push}
+use Rattle.std.specs.List.{AllByRecursion, IsDistinct, list_any}
+use Rattle.std.specs.Prelude.{filter_map, if◌then◌else◌, sum_by}
+use Rattle.base.specs.Lines.{Grid, line_number}
+use Rattle.base.specs.Touch.{Touch, is_write}
+use Rattle.sharing_rules.specs.Arrivals.{note_arrival}
+use Rattle.sharing_rules.specs.Laws.Arrivals.{each_once-distinct}
+use Rattle.sharing_rules.specs.Laws.Lists.{slice_cases}
+use Rattle.sharing_rules.specs.Laws.Observed.{observed_written, written_lines-any}
+use Rattle.sharing_rules.specs.Laws.Observed.{written_lines-push}
+use Rattle.sharing_rules.specs.Laws.Starts.{observed_start-one}
+use Rattle.sharing_rules.specs.Laws.Tracks.{track_of-stays}
+use Rattle.sharing_rules.specs.Lines.{grid_line, is_inside, line_at}
+use Rattle.sharing_rules.specs.Listed.{Finding, found, observed_line}
+use Rattle.sharing_rules.specs.declared.line_kind.LineKind.TheVariants.{Observed}
+use Rattle.sharing_rules.specs.Observed.{first_write_from, observed_start, written_lines}
+use Rattle.sharing_rules.specs.Tracks.{Traced, track_of, track_since}
+use Rattle.layout_sweep.specs.Laws.Windows.{reads-take_nothing, window-noted}
+use Rattle.layout_sweep.specs.Totals.{counted_lines, total_of}
+use Rattle.layout_sweep.specs.Windows.{takes, window_of}
+
+-- Two functions that agree at all numbers but one, and a sum in which that one's part grows.
+abbrev AgreeBut : ℕ → (ℕ → ℕ) → (ℕ → ℕ) → Type 0
+AgreeBut x f g = (k : ℕ) → eqb x k ≡ false → g k ≡ f k
+
+sum-same : (f g : ℕ → ℕ) (x : ℕ) (ks : List ℕ) → AgreeBut x f g → list_any (eqb x) ks ≡ false
+    → sum_by g ks ≡ sum_by f ks
+sum-same f g x [] agree none = refl
+sum-same f g x (k ∷ ks) agree none =
+    let parts = or_parts (eqb x k) (list_any (eqb x) ks) none in
+    let here = agree k parts.0 in
+    let rest = sum-same f g x ks agree parts.1 in
+    omega (arith, here, rest, sum_by-cons f k ks, sum_by-cons g k ks)
+
+none-of : (k : ℕ) (ks : List ℕ) → AllByRecursion (λ y. eqb k y ≡ false) ks
+    → list_any (eqb k) ks ≡ false
+none-of k [] all = refl
+none-of k (j ∷ ks) all = rw (all.0, none-of k ks all.1)
+
+sum-known : (f g : ℕ → ℕ) (x n : ℕ) (ks : List ℕ) → IsDistinct eqb ks → AgreeBut x f g
+    → g x ≡ f x + n → list_any (eqb x) ks ≡ true → sum_by g ks ≡ sum_by f ks + n
+unfolding IsDistinct
+sum-known f g x n [] d agree grows there = absurd (false≢true there)
+sum-known f g x n (k ∷ ks) d agree grows there =
+    elim (cases_Bool (eqb x k)) [
+      | inl here ↦
+          let same = eqb-true x k here in
+          let none : list_any (eqb x) ks ≡ false =
+          subst (λ j. list_any (eqb j) ks ≡ false) (sym same) (none-of k ks d.0) in
+          let grown : g k ≡ f k + n = subst (λ j. g j ≡ f j + n) same grows in
+          let rest = sum-same f g x ks agree none in
+          omega (arith, grown, rest, sum_by-cons f k ks, sum_by-cons g k ks)
+      | inr other ↦
+          let later : list_any (eqb x) ks ≡ true = rw other at there in
+          let rest = sum-known f g x n ks d.1 agree grows later in
+          let here = agree k other in
+          omega (arith, here, rest, sum_by-cons f k ks, sum_by-cons g k ks)
+    ]
+
+sum-noted : (f g : ℕ → ℕ) (x n : ℕ) (ks : List ℕ) → IsDistinct eqb ks → AgreeBut x f g
+    → g x ≡ f x + n → (list_any (eqb x) ks ≡ false → f x ≡ 0)
+    → sum_by g (note_arrival ks x) ≡ sum_by f ks + n
+sum-noted f g x n ks d agree grows new =
+    elim (cases_Bool (list_any (eqb x) ks)) [
+      | inl there ↦ rw there (sum-known f g x n ks d agree grows there)
+      | inr none ↦
+          let same = sum-same f g x ks agree none in
+          let nothing = new none in
+          rw none (omega (arith, sum_by_push g ks x, same, grows, nothing))
+    ]
+
+sum-alike : (f g : ℕ → ℕ) (ks : List ℕ) → ((k : ℕ) → g k ≡ f k) → sum_by g ks ≡ sum_by f ks
+sum-alike f g [] alike = refl
+sum-alike f g (k ∷ ks) alike =
+    let here = alike k in
+    let rest = sum-alike f g ks alike in
+    omega (arith, here, rest, sum_by-cons f k ks, sum_by-cons g k ks)
+
+-- What is counted of line k of a layout, 0 where it isn't written, and what is made of it.
+abbrev count_on : Grid → List Touch → ℕ → ℕ
+count_on g t k = (track_of (grid_line g k) 0 t).count
+
+found-sum : (val : ℕ → ℕ) (g : Grid) (t : List Touch) (ks : List ℕ) → val 0 ≡ 0
+    → sum_by (λ f. val f.count) (filter_map (observed_line g 1 t) ks)
+    ≡ sum_by (λ k. val (count_on g t k)) ks
+found-sum val g t [] blank = refl
+found-sum val g t (k ∷ ks) blank =
+    let inside : ℕ → Bool = is_inside (grid_line g k) in
+    let one : observed_start 1 inside t ≡ first_write_from 0 inside t = observed_start-one inside t
+    in
+    let rest = found-sum val g t ks blank in
+    elim (slice_cases (first_write_from 0 inside t)) [
+      | inl none ↦
+          let start : observed_start 1 inside t ≡ None = one ∙ none in
+          let here : count_on g t k ≡ 0 = ap (λ (x : Traced). x.count)
+          (ap (track_since (grid_line g k) t) none) in
+          let nothing : val (count_on g t k) ≡ 0 = ap val here ∙ blank in
+          rw start (omega (arith, rest, nothing, sum_by-cons (λ k. val (count_on g t k)) k ks))
+      | inr some ↦
+          let start : observed_start 1 inside t ≡ Some some.0 = one ∙ some.1 in
+          let here : count_on g t k ≡ (track_since (grid_line g k) t (Some some.0)).count =
+          ap (λ (x : Traced). x.count) (ap (track_since (grid_line g k) t) some.1) in
+          rw start (
+          let same = ap val here in
+          omega (
+            arith,
+            rest,
+            same,
+            sum_by-cons (λ k. val (count_on g t k)) k ks,
+            sum_by-cons (λ (f : Finding). val f.count) (found t Observed (grid_line g k) some.0)
+                (filter_map (observed_line g 1 t) ks),
+          ))
+    ]
+
+never_written : (g : Grid) (t : List Touch) (k : ℕ) → list_any (eqb k) (written_lines g t) ≡ false
+    → count_on g t k ≡ 0
+never_written g t k none =
+    let inside : ℕ → Bool = is_inside (grid_line g k) in
+    elim (slice_cases (first_write_from 0 inside t)) [
+      | inl none_yet ↦ ap (λ (x : Traced). x.count) (ap (track_since (grid_line g k) t) none_yet)
+      | inr some ↦
+          let written = observed_written 1 inside t some.0 (observed_start-one inside t ∙ some.1) in
+          absurd (false≢true (sym none ∙ written_lines-any g t k ∙ written))
+    ]
+
+-- a sum over the written lines, where only the line of the access can change
+written-sum : (val : ℕ → ℕ) (g : Grid) (t : List Touch) (a : Touch) (n : ℕ) → val 0 ≡ 0
+    → (is_write a.kind ≡ false → n ≡ 0)
+    → val (count_on g (t ++ a ∷ []) (line_number g.size g.offset a.addr))
+    ≡ val (count_on g t (line_number g.size g.offset a.addr)) + n
+    → sum_by (λ k. val (count_on g (t ++ a ∷ []) k)) (written_lines g (t ++ a ∷ []))
+    ≡ sum_by (λ k. val (count_on g t k)) (written_lines g t) + n
+written-sum val g t a n blank quiet grows =
+    let x : ℕ = line_number g.size g.offset a.addr in
+    let before : ℕ → ℕ = λ k. val (count_on g t k) in
+    let after : ℕ → ℕ = λ k. val (count_on g (t ++ a ∷ []) k) in
+    let agree : AgreeBut x before after = λ k other.
+    ap (λ (y : Traced). val y.count) (track_of-stays (grid_line g k) 0 t a other) in
+    elim (cases_Bool (is_write a.kind)) [
+      | inl writes ↦
+          let pushed : written_lines g (t ++ a ∷ []) ≡ note_arrival (written_lines g t) x =
+          rw (written_lines-push g t a, writes) refl in
+          ap (sum_by after) pushed
+          ∙ sum-noted before after x n (written_lines g t) (each_once-distinct _) agree grows
+          (λ none. ap val (never_written g t x none) ∙ blank)
+      | inr reads ↦
+          let pushed : written_lines g (t ++ a ∷ []) ≡ written_lines g t =
+          rw (written_lines-push g t a, reads) refl in
+          let zero_more : n ≡ 0 = quiet reads in
+          let alike : (k : ℕ) → after k ≡ before k = λ k. elim (cases_Bool (eqb x k)) [
+            | inl here ↦ subst (λ j. after j ≡ before j) (eqb-true x k here)
+                (omega (arith, grows, zero_more))
+            | inr other ↦ agree k other
+          ] in
+          let same = sum-alike before after (written_lines g t) alike in
+          ap (sum_by after) pushed ∙ omega (arith, same, zero_more)
+    ]
+
+-- a layout of whole words
+abbrev pub IsEven : Grid → Type 0
+IsEven g = (0 < g.size) × (g.size % 4 ≡ 0)
+
+inside_own : (g : Grid) (x : ℕ) → is_inside (line_at g x) x ≡ true
+inside_own g x = own (line_number g.size g.offset x)
+  where
+    own : (k : ℕ) → eqb k k ≡ true
+    own k = grind (arith, nat_tests)
+
+no_more : (b : Bool) (n : ℕ) → b ≡ false → (if b then n else 0) ≡ 0
+no_more b n e = rw e refl
+
+pub total-push : (g : Grid) (t : List Touch) (a : Touch) → IsEven g
+    → total_of g (t ++ a ∷ []) ≡ total_of g t + (if takes (window_of (line_at g a.addr) t) a then 1
+    else 0)
+total-push g t a even =
+    let w = window_of (line_at g a.addr) t in
+    let noted = window-noted (line_at g a.addr) t a
+    (record { some = even.0; whole = even.1 }) (inside_own g a.addr) in
+    found-sum (λ c. c) g (t ++ a ∷ []) (written_lines g (t ++ a ∷ [])) refl
+    ∙ written-sum (λ c. c) g t a (if takes w a then 1 else 0) refl
+    (λ reads. no_more (takes w a) 1 (reads-take_nothing w a reads)) noted.count
+    ∙ sym (ap (λ s. s + (if takes w a then 1 else 0))
+    (found-sum (λ c. c) g t (written_lines g t) refl))
+
+-- whether there is a count at all, as a number
+abbrev is_counted : ℕ → ℕ
+is_counted c = cond (ltb 0 c) 1 0
+
+first_more : (c d : ℕ) (taken : Bool) → d ≡ c + (if taken then 1 else 0)
+    → is_counted d ≡ is_counted c + (if taken then (if ltb 0 c then 0 else 1) else 0)
+first_more c d true e =
+    elim (cases_Bool (ltb 0 c)) [
+      | inl some ↦ let more : ltb 0 d ≡ true = grind (arith, nat_tests) in rw (some, more) refl
+      | inr none ↦ let more : ltb 0 d ≡ true = grind (arith, nat_tests) in rw (none, more) refl
+    ]
+first_more c d false e = let same : d ≡ c = omega (arith, e) in rw same (omega arith)
+
+pub lines-push : (g : Grid) (t : List Touch) (a : Touch) → IsEven g
+    → counted_lines g (t ++ a ∷ []) ≡ counted_lines g t
+    + (if takes (window_of (line_at g a.addr) t) a
+    then (if (window_of (line_at g a.addr) t).taken then 0 else 1) else 0)
+lines-push g t a even =
+    let w = window_of (line_at g a.addr) t in
+    let noted = window-noted (line_at g a.addr) t a
+    (record { some = even.0; whole = even.1 }) (inside_own g a.addr) in
+    let more : ℕ = if takes w a then (if w.taken then 0 else 1) else 0 in
+    found-sum is_counted g (t ++ a ∷ []) (written_lines g (t ++ a ∷ [])) refl
+    ∙ written-sum is_counted g t a more refl
+    (λ reads. no_more (takes w a) (if w.taken then 0 else 1) (reads-take_nothing w a reads))
+    (first_more _ _ (takes w a) noted.count)
+    ∙ sym (ap (λ s. s + more) (found-sum is_counted g t (written_lines g t) refl))

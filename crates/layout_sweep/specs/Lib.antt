@@ -1,0 +1,9 @@
+pub mod Counts
+pub mod Histories
+pub mod Laws
+pub mod Pages
+pub mod Seen
+pub mod Standing
+pub mod Texts
+pub mod Totals
+pub mod Windows

@@ -1,0 +1,36 @@
+// A sweep sees the records of a trace.
+ghost use Rattle.std.specs.Prelude.{◌≤◌, OnOk};
+ghost use Rattle.trace_format.specs.Reading.{counted_after};
+ghost use Rattle.trace_format.specs.Rules.{last_position};
+ghost use Rattle.layout_sweep.specs.Seen.{SweepsNext};
+
+use crate::one_access::see;
+use crate::sweep::Sweep;
+use base::NoMemory;
+use trace_format::TraceRecord;
+use trace_passes::Observer;
+
+// One record more. All but accesses change nothing.
+#[inline]
+fn note_record(sweep: &mut Sweep, item: &TraceRecord) -> Result<(), NoMemory>
+    requires { counted_after sweep.old.position item.now ≤ last_position }
+    ensures { OnOk result (SweepsNext sweep.old sweep.new item.now) }
+{
+    match item {
+        TraceRecord::Touch(access) => see(sweep, *access),
+        _ => Ok(()),
+    }
+}
+
+impl Observer for Sweep {
+    ghost use Rattle.layout_sweep.specs.Seen.{HasSwept, begins_at};
+
+    ghost given = { HasSwept };
+
+    ghost begins = { begins_at };
+
+    #[inline]
+    fn note(&mut self, item: &TraceRecord) -> Result<(), NoMemory> {
+        note_record(self, item)
+    }
+}

@@ -1,0 +1,5 @@
+-- The laws of the definitions, by what they are about.
+pub mod Groups
+pub mod Passing
+pub mod Plans
+pub mod Words

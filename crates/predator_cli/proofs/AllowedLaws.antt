@@ -1,0 +1,188 @@
+-- Settings that are accepted have thresholds and a native line as a detector may have them.
+use Rattle.std.proofs.Common.{◌≡◌, ℕ, ◌^◌, Bool, true, false, ◌&&◌, cond, List, [], ◌∷◌, length}
+use Rattle.std.proofs.Common.{Option, Some, None, Result, Ok, Err, refl, sym, ap, ◌∙◌, subst, arith}
+use Rattle.std.proofs.lemmas.Bool.Decides.{nat_tests}
+use Rattle.std.specs.Option.{option_map_or, option_or}
+use Rattle.std.specs.Prelude.{ℤ, pos, negsuc, ◌==◌, nat_lt, IfSome, IsTrue, find, is_none}
+use Rattle.std.specs.Prelude.{option_and_then, unwrap_or}
+use Rattle.base.specs.Levels.{Levels, are_levels, is_from_to}
+use Rattle.base.specs.Lines.{Grid, is_layout}
+use Rattle.command_files.specs.Readings.{first_refusal}
+use Rattle.command_files.specs.SettingsFiles.{layout_of, levels_of, settings_in, settings_readings}
+use Rattle.command_files.specs.SettingsFiles.{settings_refusal, usual_settings}
+use Rattle.toml.specs.Data.{Data, Members, as_integer, get_member, no_members}
+use Rattle.settings.specs.Answers.{judged_table, settings_of, table_of, longest_content}
+use Rattle.settings.specs.Keys.{form_of, has_form, is_native_line, key_name, keys_in_order, rule_of}
+use Rattle.settings.specs.Tables.{first_out_of_range, least_unknown, number_of}
+use Rattle.settings.specs.Tables.{number_of_form, tracking_of, value_of, values_of, whole_of_form}
+use Rattle.settings.specs.declared.fault.SettingsFault.{SettingsFault}
+use Rattle.settings.specs.declared.fault.SettingsFault.TheVariants.{TooLong, BadToml, OutOfRange}
+use Rattle.settings.specs.declared.key.Key.{Key}
+use Rattle.settings.specs.declared.key.Key.TheVariants.{Tracking, Prediction, Report}
+use Rattle.settings.specs.declared.key.Key.TheVariants.{Line}
+use Rattle.settings.specs.declared.values.Settings.{Settings}
+use Rattle.sharing_rules.specs.Listed.{may_predict}
+use Rattle.sharing_rules.specs.Predicted.{is_native_size}
+use Rattle.shelf.specs.Shelf.{Files, content}
+
+-- a number that has a form
+formed_if : (t : ℕ) (key : Key) (n m : ℕ) (b : Bool) → has_form (form_of t key) n ≡ b
+    → (let r : Option ℕ = cond b (Some n) None in r ≡ Some m) → has_form (form_of t key) m ≡ true
+formed_if t key n m true has is =
+    let same : n ≡ m = cc in ap (has_form (form_of t key)) (sym same) ∙ has
+formed_if t key n m false has is = absurd cc
+
+whole_formed : (t : ℕ) (key : Key) (z : Option ℤ) (m : ℕ)
+    → option_and_then (whole_of_form (form_of t key)) z ≡ Some m → has_form (form_of t key) m ≡ true
+whole_formed t key None m is = absurd cc
+whole_formed t key (Some (pos n)) m is = formed_if t key n m (has_form (form_of t key) n) refl is
+whole_formed t key (Some (negsuc n)) m is = absurd cc
+
+-- what is given for a key has its form, where the usual number has
+under_formed : (t : ℕ) (key : Key) (given : Option Data) (m : ℕ)
+    → has_form (form_of t key) (rule_of t key).usual ≡ true
+    → option_map_or (number_of_form (form_of t key)) given (Some (rule_of t key).usual) ≡ Some m
+    → has_form (form_of t key) m ≡ true
+under_formed t key None m usual is =
+    let same : (rule_of t key).usual ≡ m = cc in
+    ap (has_form (form_of t key)) (sym same) ∙ usual
+under_formed t key (Some value) m usual is = whole_formed t key (as_integer value) m is
+
+-- what is there has its value
+value_there : (o : Option ℕ) → is_none o ≡ false → o ≡ Some (unwrap_or o 0)
+value_there None is = absurd cc
+value_there (Some n) is = refl
+
+pub record IsInRange (s : Settings) : Type 0 where
+  pub tracking : is_from_to 1 (2 ^ 32) s.tracking ≡ true
+  pub prediction : is_from_to s.tracking (2 ^ 32) s.prediction ≡ true
+  pub report : is_from_to 1 (2 ^ 40) s.report ≡ true
+  pub line : is_native_line s.line ≡ true
+
+most_usual : (tracking : ℕ) → is_from_to 1 (2 ^ 32) tracking ≡ true
+    → has_form (form_of tracking Prediction) (rule_of tracking Prediction).usual ≡ true
+most_usual tracking within = grind (arith, nat_tests)
+
+key_formed : (table : Members) (key : Key) → is_none (number_of table key) ≡ false
+    → has_form (form_of (tracking_of table) key) (rule_of (tracking_of table) key).usual ≡ true
+    → has_form (form_of (tracking_of table) key) (value_of table key) ≡ true
+unfolding number_of
+key_formed table key there usual =
+    under_formed (tracking_of table) key (get_member (key_name key) table)
+    (value_of table key) usual (value_there (number_of table key) there)
+
+-- the first of some that passes a test, where none does
+abbrev NonePasses : (Key → Bool) → List Key → Type 0
+NonePasses p [] = Unit {0}
+NonePasses p (key ∷ later) = (p key ≡ false) × (NonePasses p later)
+
+by_test : (p : Key → Bool) (key : Key) (later : List Key) (b : Bool) → p key ≡ b
+    → (let r : Option Key = cond b (Some key) (find p later) in r ≡ None)
+    → (p key ≡ false) × (find p later ≡ None)
+by_test p key later true is none = absurd cc
+by_test p key later false is none = (is, none)
+
+none_passes : (p : Key → Bool) (keys : List Key) → find p keys ≡ None → NonePasses p keys
+none_passes p [] none = tt
+none_passes p (key ∷ later) none =
+    let both = by_test p key later (p key) refl none in (both.0, none_passes p later both.1)
+
+table_in_range : (table : Members) → first_out_of_range table ≡ None
+    → IsInRange (values_of table)
+unfolding number_of
+table_in_range table none =
+    let each : NonePasses (λ key. is_none (number_of table key)) keys_in_order =
+    none_passes (λ key. is_none (number_of table key)) keys_in_order none in
+    let tracking : is_from_to 1 (2 ^ 32) (tracking_of table) ≡ true =
+    key_formed table Tracking each.1.1.1.0 refl in
+    record {
+      tracking = tracking;
+      prediction =
+          key_formed table Prediction each.1.1.1.1.0 (most_usual (tracking_of table) tracking);
+      report = key_formed table Report each.1.1.1.1.1.0 refl;
+      line = key_formed table Line each.1.1.1.1.1.1.1.1.0 refl;
+    }
+
+values_then : (table : Members) (s : Settings) (o : Option Key) → first_out_of_range table ≡ o
+    → (let r : Result Settings SettingsFault = option_map_or (λ key. Err (OutOfRange key)) o
+    (Ok (values_of table)) in r ≡ Ok s)
+    → IsInRange s
+values_then table s None none is =
+    let same : values_of table ≡ s = cc in subst IsInRange same (table_in_range table none)
+values_then table s (Some key) none is = absurd cc
+
+table_then : (table : Members) (s : Settings) (o : Option (List ℕ)) → least_unknown table ≡ o
+    → judged_table table ≡ Ok s → IsInRange s
+table_then table s None none is =
+    values_then table s (first_out_of_range table) refl (rw none at is)
+table_then table s (Some name) none is = absurd (let no = rw none at is in cc)
+
+content_then : (s : Settings) (o : Option Members)
+    → (let r : Result Settings SettingsFault = option_map_or judged_table o (Err BadToml) in r ≡ Ok s)
+    → IsInRange s
+content_then s None is = absurd cc
+content_then s (Some table) is = table_then table s (least_unknown table) refl is
+
+long_then : (content : List ℕ) (s : Settings) (b : Bool)
+    → (let r : Result Settings SettingsFault = cond b (Err TooLong)
+    (option_map_or judged_table (table_of content) (Err BadToml)) in r ≡ Ok s)
+    → IsInRange s
+long_then content s true is = absurd cc
+long_then content s false is = content_then s (table_of content) is
+
+-- the settings that a content gives
+accepted_in_range : (content : List ℕ) (s : Settings) → settings_of content ≡ Ok s
+    → IsInRange s
+accepted_in_range content s is =
+    long_then content s (nat_lt longest_content (length content)) is
+
+usual_in_range : IsInRange (values_of no_members)
+unfolding number_of
+usual_in_range = record { tracking = refl; prediction = refl; report = refl; line = refl }
+
+-- ---- what a detector may have under them
+
+-- an allowed layout and thresholds, which predict only where they may
+pub record IsUnder (g : Grid) (v : Levels) : Type 0 where
+  pub layout : IsTrue (is_layout g.size g.offset)
+  pub predictable : IsTrue (may_predict g v)
+  pub levels : IsTrue (are_levels v.tracking v.prediction v.report)
+
+native_layout : (n : ℕ) → is_native_line n ≡ true → IsTrue (is_layout n 0)
+native_layout n native = grind (arith, nat_tests)
+
+native_predicts : (n : ℕ) → is_native_line n ≡ true → IsTrue (is_native_size n && (0 == 0))
+native_predicts n native = rw native refl
+
+native_levels : (s : Settings) → IsInRange s
+    → IsTrue (are_levels s.tracking (Some s.prediction) s.report)
+native_levels s range = rw (range.tracking, range.prediction, range.report) refl
+
+plain_levels : (s : Settings) → IsInRange s → IsTrue (are_levels s.tracking None s.report)
+plain_levels s range = rw (range.tracking, range.report) refl
+
+pub under_settings : (layout : Option Grid) (s : Settings) → IsInRange s
+    → IfSome layout (λ g. IsTrue (is_layout g.size g.offset))
+    → IsUnder (layout_of layout s) (levels_of layout s)
+under_settings None s range given = record {
+  layout = native_layout s.line range.line;
+  predictable = native_predicts s.line range.line;
+  levels = native_levels s range;
+}
+under_settings (Some g) s range given =
+    record { layout = given; predictable = refl; levels = plain_levels s range }
+
+-- ---- the settings of a command
+
+settled : (content : List ℕ) (r : Result Settings SettingsFault) → settings_of content ≡ r
+    → option_or (settings_refusal r) None ≡ None → (s : Settings) × (r ≡ Ok s) × IsInRange s
+settled content (Ok s) is none = (s, refl, accepted_in_range content s is)
+settled content (Err fault) is none = absurd cc
+
+-- settings that are not refused are there, and in range
+pub settings_found : (name : Option (List ℕ)) (files : Files)
+    → first_refusal (settings_readings name) files ≡ None
+    → (s : Settings) × (settings_in name files ≡ Ok s) × IsInRange s
+settings_found None files none = (usual_settings, refl, usual_in_range)
+settings_found (Some n) files none =
+    settled (content files n) (settings_of (content files n)) refl none

@@ -1,0 +1,67 @@
+// Laws of the definitions, for whoever reads contracts alone. Each call does nothing.
+ghost use Rattle.std.specs.Prelude.{◌≡◌, ℕ, ◌<◌, ◌++◌, ◌∷◌, IsTrue, List, Some, length};
+ghost use Rattle.std.specs.Prelude.{slice_get};
+ghost use Rattle.base.specs.Levels.{Levels};
+ghost use Rattle.base.specs.Lines.{Grid, is_layout};
+ghost use Rattle.sharing_rules.specs.Lines.{Line};
+ghost use Rattle.sharing_rules.specs.Listed.{Finding, listed};
+ghost use Rattle.sharing_rules.specs.Members.{Member};
+ghost use Rattle.sharing_rules.specs.Verdicts.{verdict_of};
+ghost use Rattle.sharing_rules.specs.Words.{words_since};
+ghost use Rattle.sharing_rules.specs.declared.line_kind.Verdict.TheVariants.{FalseSharing};
+ghost use Rattle.takings.specs.Kept.{holds_line, is_held_by, two_of, victim_by};
+ghost use Rattle.takings.specs.Latest.{accesses_of, latest};
+ghost use Rattle.takings.specs.Laws.Another.{held_by_another};
+ghost use Rattle.takings.specs.Laws.Sums.{taken_in};
+ghost use Rattle.takings.specs.Takings.{hart_pairs, is_in_by_another, is_of_one_word};
+ghost use Rattle.takings.specs.Takings.{is_taking, pairs, taking_count, takings, victim};
+ghost use Rattle.takings.specs.Takings.{victim_place};
+ghost use Rattle.takings.specs.declared.sited.Sited.{Sited};
+
+/// Each taking has a victim, and the victim's hart holds the line before it.
+pub fn victims_hold_the_line()
+    ensures { (l : Line) (start : ℕ) (before : List Sited) (s : Sited)
+        → IsTrue (is_taking l start before s)
+        → (v : Sited) × (victim l before s ≡ Some v)
+        × IsTrue (holds_line l before v.access.hart) }
+{}
+
+/// Of a line two accesses are enough, whatever the number of harts: the latest access, and the
+/// latest one by another hart than that, with whether this other hart holds the line.
+pub fn two_accesses_are_enough()
+    // they tell the latest access by another hart than any
+    ensures victim { (l : Line) (before : List Sited) (hart : ℕ)
+        → latest (is_in_by_another l hart) before ≡ victim_by (two_of l before) hart }
+    // and whether another hart than any holds the line
+    ensures held { (l : Line) (before : List Sited) (hart : ℕ)
+        → held_by_another l before hart ≡ is_held_by (two_of l before) hart }
+{}
+
+/// Where the verdict over the words of a line since a start is that of false sharing, each taking
+/// of one word has its victim below the start.
+pub fn false_sharing_takes_no_word()
+    ensures { (l : Line) (start : ℕ) (before after : List Sited) (s v : Sited) (i : ℕ)
+        → IsTrue (is_layout l.size l.offset)
+        → verdict_of (words_since l start (accesses_of (before ++ s ∷ after))) ≡ FalseSharing
+        → IsTrue (is_taking l start before s) → victim_place l before s ≡ Some i
+        → slice_get before i ≡ Some v
+        → IsTrue (is_of_one_word (record { victim = v; taker = s })) → i < start }
+{}
+
+/// The count that is told of a listed line, from the start that is listed with it, is the count
+/// that is listed.
+pub fn listed_counts_are_told()
+    ensures { (g : Grid) (v : Levels) (u : List Sited) (f : Finding)
+        → Member f (listed g v (accesses_of u)) → f.count ≡ taking_count f.line f.start u }
+{}
+
+/// The takings of all pairs of instructions add up to the count, and so do those of all pairs of
+/// harts.
+pub fn takings_add_up()
+    ensures takings { (l : Line) (start : ℕ) (u : List Sited)
+        → length (takings l start u) ≡ taking_count l start u }
+    ensures pairs { (l : Line) (start : ℕ) (u : List Sited)
+        → taken_in (pairs l start u) ≡ taking_count l start u }
+    ensures harts { (l : Line) (start : ℕ) (u : List Sited)
+        → taken_in (hart_pairs l start u) ≡ taking_count l start u }
+{}

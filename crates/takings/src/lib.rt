@@ -1,0 +1,28 @@
+//! Takings: which instructions take a line from each other.
+//!
+//! A taking is an invalidation of one line at a position above a start. Its victim is the latest
+//! access in the line by another hart than its own, so a taking has two instructions, that of its
+//! victim and its own, and two harts.
+//!
+//! The definitions stand in `specs/Takings.antt`, over whole lists of accesses with their pcs, and
+//! the laws in `specs/Laws/`: each taking has a victim, whose hart holds the line, and two accesses
+//! are enough to tell every victim, whatever the number of harts. [`Explainer`] keeps these two
+//! beside its tables, and [`write_explain`] prints what it tells.
+#![tactic(auto)]
+
+mod explainer;
+mod latest;
+mod laws;
+mod rows;
+mod sited;
+mod tables;
+mod text;
+
+pub use explainer::Explainer;
+pub use laws::{
+    false_sharing_takes_no_word, listed_counts_are_told, takings_add_up, two_accesses_are_enough,
+    victims_hold_the_line,
+};
+pub use sited::{Sides, Sited, Taking};
+pub use tables::Taken;
+pub use text::write_explain;
