@@ -2,23 +2,53 @@
 _predator() {
     local word=${COMP_WORDS[COMP_CWORD]} before=${COMP_WORDS[COMP_CWORD - 1]} options
     if ((COMP_CWORD == 1)); then
-        mapfile -t COMPREPLY < <(compgen -W "run replay check split gen convert help --help --version" -- "$word")
+        mapfile -t COMPREPLY < <(compgen -W "run replay check split gen convert sweep caches misses explain view campaign native help --help --version" -- "$word")
         return
     fi
     case ${COMP_WORDS[1]} in
+        view)
+            local shows="--program --back --top --object --words --predicted --explain --type --sources --html --json --sarif --against --fail-above --by"
+            case $word in
+                -*) mapfile -t COMPREPLY < <(compgen -W "$shows --settings --schedule --trace --output --size --shift --help" -- "$word") ;;
+                *) mapfile -t COMPREPLY < <(((COMP_CWORD == 2)) && compgen -W "run replay" -- "$word"; compgen -f -- "$word") ;;
+            esac
+            return
+            ;;
+        campaign)
+            case $before:$word in
+                --profile:*) mapfile -t COMPREPLY < <(compgen -W "slurm ssh" -- "$word"; compgen -d -- "$word") ;;
+                --cores:*) ;;
+                *:-*) mapfile -t COMPREPLY < <(compgen -W "--to --profile --cores --check --help --" -- "$word") ;;
+                *) mapfile -t COMPREPLY < <(compgen -f -- "$word") ;;
+            esac
+            return
+            ;;
+        native)
+            local records="--built --quantum --all --marked --most --trace --table --report --settings --size --shift --mend --help"
+            case $word in
+                -*) mapfile -t COMPREPLY < <(compgen -W "$records" -- "$word") ;;
+                *) mapfile -t COMPREPLY < <(compgen -c -f -- "$word") ;;
+            esac
+            return
+            ;;
         help)
-            mapfile -t COMPREPLY < <(compgen -W "run replay check split gen convert" -- "$word")
+            mapfile -t COMPREPLY < <(compgen -W "run replay check split gen convert sweep caches misses explain view campaign native" -- "$word")
             return
             ;;
         run) options="--settings --schedule --trace --output" ;;
         replay) options="--settings --size --shift --save --resume" ;;
         check) options="--settings" ;;
+        caches) options="--size --sets --ways" ;;
+        misses) options="--size --shift" ;;
+        explain) options="--settings --schedule" ;;
         split | gen | convert) options="" ;;
+        sweep) options="--size" ;;
         *) return ;;
     esac
     case $before in
         --size) mapfile -t COMPREPLY < <(compgen -W "4 8 16 32 64 128 256 512 1024" -- "$word") ;;
-        --shift) ;;
+        --sets) mapfile -t COMPREPLY < <(compgen -W "1 2 4 8 16 32 64 128 256 512 1024" -- "$word") ;;
+        --shift | --ways) ;;
         *)
             if [[ $word == -* ]]; then
                 mapfile -t COMPREPLY < <(compgen -W "$options --help" -- "$word")

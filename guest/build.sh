@@ -4,7 +4,8 @@
 #     build.sh OUT.elf SOURCE.c .. [-- FLAGS ..]   one program, with flags for the compiler behind --
 #     build.sh examples                            the examples, into built/, with line tables
 #     build.sh threads                             the tests of threads/, into threads/out/
-#     build.sh studies                             what studies/builds.txt lists, into built/studies/, without line tables
+#     build.sh studies [FOLDER]                    what studies/builds.txt lists, into built/studies/, without line tables; or into a
+#                                                  folder that is there, with line tables
 #
 # A program that includes a header of the C library or pthread.h is linked with Debian's picolibc, where that is installed, and any other
 # with the small kit alone; KIT=small and KIT=c say so for themselves. ARGUMENTS='4 in.txt "a b"' are the words that such a program's main
@@ -126,14 +127,19 @@ build_linked() {
     judge "$1"
 }
 
-# What studies/builds.txt lists, as many at a time as there are processors.
+# What studies/builds.txt lists, as many at a time as there are processors. With a folder they go there, with line tables.
 build_studies() {
-    local name source flags children=() failed=0
-    mkdir -p "$here/built/studies"
-    rm -f "$here/built/studies/"*.elf
+    local name source flags children=() failed=0 into=${1:-}
+    debug=(-gline-tables-only)
+    if [ -z "$into" ]; then
+        into=$here/built/studies
+        mkdir -p "$into"
+        rm -f "$into/"*.elf
+        debug=(-g0)
+    fi
+    into=$(readlink -e "$into")
     cd "$here/.."
     here=guest
-    debug=(-g0)
     tells=()
     want_kit
     while read -r name source flags; do
@@ -142,8 +148,8 @@ build_studies() {
         # shellcheck disable=SC2086
         (
             trap - EXIT
-            KIT=c build "$here/built/studies/$name.elf" "$here/studies/$source" -- "${careful[@]}" $flags
-            llvm-objcopy --strip-debug "$here/built/studies/$name.elf"
+            KIT=c build "$into/$name.elf" "$here/studies/$source" -- "${careful[@]}" $flags
+            [ "${debug[*]}" != -g0 ] || llvm-objcopy --strip-debug "$into/$name.elf"
         ) &
         children+=($!)
         if ((${#children[@]} == $(nproc))); then
@@ -192,6 +198,8 @@ elif (($# == 1)) && [ "$1" = threads ]; then
     done
 elif (($# == 1)) && [ "$1" = studies ]; then
     build_studies
+elif (($# == 2)) && [ "$1" = studies ] && [ -d "$2" ]; then
+    build_studies "$2"
 elif (($# >= 2)) && [[ $1 != *.c && $1 != -* && $2 != -- ]]; then
     build "$@"
 else

@@ -6,7 +6,7 @@ of the crates, which needs no built program; --usage does that alone.
 
 A command is an indented line that begins with `$ `, and what it is to print are the lines of the same block behind it. All commands
 of a document run in one folder, which has what stands at the top of the repository. A command that lacks a tool of this machine
-(named in brackets behind `#`, as `# [valgrind]`) is left out. In the manual page commands stand between .nf and .fi. --renew puts what was printed into the documents, to be read through
+(named in brackets behind `#`, as `# [valgrind]`; `# [view]` wants the packages of view/) is left out. In the manual page commands stand between .nf and .fi. --renew puts what was printed into the documents, to be read through
 before it is committed. It ends with 1 if anything differs."""
 
 import os
@@ -17,11 +17,13 @@ import sys
 import tempfile
 
 TOP = os.path.abspath(os.path.join(os.path.dirname(os.path.abspath(__file__)), ".."))
-FILES = ["README.md", "docs/GUIDE.md", "guest/README.md", "examples/README.md", "docs/FORMATS.md", "docs/STUDIES.md"]
+FILES = ["README.md", "docs/GUIDE.md", "docs/VIEW.md", "docs/CAMPAIGNS.md", "guest/README.md", "examples/README.md", "docs/FORMATS.md", "docs/STUDIES.md"]
 BLOCK = "    "
 MANUAL = "docs/predator.1"
 # What the cases print of usage.
 USAGE = "crates/worked_runs/data/usage.txt"
+# What the launcher answers, and no crate.
+LAUNCHED = ("predator --", "predator view", "predator campaign", "predator native")
 # Crates whose texts are copies: tests, and cases that are written by hand.
 COPIES = ("_tests", "worked_runs")
 
@@ -31,12 +33,20 @@ def run(command, work):
     return ran.stdout.rstrip("\n").split("\n") if ran.stdout else []
 
 
+def is_there(tool):
+    """Whether a tool is installed; of `view` whether its packages are."""
+    if tool != "view":
+        return shutil.which(tool) is not None
+    wants = ["/usr/bin/python3", "-c", "import elftools, jinja2"]
+    return shutil.which("llvm-symbolizer") is not None and subprocess.run(wants, stderr=subprocess.DEVNULL).returncode == 0
+
+
 def check(name, renew):
     with open(os.path.join(TOP, name)) as file:
         lines = file.read().split("\n")
     out, at, wrong, tried = [], 0, 0, 0
     with tempfile.TemporaryDirectory() as work:
-        for it in ("bin", "guest", "examples", "tools", "docs", "crates"):
+        for it in ("bin", "guest", "examples", "tools", "docs", "crates", "view", "campaign"):
             if os.path.exists(os.path.join(TOP, it)):
                 os.symlink(os.path.join(TOP, it), os.path.join(work, it))
         while at < len(lines):
@@ -48,7 +58,7 @@ def check(name, renew):
             while at < len(lines) and lines[at].startswith(BLOCK) and not lines[at].startswith(f"{BLOCK}$ "):
                 wanted.append(lines[at][len(BLOCK) :])
                 at += 1
-            lacks = [it for it in re.findall(r"# \[(\w[\w-]*)\]", command) if not shutil.which(it)]
+            lacks = [it for it in re.findall(r"# \[(\w[\w-]*)\]", command) if not is_there(it)]
             made = wanted if lacks else run(command, work)
             tried += not lacks
             if made != wanted:
@@ -117,7 +127,7 @@ def check_usage():
     wanted, wrong = usage_of_crates(), 0
     places = {
         "bin/help.txt": re.findall(r"^  (predator [a-z]+ .*)$", read("bin/help.txt"), re.MULTILINE),
-        MANUAL: [it for it in usage_of_manual() if not it.startswith("predator --")],
+        MANUAL: [it for it in usage_of_manual() if not it.startswith(LAUNCHED)],
         "docs/FORMATS.md": re.findall(r"^    (predator [a-z]+ [A-Z].*)$", read("docs/FORMATS.md"), re.MULTILINE),
     }
     if os.path.exists(os.path.join(TOP, USAGE)):

@@ -1,6 +1,6 @@
 // The calls of a guest of predator, and what a program without a C library needs beside them. README.md has each answer.
 //
-// An answer below 0 is an error: EINVAL, EFAULT or EAGAIN, negated. Where a call has several, the first that is named here is
+// An answer below 0 is an error: EINVAL, EFAULT, EAGAIN or ENOMEM, negated. Where a call has several, the first that is named is
 // answered. No call makes an access.
 #ifndef PREDATOR_H
 #define PREDATOR_H
@@ -63,5 +63,40 @@ int predator_hart_id(void);
 // Text to file 1, and a number in decimal.
 void print(const char *text);
 void print_number(uint32_t number);
+
+// ---- For an allocator of the program's own, which takes memory in large pieces and hands out parts of them.
+
+// (as in errno.h)
+#define ENOMEM 12
+
+// Tells the report of a block that is handed out: 0. One that lived at this address dies. It takes no room of the heap, and
+// predator_free knows nothing of it. -EINVAL where it has no bytes or they aren't all in memory, -ENOMEM after 2^20 of these.
+static inline int predator_block(const void *block, size_t size)
+{
+    register uintptr_t a0 __asm__("a0") = (uintptr_t)block;
+    register uintptr_t a1 __asm__("a1") = size;
+    register int a7 __asm__("a7") = 1031;
+    __asm__ volatile("ecall" : "+r"(a0) : "r"(a1), "r"(a7) : "memory");
+    return (int)a0;
+}
+
+// Tells it that such a block is given back: 0, or -EINVAL where none lives at the address.
+static inline int predator_unblock(const void *block)
+{
+    register uintptr_t a0 __asm__("a0") = (uintptr_t)block;
+    register int a7 __asm__("a7") = 1032;
+    __asm__ volatile("ecall" : "+r"(a0) : "r"(a7) : "memory");
+    return (int)a0;
+}
+
+// ---- How many steps all harts have made before this one.
+static inline uint64_t predator_steps(void)
+{
+    register uint32_t low __asm__("a0");
+    register uint32_t high __asm__("a1");
+    register int a7 __asm__("a7") = 1033;
+    __asm__ volatile("ecall" : "=r"(low), "=r"(high) : "r"(a7) : "memory");
+    return (uint64_t)high << 32 | low;
+}
 
 #endif

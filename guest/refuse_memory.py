@@ -72,6 +72,10 @@ CALLS = [
     ("gen", "2000", "f"),
     ("split", "given.trace", "40", "a", "b"),
     ("convert", "given.trace", "c"),
+    ("sweep", "given.trace", "--size", "64"),
+    ("caches", "given.trace", "--size", "64", "--sets", "4", "--ways", "2"),
+    ("misses", "given.trace"),
+    ("explain", "queue.elf", "0x12000", "64", "73"),
 ]
 WRITTEN = ("t", "o", "f", "a", "b", "c")
 

@@ -117,6 +117,14 @@ try_commands() {
     prints "a cut" "split 100000 60042"
     try "a half over its trace" 8 "$predator" split t 100000 other ./t
     try "the trace, still there" 0 cmp t back
+    try "takings" 0 "$predator" explain programs/counters.elf 0x00011000 64 41
+    prints "takings" "line 0x00011000 64 start 41 count 4007"
+    try "misses" 0 "$predator" misses t
+    prints "misses" "line 0x00011000 cold 8 useful 1 useless 4000"
+    try "a sweep" 0 "$predator" sweep t --size 64
+    prints "a sweep" "sweep 64"
+    try "caches of a shape" 0 "$predator" caches t --size 64 --sets 64 --ways 8
+    prints "caches of a shape" "caches 64 64 8"
     try "a summary" 0 "$predator" check programs/counters.elf
     prints "a summary" "entry 0x00010000"
 }
@@ -180,6 +188,129 @@ try_messages() {
     printf '0  1\n' >spaces
     try "a schedule's line" 3 "$predator" run programs/counters.elf --schedule spaces
     says "a schedule's line" "a line is a hart, one space and a count, as \`0 500\`"
+}
+
+# fails WHAT STATUS LINE COMMAND ..: within ten seconds the command ends so, and says this one line.
+fails() {
+    local what=$1 status=$2 line=$3
+    shift 3
+    try "$what" "$status" timeout 10 "$@"
+    says "$what" "$line"
+}
+
+# refused STATUS FILE WORDS ..: within ten seconds each of these calls, with the file in the place of IT, ends so, and says one line.
+refused() {
+    local status=$1 file=$2 words
+    shift 2
+    for words in "$@"; do
+        # (the words apart)
+        # shellcheck disable=SC2086
+        try "$words of $file" "$status" timeout 10 "$predator" ${words/IT/$file}
+        tried=$((tried + 1))
+        if [ "$(grep -c "" said)" != 1 ] || ! grep -q "^predator: " said; then
+            echo "$words of $file: not one line:"
+            head -n 5 said
+            failed=$((failed + 1))
+        fi
+    done
+}
+
+# Pipes, and files that are missing, closed, endless or full.
+try_streams() {
+    local once="a pipe or a terminal can be read once; write it to a file first"
+    "$predator" gen 40000 made >/dev/null
+    "$predator" run programs/counters.elf --trace run.trace --output run.output >report 2>/dev/null
+    "$predator" replay made >wanted
+    try "a trace by standard input" 0 bash -c '"$0" replay - <made' "$predator"
+    cp out piped
+    try "the same report" 0 cmp piped wanted
+    try "a trace by a pipe" 0 bash -c 'cat made | "$0" replay -' "$predator"
+    cp out piped
+    try "the same report by a pipe" 0 cmp piped wanted
+    try "a trace by a name of a pipe" 0 bash -c '"$0" replay <(cat made) >piped && cmp piped wanted' "$predator"
+    try "settings by a pipe" 0 bash -c '"$0" run programs/counters.elf --settings <(echo "quantum = 1")' "$predator"
+    mkfifo fifo
+    cat fifo >through &
+    try "a FIFO as a trace" 0 timeout 60 "$predator" run programs/counters.elf --trace fifo
+    wait $!
+    try "the trace through the FIFO" 0 cmp through run.trace
+    try "a pipe as a trace" 0 bash -c '"$0" run programs/counters.elf --trace /dev/fd/3 3> >(cat >through3)' "$predator"
+    try "the trace through the pipe" 0 bash -c 'sleep 1; cmp through3 run.trace'
+    cp made ./-
+    try "a file of that name" 0 "$predator" replay ./-
+    for words in "split IT 3 a b" "convert IT a"; do
+        rm -f a b
+        # shellcheck disable=SC2016
+        try "$words of a pipe" 7 bash -c 'cat made | "$0" '"${words/IT//dev/stdin}" "$predator"
+        says "$words of a pipe" "/dev/stdin: $once"
+        try "$words of a pipe writes nothing" 1 test -e a
+    done
+    fails "a missing trace" 7 "missing: No such file or directory" "$predator" replay missing
+    fails "a missing settings file" 7 "missing: No such file or directory" "$predator" replay made --settings missing
+    fails "a folder as settings" 7 "programs: Is a directory" "$predator" replay made --settings programs
+    : >nothing
+    # What is empty, endless, missing, or there and can't be read, in the place of each file that a command reads.
+    local it words
+    for it in nothing /dev/null /dev/zero; do
+        refused 2 $it "run IT" "check IT" "explain IT 0x00011000 64 0"
+        refused 5 $it "replay IT" "sweep IT --size 64" "caches IT --size 64 --sets 4 --ways 2" "misses IT" "split IT 3 a b" "convert IT a"
+        try "$it gives nothing" 1 test -e a
+    done
+    refused 6 nothing "replay made --resume IT"
+    refused 6 /dev/null "replay made --resume IT"
+    # A state is held whole, so an endless one ends where memory does.
+    try "an endless state" 9 timeout 60 bash -c 'ulimit -v 1000000; exec "$0" replay made --resume /dev/zero' "$predator"
+    prints "an endless state" "predator: no memory"
+    for it in missing programs /proc/self/mem; do
+        refused 7 $it "run IT" "check IT" "explain IT 0x00011000 64 0" "replay IT" "sweep IT --size 64" \
+            "caches IT --size 64 --sets 4 --ways 2" "misses IT" "split IT 3 a b" "convert IT a" "replay made --resume IT" \
+            "run programs/counters.elf --settings IT" "replay made --settings IT" "check programs/counters.elf --settings IT" \
+            "run programs/counters.elf --schedule IT" "explain programs/counters.elf 0x00011000 64 0 --schedule IT"
+    done
+    refused 4 /dev/zero "run programs/counters.elf --settings IT" "replay made --settings IT" "check programs/counters.elf --settings IT" \
+        "explain programs/counters.elf 0x00011000 64 0 --settings IT"
+    refused 3 /dev/zero "run programs/counters.elf --schedule IT" "explain programs/counters.elf 0x00011000 64 0 --schedule IT"
+    refused 7 /dev/fd/9 "replay IT" "run programs/counters.elf --settings IT" "replay made --resume IT"
+    for it in nothing /dev/null; do
+        try "$it as settings" 0 timeout 10 "$predator" replay made --settings $it
+        try "$it as a schedule" 0 timeout 10 "$predator" run programs/counters.elf --schedule $it
+    done
+    # What is full, and an input stays as it was.
+    for words in "run programs/counters.elf --trace IT" "run programs/counters.elf --output IT" "gen 40000 IT" "replay made --save IT" \
+        "convert made IT" "split made 3 IT b" "split made 20000 a IT"; do
+        # (the words apart)
+        # shellcheck disable=SC2086
+        fails "$words of /dev/full" 8 "/dev/full: No space left on device" "$predator" ${words/IT//dev/full}
+    done
+    mkdir tiny
+    if unshare -m mount -t tmpfs -o size=16k none tiny 2>/dev/null; then
+        for words in "run programs/counters.elf --trace IT" "gen 40000 IT" "convert made IT" "split made 20000 IT b"; do
+            # shellcheck disable=SC2016
+            fails "$words of a full disk" 8 "tiny/it: No space left on device" unshare -m bash -c \
+                'mount -t tmpfs -o size=16k none tiny; exec "$0" '"${words/IT/tiny/it}" "$predator"
+        done
+    else
+        echo "skipped: a full disk, which wants the right to mount one"
+    fi
+    try "the trace is there" 0 bash -c '"$0" replay made | cmp - wanted' "$predator"
+    for words in "gen 3 three" "check programs/counters.elf" "run programs/counters.elf" "replay made"; do
+        # shellcheck disable=SC2016
+        fails "a closed output of $words" 8 "standard output: Bad file descriptor" bash -c '"$0" '"$words >&-" "$predator"
+        # shellcheck disable=SC2016
+        fails "a full output of $words" 8 "standard output: No space left on device" bash -c '"$0" '"$words >/dev/full" "$predator"
+    done
+    try "what it wrote" 0 "$predator" replay three
+    try "a closed input" 5 timeout 10 bash -c '"$0" replay - <&-' "$predator"
+    try "a closed standard error" 7 timeout 10 bash -c '"$0" replay missing 2>&-' "$predator"
+    rm -f both
+    fails "a report over its trace" 8 "both: the same file is in use under another name, and stays as it is" \
+        bash -c '"$0" run programs/counters.elf --trace both >both' "$predator"
+    fails "a report over its output" 8 "/dev/stdout: the same file is in use under another name, and stays as it is" \
+        bash -c '"$0" run programs/counters.elf --output /dev/stdout >both' "$predator"
+    cp made same
+    fails "a report behind its trace" 8 "standard output: the same file is in use under another name, and stays as it is" \
+        bash -c '"$0" replay same >>same' "$predator"
+    try "the trace, as it was" 0 cmp same made
 }
 
 try_install() {
@@ -288,7 +419,7 @@ try_unproved() {
 [ $# -gt 0 ] || set -- program install kit c_library
 for part in "$@"; do
     case $part in
-        program) for it in launcher commands refusals outputs messages; do "try_$it"; done ;;
+        program) for it in launcher commands refusals outputs messages streams; do "try_$it"; done ;;
         install | kit | c_library | unproved) "try_$part" ;;
         *)
             sed -n '2,/^[^#]/s/^# \{0,1\}//p' "$here/try.sh" >&2

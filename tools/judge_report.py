@@ -14,9 +14,10 @@ import sys
 import tempfile
 from typing import NamedTuple
 
+from traces import FUNCTION, OBJECT, Alloc, Free, Symbol
+
 KINDS = ("observed", "shifted", "doubled")
 CAUSES = ("illegal", "breakpoint", "fetch-misaligned", "fetch-outside", "load-misaligned", "load-outside", "store-misaligned", "store-outside")
-OBJECT, FUNCTION = 1, 2
 
 
 class Access(NamedTuple):
@@ -33,23 +34,6 @@ class Line(NamedTuple):
     base: int
     size: int
     start: int
-
-
-class Symbol(NamedTuple):
-    kind: int
-    addr: int
-    size: int
-    name: bytes
-
-
-class Alloc(NamedTuple):
-    addr: int
-    size: int
-    sites: tuple
-
-
-class Free(NamedTuple):
-    addr: int
 
 
 class Ending(NamedTuple):

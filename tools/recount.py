@@ -6,21 +6,9 @@ usage: tools/recount.py TRACE [SIZE SHIFT TRACKING REPORT]      (64 0 16 100 unl
 Written from docs/RULES.md and the trace of docs/FORMATS.md alone, as slow and plain as they are: one cache without bounds for each hart,
 and a write takes its line out of all others. It prints each observed line that is listed as a report does, up to its count."""
 
-import struct
 import sys
 
-
-def accesses(trace):
-    """The accesses of a trace of version 1, as (hart, address, is a write); blocks and symbols are passed over."""
-    assert trace[:8] == b"PRDTRC01", "no trace of version 1"
-    place = 20
-    while trace[place] != 6:
-        tag = trace[place]
-        if tag in (1, 2):
-            hart, addr = struct.unpack_from("<HI", trace, place + 1)
-            yield hart, addr, tag == 2
-        assert 1 <= tag <= 5, f"no tag at {place}"
-        place += 12 + int.from_bytes(trace[place + 10 : place + 12], "little") if tag == 5 else (8, 8, 25, 5)[tag - 1]
+from traces import accesses
 
 
 def recount(trace, size=64, shift=0, tracking=16, report=100):
@@ -48,8 +36,6 @@ def main(words):
     with open(words[0], "rb") as file:
         for base, start, count in recount(file.read(), *numbers):
             print(f"line observed {'-' if base < 0 else ''}0x{abs(base):08x} {(numbers + [64])[0]} start {start} count {count}")
-
-
     return 0
 
 

@@ -81,7 +81,8 @@ def write(found, harts, table, path):
 
 def back(path, words):
     with open(path) as file:
-        pages = [[int(it, 16) for it in line.split()] for line in file]
+        # (other lines say more of a program of this machine: docs/NATIVE.md)
+        pages = [[int(it, 16) for it in line.split()] for line in file if line.startswith("0x")]
     table = dict(pages)
     for word in words:
         addr = int(word, 16)

@@ -1,7 +1,8 @@
 #!/usr/bin/env python3
-"""Builds Debian's allocators, unchanged, into one workload, runs it, and prints where blocks of two threads meet: run.py [--renew].
+"""Builds Debian's allocators, unchanged, into one workload, runs it, and prints where blocks of two threads meet: run.py [--renew | --build].
 
-fetch.sh has fetched the sources. --renew puts the table into docs/STUDIES.md."""
+fetch.sh has fetched the sources. --renew puts the table into docs/STUDIES.md. --build leaves the two programs of the allocators, where each
+thread asks for its first blocks itself, in guest/built/studies, as `dlmalloc.elf` and `mimalloc.elf`, and runs none."""
 
 import os
 import subprocess
@@ -10,7 +11,7 @@ import tempfile
 
 HERE = os.path.dirname(os.path.abspath(__file__))
 sys.path.insert(0, os.path.join(HERE, "..", "studies"))
-from report import PROGRAM, TOP, Run, block, renew, table  # noqa: E402
+from report import BUILT, PROGRAM, TOP, Run, block, renew, table  # noqa: E402
 
 SETTINGS = "memory = 67108864\n"
 KIT = "the kit's `malloc`"
@@ -83,6 +84,10 @@ def first_lines(report):
 def main(words):
     if not os.path.isdir(os.path.join(FETCHED, "mimalloc")):
         sys.exit("run.py: guest/allocators/fetch.sh fetches the allocators' sources first")
+    if "--build" in words:
+        for name in (it for it in ALLOCATORS if it != KIT):
+            build(os.path.join(BUILT, f"{name.split()[0]}.elf"), *ALLOCATORS[name])
+        return 0
     rows, shown, wrong = [], [], 0
     with tempfile.TemporaryDirectory() as work:
         for name, (sources, flags) in ALLOCATORS.items():

@@ -1,6 +1,6 @@
 #!/usr/bin/env python3
-"""Assembles each program of programs.S into crates/worked_runs/data/NAME.elf: a header, one segment and its code, as small as
-can be. It takes clang with the target riscv32, and llvm-objcopy."""
+"""Assembles each program of programs.S into crates/worked_runs/data/NAME.elf: a header, its segments, its code, and its symbols
+where it has any, as small as can be. It takes clang with the target riscv32, and llvm-objcopy."""
 
 import os
 import re
@@ -24,11 +24,44 @@ def assembled(text, work):
         return it.read()
 
 
-def elf_of(code):
+def read_more(text):
+    """What the lines `#+ ..` under a heading say: the rights of the code, the segments of zeros, and the functions."""
+    rights, zeros, functions = 7, [], []
+    for words in (line.split()[1:] for line in text.splitlines() if line.startswith("#+")):
+        if words[0] == "rights":
+            rights = int(words[1])
+        elif words[0] == "zeros":
+            zeros.append((int(words[1], 0), int(words[2])))
+        else:
+            functions.append((words[1], int(words[2], 0), int(words[3])))
+    return rights, zeros, functions
+
+
+def sections_of(functions, place):
+    """The symbols of functions, their names, and the three section headers, from a place in the file on."""
+    names, symbols = b"\0", bytes(16)
+    for name, addr, size in functions:
+        symbols += struct.pack("<IIIBBH", len(names), addr, size, 0x12, 0, 1)
+        names += name.encode() + b"\0"
+    names += bytes(-len(names) % 4)
+    table = struct.pack("<10I", 0, 2, 0, 0, place, len(symbols), 2, 1, 4, 16)
+    strings = struct.pack("<10I", 0, 3, 0, 0, place + len(symbols), len(names), 0, 0, 1, 0)
+    return symbols + names, bytes(40) + table + strings
+
+
+def elf_of(code, rights, zeros, functions):
+    segments = 1 + len(zeros)
+    begin = 52 + 32 * segments
+    content, sections = sections_of(functions, begin + len(code)) if functions else (b"", b"")
+    table = begin + len(code) + len(content) if functions else 0
     header = struct.pack(
-        "<4sBBB9xHHIIIIIHHHHHH", b"\x7fELF", 1, 1, 1, 2, 243, 1, BASE, 52, 0, 0, 52, 32, 1, 0, 0, 0
+        "<4sBBB9xHHIIIIIHHHHHH", b"\x7fELF", 1, 1, 1, 2, 243, 1, BASE, 52, table, 0, 52, 32, segments,
+        40 if functions else 0, len(sections) // 40, 0
     )
-    return header + struct.pack("<8I", 1, 84, BASE, 0, len(code), len(code), 7, 0) + code
+    headers = struct.pack("<8I", 1, begin, BASE, 0, len(code), len(code), rights, 0)
+    for addr, size in zeros:
+        headers += struct.pack("<8I", 1, 0, addr, 0, 0, size, 6, 0)
+    return header + headers + code + content + sections
 
 
 with open(os.path.join(HERE, "programs.S")) as file:
@@ -36,4 +69,4 @@ with open(os.path.join(HERE, "programs.S")) as file:
 with tempfile.TemporaryDirectory() as work:
     for name, text in zip(parts[::2], parts[1::2]):
         with open(os.path.join(DATA, f"{name}.elf"), "wb") as out:
-            out.write(elf_of(assembled(text, work)))
+            out.write(elf_of(assembled(text, work), *read_more(text)))

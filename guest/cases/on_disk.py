@@ -125,6 +125,12 @@ def wants(found, at):
     return follows
 
 
+def call_of(words, work):
+    """What a call does. A trace of the name `-` is standard input there, so it gets the file of that name."""
+    given = read(os.path.join(work, "-")) if "-" in words else b""
+    return subprocess.run([PROGRAM, *words], cwd=work, input=given, stdout=subprocess.PIPE, stderr=subprocess.DEVNULL)
+
+
 def play(case, renew):
     found, wrong, out = parts(os.path.join(DATA, case)), [], []
     with tempfile.TemporaryDirectory() as work:
@@ -138,7 +144,7 @@ def play(case, renew):
                 fails_by_list = any(it[:1] == ["fails"] for it in follows)
                 if not fails_by_list:
                     call, before = line, times(work)
-                    ran = subprocess.run([PROGRAM, *words[1:]], cwd=work, stdout=subprocess.PIPE, stderr=subprocess.DEVNULL)
+                    ran = call_of(words[1:], work)
                     text = ran.stdout.decode().split("\n")[:-1]
                     wanted = next((int(it[1]) for it in follows if it[:1] == ["status"]), 0)
                     if text != lines:

@@ -1,5 +1,6 @@
 # The small programs of the cases in crates/worked_runs/data, which build.py assembles there: each from its heading `#= NAME`
-# on. Each stands at 0x10000, in one segment that may be read, written and run.
+# on. Each stands at 0x10000, in one segment that may be read, written and run. Under its heading `#+ rights N` gives that segment
+# other rights, `#+ zeros ADDR SIZE` adds a segment of zeros that may be read and written, and `#+ function NAME ADDR SIZE` a symbol.
 
 #= plain: exits with 7; three instructions
     li      a7, 93
@@ -44,6 +45,14 @@
 #= calls_nothing: a call that isn't there, and exits with its answer
     li      a7, 2000
     ecall
+    li      a7, 93
+    ecall
+
+#= counts_steps: asks how many steps were made, and exits with both words of the answer added
+    li      a1, 5
+    li      a7, 1033
+    ecall
+    add     a0, a0, a1
     li      a7, 93
     ecall
 
@@ -148,3 +157,74 @@
     li      a0, 8
     ecall
     ret
+
+#= adds_bytes: each of three harts adds 3 to a byte of its own: at 0x11000, 0x11004 and 0x11005
+#+ rights 5
+#+ zeros 0x11000 4096
+#+ function work 0x10030 44
+    lui     t0, 0x11
+    sw      t0, 8(t0)
+    li      a7, 1026
+    lui     a0, 0x10
+    addi    a0, a0, 0x30
+    li      a1, 4
+    ecall
+    lui     a0, 0x10
+    addi    a0, a0, 0x30
+    li      a1, 5
+    ecall
+    li      a0, 0
+work:
+    lui     t0, 0x11
+    add     t0, t0, a0
+    li      t1, 3
+loop:
+    lbu     t2, 0(t0)
+    addi    t2, t2, 1
+    sb      t2, 0(t0)
+    addi    t1, t1, -1
+    bnez    t1, loop
+    li      a7, 93
+    li      a0, 0
+    ecall
+
+#= notes_blocks: notes a block twice at one place, in a function, writes to it, lets it die twice, and exits with both answers and 22
+    jal     ra, 1f
+    jal     ra, 1f
+    lui     t0, 0x10
+    sw      zero, 256(t0)
+    li      a7, 1032
+    lui     a0, 0x10
+    addi    a0, a0, 256
+    ecall
+    mv      s0, a0
+    lui     a0, 0x10
+    addi    a0, a0, 256
+    ecall
+    add     a0, a0, s0
+    addi    a0, a0, 22
+    li      a7, 93
+    ecall
+1:  li      a7, 1031
+    lui     a0, 0x10
+    addi    a0, a0, 256
+    li      a1, 16
+    ecall
+    ret
+
+#= notes_nothing: notes a block of no bytes, frees what it noted, and exits with the sum of the answers
+    li      a7, 1031
+    lui     a0, 0x10
+    li      a1, 0
+    ecall
+    mv      s0, a0
+    lui     a0, 0x10
+    li      a1, 4
+    ecall
+    add     s0, s0, a0
+    li      a7, 1025
+    lui     a0, 0x10
+    ecall
+    add     a0, a0, s0
+    li      a7, 93
+    ecall

@@ -10,9 +10,21 @@ TOP = os.path.abspath(os.path.join(os.path.dirname(os.path.abspath(__file__)), "
 BUILT = os.path.join(TOP, "guest", "built", "studies")
 PROGRAM = os.environ.get("PREDATOR", os.path.join(TOP, "bin", "predator"))
 PAGE = os.path.join(TOP, "docs", "STUDIES.md")
+# Settings of a study other than the usual ones.
+SETTINGS = {"bounded_queue": "quantum = 10\n"}
 
 sys.path.insert(0, os.path.join(TOP, "tools"))
 from recount import accesses, recount  # noqa: E402
+
+
+def builds():
+    """Of each study its builds in order: their names, and the words of their sources and flags."""
+    found = {}
+    with open(os.path.join(TOP, "guest", "studies", "builds.txt")) as file:
+        for words in (it.split() for it in file):
+            if words and words[0] != "#":
+                found.setdefault(words[0].split("-")[0], {})[words[0]] = words[1:]
+    return found
 
 
 def shown(addr):

@@ -7,27 +7,13 @@ where a program doesn't end with exit 0, or a recount says otherwise than a repo
 import os
 import sys
 
-from report import BUILT, Run, block, commit, renew, shown, table
+from report import BUILT, SETTINGS, Run, block, builds, commit, renew, shown, table
 
-HERE = os.path.dirname(os.path.abspath(__file__))
 # How many lines of a report a study shows, and the one that shows the words of the first.
 MOST = 4
 SHOWN = "linear_regression"
 # The studies that show a prediction, and the place of their build where nothing is observed.
 PREDICTED = {"linear_regression": 0, "word_count": 0, "string_match": 0}
-# Settings other than the usual ones.
-SETTINGS = {"bounded_queue": "quantum = 10\n"}
-
-
-def builds():
-    """The names of the builds of each study, in order."""
-    found = {}
-    with open(os.path.join(HERE, "builds.txt")) as file:
-        for words in (it.split() for it in file):
-            if words and words[0] != "#":
-                found.setdefault(words[0].split("-")[0], []).append(words[0])
-    return found
-
 
 def summary(runs):
     rows = []
@@ -77,7 +63,7 @@ def foretold(study, place, runs):
 
 
 def main(words):
-    studies = builds()
+    studies = {study: list(found) for study, found in builds().items()}
     names = [it for it in words if it != "--renew"] or list(studies)
     if "--renew" in words and names != list(studies):
         sys.exit("run.py: --renew is for all studies")

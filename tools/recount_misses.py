@@ -1,0 +1,95 @@
+#!/usr/bin/env python3
+"""Counts the misses of a trace anew, those that bring something new and those that don't.
+
+usage: tools/recount_misses.py TRACE [--size N] [--shift N]      (64 and 0 unless they are given)
+       tools/recount_misses.py --try                             the worked lists below, and what they are to give
+
+Written from docs/RULES.md and the trace of docs/FORMATS.md alone, over whole lists: of each line the harts whose caches hold it,
+and beside them, for each hart's copy of a line, the position at which it was loaded. It prints what `predator misses` prints."""
+
+import sys
+
+from judge_report import Line, address, objects_on, table_of
+from traces import Alloc, Free, Symbol, records
+
+# Accesses, words of the call, and for each line its base with its cold, useful and useless misses, by what docs/RULES.md says.
+WORKED = [
+    ("W0 1000, W1 1004, W0 1000, W1 1004", 64, {0x1000: (2, 0, 2)}),
+    ("W0 1000, R1 1000, W0 1000, R1 1000", 64, {0x1000: (2, 1, 0)}),
+    ("W0 1000, R1 1000, R2 1004, R3 1008, W0 1000, R1 1000, R2 1004, R3 1008", 64, {0x1000: (4, 1, 2)}),
+    ("W0 1000, W1 1004, W0 1000, W1 1004", 4, {0x1000: (1, 0, 0), 0x1004: (1, 0, 0)}),
+    ("W0 1000, R1 1004, W0 1000, R1 1004, R1 1000", 64, {0x1000: (2, 1, 0)}),
+]
+
+
+def misses(accesses, size=64, shift=0):
+    """Of each line its cold, useful and useless misses, in the order of the first accesses."""
+    holders, came, loaded, written, counts = {}, set(), {}, {}, {}
+    for position, (hart, addr, is_write) in enumerate(accesses):
+        line, word = (addr - shift) // size, addr // 4
+        own = (hart, line)
+        held = holders.setdefault(line, set())
+        is_cold, is_miss = own not in came, hart not in held
+        is_needed = own not in loaded or any(it != hart and at > loaded[own] for it, at in written.get(word, {}).items())
+        if is_needed:
+            loaded[own] = position
+        if is_write:
+            written.setdefault(word, {})[hart] = position
+            held.clear()
+        held.add(hart)
+        came.add(own)
+        row = counts.setdefault(line * size + shift, [0, 0, 0])
+        for at, more in enumerate((is_cold, is_needed - is_cold, is_miss - is_needed)):
+            row[at] += more
+    return {base: tuple(row) for base, row in counts.items()}
+
+
+def told(trace, size, shift):
+    """The whole text."""
+    accesses, others = [], []
+    for it in records(trace):
+        if isinstance(it, (Symbol, Alloc, Free)):
+            others.append((len(accesses), it))
+        else:
+            accesses.append(it)
+    symbols, blocks = table_of(others)
+    counts = misses(accesses, size, shift)
+    rows = sorted(((-row[2], -row[1], base) for base, row in counts.items() if row[1] or row[2]))
+    yield f"misses {size} {shift}"
+    yield f"accesses {len(accesses)}"
+    yield f"lines {len(rows)}"
+    for useless, useful, base in rows:
+        yield f"line {address(base)} cold {counts[base][0]} useful {-useful} useless {-useless}"
+        yield from objects_on(Line(0, base, size, 0), symbols, blocks, len(accesses))
+    yield "total cold {} useful {} useless {}".format(*(sum(row[at] for row in counts.values()) for at in range(3)))
+    yield "end"
+
+
+def try_worked():
+    """How many of the worked lists give something else."""
+    wrong = 0
+    for text, size, wanted in WORKED:
+        accesses = [(int(it[1]), int(it.split()[1], 16), it[0] == "W") for it in text.split(", ")]
+        if misses(accesses, size) != wanted:
+            wrong += 1
+            print(f"{text} in lines of {size}: {misses(accesses, size)}, and {wanted} is wanted")
+    print(f"{len(WORKED)} lists, {wrong} wrong")
+    return wrong
+
+
+def main(words):
+    if words == ["--try"]:
+        return 1 if try_worked() else 0
+    options = {"--size": 64, "--shift": 0}
+    for name, number in zip(words[1::2], words[2::2]):
+        options[name] = int(number)
+    if len(words) % 2 == 0 or words[0].startswith("-") or len(options) > 2:
+        print(__doc__)
+        return 0 if words in (["--help"], ["-h"]) else 1
+    with open(words[0], "rb") as file:
+        sys.stdout.writelines(f"{it}\n" for it in told(file.read(), *options.values()))
+    return 0
+
+
+if __name__ == "__main__":
+    sys.exit(main(sys.argv[1:]))
