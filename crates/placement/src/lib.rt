@@ -12,9 +12,11 @@ mod laws;
 mod observer;
 mod owners;
 mod plan;
+mod refusal;
 
 pub use extent::Extent;
-pub use finder::{Finder, Refused};
+pub use finder::Finder;
 pub use laws::words_keep_apart;
 pub use owners::Owners;
 pub use plan::{Plan, PlanFault};
+pub use refusal::PlaceRefusal;
