@@ -6,6 +6,7 @@ ghost use Rattle.command_files.specs.Faults.{fault_text};
 ghost use Rattle.command_files.specs.Texts.{line};
 
 use crate::elf_faults::{elf_advice, elf_name};
+use crate::place_faults::{place_advice, place_name};
 use crate::schedule_faults::{schedule_advice, schedule_name};
 use crate::settings_faults::{settings_advice, settings_name};
 use crate::state_faults::{state_advice, state_name};
@@ -52,6 +53,7 @@ pub fn fault_line(alloc: Global, status: &Status) -> Result<String, AllocError>
             let name = state_name(alloc, *fault)?;
             line_of(alloc, "state", name.as_str())
         }
+        Status::Place(refusal) => line_of(alloc, "place", place_name(*refusal)),
         Status::ReadFault => String::from_str(alloc, "predator: read fault\n"),
         Status::WriteFault => String::from_str(alloc, "predator: write fault\n"),
         Status::NoMemory => String::from_str(alloc, NO_MEMORY_LINE),
@@ -66,6 +68,7 @@ pub fn advice_on(status: &Status) -> Option<&'static str> {
         Status::Settings(fault) => settings_advice(fault),
         Status::Trace(fault) => trace_advice(*fault),
         Status::State(fault) => Some(state_advice(*fault)),
+        Status::Place(refusal) => Some(place_advice(*refusal)),
         Status::Budget => Some("`budget` in the settings allows more steps, up to 68719476736"),
         Status::Deadlock => {
             Some(

@@ -17,6 +17,7 @@
 mod elf_faults;
 mod faults;
 mod files;
+mod place_faults;
 mod program_file;
 mod saving;
 mod schedule_faults;
