@@ -1,4 +1,5 @@
 pub mod AllowedLaws
+pub mod Completeness
 pub mod CopyEnds
 pub mod CountingEnds
 pub mod CutLaws
@@ -10,6 +11,7 @@ pub mod GoOnLaws
 pub mod GoodLaws
 pub mod ListedCounts
 pub mod PartLaws
+pub mod PlaceEnds
 pub mod ReplayEnds
 pub mod ReplayLaws
 pub mod Rows
