@@ -20,6 +20,7 @@ use Rattle.placement.specs.Words.{Owned, first_word, owned_of}
 use Rattle.placement.specs.declared.extent.Extent.{Extent}
 use Rattle.placement.specs.declared.refusal.PlaceRefusal.{PlaceRefusal}
 use Rattle.placement.specs.declared.refusal.PlaceRefusal.TheVariants as refusals
+pub use Rattle.placement.specs.declared.sums.Sums.{Sums}
 
 -- a line, as its words
 abbrev pub TextLine : Type 0
@@ -54,12 +55,6 @@ touched_line o p i =
 
 abbrev pub touched_lines : Owned → Planned → List TextLine
 touched_lines o p = filter_map (touched_line o p) (below (length o.owners))
-
--- the totals before and after, and the part of many harts in the second
-pub record Sums : Type 0 where
-  pub before : ℕ
-  pub after : ℕ
-  pub many : ℕ
 
 abbrev pub end_lines : Planned → Sums → List TextLine
 end_lines p sums =

@@ -283,6 +283,13 @@ impl Plan {
         }
     }
 
+    /// The place of word i of the object, if it has that many.
+    pub fn place(&self, i: usize) -> Option<u32>
+        ensures { result ≡ slice_get self.now.places i }
+    {
+        place_in(&self.places, i)
+    }
+
     /// Where the area begins, and how many bytes it has.
     pub fn area(&self) -> (u64, u64)
         ensures { result ≡ (self.now.start, self.now.size) }
