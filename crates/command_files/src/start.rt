@@ -65,6 +65,7 @@ pub fn trace_to_read<'a>(alloc: Global, words: &'a [String]) -> Option<TraceToRe
         Ok(Demand::Convert(options)) => Some(read_so(options.trace, true)),
         Ok(Demand::Sweep(options)) => Some(read_so(options.trace, false)),
         Ok(Demand::Caches(options)) => Some(read_so(options.trace, false)),
+        Ok(Demand::Place(options)) => Some(read_so(options.trace, true)),
         Ok(Demand::Misses(options)) => Some(read_so(options.trace, false)),
         Ok(Demand::Run(_)) => None,
         Ok(Demand::Check(_)) => None,

@@ -67,7 +67,7 @@ fn push_way(text: &mut String, from: u64, to: u32) -> Result<(), AllocError>
 }
 
 // The line of a word of one hart.
-fn push_word_of_hart(text: &mut String, from: u64, to: u32, hart: u8) -> Result<(), AllocError>
+fn push_word_of_hart(text: &mut String, from: u64, to: u32, hart: u16) -> Result<(), AllocError>
     ensures { OnOk result (string_bytes text.new ≡ string_bytes text.old
         ++ text_of (word_line from to (codes "hart" ∷ decimal hart ∷ []) ∷ [])) }
 {

@@ -1,10 +1,12 @@
 // The command `place`.
-ghost use Rattle.std.specs.Prelude.{◌≡◌, ◌≤◌, ◌^◌, IfErr, IfOk, IfSome, IsTrue, Some};
+ghost use Rattle.std.specs.Prelude.{◌≡◌, ◌≤◌, ◌^◌, IfErr, IfOk, IfSome, IsFalse, IsTrue, Some};
 ghost use Rattle.base.specs.Lines.{is_line_size};
 ghost use Rattle.command_line.specs.Place.{place_meaning};
 ghost use Rattle.command_line.specs.Words.{place as asks};
 ghost use Rattle.command_files.specs.Readings.{IsStopped};
+ghost use Rattle.placement.specs.Passing.{RecountsFor};
 ghost use Rattle.placement.specs.Plans.{has_room, plan_of};
+ghost use Rattle.placement.specs.Sought.{is_too_large};
 ghost use Rattle.placement.specs.Words.{owned_of};
 ghost use Rattle.predator_cli.specs.Meets.{IsAnswered, IsFaulty, Meets};
 ghost use Rattle.predator_cli.specs.Place.{AreFor, HasRead, Means, place_readings, records_for};
@@ -63,7 +65,7 @@ fn own<S: Shelf>(
     ensures stopped { IfErr result (IsStopped (place_readings (place_meaning options.now))
         (S.outside shelf.old) (S.outside shelf.new)) }
 {
-    let mut owners = match Owners::new(alloc, extent) {
+    let mut owners = match Owners::new(alloc, extent.addr, extent.size) {
         Ok(owners) => owners,
         Err(NoMemory) => return Err(Status::NoMemory),
     };
@@ -82,8 +84,10 @@ fn count_moved<S: Shelf>(
 ) -> Result<Recount, Status>
     requires { IsTrue (is_line_size options.now.size) }
     ensures counted { IfOk result (λ recount. HasRead (place_meaning options.now)
-        (λ items. IsRecountOf options.now.size plan (touches_in items) recount)
+        (λ items. RecountsFor (touches_in items) recount)
         (S.outside shelf.old) (S.outside shelf.new)) }
+    ensures size { IfOk result (λ recount. recount.size ≡ options.now.size) }
+    ensures plan { IfOk result (λ recount. recount.plan ≡ plan) }
     ensures stopped { IfErr result (IsStopped (place_readings (place_meaning options.now))
         (S.outside shelf.old) (S.outside shelf.new)) }
 {
