@@ -6,11 +6,13 @@ use Rattle.std.specs.Result.{result_map_both}
 use Rattle.command_line.specs.Place.{PlaceDemand}
 use Rattle.command_line.specs.Words.{place}
 use Rattle.placement.specs.Laws.Told.{told-large, told-no_room, told-none, told-placed}
+use Rattle.placement.specs.Passing.{HasSought, Seeks}
 use Rattle.placement.specs.Plans.{has_room}
-use Rattle.placement.specs.Sought.{is_too_large}
+use Rattle.placement.specs.Sought.{is_too_large, object_of}
 use Rattle.placement.specs.Texts.{place_of_records, place_text}
 use Rattle.placement.specs.Words.{Owned}
 use Rattle.placement.specs.declared.extent.Extent.{Extent}
+use Rattle.placement.specs.declared.finder.Finder.{Finder}
 use Rattle.placement.specs.declared.refusal.PlaceRefusal.{PlaceRefusal}
 use Rattle.placement.specs.declared.refusal.PlaceRefusal.TheVariants.{NoObject, NoRoom, TooLarge}
 use Rattle.shelf.specs.Laws.Told.{told_both, told_map}
@@ -36,6 +38,22 @@ passed_records d held passed P has = told_map held
     (λ files whole. subst (λ (bytes : List ℕ). P (records_of bytes)) whole
     (subst P (sym (ap (λ (t : Option Trace). option_map_or all_records t []) has.is)) has.saw))
     has.whole
+
+-- the object that a finder has found is the one that is meant
+pub object_sought : (d : PlaceDemand) (a b : Outside) (begun now : Finder) (passed : Passed)
+    (object : Option Extent)
+    → IsAccepted (place_readings d) a b → HasPassed a.held d.trace passed (HasSought begun now)
+    → Seeks d.name d.at begun []
+    → ((items : List TraceRecord) → Seeks d.name d.at now items
+    → object ≡ object_of d.name d.at items)
+    → HasRead d (Means d object) a b
+object_sought d a b begun now passed object accepted saw seeks found = record {
+  accepted = accepted;
+  holds = told_map a.held
+      (λ files. λ (sought : HasSought begun now (records_for d files)). sym
+      (found (records_for d files) (sought.sought d.name d.at [] seeks)))
+      (passed_records d a.held passed (HasSought begun now) saw);
+}
 
 -- what is known of the records where a reading began is known of them where it ended
 pub read_again : (d : PlaceDemand) (P Q : List TraceRecord → Type 0) (a b : Outside)
