@@ -69,6 +69,7 @@ fn files_of<'a>(demand: &Demand<'a>) -> FilesRead<'a> {
         Demand::Sweep(options) => of_trace(options.trace, false),
         Demand::Caches(options) => of_trace(options.trace, false),
         Demand::Misses(options) => of_trace(options.trace, false),
+        Demand::Place(options) => of_trace(options.trace, true),
         Demand::Gen(_) => no_files(),
     }
 }
