@@ -2,7 +2,7 @@
 _predator() {
     local word=${COMP_WORDS[COMP_CWORD]} before=${COMP_WORDS[COMP_CWORD - 1]} options
     if ((COMP_CWORD == 1)); then
-        mapfile -t COMPREPLY < <(compgen -W "run replay check split gen convert sweep caches misses explain view campaign native help --help --version" -- "$word")
+        mapfile -t COMPREPLY < <(compgen -W "run replay check split gen convert sweep caches place misses explain view campaign native help --help --version" -- "$word")
         return
     fi
     case ${COMP_WORDS[1]} in
@@ -32,7 +32,7 @@ _predator() {
             return
             ;;
         help)
-            mapfile -t COMPREPLY < <(compgen -W "run replay check split gen convert sweep caches misses explain view campaign native" -- "$word")
+            mapfile -t COMPREPLY < <(compgen -W "run replay check split gen convert sweep caches place misses explain view campaign native" -- "$word")
             return
             ;;
         run) options="--settings --schedule --trace --output" ;;
@@ -42,7 +42,7 @@ _predator() {
         misses) options="--size --shift" ;;
         explain) options="--settings --schedule" ;;
         split | gen | convert) options="" ;;
-        sweep) options="--size" ;;
+        sweep | place) options="--size" ;;
         *) return ;;
     esac
     case $before in

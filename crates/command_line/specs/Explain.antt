@@ -1,5 +1,5 @@
 -- The command `explain`: what its words ask for.
-use Rattle.std.specs.Prelude.{ℕ, ◌^◌, ◌%◌, nat_lt, if◌then◌else◌, List, [], ◌∷◌, Option, Some, None}
+use Rattle.std.specs.Prelude.{ℕ, ◌^◌, ◌%◌, List, [], ◌∷◌, Option}
 use Rattle.std.specs.Prelude.{option_and_then, option_map, codes}
 use Rattle.clap.specs.Words.{App, Row, Text, first_of}
 use Rattle.base.specs.Lines.{Grid}
@@ -8,7 +8,7 @@ use Rattle.command_line.specs.Asked.{asked}
 use Rattle.command_line.specs.Demands.{text_of}
 use Rattle.command_line.specs.Layouts.{layout_at}
 use Rattle.command_line.specs.Names.{given}
-use Rattle.command_line.specs.Numbers.{address_of, number_of}
+use Rattle.command_line.specs.Numbers.{address_of, below, number_of}
 use Rattle.command_line.specs.declared.explain.ExplainOptions.{ExplainOptions}
 
 abbrev pub explain_usage : Text
@@ -30,10 +30,6 @@ explain_app =
     with_option (with_option (with_word (with_word (with_word (with_word
     (plain_app (codes "explain")) (codes "program")) (codes "base")) (codes "size"))
     (codes "start")) (codes "settings")) (codes "schedule")
-
--- the number that a word is, where it is below a bound
-abbrev pub below : ℕ → Option ℕ → Option ℕ
-below bound number = option_and_then (λ n. if nat_lt n bound then Some n else None) number
 
 abbrev pub base_of : List Row → Option ℕ
 base_of rows = below (2 ^ 32) (option_and_then address_of (first_of (codes "base") rows))

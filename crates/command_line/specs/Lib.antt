@@ -10,6 +10,7 @@ pub mod Layouts
 pub mod Misses
 pub mod Names
 pub mod Numbers
+pub mod Place
 pub mod Replay
 pub mod Run
 pub mod Split

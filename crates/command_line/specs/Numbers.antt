@@ -41,6 +41,14 @@ behind_mark text = option_and_then (behind 120) (behind 48 text)
 abbrev pub address_of : List ℕ → Option ℕ
 address_of text = option_map_or hexadecimal_of (behind_mark text) (number_of text)
 
+-- a number, where it is below a bound
+abbrev pub below : ℕ → Option ℕ → Option ℕ
+below bound number = option_and_then (λ n. if nat_lt n bound then Some n else None) number
+
+-- the address below 2^32 that a text is by `0x` and such digits
+abbrev pub marked_address_of : List ℕ → Option ℕ
+marked_address_of text = below (2 ^ 32) (option_and_then hexadecimal_of (behind_mark text))
+
 -- the number that an option is given, or the usual one where it isn't given
 abbrev pub number_or : ℕ → Option (List ℕ) → Option ℕ
 number_or usual given = option_map_or number_of given (Some usual)

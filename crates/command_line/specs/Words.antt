@@ -4,6 +4,7 @@ use Rattle.std.specs.Prelude.{Bool, false, if◌then◌else◌, List, [], ◌∷
 use Rattle.std.specs.Prelude.{Some, None, IsTrue, ◌≤◌, ◌^◌, option_map, option_and_then, codes}
 use Rattle.std.specs.Str.{bytes_eq}
 use Rattle.clap.specs.Words.{Text}
+use Rattle.base.specs.Lines.{is_line_size}
 use Rattle.command_line.specs.Names.{are_apart, is_named}
 use Rattle.command_line.specs.Replay.{replay_usage, ReplayDemand, asked_of_replay, replay_inputs}
 use Rattle.command_line.specs.Replay.{replay_meaning, replay_outputs}
@@ -21,6 +22,8 @@ use Rattle.command_line.specs.Sweep.{sweep_usage, SweepDemand, asked_of_sweep, i
 use Rattle.command_line.specs.Sweep.{sweep_inputs, sweep_meaning, sweep_outputs}
 use Rattle.command_line.specs.Caches.{asked_of_caches, caches_inputs, caches_meaning}
 use Rattle.command_line.specs.Caches.{CachesDemand, caches_outputs, caches_usage}
+use Rattle.command_line.specs.Place.{place_usage, PlaceDemand, asked_of_place, place_inputs}
+use Rattle.command_line.specs.Place.{place_meaning, place_outputs}
 use Rattle.command_line.specs.Misses.{misses_usage, MissesDemand, asked_of_misses, misses_inputs}
 use Rattle.command_line.specs.Misses.{misses_meaning, misses_outputs}
 use Rattle.command_line.specs.Explain.{explain_usage, ExplainDemand, asked_of_explain}
@@ -40,6 +43,7 @@ pub data Demand : Type 0 where
   convert : ConvertDemand → Demand
   sweep : SweepDemand → Demand
   caches : CachesDemand → Demand
+  place : PlaceDemand → Demand
   misses : MissesDemand → Demand
   explain : ExplainDemand → Demand
 
@@ -52,6 +56,7 @@ meaning (code_demand.Gen options) = gen (gen_meaning options)
 meaning (code_demand.Convert options) = convert (convert_meaning options)
 meaning (code_demand.Sweep options) = sweep (sweep_meaning options)
 meaning (code_demand.Caches options) = caches (caches_meaning options)
+meaning (code_demand.Place options) = place (place_meaning options)
 meaning (code_demand.Misses options) = misses (misses_meaning options)
 meaning (code_demand.Explain options) = explain (explain_meaning options)
 
@@ -75,6 +80,7 @@ commands =
     ∷ named (codes "convert") convert_usage asked_of_convert convert
     ∷ named (codes "sweep") sweep_usage asked_of_sweep sweep
     ∷ named (codes "caches") caches_usage asked_of_caches caches
+    ∷ named (codes "place") place_usage asked_of_place place
     ∷ named (codes "misses") misses_usage asked_of_misses misses
     ∷ named (codes "explain") explain_usage asked_of_explain explain
     ∷ []
@@ -102,6 +108,9 @@ terms_of (sweep demand) = record (terms (sweep_inputs demand) (sweep_outputs dem
   IsWithin = IsTrue (is_swept_size demand.size);
 }
 terms_of (caches demand) = terms (caches_inputs demand) (caches_outputs demand)
+terms_of (place demand) = record (terms (place_inputs demand) (place_outputs demand)) {
+  IsWithin = IsTrue (is_line_size demand.size);
+}
 terms_of (misses demand) = terms (misses_inputs demand) (misses_outputs demand)
 terms_of (explain demand) = terms (explain_inputs demand) (explain_outputs demand)
 

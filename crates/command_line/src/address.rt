@@ -1,10 +1,10 @@
 // The address that a word is.
-ghost use Rattle.std.specs.Prelude.{◌≡◌};
+ghost use Rattle.std.specs.Prelude.{◌≡◌, option_and_then};
 ghost use Rattle.std.specs.Char.{is_ascii_hexdigit};
 ghost use Rattle.std.specs.List.{list_all};
 ghost use Rattle.command_line.specs.Demands.{text_of};
 ghost use Rattle.command_line.specs.Numbers.{address_of, behind, behind_mark, hexadecimal_of};
-ghost use Rattle.command_line.specs.Numbers.{is_hexadecimal};
+ghost use Rattle.command_line.specs.Numbers.{is_hexadecimal, marked_address_of};
 
 use crate::layout::number;
 
@@ -65,4 +65,21 @@ pub fn address(text: &str) -> Option<u64>
         Some(digits) => hexadecimal(digits),
         None => number(text),
     }
+}
+
+// The number that `0x` and one to eight hexadecimal digits are.
+fn marked_number(text: &str) -> Option<u64>
+    ensures { result ≡ option_and_then hexadecimal_of (behind_mark text.now) }
+{
+    match digits_behind_mark(text) {
+        Some(digits) => hexadecimal(digits),
+        None => None,
+    }
+}
+
+// The address below 2^32 that a text is by `0x` and one to eight hexadecimal digits.
+pub fn marked_address(text: &str) -> Option<u32>
+    ensures { result ≡ marked_address_of text.now }
+{
+    u32::try_from(marked_number(text)?).ok()
 }

@@ -7,6 +7,7 @@ use crate::convert::ConvertOptions;
 use crate::explain::ExplainOptions;
 use crate::generate::GenOptions;
 use crate::misses::MissesOptions;
+use crate::place::PlaceOptions;
 use crate::reason::Reason;
 use crate::replay::ReplayOptions;
 use crate::run::RunOptions;
@@ -36,6 +37,8 @@ pub enum Demand<'a> {
     Sweep(SweepOptions<'a>),
     /// Tell what is left of a trace's invalidations in private caches of a shape.
     Caches(CachesOptions<'a>),
+    /// Give the words of an object of a trace new places, and count again.
+    Place(PlaceOptions<'a>),
     /// Tell what the sharing of each line costs in a trace.
     Misses(MissesOptions<'a>),
     /// Run a program, and tell which instructions take one line from each other.

@@ -3,10 +3,10 @@ ghost use Rattle.std.specs.Prelude.{◌≡◌, ◌^◌, ◌%◌, IfOk, IfErr, So
 ghost use Rattle.std.specs.Prelude.{option_map};
 ghost use Rattle.clap.specs.Words.{found_of, rows_of};
 ghost use Rattle.command_line.specs.Demands.{texts, text_of, UnlessMemory};
-ghost use Rattle.command_line.specs.Explain.{asked_of_explain, below, explain_meaning};
+ghost use Rattle.command_line.specs.Explain.{asked_of_explain, explain_meaning};
 ghost use Rattle.command_line.specs.Explain.{explain_of};
 ghost use Rattle.command_line.specs.Layouts.{layout_at};
-ghost use Rattle.command_line.specs.Numbers.{address_of, number_of};
+ghost use Rattle.command_line.specs.Numbers.{address_of, below, number_of};
 ghost use Rattle.command_line.specs.Words.{IsBounded, explain, given_apart, meaning};
 
 use crate::address::address;

@@ -1,7 +1,9 @@
-// The layout that two options name, and the numbers that they are given.
-ghost use Rattle.std.specs.Prelude.{◌≡◌};
+// The layout that two options name, the size that one names, and the numbers that they are given.
+ghost use Rattle.std.specs.Prelude.{◌≡◌, IsTrue};
 ghost use Rattle.std.specs.Char.{is_ascii_digit};
 ghost use Rattle.std.specs.List.{list_all};
+ghost use Rattle.std.specs.Option.{IfSome};
+ghost use Rattle.base.specs.Lines.{is_line_size};
 ghost use Rattle.command_line.specs.Numbers.{is_plain, number_of, number_or};
 ghost use Rattle.command_line.specs.Demands.{text_of};
 ghost use Rattle.command_line.specs.Layouts.{layout_at, named_layout};
@@ -72,6 +74,26 @@ pub fn given_layout(size: Option<&str>, shift: Option<&str>) -> Option<Layout>
     let size = given_or(size, USUAL_SIZE)?;
     let shift = given_or(shift, USUAL_SHIFT)?;
     allowed_layout(size, shift)
+}
+
+// Whether lines may have a size.
+fn is_allowed_size(size: u32) -> bool
+    ensures { result ≡ is_line_size size }
+{
+    Layout::new(size, 0).is_some()
+}
+
+// The size of a line, the usual one where it isn't given.
+pub fn given_size(size: Option<&str>) -> Option<u32>
+    ensures value { result ≡ Rattle.command_line.specs.Layouts.given_size (text_of size.entry) }
+    ensures allowed { IfSome result (λ size. IsTrue (is_line_size size)) }
+{
+    let size = u32::try_from(given_or(size, USUAL_SIZE)?).ok()?;
+    if is_allowed_size(size) {
+        Some(size)
+    } else {
+        None
+    }
 }
 
 // The layout that the options name, if they name one: None where what they name isn't allowed.

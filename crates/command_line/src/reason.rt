@@ -14,6 +14,8 @@ const LINES: &str = concat!(
 
 const SWEPT: &str = "it is a power of two from 4 to 256";
 
+const LINE_SIZE: &str = "it is a power of two from 4 to 1024";
+
 const SHAPES: &str = concat!(
     "--size is a power of two from 4 to 1024, --sets one from 1 to 1024, --ways from 1 to 64, ",
     "and sets times ways at most 4096"
@@ -59,6 +61,8 @@ pub enum Reason<'a> {
     Count(Option<&'a str>),
     /// The word for the size is none that a sweep takes; None where it is missing.
     SweptSize(Option<&'a str>),
+    /// The word for the size of a line is none that lines may have.
+    LineSize(Option<&'a str>),
     /// The word for the place of a cut is no number.
     Place(Option<&'a str>),
     /// A file that is written has this name, and so has another one.
@@ -151,6 +155,10 @@ impl Reason<'_> {
                 format!(in alloc; "'--size {size}' is no size to sweep: {SWEPT}")
             }
             Reason::SweptSize(None) => format!(in alloc; "--size is missing: {SWEPT}"),
+            Reason::LineSize(size) => {
+                let size = size.unwrap_or("64");
+                format!(in alloc; "'--size {size}' is no size of a line: {LINE_SIZE}")
+            }
             Reason::Place(word) => {
                 let word = word.unwrap_or("");
                 format!(in alloc;

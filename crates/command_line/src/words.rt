@@ -12,6 +12,7 @@ use crate::demand::{Demand, WordsFault};
 use crate::explain::read_explain;
 use crate::generate::read_gen;
 use crate::misses::read_misses;
+use crate::place::read_place;
 use crate::reason::Reason;
 use crate::replay::read_replay;
 use crate::run::read_run;
@@ -29,6 +30,7 @@ pub const USAGE: &str = concat!(
     "usage: predator convert TRACE FILE\n",
     "usage: predator sweep TRACE --size N\n",
     "usage: predator caches TRACE --size N --sets S --ways W\n",
+    "usage: predator place TRACE NAME [--size N]\n",
     "usage: predator misses TRACE [--size N] [--shift N]\n",
     "usage: predator explain PROGRAM BASE SIZE START [--settings F] [--schedule F]\n",
 );
@@ -55,6 +57,7 @@ fn read_command<'a>(
         "convert" => read_convert(alloc, words),
         "sweep" => read_sweep(alloc, words),
         "caches" => read_caches(alloc, words),
+        "place" => read_place(alloc, words),
         "misses" => read_misses(alloc, words),
         "explain" => read_explain(alloc, words),
         _ => Err(WordsFault::Usage(Reason::UnknownCommand(command))),
@@ -65,8 +68,9 @@ fn read_command<'a>(
 ///
 /// Usage comes exactly where they name no command, the command refuses the words after it, a number
 /// is not decimal digits without leading zeros, below 2^64, the layout isn't allowed, a trace of
-/// more than 10^9 accesses is asked for, a size to sweep is none, or the name of an output equals the name of another output
-/// or of an input. Want of memory may come before any of them but the first.
+/// more than 10^9 accesses is asked for, a size to sweep or of a line is none, or the name of an
+/// output equals the name of another output or of an input. Want of memory may come before any of
+/// them but the first.
 pub fn read_words<'a>(alloc: Global, words: &'a [String]) -> Result<Demand<'a>, WordsFault<'a>>
     ensures accepted { IfOk result (λ demand. demand_of (texts words.now) ≡ Some (meaning demand)) }
     ensures refused { result ≢ Err WordsFault.NoMemory → (IsErrAnd result IsUsage)

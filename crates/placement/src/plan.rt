@@ -248,10 +248,11 @@ impl Plan {
         ensures no_room { result ≡ Err PlanFault.NoRoom → IsFalse (has_room line owners.now) }
     {
         let line = u64::from(line);
+        let extent = owners.extent();
         let start = rounded(line, owners.end());
         let area = area_at(alloc, line, start, owners.owners())?;
         Ok(Plan {
-            extent: owners.extent(),
+            extent,
             places: area.places,
             start,
             size: area.size,

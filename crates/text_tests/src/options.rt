@@ -1,8 +1,8 @@
 // Command lines as users write them, each against what it asks for.
 use base::Layout;
 use command_line::{
-    CheckOptions, ConvertOptions, Demand, GenOptions, ReplayOptions, RunOptions, SplitOptions,
-    WordsFault, read_words,
+    CheckOptions, ConvertOptions, Demand, GenOptions, PlaceOptions, ReplayOptions, RunOptions,
+    SplitOptions, WordsFault, read_words,
 };
 use std::alloc::{AllocError, Global};
 use std::process::Abort;
@@ -167,6 +167,39 @@ fn reads_other_commands(rt: HostRuntime) -> Result<(), Fail> {
     all_answer(&rt, rt.alloc(), &OTHERS)
 }
 
+// Lines that ask for new places of an object of `t`, each with the name, the address that it is, and
+// the size of a line.
+const PLACED: [(&str, &str, Option<u32>, u32); 9] = [
+    ("place t x", "x", None, 64),
+    ("place t 0x10", "0x10", Some(16), 64),
+    ("place t 0xFFFFfffF", "0xFFFFfffF", Some(0xffff_ffff), 64),
+    ("place t 16", "16", None, 64),
+    ("place t 0x", "0x", None, 64),
+    ("place t 0x123456789", "0x123456789", None, 64),
+    ("place t x --size 4", "x", None, 4),
+    ("place --size=1024 t -- --x", "--x", None, 1024),
+    // an empty name
+    ("place t ", "", None, 64),
+];
+
+fn place<'a>(name: &'a str, at: Option<u32>, size: u32) -> Demand<'a> {
+    Demand::Place(PlaceOptions {
+        trace: "t",
+        name,
+        at,
+        size,
+    })
+}
+
+#[test]
+fn reads_names_of_objects(rt: HostRuntime) -> Result<(), Fail> {
+    let alloc = rt.alloc();
+    for (line, name, at, size) in &PLACED {
+        answers(&rt, alloc, line, &Some(place(name, *at, *size)))?;
+    }
+    Ok(())
+}
+
 // Lines that ask to replay `t`, each with the settings, and the size and offset of the layout.
 const LAID_OUT: [(&str, Option<&str>, u32, u32); 3] = [
     ("replay --settings=s --size=64 -- t", Some("s"), 64, 0),
@@ -194,7 +227,7 @@ fn reads_layouts(rt: HostRuntime) -> Result<(), Fail> {
     Ok(())
 }
 
-const REFUSED: [&str; 45] = [
+const REFUSED: [&str; 52] = [
     // other words
     "replay",
     "replay a b",
@@ -218,6 +251,10 @@ const REFUSED: [&str; 45] = [
     "convert t",
     "convert t f g",
     "convert t --f",
+    "place",
+    "place t",
+    "place t x y",
+    "place t x --shift 4",
     // other numbers
     "replay a --size 48",
     "replay a --size 064",
@@ -231,6 +268,9 @@ const REFUSED: [&str; 45] = [
     "split t 18446744073709551616 a b",
     "split t 04 a b",
     "split 4 t a b",
+    "place t x --size 3",
+    "place t x --size 2048",
+    "place t x --size=",
     // one name for two files
     "run p --trace p",
     "run p --output s --settings s",

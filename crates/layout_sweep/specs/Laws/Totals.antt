@@ -222,22 +222,25 @@ lines-push g t a even =
 abbrev added : (ℕ → Bool) → ℕ → ℕ → ℕ
 added p k c = if p k then c else 0
 
+first-added : (p : ℕ → Bool) (f : Finding) (fs : List Finding)
+    → sum_by (λ (f : Finding). f.count) (filter (λ (f : Finding). p f.line.number) (f ∷ fs))
+    ≡ added p f.line.number f.count
+    + sum_by (λ (f : Finding). f.count) (filter (λ (f : Finding). p f.line.number) fs)
+first-added p f fs =
+    elim (cases_Bool (p f.line.number)) [
+      | inl is ↦ rw is (sum_by-cons (λ (f : Finding). f.count) f
+          (filter (λ (f : Finding). p f.line.number) fs))
+      | inr other ↦ rw other (omega arith)
+    ]
+
 part-added : (p : ℕ → Bool) (fs : List Finding)
     → sum_by (λ (f : Finding). f.count) (filter (λ (f : Finding). p f.line.number) fs)
     ≡ sum_by (λ (f : Finding). added p f.line.number f.count) fs
 part-added p [] = refl
 part-added p (f ∷ fs) =
-    let rest = part-added p fs in
-    let whole = sum_by-cons (λ (f : Finding). added p f.line.number f.count) f fs in
-    elim (cases_Bool (p f.line.number)) [
-      | inl is ↦
-          let here : added p f.line.number f.count ≡ f.count = rw is refl in
-          rw is (omega (arith, rest, whole, here, sum_by-cons (λ (f : Finding). f.count) f
-          (filter (λ (f : Finding). p f.line.number) fs)))
-      | inr other ↦
-          let here : added p f.line.number f.count ≡ 0 = rw other refl in
-          rw other (omega (arith, rest, whole, here))
-    ]
+    first-added p f fs
+    ∙ ap (λ (s : ℕ). added p f.line.number f.count + s) (part-added p fs)
+    ∙ sym (sum_by-cons (λ (f : Finding). added p f.line.number f.count) f fs)
 
 nothing-added : (p : ℕ → Bool) (k : ℕ) → added p k 0 ≡ 0
 nothing-added p k = elim (cases_Bool (p k)) [ inl is ↦ rw is refl | inr other ↦ rw other refl ]
@@ -247,12 +250,12 @@ one-added : (p : ℕ → Bool) (k c d : ℕ) (taken : Bool) → d ≡ c + (if ta
 one-added p k c d taken more =
     elim (cases_Bool (p k)) [
       | inl is ↦ elim (cases_Bool taken) [
-        | inl yes ↦ rw (is, yes) (rw yes at more)
-        | inr no ↦ rw (is, no) (rw no at more)
+        | inl took ↦ rw (is, took) (rw took at more)
+        | inr kept ↦ rw (is, kept) (rw kept at more)
       ]
       | inr other ↦ elim (cases_Bool taken) [
-        | inl yes ↦ rw (other, yes) refl
-        | inr no ↦ rw (other, no) refl
+        | inl took ↦ rw (other, took) refl
+        | inr kept ↦ rw (other, kept) refl
       ]
     ]
 

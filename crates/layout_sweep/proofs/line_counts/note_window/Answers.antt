@@ -8,18 +8,21 @@ use Rattle.layout_sweep.proofs.PageLaws.{kept_outside, page_at-held, page_at-sam
 use Rattle.layout_sweep.proofs.line_counts.note_window.Goals as goal
 
 pub note_place-requires : goal.note_place-requires
-note_place-requires c = λ writes.
-    let pages = c.args.pages.now.items in
-    let q : ℕ = c.args.window in
-    let within : q / 4096 < length pages =
-    ltb-true _ _ (sym c.has_page.ensures ∙ c.if-has_page.true) in
-    let held = page_at-held pages (q / 4096) c.index_mut.result.now within
-    c.index_mut.ensures.value in
-    let had : nat_lt (q % 4096) (length (page_at pages (q / 4096))) ≡ true = c.requires writes in
-    let low : q % 4096 < length (page_at pages (q / 4096)) = ltb-true _ _ had in
-    let size : length (page_at pages (q / 4096)) ≡ length c.index_mut.result.now.items =
-    ap length held in
-    omega (arith, low, size)
+note_place-requires c = record {
+  made = λ writes.
+      let pages = c.args.pages.now.items in
+      let q : ℕ = c.args.window in
+      let within : q / 4096 < length pages =
+      ltb-true _ _ (sym c.has_page.ensures ∙ c.if-has_page.true) in
+      let held = page_at-held pages (q / 4096) c.index_mut.result.now within
+      c.index_mut.ensures.value in
+      let had : nat_lt (q % 4096) (length (page_at pages (q / 4096))) ≡ true =
+      c.requires.made writes in
+      let low : q % 4096 < length (page_at pages (q / 4096)) = ltb-true _ _ had in
+      let size : length (page_at pages (q / 4096)) ≡ length c.index_mut.result.now.items =
+      ap length held in
+      omega (arith, low, size);
+}
 
 pub returns-then-has_page-clause-here : goal.returns-then-has_page-clause-here
 returns-then-has_page-clause-here c =
@@ -66,10 +69,10 @@ pub returns-else-has_page-clause-here : goal.returns-else-has_page-clause-here
 returns-else-has_page-clause-here c =
     let past : length c.args.pages.now.items ≤ c.args.window / 4096 =
     ltb-false _ _ (sym c.has_page.ensures ∙ c.if-has_page.false) in
-    (unmoved_at c.args.pages.now.items c.args.window c.args.access past c.requires).same
+    (unmoved_at c.args.pages.now.items c.args.window c.args.access past c.requires.made).same
 
 pub returns-else-has_page-clause-taken : goal.returns-else-has_page-clause-taken
 returns-else-has_page-clause-taken c =
     let past : length c.args.pages.now.items ≤ c.args.window / 4096 =
     ltb-false _ _ (sym c.has_page.ensures ∙ c.if-has_page.false) in
-    sym (unmoved_at c.args.pages.now.items c.args.window c.args.access past c.requires).untaken
+    sym (unmoved_at c.args.pages.now.items c.args.window c.args.access past c.requires.made).untaken
