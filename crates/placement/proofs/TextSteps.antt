@@ -16,19 +16,14 @@ pub head_pieces : (whole n a b s w : List ℕ) → (((whole ++ codes "place ") +
     ∷ (codes "words" ∷ w ∷ []) ∷ [])
 head_pieces whole n a b s w = simp append_assoc
 
-pub way_pieces : (whole a b : List ℕ)
-    → (((whole ++ codes "word") ++ (codes " " ++ a)) ++ codes " to") ++ (codes " " ++ b)
-    ≡ whole ++ (codes "word" ++ (codes " " ++ a) ++ codes " to" ++ (codes " " ++ b))
-way_pieces whole a b = simp append_assoc
-
 pub hart_pieces : (whole a b h : List ℕ)
-    → (whole ++ (codes "word" ++ (codes " " ++ a) ++ codes " to" ++ (codes " " ++ b)))
+    → (whole ++ ((codes "word" ++ (codes " " ++ a)) ++ (codes " to" ++ (codes " " ++ b))))
     ++ (codes " hart " ++ h ++ codes "\n")
     ≡ whole ++ text_of ((codes "word" ∷ a ∷ codes "to" ∷ b ∷ codes "hart" ∷ h ∷ []) ∷ [])
 hart_pieces whole a b h = simp append_assoc
 
 pub many_pieces : (whole a b : List ℕ)
-    → (whole ++ (codes "word" ++ (codes " " ++ a) ++ codes " to" ++ (codes " " ++ b)))
+    → (whole ++ ((codes "word" ++ (codes " " ++ a)) ++ (codes " to" ++ (codes " " ++ b))))
     ++ codes " many\n"
     ≡ whole ++ text_of ((codes "word" ∷ a ∷ codes "to" ∷ b ∷ codes "many" ∷ []) ∷ [])
 many_pieces whole a b = simp append_assoc

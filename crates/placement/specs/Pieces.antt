@@ -15,8 +15,18 @@ sizes_end bytes n words =
     ++ codes "\n"
 
 -- the line of a word up to its owner
+abbrev pub from_text : ℕ → List ℕ
+from_text at = codes "word" ++ next_address at
+
+abbrev pub to_text : ℕ → List ℕ
+to_text at = codes " to" ++ next_address at
+
 abbrev pub way_text : ℕ → ℕ → List ℕ
-way_text from to = codes "word" ++ next_address from ++ codes " to" ++ next_address to
+way_text from to = from_text from ++ to_text to
+
+-- its owner
+abbrev pub hart_end : ℕ → List ℕ
+hart_end hart = codes " hart " ++ decimal hart ++ codes "\n"
 
 -- the last lines behind the area's address
 abbrev pub sums_end : ℕ → Sums → List ℕ

@@ -291,6 +291,20 @@ impl Plan {
         place_in(&self.places, i)
     }
 
+    /// Where the area begins.
+    pub fn start(&self) -> u64
+        ensures { result ≡ self.now.start }
+    {
+        self.start
+    }
+
+    /// How many bytes the area has.
+    pub fn size(&self) -> u64
+        ensures { result ≡ self.now.size }
+    {
+        self.size
+    }
+
     /// Where the area begins, and how many bytes it has.
     pub fn area(&self) -> (u64, u64)
         ensures { result ≡ (self.now.start, self.now.size) }

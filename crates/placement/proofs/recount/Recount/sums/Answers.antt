@@ -13,8 +13,8 @@ sums-alike x y before after many =
 pub returns : goal.returns
 returns c = λ t was.
     let s = c.args.self.now in
-    sums-alike (record { before = c.total-before.result; after = c.total-after.result; many = s.many })
+    sums-alike (record { before = c.total.result; after = c.total-2.result; many = s.many })
     (sums_of s.size s.plan t)
-    (c.total-before.ensures ∙ was.before.total ∙ ap (λ (n : ℕ). total_before n t) s.each.0)
-    (c.total-after.ensures ∙ was.after.total ∙ ap (λ (n : ℕ). total_after n s.plan t) s.each.1)
+    (c.total.ensures ∙ was.before.total ∙ ap (λ (n : ℕ). total_before n t) s.each.0)
+    (c.total-2.ensures ∙ was.after.total ∙ ap (λ (n : ℕ). total_after n s.plan t) s.each.1)
     was.many
