@@ -1,5 +1,4 @@
 pub mod AllowedLaws
-pub mod Completeness
 pub mod CopyEnds
 pub mod CountingEnds
 pub mod CutLaws
