@@ -28,13 +28,38 @@ pub many_pieces : (whole a b : List ℕ)
     ≡ whole ++ text_of ((codes "word" ∷ a ∷ codes "to" ∷ b ∷ codes "many" ∷ []) ∷ [])
 many_pieces whole a b = simp append_assoc
 
+-- the last four lines: before, after, many
+counts_pieces : (b a m : List ℕ)
+    → codes "before " ++ b ++ codes "\nafter " ++ a ++ codes "\nmany " ++ m ++ codes "\nend\n"
+    ≡ text_of ((codes "before" ∷ b ∷ []) ∷ (codes "after" ∷ a ∷ []) ∷ (codes "many" ∷ m ∷ [])
+    ∷ (codes "end" ∷ []) ∷ [])
+counts_pieces b a m = simp append_assoc
+
+area_pieces : (whole s n rest : List ℕ)
+    → ((whole ++ codes "area") ++ (codes " " ++ s)) ++ (codes " " ++ n ++ 10 ∷ rest)
+    ≡ whole ++ (line_text (codes "area" ∷ s ∷ n ∷ []) ++ rest)
+area_pieces whole s n rest = simp append_assoc
+
+size_pieces : (n b a m : List ℕ)
+    → codes " " ++ n ++ codes "\nbefore " ++ b ++ codes "\nafter " ++ a ++ codes "\nmany " ++ m
+    ++ codes "\nend\n"
+    ≡ codes " " ++ n ++ 10 ∷ (codes "before " ++ b ++ codes "\nafter " ++ a ++ codes "\nmany " ++ m
+    ++ codes "\nend\n")
+size_pieces n b a m = simp append_assoc
+
 -- the last lines: start, size, before, after, many
 pub end_pieces : (whole s n b a m : List ℕ) → ((whole ++ codes "area") ++ (codes " " ++ s))
     ++ (codes " " ++ n ++ codes "\nbefore " ++ b ++ codes "\nafter " ++ a ++ codes "\nmany " ++ m
     ++ codes "\nend\n")
     ≡ whole ++ text_of ((codes "area" ∷ s ∷ n ∷ []) ∷ (codes "before" ∷ b ∷ [])
     ∷ (codes "after" ∷ a ∷ []) ∷ (codes "many" ∷ m ∷ []) ∷ (codes "end" ∷ []) ∷ [])
-end_pieces whole s n b a m = simp append_assoc
+end_pieces whole s n b a m =
+    let counts : List ℕ = codes "before " ++ b ++ codes "\nafter " ++ a ++ codes "\nmany " ++ m
+    ++ codes "\nend\n" in
+    ap (λ (w : List ℕ). ((whole ++ codes "area") ++ (codes " " ++ s)) ++ w) (size_pieces n b a m)
+    ∙ area_pieces whole s n counts
+    ∙ ap (λ (w : List ℕ). whole ++ (line_text (codes "area" ∷ s ∷ n ∷ []) ++ w))
+    (counts_pieces b a m)
 
 -- the lines of one number more
 pub touched_more : (f : ℕ → Option TextLine) (i : ℕ) (whole before after : List ℕ)
