@@ -109,25 +109,28 @@ pub record IsUnmoved (w : Window) (a : Touch) : Type 0 where
   pub same : w ≡ window_after w a
   pub untaken : takes w a ≡ false
 
+pub unmoved_at : (pages : List (Vec Window Global)) (q : ℕ) (a : Touch)
+    → length pages ≤ q / 4096 → (is_write a.kind ≡ true → has_window pages q ≡ true)
+    → IsUnmoved (window_at pages q) a
+unmoved_at pages q a past made =
+    let none : page_at pages (q / 4096) ≡ [] = page_at-past pages (q / 4096) past in
+    let blank : window_at pages q ≡ blank_window = ap (λ xs. window_in xs (q % 4096)) none in
+    elim (cases_Bool (is_write a.kind)) [
+      | inl writes ↦
+          let had : nat_lt (q % 4096) (length (page_at pages (q / 4096))) ≡ true = made writes in
+          let less : q % 4096 < length (page_at pages (q / 4096)) = ltb-true _ _ had in
+          let empty : length (page_at pages (q / 4096)) ≡ 0 = ap length none in
+          absurd (omega (arith, less, empty))
+      | inr reads ↦ subst (λ w. IsUnmoved w a) (sym blank)
+          (record { same = rw reads refl; untaken = refl })
+    ]
+
 pub unmoved : (pages : List (Vec Window Global)) (b i : ℕ) (a : Touch)
     → (b + i) / 4096 ≡ b / 4096 → length pages ≤ b / 4096
     → (is_write a.kind ≡ true → has_window pages (b + i) ≡ true)
     → IsUnmoved (window_at pages (b + i)) a
 unmoved pages b i a there past made =
-    let none : page_at pages ((b + i) / 4096) ≡ [] = ap (page_at pages) there
-    ∙ page_at-past pages (b / 4096) past in
-    let blank : window_at pages (b + i) ≡ blank_window =
-    ap (λ xs. window_in xs ((b + i) % 4096)) none in
-    elim (cases_Bool (is_write a.kind)) [
-      | inl writes ↦
-          let had : nat_lt ((b + i) % 4096) (length (page_at pages ((b + i) / 4096))) ≡ true =
-          made writes in
-          let less : (b + i) % 4096 < length (page_at pages ((b + i) / 4096)) = ltb-true _ _ had in
-          let empty : length (page_at pages ((b + i) / 4096)) ≡ 0 = ap length none in
-          absurd (omega (arith, less, empty))
-      | inr reads ↦ subst (λ w. IsUnmoved w a) (sym blank)
-          (record { same = rw reads refl; untaken = refl })
-    ]
+    unmoved_at pages (b + i) a (subst (λ k. length pages ≤ k) (sym there) past) made
 
 pub uncounted : (xs : List Swept) (a : Touch) (f : ℕ → Window)
     → ((i : ℕ) → i < length xs → takes (f i) a ≡ false) → (i : ℕ)

@@ -10,12 +10,15 @@
 //! finds another hart there, and whether that ever happened. A shift keeps two sums: its total, and
 //! how many of its lines have a part in it.
 //!
+//! [`LineCounts`] keeps the same of one layout alone, for an access list that others choose.
+//!
 //! `specs/Totals.antt` says what the total of a layout is, over whole lists, and
 //! `specs/Windows.antt` what a window is.
 #![tactic(auto)]
 
 mod counts;
 mod laws;
+mod line_counts;
 mod observer;
 mod one_access;
 mod pages;
@@ -25,6 +28,7 @@ mod window;
 
 pub use counts::Swept;
 pub use laws::{none_undercuts_the_least, what_is_counted_is_listed, windows_are_lines};
+pub use line_counts::LineCounts;
 pub use one_access::see;
 pub use sweep::Sweep;
 pub use text::write_sweep;

@@ -50,9 +50,9 @@ fn fill(page: &mut Page, place: usize) -> Result<(), NoMemory>
     }
 }
 
-// Makes the page of a window where it isn't there, and so of those before it in the page. NoMemory
-// leaves all windows as they were, and comes only where this one is blank.
-fn make_page(pages: &mut Vec<Page>, window: u64, alloc: Global) -> Result<(), NoMemory>
+/// Makes the page of a window where it isn't there, and so of those before it in the page. NoMemory
+/// leaves all windows as they were, and comes only where this one is blank.
+pub fn make_page(pages: &mut Vec<Page>, window: u64, alloc: Global) -> Result<(), NoMemory>
     ensures same { (q : ℕ) → window_at pages.new.items q ≡ window_at pages.old.items q }
     ensures keeps { (q : ℕ) → IsTrue (has_window pages.old.items q)
         → IsTrue (has_window pages.new.items q) }
@@ -128,9 +128,9 @@ fn note_page<L: Ledger>(
     }
 }
 
-// Whether there is a page at a place, or an empty one.
+/// Whether there is a page at a place, or an empty one.
 #[inline(always)]
-fn has_page(pages: &Vec<Page>, number: usize) -> bool
+pub fn has_page(pages: &Vec<Page>, number: usize) -> bool
     ensures { result ≡ nat_lt number (length pages.now.items) }
 {
     number < pages.len()

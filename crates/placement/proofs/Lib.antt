@@ -1,2 +1,3 @@
 pub mod GroupSteps
 mod WorkedPlaces
+pub mod TextSteps

@@ -2,4 +2,7 @@
 pub mod Groups
 pub mod Passing
 pub mod Plans
+pub mod Recounts
+pub mod Texts
+pub mod Told
 pub mod Words

@@ -1,6 +1,7 @@
 pub mod Groups
 pub mod Laws
 pub mod Passing
+pub mod Pieces
 pub mod Plans
 pub mod Recounts
 pub mod Sought

@@ -1,13 +1,17 @@
 -- What is known of an object after records of a trace, by each pass over it.
-use Rattle.std.specs.Prelude.{◌≡◌, ℕ, nat_lt, List, [], ◌∷◌, ◌++◌, length, Option, slice_get}
+use Rattle.std.specs.Prelude.{◌≡◌, ℕ, ◌+◌, nat_lt, List, [], ◌∷◌, ◌++◌, length, Option, slice_get}
 use Rattle.std.specs.Option.{option_map_or}
 use Rattle.sharing_rules.specs.AccessLists.{AccessList}
 use Rattle.trace_format.specs.Rules.{touches_in}
 use Rattle.trace_format.specs.declared.record.TraceRecord.{TraceRecord}
+use Rattle.layout_sweep.specs.Standing.{HasCounted}
+use Rattle.placement.specs.Plans.{moved_list}
+use Rattle.placement.specs.Recounts.{many_count}
 use Rattle.placement.specs.Sought.{blocks_made_at, symbols_named}
 use Rattle.placement.specs.Words.{Owned, owned_of}
 use Rattle.placement.specs.declared.extent.Extent.{Extent}
 use Rattle.placement.specs.declared.finder.Finder.{Finder}
+use Rattle.placement.specs.declared.recount.Recount.{Recount}
 
 -- the blocks of records that an address means, none where there is no address
 abbrev pub blocks_meant : Option ℕ → List TraceRecord → List Extent
@@ -34,6 +38,26 @@ pub record HasOwned (begun now : Owned) (items : List TraceRecord) : Type 0 wher
   pub owned : (t : AccessList) → begun ≡ owned_of begun.extent t
       → now ≡ owned_of begun.extent (t ++ touches_in items)
 
+-- it has counted a list where it is and where its plan moves it
+pub record RecountsFor (t : AccessList) (r : Recount) : Type 0 where
+  pub position : r.position ≡ length t
+  pub before : HasCounted t r.before
+  pub after : HasCounted (moved_list r.plan t) r.after
+  pub many : r.many ≡ many_count r.size r.plan t
+
+-- from what it was first, it came to what it is by these records
+pub record HasRecounted (begun now : Recount) (items : List TraceRecord) : Type 0 where
+  -- for each list that it had counted, it has counted the list with their accesses
+  pub stands : (t : AccessList) → RecountsFor t begun → RecountsFor (t ++ touches_in items) now
+  -- each access moved it on by one
+  pub position : now.position ≡ begun.position + length (touches_in items)
+  pub size : now.size ≡ begun.size
+  pub plan : now.plan ≡ begun.plan
+
+-- its first access has this position
+abbrev pub begins_at : Recount → ℕ → Type 0
+begins_at begun first = begun.position ≡ first
+
 -- whatever records came before, this one came after them
 abbrev pub SeeksNext : Finder → Finder → TraceRecord → Type 0
 SeeksNext old new item =
@@ -44,3 +68,8 @@ abbrev pub OwnsNext : Owned → Owned → TraceRecord → Type 0
 OwnsNext old new item =
     (begun : Owned) (items : List TraceRecord)
     → HasOwned begun old items → HasOwned begun new (items ++ item ∷ [])
+
+abbrev pub RecountsNext : Recount → Recount → TraceRecord → Type 0
+RecountsNext old new item =
+    (begun : Recount) (items : List TraceRecord)
+    → HasRecounted begun old items → HasRecounted begun new (items ++ item ∷ [])

@@ -1,7 +1,8 @@
 -- What is counted on the lines of a range of addresses.
-use Rattle.std.specs.Prelude.{ℕ, ◌*◌, Bool, ◌&&◌, int_le, int_lt, ◌+ℤ◌, pos}
+use Rattle.std.specs.Prelude.{ℕ, ◌*◌, Bool, ◌&&◌, false, int_le, int_lt, ◌+ℤ◌, pos}
 use Rattle.std.specs.Prelude.{filter, sum_by}
 use Rattle.std.specs.Option.{option_map_or}
+use Rattle.base.specs.Lines.{line_number}
 use Rattle.base.specs.declared.layout.Range.{Range}
 use Rattle.sharing_rules.specs.AccessLists.{AccessList}
 use Rattle.sharing_rules.specs.Lines.{native_grid}
@@ -28,6 +29,10 @@ total_after n p t = total_of (native_grid n) (moved_list p t)
 -- its part on the lines of the words of many harts
 abbrev pub many_count : ℕ → Planned → AccessList → ℕ
 many_count n p t = option_map_or (λ r. total_in n r (moved_list p t)) p.many 0
+
+-- whether the line of an address is one of theirs
+abbrev pub is_of_many : ℕ → Planned → ℕ → Bool
+is_of_many n p addr = option_map_or (λ r. ends_in n r (line_number n 0 addr)) p.many false
 
 -- and its part in the area
 abbrev pub area_range : Planned → Range

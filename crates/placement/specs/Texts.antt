@@ -18,8 +18,9 @@ use Rattle.placement.specs.Recounts.{many_count, total_after, total_before}
 use Rattle.placement.specs.Sought.{is_too_large, object_of}
 use Rattle.placement.specs.Words.{Owned, first_word, owned_of}
 use Rattle.placement.specs.declared.extent.Extent.{Extent}
-use Rattle.placement.specs.declared.finder.Refused.{Refused}
-use Rattle.placement.specs.declared.finder.Refused.TheVariants as refused
+use Rattle.placement.specs.declared.refusal.PlaceRefusal.{PlaceRefusal}
+use Rattle.placement.specs.declared.refusal.PlaceRefusal.TheVariants as refusals
+pub use Rattle.placement.specs.declared.sums.Sums.{Sums}
 
 -- a line, as its words
 abbrev pub TextLine : Type 0
@@ -55,12 +56,6 @@ touched_line o p i =
 abbrev pub touched_lines : Owned → Planned → List TextLine
 touched_lines o p = filter_map (touched_line o p) (below (length o.owners))
 
--- the totals before and after, and the part of many harts in the second
-pub record Sums : Type 0 where
-  pub before : ℕ
-  pub after : ℕ
-  pub many : ℕ
-
 abbrev pub end_lines : Planned → Sums → List TextLine
 end_lines p sums =
     (codes "area" ∷ address_word p.start ∷ decimal p.size ∷ [])
@@ -89,15 +84,16 @@ place_text n name e t =
     text_of (place_lines n name o p (sums_of n p t))
 
 -- the text for an object that was found, unless there is no room behind the accesses
-abbrev pub placed : ℕ → List ℕ → AccessList → Extent → Result (List ℕ) Refused
+abbrev pub placed : ℕ → List ℕ → AccessList → Extent → Result (List ℕ) PlaceRefusal
 placed n name t e =
-    if is_too_large e then Err refused.TooLarge
+    if is_too_large e then Err refusals.TooLarge
     else if has_room n (owned_of e t) then Ok (place_text n name e t)
-    else Err refused.NoRoom
+    else Err refusals.NoRoom
 
 -- What is told of a list of records under lines of n bytes, or why no place is told: for the object
 -- that a name means, or an address where the name is one.
-abbrev pub place_of_records : ℕ → List ℕ → Option ℕ → List TraceRecord → Result (List ℕ) Refused
+abbrev pub place_of_records : ℕ → List ℕ → Option ℕ → List TraceRecord
+    → Result (List ℕ) PlaceRefusal
 place_of_records n name at items =
     option_map_or (placed n name (touches_in items)) (object_of name at items)
-    (Err refused.NoObject)
+    (Err refusals.NoObject)

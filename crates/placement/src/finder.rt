@@ -16,17 +16,6 @@ use std::alloc::Global;
 use trace_format::TraceRecord;
 use trace_passes::Observer;
 
-/// Why no place is told.
-#[derive(Clone, Copy, PartialEq, Eq, Debug)]
-pub enum Refused {
-    /// No object has the name.
-    NoObject,
-    /// It has more than 2^24 bytes.
-    TooLarge,
-    /// Its words don't fit between the accesses and the end of the address space.
-    NoRoom,
-}
-
 /// Seeks the object that a name means among the records of a trace: the first object symbol of the
 /// name. Where there is none, and the name is an address, the block that was ever made there, if one
 /// alone was.

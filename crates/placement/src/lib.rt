@@ -2,7 +2,9 @@
 //! that comes to over the same accesses.
 //!
 //! `specs/Words.antt` says what the words of an object are, and who touches each; `specs/Plans.antt`
-//! where each goes. [`Owners`] keeps who touches them, access by access, and [`Plan`] their places.
+//! where each goes, and `specs/Recounts.antt` what that saves. Three passes over a trace tell it all:
+//! [`Finder`] seeks the object, [`Owners`] keeps who touches its words, access by access, and
+//! [`Recount`] counts the accesses where they are and where a [`Plan`] moves them.
 #![tactic(auto)]
 
 mod extent;
@@ -12,9 +14,19 @@ mod laws;
 mod observer;
 mod owners;
 mod plan;
+mod recount;
+mod refusal;
+mod sums;
+mod text;
+mod told;
 
 pub use extent::Extent;
-pub use finder::{Finder, Refused};
+pub use finder::Finder;
 pub use laws::words_keep_apart;
 pub use owners::Owners;
 pub use plan::{Plan, PlanFault};
+pub use recount::Recount;
+pub use refusal::PlaceRefusal;
+pub use sums::Sums;
+pub use text::write_place;
+pub use told::what_is_told;

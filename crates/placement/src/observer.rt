@@ -1,7 +1,11 @@
-// The owners of an object's words see the records of a trace.
-ghost use Rattle.placement.specs.Passing.{OwnsNext};
+// The owners of an object's words see the records of a trace, and so does a recount.
+ghost use Rattle.std.specs.Prelude.{◌≤◌, OnOk};
+ghost use Rattle.trace_format.specs.Reading.{counted_after};
+ghost use Rattle.trace_format.specs.Rules.{last_position};
+ghost use Rattle.placement.specs.Passing.{OwnsNext, RecountsNext};
 
 use crate::owners::Owners;
+use crate::recount::Recount;
 use base::NoMemory;
 use trace_format::TraceRecord;
 use trace_passes::Observer;
@@ -29,5 +33,30 @@ impl Observer for Owners {
     fn note(&mut self, item: &TraceRecord) -> Result<(), NoMemory> {
         note_record(self, item);
         Ok(())
+    }
+}
+
+// One record more of the third reading. All but accesses change nothing.
+#[inline]
+fn recount_record(recount: &mut Recount, item: &TraceRecord) -> Result<(), NoMemory>
+    requires { counted_after recount.old.position item.now ≤ last_position }
+    ensures { OnOk result (RecountsNext recount.old recount.new item.now) }
+{
+    match item {
+        TraceRecord::Touch(access) => recount.note(*access),
+        _ => Ok(()),
+    }
+}
+
+impl Observer for Recount {
+    ghost use Rattle.placement.specs.Passing.{HasRecounted, begins_at};
+
+    ghost given = { HasRecounted };
+
+    ghost begins = { begins_at };
+
+    #[inline]
+    fn note(&mut self, item: &TraceRecord) -> Result<(), NoMemory> {
+        recount_record(self, item)
     }
 }

@@ -36,9 +36,9 @@ impl Model for Owners {
         × (o.extent.size ≤ 2 ^ 24) };
 }
 
-// The number of its first word.
+/// The number of its first word.
 #[inline(always)]
-fn first_word(extent: Extent) -> u32
+pub(crate) fn first_word(extent: Extent) -> u32
     ensures value { result ≡ Rattle.placement.specs.Words.first_word extent }
     ensures small { result < 2 ^ 30 }
 {

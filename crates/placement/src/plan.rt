@@ -248,10 +248,11 @@ impl Plan {
         ensures no_room { result ≡ Err PlanFault.NoRoom → IsFalse (has_room line owners.now) }
     {
         let line = u64::from(line);
+        let extent = owners.extent();
         let start = rounded(line, owners.end());
         let area = area_at(alloc, line, start, owners.owners())?;
         Ok(Plan {
-            extent: owners.extent(),
+            extent,
             places: area.places,
             start,
             size: area.size,
@@ -281,6 +282,27 @@ impl Plan {
             Some(place) => at_word(access, place),
             None => access,
         }
+    }
+
+    /// The place of word i of the object, if it has that many.
+    pub fn place(&self, i: usize) -> Option<u32>
+        ensures { result ≡ slice_get self.now.places i }
+    {
+        place_in(&self.places, i)
+    }
+
+    /// Where the area begins.
+    pub fn start(&self) -> u64
+        ensures { result ≡ self.now.start }
+    {
+        self.start
+    }
+
+    /// How many bytes the area has.
+    pub fn size(&self) -> u64
+        ensures { result ≡ self.now.size }
+    {
+        self.size
     }
 
     /// Where the area begins, and how many bytes it has.

@@ -1,12 +1,12 @@
 -- What one access more makes of the total of a layout and of its number of lines.
-use Rattle.std.proofs.Common.{◌≡◌, ℕ, ◌+◌, ◌%◌, ◌<◌, Bool, true, false, cond, eqb, ltb, List}
+use Rattle.std.proofs.Common.{◌≡◌, ℕ, ◌+◌, ◌%◌, ◌<◌, Bool, true, false, cond, eqb, ltb, ◌&&◌, List}
 use Rattle.std.proofs.Common.{[], ◌∷◌, ◌++◌, Some, None, refl, sym, ap, ◌∙◌, subst, arith}
 use Rattle.std.proofs.Common.{inl, inr}
 use Rattle.std.proofs.lemmas.Bool.{cases_Bool, eqb-true, false≢true, or_parts}
 use Rattle.std.proofs.lemmas.Bool.Decides.{nat_tests}
 use Rattle.std.proofs.lemmas.List.Sums.{sum_by-cons, sum_by_push}
 use Rattle.std.specs.List.{AllByRecursion, IsDistinct, list_any}
-use Rattle.std.specs.Prelude.{filter_map, if◌then◌else◌, sum_by}
+use Rattle.std.specs.Prelude.{filter, filter_map, if◌then◌else◌, sum_by}
 use Rattle.base.specs.Lines.{Grid, line_number}
 use Rattle.base.specs.Touch.{Touch, is_write}
 use Rattle.sharing_rules.specs.Arrivals.{note_arrival}
@@ -22,7 +22,7 @@ use Rattle.sharing_rules.specs.declared.line_kind.LineKind.TheVariants.{Observed
 use Rattle.sharing_rules.specs.Observed.{first_write_from, observed_start, written_lines}
 use Rattle.sharing_rules.specs.Tracks.{Traced, track_of, track_since}
 use Rattle.layout_sweep.specs.Laws.Windows.{reads-take_nothing, window-noted}
-use Rattle.layout_sweep.specs.Totals.{counted_lines, total_of}
+use Rattle.layout_sweep.specs.Totals.{counted, counted_lines, part_of, total_of}
 use Rattle.layout_sweep.specs.Windows.{takes, window_of}
 
 -- Two functions that agree at all numbers but one, and a sum in which that one's part grows.
@@ -86,9 +86,9 @@ sum-alike f g (k ∷ ks) alike =
 abbrev count_on : Grid → List Touch → ℕ → ℕ
 count_on g t k = (track_of (grid_line g k) 0 t).count
 
-found-sum : (val : ℕ → ℕ) (g : Grid) (t : List Touch) (ks : List ℕ) → val 0 ≡ 0
-    → sum_by (λ f. val f.count) (filter_map (observed_line g 1 t) ks)
-    ≡ sum_by (λ k. val (count_on g t k)) ks
+found-sum : (val : ℕ → ℕ → ℕ) (g : Grid) (t : List Touch) (ks : List ℕ) → ((k : ℕ) → val k 0 ≡ 0)
+    → sum_by (λ f. val f.line.number f.count) (filter_map (observed_line g 1 t) ks)
+    ≡ sum_by (λ k. val k (count_on g t k)) ks
 found-sum val g t [] blank = refl
 found-sum val g t (k ∷ ks) blank =
     let inside : ℕ → Bool = is_inside (grid_line g k) in
@@ -100,21 +100,21 @@ found-sum val g t (k ∷ ks) blank =
           let start : observed_start 1 inside t ≡ None = one ∙ none in
           let here : count_on g t k ≡ 0 = ap (λ (x : Traced). x.count)
           (ap (track_since (grid_line g k) t) none) in
-          let nothing : val (count_on g t k) ≡ 0 = ap val here ∙ blank in
-          rw start (omega (arith, rest, nothing, sum_by-cons (λ k. val (count_on g t k)) k ks))
+          let nothing : val k (count_on g t k) ≡ 0 = ap (val k) here ∙ blank k in
+          rw start (omega (arith, rest, nothing, sum_by-cons (λ k. val k (count_on g t k)) k ks))
       | inr some ↦
           let start : observed_start 1 inside t ≡ Some some.0 = one ∙ some.1 in
           let here : count_on g t k ≡ (track_since (grid_line g k) t (Some some.0)).count =
           ap (λ (x : Traced). x.count) (ap (track_since (grid_line g k) t) some.1) in
           rw start (
-          let same = ap val here in
+          let same = ap (val k) here in
           omega (
             arith,
             rest,
             same,
-            sum_by-cons (λ k. val (count_on g t k)) k ks,
-            sum_by-cons (λ (f : Finding). val f.count) (found t Observed (grid_line g k) some.0)
-                (filter_map (observed_line g 1 t) ks),
+            sum_by-cons (λ k. val k (count_on g t k)) k ks,
+            sum_by-cons (λ (f : Finding). val f.line.number f.count)
+                (found t Observed (grid_line g k) some.0) (filter_map (observed_line g 1 t) ks),
           ))
     ]
 
@@ -130,25 +130,26 @@ never_written g t k none =
     ]
 
 -- a sum over the written lines, where only the line of the access can change
-written-sum : (val : ℕ → ℕ) (g : Grid) (t : List Touch) (a : Touch) (n : ℕ) → val 0 ≡ 0
-    → (is_write a.kind ≡ false → n ≡ 0)
-    → val (count_on g (t ++ a ∷ []) (line_number g.size g.offset a.addr))
-    ≡ val (count_on g t (line_number g.size g.offset a.addr)) + n
-    → sum_by (λ k. val (count_on g (t ++ a ∷ []) k)) (written_lines g (t ++ a ∷ []))
-    ≡ sum_by (λ k. val (count_on g t k)) (written_lines g t) + n
+written-sum : (val : ℕ → ℕ → ℕ) (g : Grid) (t : List Touch) (a : Touch) (n : ℕ)
+    → ((k : ℕ) → val k 0 ≡ 0) → (is_write a.kind ≡ false → n ≡ 0)
+    → val (line_number g.size g.offset a.addr)
+    (count_on g (t ++ a ∷ []) (line_number g.size g.offset a.addr))
+    ≡ val (line_number g.size g.offset a.addr) (count_on g t (line_number g.size g.offset a.addr)) + n
+    → sum_by (λ k. val k (count_on g (t ++ a ∷ []) k)) (written_lines g (t ++ a ∷ []))
+    ≡ sum_by (λ k. val k (count_on g t k)) (written_lines g t) + n
 written-sum val g t a n blank quiet grows =
     let x : ℕ = line_number g.size g.offset a.addr in
-    let before : ℕ → ℕ = λ k. val (count_on g t k) in
-    let after : ℕ → ℕ = λ k. val (count_on g (t ++ a ∷ []) k) in
+    let before : ℕ → ℕ = λ k. val k (count_on g t k) in
+    let after : ℕ → ℕ = λ k. val k (count_on g (t ++ a ∷ []) k) in
     let agree : AgreeBut x before after = λ k other.
-    ap (λ (y : Traced). val y.count) (track_of-stays (grid_line g k) 0 t a other) in
+    ap (λ (y : Traced). val k y.count) (track_of-stays (grid_line g k) 0 t a other) in
     elim (cases_Bool (is_write a.kind)) [
       | inl writes ↦
           let pushed : written_lines g (t ++ a ∷ []) ≡ note_arrival (written_lines g t) x =
           rw (written_lines-push g t a, writes) refl in
           ap (sum_by after) pushed
           ∙ sum-noted before after x n (written_lines g t) (each_once-distinct _) agree grows
-          (λ none. ap val (never_written g t x none) ∙ blank)
+          (λ none. ap (val x) (never_written g t x none) ∙ blank x)
       | inr reads ↦
           let pushed : written_lines g (t ++ a ∷ []) ≡ written_lines g t =
           rw (written_lines-push g t a, reads) refl in
@@ -182,11 +183,11 @@ total-push g t a even =
     let w = window_of (line_at g a.addr) t in
     let noted = window-noted (line_at g a.addr) t a
     (record { some = even.0; whole = even.1 }) (inside_own g a.addr) in
-    found-sum (λ c. c) g (t ++ a ∷ []) (written_lines g (t ++ a ∷ [])) refl
-    ∙ written-sum (λ c. c) g t a (if takes w a then 1 else 0) refl
+    found-sum (λ k c. c) g (t ++ a ∷ []) (written_lines g (t ++ a ∷ [])) (λ k. refl)
+    ∙ written-sum (λ k c. c) g t a (if takes w a then 1 else 0) (λ k. refl)
     (λ reads. no_more (takes w a) 1 (reads-take_nothing w a reads)) noted.count
     ∙ sym (ap (λ s. s + (if takes w a then 1 else 0))
-    (found-sum (λ c. c) g t (written_lines g t) refl))
+    (found-sum (λ k c. c) g t (written_lines g t) (λ k. refl)))
 
 -- whether there is a count at all, as a number
 abbrev is_counted : ℕ → ℕ
@@ -210,8 +211,69 @@ lines-push g t a even =
     let noted = window-noted (line_at g a.addr) t a
     (record { some = even.0; whole = even.1 }) (inside_own g a.addr) in
     let more : ℕ = if takes w a then (if w.taken then 0 else 1) else 0 in
-    found-sum is_counted g (t ++ a ∷ []) (written_lines g (t ++ a ∷ [])) refl
-    ∙ written-sum is_counted g t a more refl
+    found-sum (λ k c. is_counted c) g (t ++ a ∷ []) (written_lines g (t ++ a ∷ [])) (λ k. refl)
+    ∙ written-sum (λ k c. is_counted c) g t a more (λ k. refl)
     (λ reads. no_more (takes w a) (if w.taken then 0 else 1) (reads-take_nothing w a reads))
     (first_more _ _ (takes w a) noted.count)
-    ∙ sym (ap (λ s. s + more) (found-sum is_counted g t (written_lines g t) refl))
+    ∙ sym (ap (λ s. s + more)
+    (found-sum (λ k c. is_counted c) g t (written_lines g t) (λ k. refl)))
+
+-- what a line adds to the part of the total on the lines that pass a test
+abbrev added : (ℕ → Bool) → ℕ → ℕ → ℕ
+added p k c = if p k then c else 0
+
+first-added : (p : ℕ → Bool) (f : Finding) (fs : List Finding)
+    → sum_by (λ (f : Finding). f.count) (filter (λ (f : Finding). p f.line.number) (f ∷ fs))
+    ≡ added p f.line.number f.count
+    + sum_by (λ (f : Finding). f.count) (filter (λ (f : Finding). p f.line.number) fs)
+first-added p f fs =
+    elim (cases_Bool (p f.line.number)) [
+      | inl is ↦ rw is (sum_by-cons (λ (f : Finding). f.count) f
+          (filter (λ (f : Finding). p f.line.number) fs))
+      | inr other ↦ rw other (omega arith)
+    ]
+
+part-added : (p : ℕ → Bool) (fs : List Finding)
+    → sum_by (λ (f : Finding). f.count) (filter (λ (f : Finding). p f.line.number) fs)
+    ≡ sum_by (λ (f : Finding). added p f.line.number f.count) fs
+part-added p [] = refl
+part-added p (f ∷ fs) =
+    first-added p f fs
+    ∙ ap (λ (s : ℕ). added p f.line.number f.count + s) (part-added p fs)
+    ∙ sym (sum_by-cons (λ (f : Finding). added p f.line.number f.count) f fs)
+
+nothing-added : (p : ℕ → Bool) (k : ℕ) → added p k 0 ≡ 0
+nothing-added p k = elim (cases_Bool (p k)) [ inl is ↦ rw is refl | inr other ↦ rw other refl ]
+
+one-added : (p : ℕ → Bool) (k c d : ℕ) (taken : Bool) → d ≡ c + (if taken then 1 else 0)
+    → added p k d ≡ added p k c + (if taken && p k then 1 else 0)
+one-added p k c d taken more =
+    elim (cases_Bool (p k)) [
+      | inl is ↦ elim (cases_Bool taken) [
+        | inl took ↦ rw (is, took) (rw took at more)
+        | inr kept ↦ rw (is, kept) (rw kept at more)
+      ]
+      | inr other ↦ elim (cases_Bool taken) [
+        | inl took ↦ rw (other, took) refl
+        | inr kept ↦ rw (other, kept) refl
+      ]
+    ]
+
+-- The part of the total on the lines that pass a test grows with theirs alone.
+pub part-push : (p : ℕ → Bool) (g : Grid) (t : List Touch) (a : Touch) → IsEven g
+    → part_of p g (t ++ a ∷ []) ≡ part_of p g t
+    + (if takes (window_of (line_at g a.addr) t) a && p (line_number g.size g.offset a.addr)
+    then 1 else 0)
+part-push p g t a even =
+    let w = window_of (line_at g a.addr) t in
+    let x : ℕ = line_number g.size g.offset a.addr in
+    let more : ℕ = if takes w a && p x then 1 else 0 in
+    let noted = window-noted (line_at g a.addr) t a
+    (record { some = even.0; whole = even.1 }) (inside_own g a.addr) in
+    part-added p (counted g (t ++ a ∷ []))
+    ∙ found-sum (added p) g (t ++ a ∷ []) (written_lines g (t ++ a ∷ [])) (nothing-added p)
+    ∙ written-sum (added p) g t a more (nothing-added p)
+    (λ reads. rw (reads-take_nothing w a reads) refl)
+    (one-added p x _ _ (takes w a) noted.count)
+    ∙ sym (ap (λ s. s + more)
+    (part-added p (counted g t) ∙ found-sum (added p) g t (written_lines g t) (nothing-added p)))

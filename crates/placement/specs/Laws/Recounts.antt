@@ -1,0 +1,151 @@
+-- What one access more makes of a recount.
+use Rattle.std.proofs.Common.{◌≡◌, ℕ, ◌+◌, ◌%◌, ◌<◌, ◌≤◌, ◌&&◌, Bool, true, false, List, [], ◌∷◌}
+use Rattle.std.proofs.Common.{◌++◌, Option, None, Some, length, refl, sym, ap, ◌∙◌, subst, arith}
+use Rattle.std.proofs.Common.{append_assoc, Result, Ok, Err}
+use Rattle.std.proofs.Math.Nat.{add-zero}
+use Rattle.std.proofs.lemmas.List.{append-nil, length-append, map-append}
+use Rattle.std.proofs.lemmas.List.Elements.{filter_map-append}
+use Rattle.std.specs.Option.{option_map_or}
+use Rattle.std.specs.Prelude.{OnOk, if◌then◌else◌}
+use Rattle.base.specs.Lines.{line_number}
+use Rattle.base.specs.Touch.{Touch}
+use Rattle.base.specs.declared.layout.Range.{Range}
+use Rattle.sharing_rules.specs.AccessLists.{AccessList}
+use Rattle.sharing_rules.specs.Lines.{line_at, native_grid}
+use Rattle.trace_format.specs.Reading.{counted_after}
+use Rattle.trace_format.specs.Rules.{last_position, touch_in, touches_in}
+use Rattle.trace_format.specs.declared.record.TraceRecord.{TraceRecord}
+use Rattle.trace_format.specs.declared.record.TraceRecord.TheVariants as records
+use Rattle.trace_passes.specs.Rooms.{HasRoom}
+use Rattle.layout_sweep.specs.Laws.Totals.{part-push}
+use Rattle.layout_sweep.specs.Windows.{takes, window_of}
+use Rattle.placement.specs.Passing.{HasRecounted, RecountsFor, RecountsNext, begins_at}
+use Rattle.placement.specs.Plans.{Planned, moved, moved_list}
+use Rattle.placement.specs.Recounts.{ends_in, is_of_many, many_count, total_in}
+use Rattle.placement.specs.declared.recount.Recount.{Recount}
+
+pub moved-push : (p : Planned) (t : List Touch) (a : Touch)
+    → moved_list p (t ++ a ∷ []) ≡ moved_list p t ++ moved p a ∷ []
+moved-push p t a = map-append (moved p) t (a ∷ [])
+
+-- the part on the lines of a range, if there is one
+part-in : (n many : ℕ) (o : Option Range) (t : List Touch) (a : Touch) (taken : Bool) → 0 < n
+    → n % 4 ≡ 0 → many ≡ option_map_or (λ r. total_in n r t) o 0
+    → taken ≡ takes (window_of (line_at (native_grid n) a.addr) t) a
+    → (if taken && option_map_or (λ r. ends_in n r (line_number n 0 a.addr)) o false then many + 1
+    else many) ≡ option_map_or (λ r. total_in n r (t ++ a ∷ [])) o 0
+part-in n many None t a true some whole was is = was
+part-in n many None t a false some whole was is = was
+part-in n many (Some r) t a taken some whole was is =
+    let inside : Bool = ends_in n r (line_number n 0 a.addr) in
+    counted (taken && inside)
+    ∙ ap (λ (s : ℕ). s + (if taken && inside then 1 else 0)) was
+    ∙ ap (λ (b : Bool). total_in n r t + (if b && inside then 1 else 0)) is
+    ∙ sym (part-push (ends_in n r) (native_grid n) t a (some, whole))
+  where
+    counted : (b : Bool) → (if b then many + 1 else many) ≡ many + (if b then 1 else 0)
+    counted true = refl
+    counted false = sym (add-zero many)
+
+pub many-push : (n many : ℕ) (p : Planned) (t : List Touch) (a b : Touch) (taken : Bool) → 0 < n
+    → n % 4 ≡ 0 → many ≡ many_count n p t → b ≡ moved p a
+    → taken ≡ takes (window_of (line_at (native_grid n) b.addr) (moved_list p t)) b
+    → (if taken && is_of_many n p b.addr then many + 1 else many) ≡ many_count n p (t ++ a ∷ [])
+many-push n many p t a b taken some whole was there is =
+    part-in n many p.many (moved_list p t) b taken some whole was is
+    ∙ ap (λ (c : Touch). option_map_or (λ r. total_in n r (moved_list p t ++ c ∷ [])) p.many 0) there
+    ∙ ap (λ (u : List Touch). option_map_or (λ r. total_in n r u) p.many 0) (sym (moved-push p t a))
+
+-- ---- the records
+
+touches-push : (xs : List TraceRecord) (x : TraceRecord) → touches_in (xs ++ x ∷ [])
+    ≡ touches_in xs ++ touches_in (x ∷ [])
+touches-push xs x = filter_map-append touch_in xs (x ∷ [])
+
+counted-one : (p : ℕ) (x : TraceRecord) → counted_after p x ≡ p + length (touches_in (x ∷ []))
+counted-one p (records.Touch a) = refl
+counted-one p (records.Alloc addr size sites) = sym (add-zero p)
+counted-one p (records.Free addr) = sym (add-zero p)
+counted-one p (records.Symbol kind addr size name) = sym (add-zero p)
+counted-one p (records.End e) = sym (add-zero p)
+
+-- there is room for one record more
+pub recount-room : (now : Recount) (x : TraceRecord) → HasRoom begins_at HasRecounted now (x ∷ [])
+    → counted_after now.position x ≤ last_position
+recount-room now x r =
+    let all : length (touches_in (r.seen ++ x ∷ []))
+    ≡ length (touches_in r.seen) + length (touches_in (x ∷ [])) =
+    ap length (touches-push r.seen x) ∙ length-append (touches_in r.seen) (touches_in (x ∷ [])) in
+    let room = r.room in
+    let begins = r.begins_there in
+    let position = r.given_so_far.position in
+    omega (arith, all, counted-one now.position x, room, begins, position)
+
+-- what one record changes
+record IsNext (old new : Recount) (x : TraceRecord) : Type 0 where
+  stands : (t : AccessList) → RecountsFor t old → RecountsFor (t ++ touches_in (x ∷ [])) new
+  position : new.position ≡ old.position + length (touches_in (x ∷ []))
+  size : new.size ≡ old.size
+  plan : new.plan ≡ old.plan
+
+recounts-next : (old new : Recount) (x : TraceRecord) → IsNext old new x → RecountsNext old new x
+recounts-next old new x one begun xs so_far =
+    record {
+      stands = λ t stood.
+          subst (λ (list : AccessList). RecountsFor list new)
+          (append_assoc t (touches_in xs) (touches_in (x ∷ []))
+          ∙ ap (λ (list : AccessList). t ++ list) (sym (touches-push xs x)))
+          (one.stands (t ++ touches_in xs) (so_far.stands t stood));
+      position =
+          let all : length (touches_in (xs ++ x ∷ []))
+          ≡ length (touches_in xs) + length (touches_in (x ∷ [])) =
+          ap length (touches-push xs x)
+          ∙ length-append (touches_in xs) (touches_in (x ∷ [])) in
+          omega (arith, all, one.position, so_far.position);
+      size = one.size ∙ so_far.size;
+      plan = one.plan ∙ so_far.plan;
+    }
+
+-- a record that is no access
+quiet-next : (r : Recount) (x : TraceRecord) → touches_in (x ∷ []) ≡ [] → RecountsNext r r x
+quiet-next r x none = recounts-next r r x (record {
+  stands = λ t stood. subst (λ (list : AccessList). RecountsFor list r)
+      (sym (ap (λ (list : AccessList). t ++ list) none ∙ append-nil t)) stood;
+  position = sym (ap (λ (list : AccessList). r.position + length list) none ∙ add-zero r.position);
+  size = refl;
+  plan = refl;
+})
+
+-- a recount that has seen nothing
+pub recounted-nothing : (r : Recount) → HasRecounted r r []
+recounted-nothing r = record {
+  stands = λ t stood. subst (λ (list : AccessList). RecountsFor list r) (sym (append-nil t)) stood;
+  position = sym (add-zero r.position);
+  size = refl;
+  plan = refl;
+}
+
+-- an access
+pub touch-recounted : {A E : Type 0} (r : Result A E) (old new : Recount) (a : Touch)
+    (x : TraceRecord) → x ≡ records.Touch a
+    → ((t : AccessList) → RecountsFor t old → OnOk r (RecountsFor (t ++ a ∷ []) new))
+    → OnOk r (new.position ≡ old.position + 1) → new.size ≡ old.size → new.plan ≡ old.plan
+    → OnOk r (RecountsNext old new x)
+touch-recounted (Ok u) old new a x is stands next size plan =
+    recounts-next old new x (record {
+      stands = λ t stood. subst (λ z. RecountsFor (t ++ touches_in (z ∷ [])) new) (sym is)
+          (stands t stood);
+      position = next ∙ ap (λ z. old.position + length (touches_in (z ∷ []))) (sym is);
+      size = size;
+      plan = plan;
+    })
+touch-recounted (Err e) old new a x is stands next size plan = tt
+
+-- a record that is none
+pub other-recounted : (r : Recount) (x : TraceRecord) → ((a : Touch) → x ≡ records.Touch a → ⊥)
+    → RecountsNext r r x
+other-recounted r (records.Touch a) other = absurd (other a refl)
+other-recounted r (records.Alloc addr size sites) other = quiet-next r _ refl
+other-recounted r (records.Free addr) other = quiet-next r _ refl
+other-recounted r (records.Symbol kind addr size name) other = quiet-next r _ refl
+other-recounted r (records.End e) other = quiet-next r _ refl
