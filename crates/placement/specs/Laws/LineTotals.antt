@@ -1,12 +1,12 @@
 -- The totals of a list as sums over the numbers of its lines.
 use Rattle.std.proofs.Common.{◌≡◌, ℕ, zero, suc, ◌+◌, ◌<◌, ◌≤◌, max, Bool, true, false, eqb}
-use Rattle.std.proofs.Common.{List, [], ◌∷◌, ◌++◌, None, Some, refl, sym, ap, ◌∙◌, arith, inl, inr}
+use Rattle.std.proofs.Common.{List, [], ◌∷◌, ◌++◌, Option, None, Some, refl, sym, ap, ◌∙◌, arith, inl, inr}
 use Rattle.std.proofs.lemmas.Bool.{cases_Bool, cases_eq, eq-eqb, false≢true, ne_eqb, or_parts}
 use Rattle.std.proofs.lemmas.List.Folds.{list_any-append}
 use Rattle.std.proofs.lemmas.List.Sums.{sum_by-cons, sum_by_push}
 use Rattle.std.specs.Cmp.{nat_eq_equiv}
-use Rattle.std.specs.List.{AllByRecursion, IsDistinct, list_any}
-use Rattle.std.specs.Prelude.{if◌then◌else◌, filter, filter_map, sum_by}
+use Rattle.std.specs.List.{AllByRecursion, IsDistinct, cons_option, list_any}
+use Rattle.std.specs.Prelude.{if◌then◌else◌, filter, filter_map, option_map, sum_by}
 use Rattle.base.specs.Touch.{Touch}
 use Rattle.sharing_rules.specs.Laws.Arrivals.{each_once-distinct}
 use Rattle.sharing_rules.specs.Laws.Lists.{slice_cases}
@@ -134,14 +134,33 @@ total_where n p t = sum_by (λ (f : Finding). f.count)
 abbrev pub count_where : ℕ → (ℕ → Bool) → List Touch → ℕ → ℕ
 count_where n p t k = if p k then line_count (native_line n k) t else 0
 
+-- whether a finding's line passes
+abbrev is_on : (ℕ → Bool) → Finding → Bool
+is_on p f = p f.line.number
+
+-- one finding more
+with_one : (p : ℕ → Bool) (f : Finding) (fs : List Finding)
+    → sum_by (λ (g : Finding). g.count) (filter (is_on p) (f ∷ fs))
+    ≡ (if p f.line.number then f.count else 0)
+    + sum_by (λ (g : Finding). g.count) (filter (is_on p) fs)
+with_one p f fs =
+    elim (cases_Bool (p f.line.number)) [
+      | inl passes ↦ rw passes (sum_by-cons (λ (g : Finding). g.count) f (filter (is_on p) fs))
+      | inr fails ↦ rw fails (omega arith)
+    ]
+
 by_line : (n : ℕ) (p : ℕ → Bool) (t : List Touch) (ks : List ℕ)
-    → sum_by (λ (f : Finding). f.count) (filter (λ (f : Finding). p f.line.number)
-    (filter_map (observed_line (native_grid n) 1 t) ks)) ≡ sum_by (count_where n p t) ks
+    → sum_by (λ (f : Finding). f.count)
+    (filter (is_on p) (filter_map (observed_line (native_grid n) 1 t) ks))
+    ≡ sum_by (count_where n p t) ks
 by_line n p t [] = refl
 by_line n p t (k ∷ ks) =
     let l : Line = native_line n k in
     let one : observed_start 1 (is_inside l) t ≡ first_write_from 0 (is_inside l) t =
     observed_start-one (is_inside l) t in
+    let later : List Finding = filter_map (observed_line (native_grid n) 1 t) ks in
+    let chosen : Option ℕ → List Finding = λ o.
+    filter (is_on p) (cons_option (option_map (found t Observed l) o) later) in
     let rest = by_line n p t ks in
     let whole = sum_by-cons (count_where n p t) k ks in
     elim (slice_cases (first_write_from 0 (is_inside l) t)) [
@@ -150,23 +169,18 @@ by_line n p t (k ∷ ks) =
           let nothing : line_count l t ≡ 0 =
           ap (λ (x : Traced). x.count) (ap (track_since l t) none) in
           let here = nowhere (p k) (line_count l t) nothing in
-          rw start (omega (arith, rest, whole, here))
+          ap (λ (o : Option ℕ). sum_by (λ (f : Finding). f.count) (chosen o)) start
+          ∙ omega (arith, rest, whole, here)
       | inr some ↦
           let start : observed_start 1 (is_inside l) t ≡ Some some.0 = one ∙ some.1 in
           let f : Finding = found t Observed l some.0 in
           let count : line_count l t ≡ f.count =
           ap (λ (x : Traced). x.count) (ap (track_since l t) some.1) in
-          let others : List Finding = filter (λ (f : Finding). p f.line.number)
-          (filter_map (observed_line (native_grid n) 1 t) ks) in
-          elim (cases_Bool (p k)) [
-            | inl yes ↦
-                let here : count_where n p t k ≡ f.count = rw yes count in
-                let more = sum_by-cons (λ (f : Finding). f.count) f others in
-                rw (start, yes) (omega (arith, rest, whole, here, more))
-            | inr no ↦
-                let here : count_where n p t k ≡ 0 = rw no refl in
-                rw (start, no) (omega (arith, rest, whole, here))
-          ]
+          let added = with_one p f later in
+          let here : count_where n p t k ≡ (if p k then f.count else 0) =
+          ap (λ (c : ℕ). if p k then c else 0) count in
+          ap (λ (o : Option ℕ). sum_by (λ (g : Finding). g.count) (chosen o)) start
+          ∙ added ∙ omega (arith, rest, whole, here)
     ]
   where
     nowhere : (b : Bool) (c : ℕ) → c ≡ 0 → (if b then c else 0) ≡ 0
@@ -200,8 +214,8 @@ total_spread n p t m le =
     total_by_line n p t
     ∙ sum_spread (written_lines (native_grid n) t) (count_where n p t) m (each_once-distinct _) le
     (λ k none. elim (cases_Bool (p k)) [
-      | inl yes ↦ rw yes (unwritten n t k none)
-      | inr no ↦ rw no refl
+      | inl passes ↦ rw passes (unwritten n t k none)
+      | inr fails ↦ rw fails refl
     ])
 
 all_pass : (fs : List Finding) → filter (λ (f : Finding). true) fs ≡ fs
