@@ -23,7 +23,7 @@ use Rattle.placement.specs.Laws.LineCounts.{line_count}
 
 -- ---- sums
 
-sum_none : (f : ℕ → ℕ) (ks : List ℕ) → ((k : ℕ) → f k ≡ 0) → sum_by f ks ≡ 0
+pub sum_none : (f : ℕ → ℕ) (ks : List ℕ) → ((k : ℕ) → f k ≡ 0) → sum_by f ks ≡ 0
 sum_none f [] none = refl
 sum_none f (k ∷ ks) none =
     let rest = sum_none f ks none in
