@@ -138,6 +138,10 @@ count_where n p t k = if p k then line_count (native_line n k) t else 0
 abbrev is_on : (ℕ → Bool) → Finding → Bool
 is_on p f = p f.line.number
 
+pub nothing_if : (b : Bool) (c : ℕ) → c ≡ 0 → (if b then c else 0) ≡ 0
+nothing_if true c nothing = nothing
+nothing_if false c nothing = refl
+
 -- one finding more
 with_one : (p : ℕ → Bool) (f : Finding) (fs : List Finding)
     → sum_by (λ (g : Finding). g.count) (filter (is_on p) (f ∷ fs))
@@ -168,7 +172,7 @@ by_line n p t (k ∷ ks) =
           let start : observed_start 1 (is_inside l) t ≡ None = one ∙ none in
           let nothing : line_count l t ≡ 0 =
           ap (λ (x : Traced). x.count) (ap (track_since l t) none) in
-          let here = nowhere (p k) (line_count l t) nothing in
+          let here = nothing_if (p k) (line_count l t) nothing in
           ap (λ (o : Option ℕ). sum_by (λ (f : Finding). f.count) (chosen o)) start
           ∙ omega (arith, rest, whole, here)
       | inr some ↦
@@ -182,10 +186,6 @@ by_line n p t (k ∷ ks) =
           ap (λ (o : Option ℕ). sum_by (λ (g : Finding). g.count) (chosen o)) start
           ∙ added ∙ omega (arith, rest, whole, here)
     ]
-  where
-    nowhere : (b : Bool) (c : ℕ) → c ≡ 0 → (if b then c else 0) ≡ 0
-    nowhere true c nothing = nothing
-    nowhere false c nothing = refl
 
 pub total_by_line : (n : ℕ) (p : ℕ → Bool) (t : List Touch)
     → total_where n p t ≡ sum_by (count_where n p t) (written_lines (native_grid n) t)

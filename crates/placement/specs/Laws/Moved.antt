@@ -16,10 +16,11 @@ use Rattle.sharing_rules.specs.Words.{note_owner}
 use Rattle.sharing_rules.specs.declared.word.Owner.{Owner}
 use Rattle.sharing_rules.specs.declared.word.Owner.TheVariants as owner
 use Rattle.placement.specs.Groups.{group_of, group_start, many_group, untouched_group}
-use Rattle.placement.specs.Laws.Groups.{IsMultiple, rounded-up, start-grows, start-whole}
+use Rattle.placement.specs.Laws.Groups.{IsLineSize, IsMultiple, rounded-up, start-grows}
+use Rattle.placement.specs.Laws.Groups.{start-whole}
 use Rattle.placement.specs.Laws.Plans.{area-whole, ends-before, in-group}
 use Rattle.placement.specs.Laws.Words.{IsWord, length-owners, owner-push, owners-at, word-found}
-use Rattle.placement.specs.Plans.{area_start, in_word, moved, place, plan_of}
+use Rattle.placement.specs.Plans.{area_start, in_word, moved, place, place_behind, plan_of}
 use Rattle.placement.specs.Words.{Owned, end_of, first_word, index_of, owned_of, owner_in}
 use Rattle.placement.specs.declared.extent.Extent.{Extent}
 
@@ -302,6 +303,25 @@ in_room n e t addr i r some found less =
     let low = group.low in
     let high = group.high in
     record { low = omega (arith, low); high = omega (arith, high, less) }
+
+-- each place is that of a word
+pub place_even : (n : ℕ) (e : Extent) (t : List Touch) (addr i : ℕ) → IsLineSize n → IsWord e addr i
+    → place n (owned_of e t) i % 4 ≡ 0
+place_even n e t addr i sized found =
+    let o = owned_of e t in
+    let w : Owner = owner_in t (first_word e + i) in
+    let at = owners-at e t i found.within in
+    let there : place n o i ≡ area_start n o + place_behind n o.owners i w =
+    ap (λ (p : Option Owner). option_map_or (λ v. area_start n o + place_behind n o.owners i v) p 0)
+    at in
+    let bound = bound_whole n o (group_of w) sized.some in
+    let lines : ℕ = bound.lines in
+    let begins = bound.whole in
+    let whole = sized.whole in
+    let words : n ≡ 4 * (n / 4) = omega (arith, whole) in
+    let product : lines * n ≡ 4 * (lines * (n / 4)) =
+    ap (λ (z : ℕ). lines * z) words ∙ omega arith in
+    omega (arith, there, begins, product)
 
 -- whose word an access is of
 pub record IsOfGroup (e : Extent) (t : List Touch) (a : Touch) (g : ℕ) : Type 0 where

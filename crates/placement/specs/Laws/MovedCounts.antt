@@ -6,13 +6,14 @@ use Rattle.std.proofs.Common.{◌∙◌, subst, arith, inl, inr}
 use Rattle.std.proofs.lemmas.Bool.{and_from, and_parts, cases_Bool, cases_eq, cases_lt, eqb-true}
 use Rattle.std.proofs.lemmas.Bool.{false≢true, le-ltb, lt-ltb, ltb-true}
 use Rattle.std.proofs.lemmas.Int.{ints}
-use Rattle.std.proofs.lemmas.List.{map-id}
+use Rattle.std.proofs.lemmas.List.Elements.{recursion_from_All}
 use Rattle.std.specs.Option.{option_map_or}
-use Rattle.std.specs.Prelude.{◌⊎◌, ◌+ℤ◌, if◌then◌else◌, int_le, int_lt, pos, slice_get, sum_by}
+use Rattle.std.specs.Prelude.{◌⊎◌, ◌+ℤ◌, All, if◌then◌else◌, int_le, int_lt, pos, slice_get, sum_by}
 use Rattle.base.specs.Lines.{line_number}
 use Rattle.base.specs.Touch.{Touch}
 use Rattle.base.specs.declared.layout.Range.{Range}
-use Rattle.sharing_rules.specs.Lines.{Line, line_at, native_grid, native_line}
+use Rattle.sharing_rules.specs.Laws.Lists.{all_at}
+use Rattle.sharing_rules.specs.Lines.{line_at, native_grid, native_line}
 use Rattle.sharing_rules.specs.Members.{Member}
 use Rattle.sharing_rules.specs.Observed.{written_lines}
 use Rattle.sharing_rules.specs.Places.{below}
@@ -38,6 +39,11 @@ use Rattle.placement.specs.declared.extent.Extent.{Extent}
 -- all harts of a list have numbers below 256
 abbrev pub AreHarts : List Touch → Type 0
 AreHarts t = (a : Touch) → Member a t → a.hart < 256
+
+pub are_harts : (t : List Touch) → All (λ (a : Touch). a.hart < 256) t → AreHarts t
+are_harts t all a there =
+    all_at (λ (b : Touch). b.hart < 256) t a
+    (recursion_from_All (λ (b : Touch). b.hart < 256) t all) there
 
 pub line_sized : (n k : ℕ) → IsLineSize n → IsSized (native_line n k)
 line_sized n k sized = record { some = sized.some; whole = sized.whole }

@@ -10,15 +10,15 @@ use Rattle.placement.specs.Words.{is_word_of, words_of}
 use Rattle.placement.specs.declared.extent.Extent.{Extent}
 
 -- whether a word of an object lies in line k of n bytes
-abbrev pub is_own_line : ℕ → Extent → ℕ → Bool
-is_own_line n e k = list_any (λ word. line_number n 0 word == k) (words_of e)
+abbrev pub is_object_line : ℕ → Extent → ℕ → Bool
+is_object_line n e k = list_any (λ word. line_number n 0 word == k) (words_of e)
 
--- in these lines a list accesses the object's words alone
-abbrev pub HasLinesAlone : ℕ → Extent → AccessList → Type 0
-HasLinesAlone n e t = All (λ a.
-    IsTrue (is_own_line n e (line_number n 0 a.addr)) → IsTrue (is_word_of e (word_of a.addr))) t
+-- a list accesses nothing in these lines but the object's words
+abbrev pub HasLinesToItself : ℕ → Extent → AccessList → Type 0
+HasLinesToItself n e t = All (λ a.
+    IsTrue (is_object_line n e (line_number n 0 a.addr)) → IsTrue (is_word_of e (word_of a.addr))) t
 
 -- the counts of these lines, each from its first write on
-abbrev pub own_total : ℕ → Extent → AccessList → ℕ
-own_total n e t = sum_by (λ f. f.count)
-    (filter (λ f. is_own_line n e f.line.number) (counted (native_grid n) t))
+abbrev pub object_total : ℕ → Extent → AccessList → ℕ
+object_total n e t = sum_by (λ f. f.count)
+    (filter (λ f. is_object_line n e f.line.number) (counted (native_grid n) t))
