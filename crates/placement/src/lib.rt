@@ -15,7 +15,9 @@ mod plan;
 
 pub use extent::Extent;
 pub use finder::{Finder, Refused};
-pub use laws::{a_harts_lines_count_nothing, padding_saves_all_of_the_object};
-pub use laws::{the_area_counts_what_many_count, words_keep_apart};
+pub use laws::{
+    a_harts_lines_count_nothing, padding_saves_all_of_the_object, the_area_counts_what_many_count,
+    words_keep_apart,
+};
 pub use owners::Owners;
 pub use plan::{Plan, PlanFault};

@@ -1,10 +1,10 @@
 -- What is counted in the area of a plan: on a hart's lines nothing, and so only what the words of
 -- many harts count.
-use Rattle.std.proofs.Common.{◌≡◌, ℕ, zero, suc, ◌+◌, ◌-◌, ◌*◌, ◌/◌, ◌%◌, ◌<◌, ◌≤◌, Bool, true, false}
-use Rattle.std.proofs.Common.{eqb, ltb, ◌&&◌, List, [], ◌∷◌, Option, None, Some, map, refl, sym, ap}
+use Rattle.std.proofs.Common.{◌≡◌, ℕ, zero, suc, ◌+◌, ◌-◌, ◌*◌, ◌<◌, ◌≤◌, Bool, true, false}
+use Rattle.std.proofs.Common.{ltb, ◌&&◌, List, Option, None, Some, refl, sym, ap}
 use Rattle.std.proofs.Common.{◌∙◌, subst, arith, inl, inr}
 use Rattle.std.proofs.lemmas.Bool.{and_from, and_parts, cases_Bool, cases_eq, cases_lt, eqb-true}
-use Rattle.std.proofs.lemmas.Bool.{false≢true, le-ltb, lt-ltb, ltb-true}
+use Rattle.std.proofs.lemmas.Bool.{false≢true, lt-ltb}
 use Rattle.std.proofs.lemmas.Int.{ints}
 use Rattle.std.proofs.lemmas.List.Elements.{recursion_from_All}
 use Rattle.std.specs.Option.{option_map_or}
@@ -20,7 +20,7 @@ use Rattle.sharing_rules.specs.Places.{below}
 use Rattle.sharing_rules.specs.Recounts.{recount}
 use Rattle.sharing_rules.specs.declared.word.Owner.TheVariants as owner
 use Rattle.layout_sweep.specs.Laws.Windows.{IsSized}
-use Rattle.placement.specs.Groups.{area_length, group_count, group_of, group_room, group_size}
+use Rattle.placement.specs.Groups.{area_length, group_count, group_room, group_size}
 use Rattle.placement.specs.Groups.{group_start, many_group, untouched_group}
 use Rattle.placement.specs.Laws.Groups.{IsLineSize, rounded-up, start-grows, start-next}
 use Rattle.placement.specs.Laws.LineCounts.{line_count, one_hart, recount_is}
@@ -31,7 +31,7 @@ use Rattle.placement.specs.Laws.Moved.{moved_group, moved_hart, none_touched, ow
 use Rattle.placement.specs.Laws.Moved.{side_of}
 use Rattle.placement.specs.Laws.Plans.{in-group}
 use Rattle.placement.specs.Laws.Words.{owners-at}
-use Rattle.placement.specs.Plans.{area_start, many_lines, moved, moved_list, place, plan_of}
+use Rattle.placement.specs.Plans.{area_start, moved, moved_list, place, plan_of}
 use Rattle.placement.specs.Recounts.{area_count, area_range, ends_in, many_count, total_in}
 use Rattle.placement.specs.Words.{Owned, first_word, owned_of, owner_in, word_count}
 use Rattle.placement.specs.declared.extent.Extent.{Extent}
@@ -213,8 +213,7 @@ many_line n o k some line =
     let high = line.high in
     let next = start-next n o.owners many_group in
     let room = rounded-up n (4 * group_size o.owners many_group) some in
-    let near = room.near in
-    (
+    let near = room.near in (
       ends_at (area_start n o + group_start n o.owners many_group)
           (group_room n o.owners many_group) (n * k) (omega (arith, low, some))
           (omega (arith, high, next)),
@@ -268,6 +267,7 @@ many_or_none n e t k sized harts =
         → option_map_or f (if b then Some r else None) 0 ≡ (if b then f r else 0)
     by_many true r f = refl
     by_many false r f = refl
+
     nowhere : (a b d : Bool) (c : ℕ) → c ≡ 0
         → (if a then (if b then c else 0) else 0) ≡ (if d then c else 0)
     nowhere true true true c e = refl
@@ -276,6 +276,7 @@ many_or_none n e t k sized harts =
     nowhere true false false c e = refl
     nowhere false b true c e = sym e
     nowhere false b false c e = refl
+
     either : (a : Bool) (c : ℕ) → (if a then c else c) ≡ c
     either true c = refl
     either false c = refl

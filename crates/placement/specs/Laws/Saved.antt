@@ -1,8 +1,8 @@
 -- What a plan saves: the counts of the object's own lines, where only its words are accessed there,
 -- but for what the words of many harts take along.
 use Rattle.std.proofs.Common.{◌≡◌, ◌≢◌, ℕ, zero, suc, ◌+◌, ◌-◌, ◌*◌, ◌/◌, ◌%◌, ◌<◌, ◌≤◌, max, Bool}
-use Rattle.std.proofs.Common.{true, false, cond, eqb, ltb, ◌&&◌, List, [], ◌∷◌, Option, None, Some, length, map}
-use Rattle.std.proofs.Common.{refl, sym, ap, ◌∙◌, subst, arith, inl, inr}
+use Rattle.std.proofs.Common.{true, false, cond, eqb, ltb, List, [], ◌∷◌, None, Some, map}
+use Rattle.std.proofs.Common.{refl, sym, ap, ◌∙◌, arith, inl, inr}
 use Rattle.std.proofs.lemmas.Bool.{cases_Bool, cases_eq, eq-eqb, eqb-true, false≢true, ne_eqb, or_left}
 use Rattle.std.proofs.lemmas.Bool.{or_right}
 use Rattle.std.proofs.lemmas.List.{map-append, map-id}
@@ -11,34 +11,34 @@ use Rattle.std.proofs.lemmas.List.Folds.{list_any-append}
 use Rattle.std.proofs.lemmas.Option.{none-some}
 use Rattle.std.specs.List.{list_any}
 use Rattle.std.specs.Option.{option_map_or}
-use Rattle.std.specs.Prelude.{◌⊎◌, All, IsTrue, if◌then◌else◌, sum_by}
+use Rattle.std.specs.Prelude.{if◌then◌else◌}
 use Rattle.base.specs.Lines.{line_number}
 use Rattle.base.specs.Touch.{Touch, word_of}
 use Rattle.base.specs.declared.layout.Range.{Range}
 use Rattle.sharing_rules.specs.Laws.Lists.{all_at}
-use Rattle.sharing_rules.specs.Lines.{is_inside, native_grid, native_line}
+use Rattle.sharing_rules.specs.Lines.{is_inside, native_line}
 use Rattle.sharing_rules.specs.Members.{Member}
 use Rattle.sharing_rules.specs.Places.{below}
 use Rattle.sharing_rules.specs.Recounts.{recount}
 use Rattle.sharing_rules.specs.declared.word.Owner.{Owner}
 use Rattle.sharing_rules.specs.declared.word.Owner.TheVariants as owner
-use Rattle.placement.specs.Groups.{area_length, group_count, group_of, group_size, group_start}
+use Rattle.placement.specs.Groups.{area_length, group_count, group_of, group_size}
 use Rattle.placement.specs.Groups.{is_in, many_group, untouched_group}
 use Rattle.placement.specs.Laws.Groups.{IsLineSize, IsMultiple, group-less, size-push, start-grows}
-use Rattle.placement.specs.Laws.LineCounts.{KeepsOff, line_count, moved_alike, one_hart, recount_is}
+use Rattle.placement.specs.Laws.LineCounts.{line_count, moved_alike, one_hart, recount_is}
 use Rattle.placement.specs.Laws.LineTotals.{count_where, line_bound, nothing_if, sums_add}
 use Rattle.placement.specs.Laws.LineTotals.{total_spread, whole_total}
-use Rattle.placement.specs.Laws.Moved.{IsLineOf, IsMovedWord, before_area, in_line, moved_cases}
+use Rattle.placement.specs.Laws.Moved.{IsMovedWord, before_area, in_line, moved_cases}
 use Rattle.placement.specs.Laws.Moved.{moved_line, one_line, owner_low, place_even, side_of}
 use Rattle.placement.specs.Laws.MovedCounts.{AreHarts, ends_at, ends_of, in_area, line_sized}
 use Rattle.placement.specs.Laws.MovedCounts.{many_at, many_or_none, many_range, many_spread}
 use Rattle.placement.specs.Laws.MovedCounts.{moved_count}
 use Rattle.placement.specs.Laws.Plans.{area-whole}
-use Rattle.placement.specs.Laws.Words.{IsWord, owners-at}
+use Rattle.placement.specs.Laws.Words.{IsWord}
 use Rattle.placement.specs.ObjectLines.{HasLinesToItself, is_object_line, object_total}
 use Rattle.placement.specs.Plans.{area_start, moved, moved_list, place, plan_of}
 use Rattle.placement.specs.Recounts.{many_count, total_after, total_before, total_in}
-use Rattle.placement.specs.Words.{Owned, first_word, index_of, is_word_of, owned_of, owner_in}
+use Rattle.placement.specs.Words.{first_word, index_of, is_word_of, owned_of, owner_in}
 use Rattle.placement.specs.Words.{word_count}
 use Rattle.placement.specs.declared.extent.Extent.{Extent}
 
