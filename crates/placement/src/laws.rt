@@ -29,10 +29,14 @@ pub fn words_keep_apart()
         → i < word_count e → All (λ a. word_of a.addr + 4 ≤ place n (owned_of e t) i) t }
 {}
 
-/// A line that holds the place of a word of one hart counts nothing once the accesses have moved,
-/// since no other hart comes to it.
+/// A line that holds the place of a word of one hart counts nothing once the accesses have moved.
 pub fn a_harts_lines_count_nothing()
-    ensures { (n : ℕ) (e : Object) (t : AccessList) (i h : ℕ) → IsTrue (is_line_size n)
+    // no other hart comes to it
+    ensures alone { (n : ℕ) (e : Object) (t : AccessList) (i h : ℕ) → IsTrue (is_line_size n)
+        → i < word_count e → h < 256 → owner_in t (first_word e + i) ≡ One h
+        → All (λ a. line_number n 0 a.addr ≡ line_number n 0 (place n (owned_of e t) i)
+        → a.hart ≡ h) (moved_list (plan_of n (owned_of e t)) t) }
+    ensures nothing { (n : ℕ) (e : Object) (t : AccessList) (i h : ℕ) → IsTrue (is_line_size n)
         → i < word_count e → h < 256 → owner_in t (first_word e + i) ≡ One h
         → recount (line_at (native_grid n) (place n (owned_of e t) i))
         (moved_list (plan_of n (owned_of e t)) t) ≡ 0 }

@@ -6,13 +6,13 @@ use Rattle.std.proofs.Common.{◌∙◌, subst, arith, inl, inr}
 use Rattle.std.proofs.lemmas.Bool.{and_from, and_parts, cases_Bool, cases_eq, cases_lt, eqb-true}
 use Rattle.std.proofs.lemmas.Bool.{false≢true, lt-ltb}
 use Rattle.std.proofs.lemmas.Int.{ints}
-use Rattle.std.proofs.lemmas.List.Elements.{recursion_from_All}
+use Rattle.std.proofs.lemmas.List.Elements.{All-from_recursion, All-map, recursion_from_All}
 use Rattle.std.specs.Option.{option_map_or}
 use Rattle.std.specs.Prelude.{◌⊎◌, ◌+ℤ◌, All, if◌then◌else◌, int_le, int_lt, pos, slice_get, sum_by}
 use Rattle.base.specs.Lines.{line_number}
 use Rattle.base.specs.Touch.{Touch}
 use Rattle.base.specs.declared.layout.Range.{Range}
-use Rattle.sharing_rules.specs.Laws.Lists.{all_at}
+use Rattle.sharing_rules.specs.Laws.Lists.{all_at, all_from_members}
 use Rattle.sharing_rules.specs.Lines.{line_at, native_grid, native_line}
 use Rattle.sharing_rules.specs.Members.{Member}
 use Rattle.sharing_rules.specs.Observed.{written_lines}
@@ -54,16 +54,22 @@ moved_count n e t k = line_count (native_line n k) (moved_list (plan_of n (owned
 
 -- ---- lines of harts, and lines of none
 
-pub harts_line : (n : ℕ) (e : Extent) (t : List Touch) (g k : ℕ) → IsLineSize n
-    → IsLineOf n (owned_of e t) g k → g < 256 → moved_count n e t k ≡ 0
-harts_line n e t g k sized line low =
-    let p = plan_of n (owned_of e t) in
-    one_hart (native_line n k) g (moved p) t (line_sized n k sized)
-    (λ a there inside.
-    let of = moved_group n e t g k a sized.some line there (eqb-true _ _ inside) in
+-- to a line of a hart no other one comes
+harts_access : (n : ℕ) (e : Extent) (t : List Touch) (g k : ℕ) (a : Touch) → IsLineSize n
+    → IsLineOf n (owned_of e t) g k → g < 256 → Member a t
+    → line_number n 0 (moved (plan_of n (owned_of e t)) a).addr ≡ k
+    → (moved (plan_of n (owned_of e t)) a).hart ≡ g
+harts_access n e t g k a sized line low there at =
+    let of = moved_group n e t g k a sized.some line there at in
     let fit = owner_fits t (first_word e + of.word) a there of.found.at in
     moved_hart n (owned_of e t) a
-    ∙ group_hart (owner_in t (first_word e + of.word)) a.hart g fit of.group low)
+    ∙ group_hart (owner_in t (first_word e + of.word)) a.hart g fit of.group low
+
+harts_line : (n : ℕ) (e : Extent) (t : List Touch) (g k : ℕ) → IsLineSize n
+    → IsLineOf n (owned_of e t) g k → g < 256 → moved_count n e t k ≡ 0
+harts_line n e t g k sized line low =
+    one_hart (native_line n k) g (moved (plan_of n (owned_of e t))) t (line_sized n k sized)
+    (λ a there inside. harts_access n e t g k a sized line low there (eqb-true _ _ inside))
 
 untouched_line : (n : ℕ) (e : Extent) (t : List Touch) (k : ℕ) → IsLineSize n → AreHarts t
     → IsLineOf n (owned_of e t) untouched_group k → moved_count n e t k ≡ 0
@@ -77,11 +83,10 @@ untouched_line n e t k sized harts line =
     absurd (none_touched (owner_in t word) a.hart fit of.group (owner_low t word harts)))
 
 -- the line of a place of a hart's word
-pub place_line : (n : ℕ) (e : Extent) (t : List Touch) (i h : ℕ) → IsLineSize n → i < word_count e
-    → h < 256 → owner_in t (first_word e + i) ≡ owner.One h
-    → recount (line_at (native_grid n) (place n (owned_of e t) i))
-    (moved_list (plan_of n (owned_of e t)) t) ≡ 0
-place_line n e t i h sized within low is =
+place_is : (n : ℕ) (e : Extent) (t : List Touch) (i h : ℕ) → IsLineSize n → i < word_count e
+    → owner_in t (first_word e + i) ≡ owner.One h
+    → IsLineOf n (owned_of e t) h (line_number n 0 (place n (owned_of e t) i))
+place_is n e t i h sized within is =
     let o = owned_of e t in
     let x : ℕ = place n o i in
     let k : ℕ = line_number n 0 x in
@@ -89,9 +94,31 @@ place_line n e t i h sized within low is =
     let group = in-group n (area_start n o) o.owners i (owner.One h) sized.some at in
     let above = group.low in
     let below = group.high in
-    let line = line_of n o h k x sized.some (in_line n k x sized.some refl) above
-    (omega (arith, below)) in
-    recount_is (native_line n k) (moved_list (plan_of n o) t) ∙ harts_line n e t h k sized line low
+    line_of n o h k x sized.some (in_line n k x sized.some refl) above (omega (arith, below))
+
+pub place_alone : (n : ℕ) (e : Extent) (t : List Touch) (i h : ℕ) → IsLineSize n → i < word_count e
+    → h < 256 → owner_in t (first_word e + i) ≡ owner.One h
+    → All (λ (b : Touch). line_number n 0 b.addr ≡ line_number n 0 (place n (owned_of e t) i)
+    → b.hart ≡ h) (moved_list (plan_of n (owned_of e t)) t)
+place_alone n e t i h sized within low is =
+    let p = plan_of n (owned_of e t) in
+    let k : ℕ = line_number n 0 (place n (owned_of e t) i) in
+    let P : Touch → Type 0 = λ b. line_number n 0 b.addr ≡ k → b.hart ≡ h in
+    let line = place_is n e t i h sized within is in
+    All-map P (moved p) t
+    (All-from_recursion (λ (a : Touch). P (moved p a)) t
+    (all_from_members (λ (a : Touch). P (moved p a)) t
+    (λ a there at. harts_access n e t h k a sized line low there at)))
+
+pub place_line : (n : ℕ) (e : Extent) (t : List Touch) (i h : ℕ) → IsLineSize n → i < word_count e
+    → h < 256 → owner_in t (first_word e + i) ≡ owner.One h
+    → recount (line_at (native_grid n) (place n (owned_of e t) i))
+    (moved_list (plan_of n (owned_of e t)) t) ≡ 0
+place_line n e t i h sized within low is =
+    let o = owned_of e t in
+    let k : ℕ = line_number n 0 (place n o i) in
+    recount_is (native_line n k) (moved_list (plan_of n o) t)
+    ∙ harts_line n e t h k sized (place_is n e t i h sized within is) low
 
 -- ---- lines of the area
 
