@@ -42,7 +42,7 @@ pub fn a_harts_lines_count_nothing()
         (moved_list (plan_of n (owned_of e t)) t) ≡ 0 }
 {}
 
-/// So what the area counts is counted on the lines of the words of many harts.
+/// What the area counts is counted on the lines of the words of many harts.
 pub fn the_area_counts_what_many_count()
     ensures { (n : ℕ) (e : Object) (t : AccessList) → IsTrue (is_line_size n)
         → All (λ a. a.hart < 256) t
