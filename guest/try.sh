@@ -180,14 +180,25 @@ try_messages() {
     says "a lone option" "a value is required for '--trace <trace>' but none was supplied"
     try "no layout" 1 "$predator" replay t --size 48
     says "no layout" "'--size 48 --shift 0' is no layout: --size is a power of two from 4 to 1024, --shift a multiple of 4 below the size"
-    try "another machine" 2 "$predator" check /bin/true
-    says "another machine" "compile for little-endian RV32, with -march=rv32ima -mabi=ilp32"
+    try "a word of other bytes" 1 "$predator" run $'p\xff'
+    says "a word of other bytes" "a word isn't UTF-8, as all words of a call are, names of files too"
+    { printf '\177ELF\2\1\1'; head -c 9 /dev/zero; printf '\3\0\76\0'; head -c 40 /dev/zero; } >x86
+    try "another machine" 2 "$predator" check x86
+    says "another machine" "x86: an ELF file for x86-64: guest/build.sh builds for RV32IMA"
+    printf '#!/bin/sh\n' >$'a\nscript'
+    try "a script" 2 "$predator" check $'a\nscript'
+    says "a script" 'a\x0ascript: a script: guest/build.sh builds for RV32IMA'
+    printf 'quantum = 1\nquantum = 2\n' >twice
+    try "a key twice" 4 "$predator" check programs/counters.elf --settings twice
+    says "a key twice" "twice: line 2: duplicate key; a line is a key and a whole number, as \`quantum = 1\`"
+    try "settings in a pipe" 4 bash -c 'cat twice | "$0" check programs/counters.elf --settings /dev/stdin' "$predator"
+    says "settings in a pipe" "/dev/stdin: not TOML: a line is a key and a whole number, as \`quantum = 1\`"
     printf 'memory = 65536\n' >small
     try "a small memory" 2 "$predator" run programs/counters.elf --settings small
-    says "a small memory" "set more \`memory\`, fewer \`harts\` or less \`stack\` in the settings"
+    says "a small memory" "programs/counters.elf: its segments, the stacks and a heap have no room in the memory: set more \`memory\`, fewer \`harts\` or less \`stack\` in the settings"
     printf '0  1\n' >spaces
     try "a schedule's line" 3 "$predator" run programs/counters.elf --schedule spaces
-    says "a schedule's line" "a line is a hart, one space and a count, as \`0 500\`"
+    says "a schedule's line" "spaces: line 1 isn't a hart, one space and a count, as \`0 500\`"
 }
 
 # fails WHAT STATUS LINE COMMAND ..: within ten seconds the command ends so, and says this one line.

@@ -10,6 +10,8 @@ use Rattle.settings.specs.declared.fault.SettingsFault.TheVariants as settings
 use Rattle.settings.specs.Keys.{key_name}
 use Rattle.trace_format.specs.declared.fault.TraceFault.{TraceFault}
 use Rattle.trace_format.specs.declared.fault.TraceFault.TheVariants as trace
+use Rattle.placement.specs.declared.refusal.PlaceRefusal.{PlaceRefusal}
+use Rattle.placement.specs.declared.refusal.PlaceRefusal.TheVariants as place
 use Rattle.base.specs.PrintedNames.{name_text}
 use Rattle.command_line.specs.Words.{usage_text}
 use Rattle.command_files.specs.Texts.{line}
@@ -75,6 +77,11 @@ state_text (state.WrongPosition saved first) = codes "WrongPosition " ++
     (decimal saved ++ (codes " " ++ decimal first))
 state_text state.TooLong = codes "TooLong"
 
+abbrev pub place_text : PlaceRefusal → List ℕ
+place_text place.NoObject = codes "NoObject"
+place_text place.TooLarge = codes "TooLarge"
+place_text place.NoRoom = codes "NoRoom"
+
 abbrev pub fault_text : Status → List ℕ
 fault_text status.Done = []
 fault_text status.Usage = usage_text
@@ -89,3 +96,4 @@ fault_text status.NoMemory = line (codes "predator: no memory")
 fault_text status.Budget = []
 fault_text status.Deadlock = []
 fault_text status.Trapped = []
+fault_text (status.Place refused) = line (codes "predator: place " ++ place_text refused)

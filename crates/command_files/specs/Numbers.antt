@@ -17,3 +17,4 @@ number_of status.NoMemory = 9
 number_of status.Budget = 10
 number_of status.Deadlock = 11
 number_of status.Trapped = 12
+number_of (status.Place refusal) = 13

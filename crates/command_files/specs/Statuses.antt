@@ -20,7 +20,7 @@ use Rattle.command_files.specs.declared.status.Status.TheVariants as status
 pub data Kind : Type 0 where
   -- the whole work was done, however the run of the program ended
   done : Kind
-  -- the words or a file were refused
+  -- the words or a file were refused, or the place of an object
   refusal : Kind
   -- the outside failed: reading, writing or printing, or memory ran out
   read_fault : Kind
@@ -41,6 +41,7 @@ kind_of status.NoMemory = no_memory
 kind_of status.Budget = done
 kind_of status.Deadlock = done
 kind_of status.Trapped = done
+kind_of (status.Place refused) = refusal
 
 -- ---- lower faults: want of memory is a status of its own, whoever wanted it
 

@@ -14,9 +14,12 @@
 //! What a command does with its files isn't known here.
 #![tactic(auto)]
 
+mod advice;
 mod elf_faults;
 mod faults;
 mod files;
+mod files_read;
+mod place_faults;
 mod program_file;
 mod saving;
 mod schedule_faults;
@@ -27,10 +30,12 @@ mod state_faults;
 mod status;
 mod trace_faults;
 
-pub use faults::{NO_MEMORY_LINE, advice_on, advise, fault_line};
+pub use advice::{advice_on, advise};
+pub use faults::{NO_MEMORY_LINE, fault_line};
 pub use files::{Judge, read_judged};
+pub use files_read::{TraceToRead, trace_to_read};
 pub use program_file::{PROGRAM_LIMIT, Program, judge_program};
 pub use saving::save;
 pub use settings_file::{native_layout, read_settings, thresholds_of};
-pub use start::{TraceToRead, exit_code, give_up, trace_to_read, words_of};
+pub use start::{exit_code, give_up, words_of};
 pub use status::{StateFault, Status};

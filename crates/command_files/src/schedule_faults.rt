@@ -1,9 +1,12 @@
-// The faults of a schedule: what each is called, and what to do about it.
+// The faults of a schedule: what each is called, and what is said of it.
 ghost use Rattle.std.specs.Prelude.{◌≡◌, IfOk, string_bytes};
 ghost use Rattle.command_files.specs.Faults.{schedule_text};
 
 use hart_scheduler::ScheduleFault;
 use std::alloc::{AllocError, Global};
+
+const HARTS: &str =
+    "harts are numbered from 0 on, and `harts` in the settings says how many, usually 8";
 
 // What a fault of the schedule is called.
 pub fn schedule_name(alloc: Global, fault: ScheduleFault) -> Result<String, AllocError>
@@ -18,15 +21,19 @@ pub fn schedule_name(alloc: Global, fault: ScheduleFault) -> Result<String, Allo
     }
 }
 
-/// What to do about a schedule that is refused, where there is something.
-pub fn schedule_advice(fault: ScheduleFault) -> Option<&'static str> {
+/// What is wrong with a schedule that is refused, and what to do about it.
+pub fn schedule_advice(alloc: Global, fault: ScheduleFault) -> Result<String, AllocError> {
     match fault {
-        ScheduleFault::BadLine(_) => Some("a line is a hart, one space and a count, as `0 500`"),
-        ScheduleFault::HartOutOfRange(_) => {
-            Some("harts are numbered from 0 on; `harts` in the settings says how many, usually 8")
+        ScheduleFault::BadLine(line) => {
+            format!(in alloc; "line {line} isn't a hart, one space and a count, as `0 500`")
         }
-        ScheduleFault::ZeroCount(_) => Some("a count is at least 1; leave the line out"),
-        ScheduleFault::TooLong => Some("a schedule has at most 1 MiB"),
-        ScheduleFault::NoMemory => None,
+        ScheduleFault::HartOutOfRange(line) => {
+            format!(in alloc; "line {line} names a hart that there isn't: {HARTS}")
+        }
+        ScheduleFault::ZeroCount(line) => {
+            format!(in alloc; "line {line} has a count of 0: it is at least 1; leave the line out")
+        }
+        ScheduleFault::TooLong => String::from_str(alloc, "a schedule has at most 1 MiB"),
+        ScheduleFault::NoMemory => Err(AllocError),
     }
 }

@@ -1,10 +1,17 @@
-// The faults of a settings file: what each is called, and what to do about it.
+// The faults of a settings file: what each is called, and what is said of it.
 ghost use Rattle.std.specs.Prelude.{◌≡◌, IfOk, string_bytes};
 ghost use Rattle.command_files.specs.Faults.{settings_text};
 
 use base::printed_name;
 use settings::{Key, SettingsFault};
 use std::alloc::{AllocError, Global};
+
+const LINES: &str = "a line is a key and a whole number, as `quantum = 1`";
+
+const KEYS: &str = concat!(
+    "the keys are harts, memory, stack, tracking, prediction, report, quantum, budget, line, ",
+    "seed",
+);
 
 // What a fault of the settings is called.
 pub fn settings_name(alloc: Global, fault: &SettingsFault) -> Result<String, AllocError>
@@ -40,16 +47,46 @@ fn range_of(key: Key) -> &'static str {
     }
 }
 
-/// What to do about settings that are refused, where there is something.
-pub fn settings_advice(fault: &SettingsFault) -> Option<&'static str> {
+// What is no TOML in a content, and in which line, where it is none.
+fn place_in(alloc: Global, content: &[u8]) -> Result<Option<String>, AllocError> {
+    let Err(error) = toml::table_from_slice(alloc, content) else {
+        return Ok(None);
+    };
+    let Some(span) = error.span() else {
+        return Err(AllocError);
+    };
+    let mut line: usize = 1;
+    for byte in content.iter().take(span.start) {
+        if *byte == b'\n' {
+            line = line.saturating_add(1);
+        }
+    }
+    let what = error.message();
+    Ok(Some(format!(in alloc; "line {line}: {what}")?))
+}
+
+fn toml_advice(alloc: Global, content: &[u8]) -> Result<String, AllocError> {
+    match place_in(alloc, content)? {
+        Some(place) => format!(in alloc; "{place}; {LINES}"),
+        None => format!(in alloc; "not TOML: {LINES}"),
+    }
+}
+
+/// What is wrong with settings that are refused, and what to do about it. `content` is that of
+/// their file, where it was looked at again.
+pub fn settings_advice(
+    alloc: Global,
+    fault: &SettingsFault,
+    content: &[u8],
+) -> Result<String, AllocError> {
     match fault {
-        SettingsFault::TooLong => Some("a settings file has at most 64 KiB"),
-        SettingsFault::BadToml => Some("a line is a key and a whole number, as `quantum = 1`"),
-        SettingsFault::UnknownKey(_) => Some(
-            "the keys are harts, memory, stack, tracking, prediction, report, quantum, budget, line, \
-             seed",
-        ),
-        SettingsFault::OutOfRange(key) => Some(range_of(*key)),
-        SettingsFault::NoMemory => None,
+        SettingsFault::TooLong => String::from_str(alloc, "a settings file has at most 64 KiB"),
+        SettingsFault::BadToml => toml_advice(alloc, content),
+        SettingsFault::UnknownKey(name) => {
+            let name = printed_name(alloc, name.bytes())?;
+            format!(in alloc; "`{name}` isn't a key: {KEYS}")
+        }
+        SettingsFault::OutOfRange(key) => String::from_str(alloc, range_of(*key)),
+        SettingsFault::NoMemory => Err(AllocError),
     }
 }

@@ -10,7 +10,6 @@ ghost use Rattle.command_files.specs.Numbers.{number_of};
 use crate::Status;
 use crate::faults::NO_MEMORY_LINE;
 use base::NoMemory;
-use command_line::{Demand, WordsFault, read_words};
 use shelf::Shelf;
 use std::alloc::Global;
 use std::env::Args;
@@ -41,37 +40,6 @@ pub fn words_of(alloc: Global, arguments: io::Result<Args<Global>>) -> Result<Ve
         }
         Err(error) if error.kind() == ErrorKind::OutOfMemory => Err(NoMemory),
         Err(_) => Ok(Vec::new(alloc)),
-    }
-}
-
-/// A trace that words have read.
-#[derive(Clone, Copy, PartialEq, Eq, Debug)]
-pub struct TraceToRead<'a> {
-    /// Its name, as it stands in the words.
-    pub name: &'a str,
-    /// Whether it is read more than once from its front to its end.
-    pub again: bool,
-}
-
-fn read_so(name: &str, again: bool) -> TraceToRead<'_> {
-    TraceToRead { name, again }
-}
-
-/// The trace that words have read, where they have one read.
-pub fn trace_to_read<'a>(alloc: Global, words: &'a [String]) -> Option<TraceToRead<'a>> {
-    match read_words(alloc, words) {
-        Ok(Demand::Replay(options)) => Some(read_so(options.trace, false)),
-        Ok(Demand::Split(options)) => Some(read_so(options.trace, true)),
-        Ok(Demand::Convert(options)) => Some(read_so(options.trace, true)),
-        Ok(Demand::Sweep(options)) => Some(read_so(options.trace, false)),
-        Ok(Demand::Caches(options)) => Some(read_so(options.trace, false)),
-        Ok(Demand::Misses(options)) => Some(read_so(options.trace, false)),
-        Ok(Demand::Run(_)) => None,
-        Ok(Demand::Check(_)) => None,
-        Ok(Demand::Gen(_)) => None,
-        Ok(Demand::Explain(_)) => None,
-        Err(WordsFault::Usage(_)) => None,
-        Err(WordsFault::NoMemory) => None,
     }
 }
 

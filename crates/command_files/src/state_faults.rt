@@ -1,10 +1,13 @@
-// The faults of a saved state, and of a trace that doesn't go on: what each is called, and what to
-// do about it.
+// The faults of a saved state, and of a trace that doesn't go on: what each is called, and what is
+// said of it.
 ghost use Rattle.std.specs.Prelude.{◌≡◌, IfOk, string_bytes};
 ghost use Rattle.command_files.specs.Faults.{state_text};
 
 use crate::status::StateFault;
 use std::alloc::{AllocError, Global};
+
+/// Where the number of harts stands in a saved state.
+pub const HARTS: u64 = 32;
 
 // What a fault of a saved state is called, and that a trace doesn't go on.
 pub fn state_name(alloc: Global, fault: StateFault) -> Result<String, AllocError>
@@ -20,19 +23,26 @@ pub fn state_name(alloc: Global, fault: StateFault) -> Result<String, AllocError
     }
 }
 
-/// What to do about a saved state that is refused.
-pub fn state_advice(fault: StateFault) -> &'static str {
+/// What is wrong with a saved state or a trace that is refused, and what to do about it.
+pub fn state_advice(alloc: Global, fault: StateFault) -> Result<String, AllocError> {
     match fault {
-        StateFault::BadState(_) => "this is no saved state, or not the whole of one",
-        StateFault::TooLong => "a saved state has at most 1099511627776 bytes",
-        StateFault::WrongSettings(32) => {
-            "the trace has another number of harts than what was counted"
+        StateFault::BadState(place) => {
+            format!(in alloc; "not a saved state, or only part of one: byte {place} is wrong")
         }
-        StateFault::WrongSettings(_) => {
-            "the state was saved under another layout or with other thresholds"
+        StateFault::TooLong => {
+            String::from_str(alloc, "a saved state has at most 1099511627776 bytes")
         }
-        StateFault::WrongPosition { .. } => {
-            "this is a later part of a trace, and the parts before it are to be counted first"
+        StateFault::WrongSettings(HARTS) => {
+            String::from_str(
+                alloc,
+                "it has another number of harts than what was counted",
+            )
         }
+        StateFault::WrongSettings(place) => {
+            format!(in alloc; "saved with another layout or thresholds, as byte {place} shows")
+        }
+        StateFault::WrongPosition { saved, first } => format!(in alloc;
+            "its first access is number {first}, not {saved}: count the parts before it first"
+        ),
     }
 }

@@ -4,6 +4,7 @@ ghost use Rattle.command_files.specs.Numbers.{number_of};
 
 use base::{NoMemory, ResumeFault};
 use hart_scheduler::ScheduleFault;
+use placement::PlaceRefusal;
 use program_files::{ElfFault, PlaceFault};
 use settings::SettingsFault;
 use shelf::ShelfError;
@@ -59,6 +60,8 @@ pub enum Status {
     Deadlock,
     /// The whole work is done, and the run ended at an instruction that could not be carried out.
     Trapped,
+    /// No place is told for an object, for this reason.
+    Place(PlaceRefusal),
 }
 
 impl Status {
@@ -80,6 +83,7 @@ impl Status {
             Status::Budget => 10,
             Status::Deadlock => 11,
             Status::Trapped => 12,
+            Status::Place(_) => 13,
         }
     }
 }
@@ -114,6 +118,16 @@ impl From<PlaceFault> for Status {
             PlaceFault::Refused(fault) => Status::Elf(fault),
             PlaceFault::NoMemory => Status::NoMemory,
         }
+    }
+}
+
+impl From<PlaceRefusal> for Status {
+    ghost use Rattle.command_files.specs.declared.status.Status.TheVariants as status;
+
+    ghost from_gives = { λ refusal s. s ≡ status.Place refusal };
+
+    fn from(refusal: PlaceRefusal) -> Self {
+        Status::Place(refusal)
     }
 }
 

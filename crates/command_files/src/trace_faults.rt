@@ -1,4 +1,4 @@
-// The faults of a trace: what each is called, and what to do about it.
+// The faults of a trace: what each is called, and what is said of it.
 ghost use Rattle.std.specs.Prelude.{◌≡◌, IfOk, string_bytes};
 ghost use Rattle.command_files.specs.Faults.{trace_text};
 
@@ -6,6 +6,13 @@ use std::alloc::{AllocError, Global};
 use trace_format::TraceFault;
 
 const DAMAGED: &str = "the file is damaged or cut off; docs/FORMATS.md says what stands where";
+
+const NO_TRACE: &str =
+    "not a trace: `predator run PROGRAM --trace F` writes one, tools/to_trace.py too";
+
+const CUT: &str = "write or copy it again";
+
+const TOO_LONG: &str = "a trace has at most 2^40 accesses, and less than 2^44 bytes";
 
 // What a fault of a trace is called, with its numbers.
 pub fn trace_name(alloc: Global, fault: TraceFault) -> Result<String, AllocError>
@@ -26,23 +33,27 @@ pub fn trace_name(alloc: Global, fault: TraceFault) -> Result<String, AllocError
     }
 }
 
-/// What to do about a trace that is refused, where there is something.
-pub fn trace_advice(fault: TraceFault) -> Option<&'static str> {
+/// What is wrong with a trace that is refused, and what to do about it.
+pub fn trace_advice(alloc: Global, fault: TraceFault) -> Result<String, AllocError> {
     match fault {
-        TraceFault::BadMagic => {
-            Some(
-                "this is no trace; `predator run PROGRAM --trace F` writes one, tools/to_trace.py too",
-            )
+        TraceFault::BadMagic => String::from_str(alloc, NO_TRACE),
+        TraceFault::BadHarts => { format!(in alloc; "not a trace of 1 to 256 harts: {DAMAGED}") }
+        TraceFault::BadTag(place) => {
+            format!(in alloc; "no record begins as byte {place} does: {DAMAGED}")
         }
-        TraceFault::Truncated(_) => Some(
-            "the file ends before the trace does; write or copy it again",
-        ),
-        TraceFault::TooLong => Some("a trace has at most 2^40 accesses, and less than 2^44 bytes"),
-        TraceFault::BadHarts
-        | TraceFault::BadTag(_)
-        | TraceFault::BadField(_)
-        | TraceFault::CountMismatch { .. }
-        | TraceFault::AfterEnd(_) => Some(DAMAGED),
-        TraceFault::NoMemory => None,
+        TraceFault::BadField(place) => {
+            format!(in alloc; "the field at byte {place} breaks a rule: {DAMAGED}")
+        }
+        TraceFault::Truncated(size) => {
+            format!(in alloc; "it ends after {size} bytes, before the trace does: {CUT}")
+        }
+        TraceFault::CountMismatch { told, counted } => {
+            format!(in alloc; "its end tells of {told} accesses, and it has {counted}: {DAMAGED}")
+        }
+        TraceFault::AfterEnd(place) => {
+            format!(in alloc; "byte {place} comes after the end of the trace: {DAMAGED}")
+        }
+        TraceFault::TooLong => String::from_str(alloc, TOO_LONG),
+        TraceFault::NoMemory => Err(AllocError),
     }
 }

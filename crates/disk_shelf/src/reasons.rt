@@ -1,5 +1,6 @@
 // Why a call of the system failed, as it is said on standard error.
 
+use base::printed_name;
 use std::alloc::{AllocError, Global};
 use std::io;
 
@@ -12,10 +13,20 @@ fn reason_of(alloc: Global, error: &io::Error) -> Result<String, AllocError> {
     }
 }
 
+// A name that a terminal shows as it is. With a control character it is printed as in a report.
+fn shown(alloc: Global, name: &str) -> Result<String, AllocError> {
+    if name.chars().any(|c| c.is_control()) {
+        printed_name(alloc, name.as_bytes())
+    } else {
+        String::from_str(alloc, name)
+    }
+}
+
 /// Says why a call of the disk failed: the name and the system's reason.
 pub fn tell_fault<R: Eprint + AllocGlobal>(runtime: &R, name: &str, error: &io::Error) {
-    let _ = match reason_of(runtime.alloc(), error) {
-        Ok(reason) => eprintln!(runtime; "predator: {name}: {reason}"),
-        Err(AllocError) => eprintln!(runtime; "predator: {name}: {error}"),
+    let alloc = runtime.alloc();
+    let _ = match (shown(alloc, name), reason_of(alloc, error)) {
+        (Ok(name), Ok(reason)) => eprintln!(runtime; "predator: {name}: {reason}"),
+        _ => eprintln!(runtime; "predator: {name}: {error}"),
     };
 }

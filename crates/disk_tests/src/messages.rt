@@ -2,7 +2,8 @@
 use crate::runs::words;
 use command_line::{WordsFault, read_words};
 use hart_scheduler::ScheduleFault;
-use predator_cli::{Status, advice_on};
+use placement::PlaceRefusal;
+use predator_cli::{StateFault, Status, advice_on};
 use program_files::ElfFault;
 use settings::{Key, SettingsFault};
 use std::alloc::{AllocError, Global};
@@ -129,33 +130,107 @@ fn the_wrong_word_is_named(rt: HostRuntime) -> Result<(), Fail> {
     Ok(())
 }
 
-const ADVICE: [(Status, &str); 5] = [
+const ADVICE: [(Status, &str); 10] = [
     (
         Status::Elf(ElfFault::BadFlags),
-        "compile for little-endian RV32, with -march=rv32ima -mabi=ilp32",
+        "it has compressed instructions, floating-point registers or RV32E's registers: compile \
+            for little-endian RV32, with -march=rv32ima -mabi=ilp32",
     ),
     (
-        Status::Elf(ElfFault::SegmentOutsideMemory),
-        "set more `memory`, fewer `harts` or less `stack` in the settings",
+        Status::Elf(ElfFault::BadMachine),
+        "an ELF file for another machine: guest/build.sh builds for RV32IMA",
     ),
     (
         Status::Schedule(ScheduleFault::BadLine(1)),
-        "a line is a hart, one space and a count, as `0 500`",
+        "line 1 isn't a hart, one space and a count, as `0 500`",
     ),
     (
         Status::Settings(SettingsFault::OutOfRange(Key::Stack)),
         "`stack` is a multiple of 4096 from 4096 to 1048576",
     ),
     (
+        Status::Settings(SettingsFault::BadToml),
+        "not TOML: a line is a key and a whole number, as `quantum = 1`",
+    ),
+    (
         Status::Trace(TraceFault::Truncated(9)),
-        "the file ends before the trace does; write or copy it again",
+        "it ends after 9 bytes, before the trace does: write or copy it again",
+    ),
+    (
+        Status::Trace(TraceFault::CountMismatch {
+            told: 3,
+            counted: 0,
+        }),
+        "its end tells of 3 accesses, and it has 0: the file is damaged or cut off; \
+            docs/FORMATS.md says what stands where",
+    ),
+    (
+        Status::State(StateFault::WrongPosition {
+            saved: 0,
+            first: 6000,
+        }),
+        "its first access is number 6000, not 0: count the parts before it first",
+    ),
+    (
+        Status::State(StateFault::WrongSettings(32)),
+        "it has another number of harts than what was counted",
+    ),
+    (
+        Status::Place(PlaceRefusal::TooLarge),
+        "an object that is placed has at most 16 MiB",
+    ),
+];
+
+// Whether this is said of an end, beside the beginning of the file that is refused.
+fn is_said(alloc: Global, status: &Status, front: &[u8], wanted: &str) -> Result<bool, AllocError> {
+    match advice_on(alloc, status, front)? {
+        Some(said) => Ok(said.as_str() == wanted),
+        None => Ok(false),
+    }
+}
+
+#[test]
+fn each_end_has_its_advice(rt: HostRuntime) -> Result<(), Fail> {
+    assert!(rt; advice_on(rt.alloc(), &Status::Done, &[])?.is_none());
+    for (status, wanted) in &ADVICE {
+        assert!(rt; is_said(rt.alloc(), status, &[], wanted)?, "{wanted}");
+    }
+    Ok(())
+}
+
+const SEEN: [(Status, &[u8], &str); 5] = [
+    (
+        Status::Elf(ElfFault::BadClass),
+        b"\x7fELF\x02\x01\x01\0\0\0\0\0\0\0\0\0\x03\0\x3e\0",
+        "an ELF file for x86-64: guest/build.sh builds for RV32IMA",
+    ),
+    (
+        Status::Elf(ElfFault::BadClass),
+        b"\x7fELF\x02\x01\x01\0\0\0\0\0\0\0\0\0\x02\0\xf3\0",
+        "an ELF file for RV64: guest/build.sh builds for RV32IMA",
+    ),
+    (
+        Status::Elf(ElfFault::BadType),
+        b"\x7fELF\x01\x01\x01\0\0\0\0\0\0\0\0\0\x01\0\xf3\0",
+        "an object file, which isn't linked yet: link it statically and at fixed addresses, as \
+            with -static -no-pie",
+    ),
+    (
+        Status::Elf(ElfFault::TooShort),
+        b"#!/bin/sh\n",
+        "a script: guest/build.sh builds for RV32IMA",
+    ),
+    (
+        Status::Settings(SettingsFault::BadToml),
+        b"quantum = 1\n\nquantum = 2\n",
+        "line 3: duplicate key; a line is a key and a whole number, as `quantum = 1`",
     ),
 ];
 
 #[test]
-fn each_end_has_its_advice(rt: HostRuntime) {
-    assert_eq!(rt; advice_on(&Status::Done), None);
-    for (status, wanted) in &ADVICE {
-        assert_eq!(rt; advice_on(status), Some(*wanted));
+fn a_file_is_looked_at_again(rt: HostRuntime) -> Result<(), Fail> {
+    for (status, front, wanted) in &SEEN {
+        assert!(rt; is_said(rt.alloc(), status, front, wanted)?, "{wanted}");
     }
+    Ok(())
 }

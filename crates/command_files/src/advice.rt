@@ -1,0 +1,158 @@
+// What is said on standard error of an end: the file that is refused, what is wrong with it, and
+// what to do next. None of it is promised.
+
+use crate::elf_faults::elf_advice;
+use crate::files_read::file_refused;
+use crate::place_faults::place_advice;
+use crate::schedule_faults::schedule_advice;
+use crate::settings_faults::settings_advice;
+use crate::state_faults::state_advice;
+use crate::status::Status;
+use crate::trace_faults::trace_advice;
+use command_line::{Reason, WordsFault, read_words};
+use std::alloc::{AllocError, Global};
+use std::io::{self, ErrorKind, Read};
+use std::rt::{Env, Files};
+use std::{env, fs};
+
+const BUDGET: &str = "`budget` in the settings allows more steps, up to 68719476736";
+
+const DEADLOCK: &str =
+    "each hart that is left waits, to be woken at a word or for the end of another hart";
+
+const TRAPPED: &str =
+    "`llvm-symbolizer --obj=PROGRAM PC` tells the source line of the pc of the outcome";
+
+const NOT_TEXT: &str = "a word isn't UTF-8, as all words of a call are, names of files too";
+
+// The most bytes of a file that is looked at again.
+const LONGEST_FRONT: usize = 1 << 16;
+
+/// What is wrong at such an end and what to do next, in one line, where there is something to say.
+/// `front` is the beginning of the file that is refused, as far as it was looked at again.
+pub fn advice_on(
+    alloc: Global,
+    status: &Status,
+    front: &[u8],
+) -> Result<Option<String>, AllocError> {
+    let advice = match status {
+        Status::Elf(fault) => elf_advice(alloc, *fault, front)?,
+        Status::Schedule(fault) => schedule_advice(alloc, *fault)?,
+        Status::Settings(fault) => settings_advice(alloc, fault, front)?,
+        Status::Trace(fault) => trace_advice(alloc, *fault)?,
+        Status::State(fault) => state_advice(alloc, *fault)?,
+        Status::Place(refusal) => String::from_str(alloc, place_advice(*refusal))?,
+        Status::Budget => String::from_str(alloc, BUDGET)?,
+        Status::Deadlock => String::from_str(alloc, DEADLOCK)?,
+        Status::Trapped => String::from_str(alloc, TRAPPED)?,
+        Status::Done | Status::Usage | Status::ReadFault | Status::WriteFault | Status::NoMemory =>
+            return Ok(None),
+    };
+    Ok(Some(advice))
+}
+
+// Room for so many bytes.
+fn room_for(alloc: Global, length: usize) -> Result<Vec<u8>, AllocError> {
+    Vec::from_elem(alloc, 0, length)
+}
+
+// The beginning of a regular file. What else has a name, as a pipe, isn't read again.
+fn front_of<R: Files + AllocGlobal>(runtime: &R, name: &str) -> io::Result<Vec<u8>> {
+    if !fs::metadata(runtime, name)?.is_file() {
+        return Ok(Vec::new(runtime.alloc()));
+    }
+    let mut front = room_for(runtime.alloc(), LONGEST_FRONT)?;
+    let length = fs::open(runtime, name)?.read(&mut front)?;
+    front.truncate(length);
+    Ok(front)
+}
+
+// What is looked at again of a file that is refused: of a program and of settings, where it can be.
+fn seen_of<R: Files + AllocGlobal>(runtime: &R, name: &str, status: &Status) -> Vec<u8> {
+    let none = Vec::new(runtime.alloc());
+    match status {
+        Status::Elf(_) | Status::Settings(_) => front_of(runtime, name).unwrap_or(none),
+        _ => none,
+    }
+}
+
+// What is said where a command's work didn't end well, of its file where it refused one.
+fn said_of_work<R: Files + AllocGlobal>(
+    runtime: &R,
+    refused: Option<&str>,
+    status: &Status,
+) -> Result<Option<String>, AllocError> {
+    let alloc = runtime.alloc();
+    let Some(name) = refused else {
+        return advice_on(alloc, status, &[]);
+    };
+    match advice_on(alloc, status, &seen_of(runtime, name, status))? {
+        Some(advice) => Ok(Some(format!(in alloc; "{name}: {advice}")?)),
+        None => Ok(None),
+    }
+}
+
+// Whether a word of the process is no text, so that it has none.
+fn has_no_text<R: Env + AllocGlobal>(runtime: &R) -> bool {
+    match env::args(runtime) {
+        Ok(_) => false,
+        Err(error) => error.kind() == ErrorKind::InvalidData,
+    }
+}
+
+// What is wrong with words that are refused, as the place says that refuses them.
+fn said_of_words<R: Env + AllocGlobal>(
+    runtime: &R,
+    words: &[String],
+    reason: &Reason<'_>,
+) -> Result<String, AllocError> {
+    if words.is_empty() && has_no_text(runtime) {
+        return String::from_str(runtime.alloc(), NOT_TEXT);
+    }
+    reason.text(runtime.alloc())
+}
+
+// What is said of the end of a call with these words, where there is something to say.
+fn said<R: Env + Files + AllocGlobal>(
+    runtime: &R,
+    words: &[String],
+    status: &Status,
+) -> Result<Option<String>, AllocError> {
+    if *status == Status::NoMemory {
+        return Ok(None);
+    }
+    match read_words(runtime.alloc(), words) {
+        Ok(demand) => said_of_work(runtime, file_refused(&demand, status), status),
+        Err(WordsFault::Usage(reason)) => Ok(Some(said_of_words(runtime, words, &reason)?)),
+        Err(WordsFault::NoMemory) => Err(AllocError),
+    }
+}
+
+// A text with each control character as `\x` and its code.
+fn shown(alloc: Global, text: &str) -> Result<String, AllocError> {
+    let mut shown = String::new(alloc);
+    for c in text.chars() {
+        if c.is_control() {
+            let code = u32::from(c);
+            write!(shown, "\\x{code:02x}")?;
+        } else {
+            shown.push(c)?;
+        }
+    }
+    Ok(shown)
+}
+
+/// Says on standard error what is wrong at such an end of a call with these words, and what to do
+/// next, where there is something to say. A file that is refused is named, and looked at again
+/// where it is a regular one.
+pub fn advise<R: Eprint + Env + Files + AllocGlobal>(
+    runtime: &R,
+    words: &[String],
+    status: &Status,
+) {
+    if let Ok(Some(text)) = said(runtime, words, status) {
+        if let Ok(text) = shown(runtime.alloc(), text.as_str()) {
+            let _ = eprintln!(runtime; "predator: {text}");
+        }
+    }
+}

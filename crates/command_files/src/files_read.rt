@@ -1,0 +1,109 @@
+// Which files a command reads, by their names in the words, and which of them a refusal is of.
+
+use crate::state_faults::HARTS;
+use crate::status::{StateFault, Status};
+use command_line::{Demand, read_words};
+use std::alloc::Global;
+
+/// A trace that words have read.
+#[derive(Clone, Copy, PartialEq, Eq, Debug)]
+pub struct TraceToRead<'a> {
+    /// Its name, as it stands in the words.
+    pub name: &'a str,
+    /// Whether it is read more than once from its front to its end.
+    pub again: bool,
+}
+
+// The files that a command reads, where it reads such ones.
+#[derive(Clone, Copy)]
+struct FilesRead<'a> {
+    settings: Option<&'a str>,
+    state: Option<&'a str>,
+    trace: Option<TraceToRead<'a>>,
+    program: Option<&'a str>,
+    schedule: Option<&'a str>,
+}
+
+fn no_files<'a>() -> FilesRead<'a> {
+    FilesRead {
+        settings: None,
+        state: None,
+        trace: None,
+        program: None,
+        schedule: None,
+    }
+}
+
+fn of_trace(name: &str, again: bool) -> FilesRead<'_> {
+    FilesRead {
+        trace: Some(TraceToRead { name, again }),
+        ..no_files()
+    }
+}
+
+fn of_program<'a>(
+    program: &'a str,
+    settings: Option<&'a str>,
+    schedule: Option<&'a str>,
+) -> FilesRead<'a> {
+    FilesRead {
+        settings,
+        program: Some(program),
+        schedule,
+        ..no_files()
+    }
+}
+
+fn files_of<'a>(demand: &Demand<'a>) -> FilesRead<'a> {
+    match demand {
+        Demand::Replay(options) => FilesRead {
+            settings: options.settings,
+            state: options.resume,
+            ..of_trace(options.trace, false)
+        },
+        Demand::Check(options) => of_program(options.program, options.settings, None),
+        Demand::Run(options) => of_program(options.program, options.settings, options.schedule),
+        Demand::Explain(options) => of_program(options.program, options.settings, options.schedule),
+        Demand::Split(options) => of_trace(options.trace, true),
+        Demand::Convert(options) => of_trace(options.trace, true),
+        Demand::Sweep(options) => of_trace(options.trace, false),
+        Demand::Caches(options) => of_trace(options.trace, false),
+        Demand::Misses(options) => of_trace(options.trace, false),
+        Demand::Place(options) => of_trace(options.trace, true),
+        Demand::Gen(_) => no_files(),
+    }
+}
+
+/// The trace that words have read, where they have one read.
+pub fn trace_to_read<'a>(alloc: Global, words: &'a [String]) -> Option<TraceToRead<'a>> {
+    match read_words(alloc, words) {
+        Ok(demand) => files_of(&demand).trace,
+        Err(_) => None,
+    }
+}
+
+// What a trace is called in a message.
+fn called(trace: TraceToRead<'_>) -> &str {
+    if trace.name == "-" && !trace.again {
+        "standard input"
+    } else {
+        trace.name
+    }
+}
+
+/// The name of the file that such a refusal is of, where a file is refused.
+pub fn file_refused<'a>(demand: &Demand<'a>, status: &Status) -> Option<&'a str> {
+    let files = files_of(demand);
+    let trace = files.trace.map(called);
+    match status {
+        Status::Elf(_) => files.program,
+        Status::Schedule(_) => files.schedule,
+        Status::Settings(_) => files.settings,
+        Status::Trace(_)
+        | Status::State(StateFault::WrongSettings(HARTS) | StateFault::WrongPosition { .. }) => {
+            trace
+        }
+        Status::State(_) => files.state,
+        _ => None,
+    }
+}
