@@ -11,9 +11,9 @@ use crate::status::Status;
 use crate::trace_faults::trace_advice;
 use command_line::{Reason, WordsFault, read_words};
 use std::alloc::{AllocError, Global};
-use std::io::{self, ErrorKind, Read};
-use std::rt::{Env, Files};
-use std::{env, fs};
+use std::env;
+use std::io::ErrorKind;
+use std::rt::Env;
 
 const BUDGET: &str = "`budget` in the settings allows more steps, up to 68719476736";
 
@@ -25,11 +25,8 @@ const TRAPPED: &str =
 
 const NOT_TEXT: &str = "a word isn't UTF-8, as all words of a call are, names of files too";
 
-// The most bytes of a file that is looked at again.
-const LONGEST_FRONT: usize = 1 << 16;
-
 /// What is wrong at such an end and what to do next, in one line, where there is something to say.
-/// `front` is the beginning of the file that is refused, as far as it was looked at again.
+/// `front` is the beginning of the file that is refused, as far as it is known.
 pub fn advice_on(
     alloc: Global,
     status: &Status,
@@ -51,44 +48,16 @@ pub fn advice_on(
     Ok(Some(advice))
 }
 
-// Room for so many bytes.
-fn room_for(alloc: Global, length: usize) -> Result<Vec<u8>, AllocError> {
-    Vec::from_elem(alloc, 0, length)
-}
-
-// The beginning of a regular file. What else has a name, as a pipe, isn't read again.
-fn front_of<R: Files + AllocGlobal>(runtime: &R, name: &str) -> io::Result<Vec<u8>> {
-    if !fs::metadata(runtime, name)?.is_file() {
-        return Ok(Vec::new(runtime.alloc()));
-    }
-    let mut front = room_for(runtime.alloc(), LONGEST_FRONT)?;
-    let length = fs::open(runtime, name)?.read(&mut front)?;
-    front.truncate(length);
-    Ok(front)
-}
-
-// What is looked at again of a file that is refused: of a program and of settings, where it can be.
-fn seen_of<R: Files + AllocGlobal>(runtime: &R, name: &str, status: &Status) -> Vec<u8> {
-    let none = Vec::new(runtime.alloc());
-    match status {
-        Status::Elf(_) | Status::Settings(_) => front_of(runtime, name).unwrap_or(none),
-        _ => none,
-    }
-}
-
 // What is said where a command's work didn't end well, of its file where it refused one.
-fn said_of_work<R: Files + AllocGlobal>(
-    runtime: &R,
+fn said_of_work(
+    alloc: Global,
     refused: Option<&str>,
     status: &Status,
+    front: &[u8],
 ) -> Result<Option<String>, AllocError> {
-    let alloc = runtime.alloc();
-    let Some(name) = refused else {
-        return advice_on(alloc, status, &[]);
-    };
-    match advice_on(alloc, status, &seen_of(runtime, name, status))? {
-        Some(advice) => Ok(Some(format!(in alloc; "{name}: {advice}")?)),
-        None => Ok(None),
+    match (advice_on(alloc, status, front)?, refused) {
+        (Some(advice), Some(name)) => Ok(Some(format!(in alloc; "{name}: {advice}")?)),
+        (advice, _) => Ok(advice),
     }
 }
 
@@ -113,16 +82,18 @@ fn said_of_words<R: Env + AllocGlobal>(
 }
 
 // What is said of the end of a call with these words, where there is something to say.
-fn said<R: Env + Files + AllocGlobal>(
+fn said<R: Env + AllocGlobal>(
     runtime: &R,
     words: &[String],
     status: &Status,
+    front: &[u8],
 ) -> Result<Option<String>, AllocError> {
     if *status == Status::NoMemory {
         return Ok(None);
     }
-    match read_words(runtime.alloc(), words) {
-        Ok(demand) => said_of_work(runtime, file_refused(&demand, status), status),
+    let alloc = runtime.alloc();
+    match read_words(alloc, words) {
+        Ok(demand) => said_of_work(alloc, file_refused(&demand, status), status, front),
         Err(WordsFault::Usage(reason)) => Ok(Some(said_of_words(runtime, words, &reason)?)),
         Err(WordsFault::NoMemory) => Err(AllocError),
     }
@@ -143,14 +114,15 @@ fn shown(alloc: Global, text: &str) -> Result<String, AllocError> {
 }
 
 /// Says on standard error what is wrong at such an end of a call with these words, and what to do
-/// next, where there is something to say. A file that is refused is named, and looked at again
-/// where it is a regular one.
-pub fn advise<R: Eprint + Env + Files + AllocGlobal>(
+/// next, where there is something to say. A file that is refused is named; `front` is its beginning,
+/// as far as it is known, of the file that [`file_to_look_at`](crate::file_to_look_at) names.
+pub fn advise<R: Eprint + Env + AllocGlobal>(
     runtime: &R,
     words: &[String],
     status: &Status,
+    front: &[u8],
 ) {
-    if let Ok(Some(text)) = said(runtime, words, status) {
+    if let Ok(Some(text)) = said(runtime, words, status, front) {
         if let Ok(text) = shown(runtime.alloc(), text.as_str()) {
             let _ = eprintln!(runtime; "predator: {text}");
         }

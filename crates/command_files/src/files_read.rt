@@ -107,3 +107,14 @@ pub fn file_refused<'a>(demand: &Demand<'a>, status: &Status) -> Option<&'a str>
         _ => None,
     }
 }
+
+/// The name of a file that is refused whose beginning says more of why: a program or settings.
+pub fn file_to_look_at<'a>(alloc: Global, words: &'a [String], status: &Status) -> Option<&'a str> {
+    if !matches!(status, Status::Elf(_) | Status::Settings(_)) {
+        return None;
+    }
+    match read_words(alloc, words) {
+        Ok(demand) => file_refused(&demand, status),
+        Err(_) => None,
+    }
+}

@@ -31,6 +31,9 @@ const STREAMS: [&str; 3] = [INPUT_PATH, OUTPUT_PATH, "/dev/stderr"];
 // The name of a trace that is standard input.
 const INPUT: &str = "-";
 
+// The most bytes of a file that are told again.
+const LONGEST_FRONT: usize = 1 << 16;
+
 // Why a file isn't begun that is read or written under another name.
 const IN_USE: &str = "the same file is in use under another name, and stays as it is";
 
@@ -306,6 +309,20 @@ impl<'a, R: Files + Print + Eprint + Clock + AllocGlobal> DiskShelf<'a, R> {
             Ok(name) => Some(Expected { name, again }),
             Err(AllocError) => None,
         };
+    }
+
+    /// The beginning of a file that was read, up to 64 KiB: none of one that can't be read again, as
+    /// a pipe, and none where there is no memory. Nothing that contracts see changes.
+    pub fn front_of(&mut self, name: &str) -> Vec<u8>
+        ensures { self.new ≡ self.old }
+    {
+        let alloc = self.runtime.alloc();
+        let Ok(mut front) = Vec::from_elem(alloc, 0, LONGEST_FRONT) else {
+            return Vec::new(alloc);
+        };
+        let count = self.files.read.front_of(name, &mut front);
+        front.truncate(count);
+        front
     }
 }
 

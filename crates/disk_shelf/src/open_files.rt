@@ -153,6 +153,23 @@ impl<F: Read + Write + Seek + OpenFile + Drop> OpenFiles<F> {
         }
     }
 
+    /// Reads the first bytes of the file of a name again, as many as fit: none where it isn't open or
+    /// can't be read again.
+    pub fn front_of(&mut self, name: &str, into: &mut [u8]) -> usize
+        ensures { result ≤ length into.new }
+    {
+        let Some(place) = self.place_of(name) else {
+            return 0;
+        };
+        match self.files.get_mut(place) {
+            Some(file) if file.can_seek => match file.read_at(0, into) {
+                Ok(read) => read.count,
+                Err(_) => 0,
+            },
+            _ => 0,
+        }
+    }
+
     /// Makes the file of a name empty.
     pub fn empty(&mut self, name: &str) -> io::Result<()> {
         let Some(place) = self.place_of(name) else {

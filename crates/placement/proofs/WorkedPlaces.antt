@@ -7,6 +7,7 @@ use Rattle.sharing_rules.specs.Places.{count_places, first_place}
 use Rattle.trace_format.specs.declared.record.TraceRecord.{TraceRecord}
 use Rattle.trace_format.specs.declared.record.TraceRecord.TheVariants as records
 use Rattle.placement.specs.Groups.{group_count, many_group, untouched_group}
+use Rattle.placement.specs.ObjectLines.{is_object_line, object_total}
 use Rattle.placement.specs.Plans.{Planned, has_room, plan_of}
 use Rattle.placement.specs.Recounts.{area_count}
 use Rattle.placement.specs.Sought.{is_too_large, object_of}
@@ -46,6 +47,15 @@ one_is : (area (plan_of 64 (owned_of (extent 0x1000 4) shared)) ≡ (0x1040 ∷ 
     × (area_count 64 (plan_of 64 (owned_of (extent 0x1000 4) shared)) shared ≡ 1)
 unfolding count_places first_place group_count many_group untouched_group
 one_is = (refl, refl, refl)
+
+-- an object's lines, and what they count: two words on one line, which nothing else uses
+lines_are : (object_total 64 (extent 0x1000 8) in_turn ≡ 2)
+    × (object_total 64 (extent 0x1040 8) in_turn ≡ 0)
+    × (is_object_line 64 (extent 0x103c 8) 65 ≡ true)
+    × (is_object_line 64 (extent 0x103c 8) 66 ≡ true)
+    × (is_object_line 64 (extent 0x103c 8) 67 ≡ false)
+unfolding count_places first_place
+lines_are = (refl, refl, refl, refl, refl)
 
 -- there is no line behind the last word
 no_room : has_room 64 (owned_of (extent 0xfffffffc 4) (wr 0 0xfffffffc ∷ [])) ≡ false

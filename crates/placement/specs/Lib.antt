@@ -1,5 +1,6 @@
 pub mod Groups
 pub mod Laws
+pub mod ObjectLines
 pub mod Passing
 pub mod Pieces
 pub mod Plans

@@ -22,7 +22,10 @@ mod told;
 
 pub use extent::Extent;
 pub use finder::Finder;
-pub use laws::words_keep_apart;
+pub use laws::{
+    a_harts_lines_count_nothing, padding_saves_all_of_the_object, the_area_counts_what_many_count,
+    words_keep_apart,
+};
 pub use owners::Owners;
 pub use plan::{Plan, PlanFault};
 pub use recount::Recount;

@@ -3,7 +3,9 @@
 
 use base::NoMemory;
 use disk_shelf::DiskShelf;
-use predator_cli::{advise, exit_code, give_up, predator, trace_to_read, words_of};
+use predator_cli::{
+    advise, exit_code, file_to_look_at, give_up, predator, trace_to_read, words_of,
+};
 use std::env;
 use std::io::IsTerminal;
 use std::process::ExitCode;
@@ -20,7 +22,11 @@ fn main(rt: HostRuntime) -> ExitCode {
                 shelf.expect(trace.name, trace.again);
             }
             let status = predator(rt.alloc(), &words, &mut shelf);
-            advise(&rt, &words, &status);
+            let front = match file_to_look_at(rt.alloc(), &words, &status) {
+                Some(name) => shelf.front_of(name),
+                None => Vec::new(rt.alloc()),
+            };
+            advise(&rt, &words, &status, front.as_slice());
             status
         }
         Err(NoMemory) => give_up(&mut shelf),

@@ -33,7 +33,8 @@ mod trace_faults;
 
 pub use command::predator;
 pub use command_files::{
-    StateFault, Status, advice_on, advise, exit_code, give_up, trace_to_read, words_of,
+    StateFault, Status, advice_on, advise, exit_code, file_to_look_at, give_up, trace_to_read,
+    words_of,
 };
 pub use laws::{a_replay_goes_on_from_a_list, a_trace_counts_in_parts};
 pub use steady::predator_steady;
