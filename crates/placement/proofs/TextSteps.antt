@@ -28,12 +28,26 @@ pub many_pieces : (whole a b : List ℕ)
     ≡ whole ++ text_of ((codes "word" ∷ a ∷ codes "to" ∷ b ∷ codes "many" ∷ []) ∷ [])
 many_pieces whole a b = simp append_assoc
 
+-- a line feed before what follows
+fed : (digits more : List ℕ) → (digits ++ 10 ∷ []) ++ more ≡ digits ++ 10 ∷ more
+fed digits more = append_assoc digits (10 ∷ []) more
+
 -- the last four lines: before, after, many
-counts_pieces : (b a m : List ℕ)
-    → codes "before " ++ b ++ codes "\nafter " ++ a ++ codes "\nmany " ++ m ++ codes "\nend\n"
-    ≡ text_of ((codes "before" ∷ b ∷ []) ∷ (codes "after" ∷ a ∷ []) ∷ (codes "many" ∷ m ∷ [])
+abbrev counts_text : (b a m : List ℕ) → List ℕ
+counts_text b a m =
+    codes "before " ++ (b ++ (codes "\nafter " ++ (a ++ (codes "\nmany " ++ (m ++ codes "\nend\n")))))
+
+counts_spelled : (b a m : List ℕ)
+    → text_of ((codes "before" ∷ b ∷ []) ∷ (codes "after" ∷ a ∷ []) ∷ (codes "many" ∷ m ∷ [])
     ∷ (codes "end" ∷ []) ∷ [])
-counts_pieces b a m = simp append_assoc
+    ≡ counts_text b a m
+counts_spelled b a m =
+    let many : List ℕ = codes "many " ++ ((m ++ 10 ∷ []) ++ codes "end\n") in
+    let last = fed m (codes "end\n") in
+    let second = fed a many ∙ ap (λ (r : List ℕ). a ++ (codes "\nmany " ++ r)) last in
+    let first = fed b (codes "after " ++ ((a ++ 10 ∷ []) ++ many))
+    ∙ ap (λ (r : List ℕ). b ++ (codes "\nafter " ++ r)) second in
+    ap (λ (r : List ℕ). codes "before " ++ r) first
 
 area_pieces : (whole s n rest : List ℕ)
     → ((whole ++ codes "area") ++ (codes " " ++ s)) ++ (codes " " ++ n ++ 10 ∷ rest)
@@ -43,8 +57,7 @@ area_pieces whole s n rest = simp append_assoc
 size_pieces : (n b a m : List ℕ)
     → codes " " ++ n ++ codes "\nbefore " ++ b ++ codes "\nafter " ++ a ++ codes "\nmany " ++ m
     ++ codes "\nend\n"
-    ≡ codes " " ++ n ++ 10 ∷ (codes "before " ++ b ++ codes "\nafter " ++ a ++ codes "\nmany " ++ m
-    ++ codes "\nend\n")
+    ≡ codes " " ++ n ++ 10 ∷ counts_text b a m
 size_pieces n b a m = simp append_assoc
 
 -- the last lines: start, size, before, after, many
@@ -54,12 +67,10 @@ pub end_pieces : (whole s n b a m : List ℕ) → ((whole ++ codes "area") ++ (c
     ≡ whole ++ text_of ((codes "area" ∷ s ∷ n ∷ []) ∷ (codes "before" ∷ b ∷ [])
     ∷ (codes "after" ∷ a ∷ []) ∷ (codes "many" ∷ m ∷ []) ∷ (codes "end" ∷ []) ∷ [])
 end_pieces whole s n b a m =
-    let counts : List ℕ = codes "before " ++ b ++ codes "\nafter " ++ a ++ codes "\nmany " ++ m
-    ++ codes "\nend\n" in
     ap (λ (w : List ℕ). ((whole ++ codes "area") ++ (codes " " ++ s)) ++ w) (size_pieces n b a m)
-    ∙ area_pieces whole s n counts
+    ∙ area_pieces whole s n (counts_text b a m)
     ∙ ap (λ (w : List ℕ). whole ++ (line_text (codes "area" ∷ s ∷ n ∷ []) ++ w))
-    (counts_pieces b a m)
+    (sym (counts_spelled b a m))
 
 -- the lines of one number more
 pub touched_more : (f : ℕ → Option TextLine) (i : ℕ) (whole before after : List ℕ)

@@ -156,12 +156,7 @@ fn address_of(extent: Extent, i: usize) -> u64
 }
 
 // The line of word i of an object, if it is touched.
-fn push_touched(
-    text: &mut String,
-    owners: &Owners,
-    plan: &Plan,
-    i: usize,
-) -> Result<(), AllocError>
+fn push_touched(text: &mut String, owners: &Owners, plan: &Plan, i: usize) -> Result<(), AllocError>
     requires { i < 2 ^ 23 }
     ensures { OnOk result (string_bytes text.new ≡ string_bytes text.old
         ++ text_of (option_to_list (touched_line owners.now plan.now i))) }

@@ -13,6 +13,6 @@ invariant_of-result c =
     let f : ℕ → ℕ = place_from c.from-line.result c.rounded-start.result os in (
       ap length c.in_ok-area.ensures.places ∙ length-map (below (length os)) f
           ∙ length-below (length os)
-          ∙ ap (λ (xs : List Owner). length xs) c.owners.ensures.value ∙ c.extent.ensures.count,
+          ∙ ap (λ (xs : List Owner). length xs) c.owners.ensures.value ∙ c.extent-extent.ensures.count,
       c.in_ok-area.ensures.whole,
     )
