@@ -1,5 +1,5 @@
 -- Which text a recount comes to.
-use Rattle.std.proofs.Common.{◌≡◌, ℕ, List, [], ◌++◌, refl, sym, ap, ◌∙◌, subst}
+use Rattle.std.proofs.Common.{◌≡◌, ℕ, List, [], sym, ap, ◌∙◌}
 use Rattle.base.specs.TextLines.{text_of}
 use Rattle.sharing_rules.specs.AccessLists.{AccessList}
 use Rattle.trace_format.specs.Rules.{touches_in}

@@ -1,4 +1,4 @@
-use Rattle.std.proofs.Common.{◌≡◌, ◌++◌, ◌∙◌, List, ℕ, ap, codes, string_bytes, subst}
+use Rattle.std.proofs.Common.{◌≡◌, ◌++◌, ◌∙◌, List, ℕ, ap, string_bytes, subst}
 use Rattle.std.specs.Prelude.{OnOk}
 use Rattle.std.specs.Fmt.{decimal}
 use Rattle.base.specs.PrintedNames.{name_text}

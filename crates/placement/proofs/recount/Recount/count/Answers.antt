@@ -1,5 +1,5 @@
 -- Each list is noted where it is counted, and what the second takes is counted where it belongs.
-use Rattle.std.proofs.Common.{◌≡◌, ℕ, ◌+◌, ◌&&◌, [], ◌∷◌, ◌++◌, List, ◌∙◌, ap, arith}
+use Rattle.std.proofs.Common.{ℕ, ◌+◌, ◌&&◌, [], ◌∷◌, ◌++◌, List, ◌∙◌, ap, arith}
 use Rattle.std.proofs.Common.{length-append, subst, sym}
 use Rattle.std.specs.Prelude.{if◌then◌else◌}
 use Rattle.base.specs.Touch.{Touch}

@@ -1,5 +1,4 @@
 use Rattle.std.proofs.Common.{◌≡◌, ℕ, ◌∙◌, ap}
-use Rattle.placement.specs.Plans.{moved_list}
 use Rattle.placement.specs.Recounts.{total_after, total_before}
 use Rattle.placement.specs.Texts.{Sums, sums_of}
 use Rattle.placement.proofs.recount.Recount.sums.Goals as goal
