@@ -1,6 +1,6 @@
 -- What a command has done stands after a text is printed.
 use Rattle.std.proofs.Common.{◌≡◌, ◌≢◌, ℕ, ◌≤◌, Bool, true, false, List, [], Option, Some, None}
-use Rattle.std.proofs.Common.{sym, ◌∙◌, ap, refl, inl, inr, ◌⊎◌}
+use Rattle.std.proofs.Common.{sym, ◌∙◌, ap, refl, inl, inr}
 use Rattle.shelf.specs.Shelf.{Files, Outside, Told, Goes, Rose, OnlyPrints, OnlyReads, Adds}
 use Rattle.shelf.specs.Shelf.{AddsFront}
 use Rattle.command_line.specs.Words.{Demand, outputs as outputs_of}
@@ -19,8 +19,8 @@ use Rattle.predator_cli.specs.Written.{AreSame, OnlyAt, StandsInPart, StaysAtRea
 use Rattle.predator_cli.specs.Written.{StaysAtRefusal, Writes}
 use Rattle.predator_cli.specs.Again.{WhereDone}
 use Rattle.predator_cli.specs.Answer.{answer_of, are_copies, outputs}
-use Rattle.predator_cli.specs.Meets.{EndsAs, IsAnswered, IsCaused, IsComplete, IsFaulty}
-use Rattle.predator_cli.specs.Meets.{IsPrintable, IsWorked, Meets, NoFaults, Printed}
+use Rattle.predator_cli.specs.Meets.{EndsAs, IsAnswered, IsCaused, IsFaulty}
+use Rattle.predator_cli.specs.Meets.{IsPrintable, IsWorked, Meets, Printed}
 use Rattle.predator_cli.specs.Meets.{Prints, ReadsInPeace}
 use Rattle.predator_cli.proofs.Standing.{may_stay, only_same_names, same_stands, whole_stands}
 

@@ -1,5 +1,5 @@
 -- What a reading of a trace gives `place`.
-use Rattle.std.proofs.Common.{◌≡◌, ℕ, List, [], Option, Some, ap, subst, sym}
+use Rattle.std.proofs.Common.{◌≡◌, ℕ, List, [], Option, ap, subst, sym}
 use Rattle.std.specs.Option.{option_map_or}
 use Rattle.command_line.specs.Place.{PlaceDemand}
 use Rattle.placement.specs.Passing.{HasSought, Seeks}
