@@ -32,7 +32,7 @@ const SHAPE_3: &str = "'--size 64 --sets 3 --ways 8' is no shape of caches: --si
     two from 4 to 1024, --sets one from 1 to 1024, --ways from 1 to 64, and sets times ways at \
     most 4096";
 
-const WRONG_WORDS: [(&str, &str); 30] = [
+const WRONG_WORDS: [(&str, &str); 31] = [
     ("", "the command is missing; see predator --help"),
     ("reply t", "'reply' is no command; see predator --help"),
     ("run p --fast=1", "unexpected argument '--fast' found"),
@@ -103,6 +103,10 @@ const WRONG_WORDS: [(&str, &str); 30] = [
     ("replay t --size 48 --save t", LAYOUT_48),
     ("caches t --size 64 --sets 4", "--ways is missing"),
     ("caches t --size 64 --sets 3 --ways 8", SHAPE_3),
+    (
+        "place t x --size 48",
+        "'--size 48' is no size of a line: it is a power of two from 4 to 1024",
+    ),
     (
         "run p --trace p",
         "'p' stands twice; each file that is written wants its own name",
