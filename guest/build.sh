@@ -180,7 +180,7 @@ if (($# == 1)) && [ "$1" = examples ]; then
     here=guest
     debug=(-gline-tables-only)
     tells=()
-    for name in counters apart waits checksum queue words; do
+    for name in counters apart tallies waits checksum queue words; do
         KIT=small build "$here/built/$name.elf" "$here/examples/$name.c"
     done
     for name in as_is atomics; do

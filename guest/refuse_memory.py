@@ -75,6 +75,7 @@ CALLS = [
     ("sweep", "given.trace", "--size", "64"),
     ("caches", "given.trace", "--size", "64", "--sets", "4", "--ways", "2"),
     ("misses", "given.trace"),
+    ("place", "objects.trace", "both"),
     ("explain", "queue.elf", "0x12000", "64", "73"),
 ]
 WRITTEN = ("t", "o", "f", "a", "b", "c")
@@ -143,7 +144,8 @@ def main():
         with open("shim.c", "w") as out:
             out.write(SHIM)
         subprocess.run(["cc", "-shared", "-fPIC", "-O1", "-o", "shim.so", "shim.c", "-ldl"], check=True)
-        subprocess.run([PROGRAM, "gen", "200", "given.trace"], check=True, stdout=subprocess.DEVNULL)
+        for words in (("gen", "200", "given.trace"), ("run", "words.elf", "--trace", "objects.trace")):
+            subprocess.run([PROGRAM, *words], check=True, stdout=subprocess.DEVNULL)
         sys.exit(1 if sum(try_call(words) for words in CALLS) else 0)
 
 

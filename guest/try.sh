@@ -125,6 +125,8 @@ try_commands() {
     prints "a sweep" "sweep 64"
     try "caches of a shape" 0 "$predator" caches t --size 64 --sets 64 --ways 8
     prints "caches of a shape" "caches 64 64 8"
+    try "new places" 0 "$predator" place t counters
+    prints "new places" "place counters 0x00011000 32 line 64"
     try "a summary" 0 "$predator" check programs/counters.elf
     prints "a summary" "entry 0x00010000"
 }
@@ -139,6 +141,8 @@ try_refusals() {
     try "bad settings" 4 "$predator" run programs/counters.elf --settings bad
     says "bad settings" "\`harts\` is a whole number from 1 to 256"
     try "no trace" 5 "$predator" replay settings
+    try "no object" 13 "$predator" place t missing
+    prints "no object" "predator: place NoObject"
     try "a missing file" 7 "$predator" replay missing
     says "a missing file" "missing: No such file or directory"
     try "a folder" 7 "$predator" replay programs
@@ -249,7 +253,7 @@ try_streams() {
     try "the trace through the pipe" 0 bash -c 'sleep 1; cmp through3 run.trace'
     cp made ./-
     try "a file of that name" 0 "$predator" replay ./-
-    for words in "split IT 3 a b" "convert IT a"; do
+    for words in "split IT 3 a b" "convert IT a" "place IT counters"; do
         rm -f a b
         # shellcheck disable=SC2016
         try "$words of a pipe" 7 bash -c 'cat made | "$0" '"${words/IT//dev/stdin}" "$predator"
@@ -264,7 +268,8 @@ try_streams() {
     local it words
     for it in nothing /dev/null /dev/zero; do
         refused 2 $it "run IT" "check IT" "explain IT 0x00011000 64 0"
-        refused 5 $it "replay IT" "sweep IT --size 64" "caches IT --size 64 --sets 4 --ways 2" "misses IT" "split IT 3 a b" "convert IT a"
+        refused 5 $it "replay IT" "sweep IT --size 64" "caches IT --size 64 --sets 4 --ways 2" "misses IT" "place IT x" "split IT 3 a b" \
+            "convert IT a"
         try "$it gives nothing" 1 test -e a
     done
     refused 6 nothing "replay made --resume IT"
@@ -274,7 +279,7 @@ try_streams() {
     prints "an endless state" "predator: no memory"
     for it in missing programs /proc/self/mem; do
         refused 7 $it "run IT" "check IT" "explain IT 0x00011000 64 0" "replay IT" "sweep IT --size 64" \
-            "caches IT --size 64 --sets 4 --ways 2" "misses IT" "split IT 3 a b" "convert IT a" "replay made --resume IT" \
+            "caches IT --size 64 --sets 4 --ways 2" "misses IT" "place IT x" "split IT 3 a b" "convert IT a" "replay made --resume IT" \
             "run programs/counters.elf --settings IT" "replay made --settings IT" "check programs/counters.elf --settings IT" \
             "run programs/counters.elf --schedule IT" "explain programs/counters.elf 0x00011000 64 0 --schedule IT"
     done

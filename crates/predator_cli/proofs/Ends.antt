@@ -5,7 +5,7 @@ use Rattle.shelf.specs.Shelf.{Files, Outside, Told, Goes, Rose, OnlyPrints, Only
 use Rattle.shelf.specs.Shelf.{AddsFront}
 use Rattle.command_line.specs.Words.{Demand, outputs as outputs_of}
 use Rattle.command_files.specs.Readings.{IsAccepted, IsStopped, first_refusal}
-use Rattle.command_files.specs.Works.{Work, done_with}
+use Rattle.command_files.specs.Works.{Work, done_with, refused_with}
 use Rattle.command_files.specs.Statuses.{Kind, kind_of, done, refusal, read_fault, write_fault}
 use Rattle.command_files.specs.Statuses.{no_memory, hides_no_memory}
 use Rattle.shelf.specs.Files.{AllMayStand, AreWhole, Output, bytes_for}
@@ -19,7 +19,6 @@ use Rattle.predator_cli.specs.Written.{AreSame, OnlyAt, StandsInPart, StaysAtRea
 use Rattle.predator_cli.specs.Written.{StaysAtRefusal, Writes}
 use Rattle.predator_cli.specs.Again.{WhereDone}
 use Rattle.predator_cli.specs.Answer.{answer_of, are_copies, outputs}
-use Rattle.predator_cli.specs.Judged.{refusal_of}
 use Rattle.predator_cli.specs.Meets.{EndsAs, IsAnswered, IsCaused, IsComplete, IsFaulty}
 use Rattle.predator_cli.specs.Meets.{IsPrintable, IsWorked, Meets, NoFaults, Printed}
 use Rattle.predator_cli.specs.Meets.{Prints, ReadsInPeace}
@@ -278,6 +277,7 @@ no_memory_hidden status.NoMemory kind = refl
 no_memory_hidden status.Budget kind = refl
 no_memory_hidden status.Deadlock kind = refl
 no_memory_hidden status.Trapped kind = refl
+no_memory_hidden (status.Place refused) kind = refl
 
 no_usage : (s : Status) → kind_of s ≡ done → s ≡ status.Usage → ⊥
 no_usage s kind u = let k : kind_of status.Usage ≡ done = ap kind_of (sym u) ∙ kind in cc
@@ -473,15 +473,15 @@ words_unread asked a = memory_faulty asked a a
 
 refused_answer : (demand : Demand) (files : Files) (s : Status)
     → first_refusal (readings_of demand) files ≡ Some s
-    → answer_of (Some demand) files ≡ refusal_of s
+    → answer_of (Some demand) files ≡ refused_with s
 refused_answer demand files s is = rw is refl
 
--- a file is refused
-file_faulty : (demand : Demand) (a b : Outside) (s : Status) → kind_of s ≡ refusal
+-- a refusal is the answer
+pub refusal_faulty : (demand : Demand) (a b : Outside) (s : Status) → kind_of s ≡ refusal
     → s ≢ status.Usage → hides_no_memory s ≡ false
-    → Told a.held (λ files. first_refusal (readings_of demand) files ≡ Some s)
+    → Told a.held (λ files. answer_of (Some demand) files ≡ refused_with s)
     → b.read_faults ≡ a.read_faults → OnlyReads a b → IsFaulty (Some demand) a b s
-file_faulty demand a b s kind words memory refused peace only = record {
+refusal_faulty demand a b s kind words memory refused peace only = record {
   fault = not_done_so;
   ends = told_map a.held (λ files is. ends_so files is) refused;
   usage = λ u. absurd (words u);
@@ -489,8 +489,7 @@ file_faulty demand a b s kind words memory refused peace only = record {
   memory = memory;
   caused = caused_so;
   peace = peace_so;
-  printable = told_map a.held (λ files is. inl
-      (sym (ap (λ (w : Work). w.text) (refused_answer demand files s is)))) refused;
+  printable = told_map a.held (λ files is. inl (sym (ap (λ (w : Work). w.text) is))) refused;
   writes = same_written (Some demand) a b (kind_of s) not_done_so only.written;
   only = only_same_names (outputs (Some demand)) a b only.written;
   held = only.held;
@@ -501,15 +500,24 @@ file_faulty demand a b s kind words memory refused peace only = record {
     not_done_so : kind_of s ≡ done → ⊥
     not_done_so e = let k : refusal ≡ done = sym kind ∙ e in cc
 
-    ends_so : (files : Files) → first_refusal (readings_of demand) files ≡ Some s
+    ends_so : (files : Files) → answer_of (Some demand) files ≡ refused_with s
         → EndsAs (Some demand) files a b (kind_of s) s
-    ends_so files is = rw kind (ap (λ (w : Work). w.status) (refused_answer demand files s is))
+    ends_so files is = rw kind (ap (λ (w : Work). w.status) is)
 
     caused_so : IsCaused (Some demand) a b (kind_of s)
     caused_so = rw kind tt
 
     peace_so : ReadsInPeace a b (kind_of s)
     peace_so = rw kind peace
+
+-- a file is refused
+file_faulty : (demand : Demand) (a b : Outside) (s : Status) → kind_of s ≡ refusal
+    → s ≢ status.Usage → hides_no_memory s ≡ false
+    → Told a.held (λ files. first_refusal (readings_of demand) files ≡ Some s)
+    → b.read_faults ≡ a.read_faults → OnlyReads a b → IsFaulty (Some demand) a b s
+file_faulty demand a b s kind words memory refused peace only =
+    refusal_faulty demand a b s kind words memory
+    (told_map a.held (λ files is. refused_answer demand files s is) refused) peace only
 
 -- reading a file failed
 reading_faulty : (demand : Demand) (a b : Outside)
@@ -556,32 +564,6 @@ stopped_faulty demand a b status.NoMemory stopped = memory_faulty (Some demand) 
 stopped_faulty demand a b status.Budget stopped = absurd stopped.why
 stopped_faulty demand a b status.Deadlock stopped = absurd stopped.why
 stopped_faulty demand a b status.Trapped stopped = absurd stopped.why
-
--- ---- completeness
-
--- without faults of the outside the end is the one that is asked for
-ends_without : (asked : Option Demand) (files : Files) (old new : Outside) (s : Status)
-    → EndsAs asked files old new (kind_of s) s
-    → IsCaused asked old new (kind_of s) → NoFaults asked old new
-    → (s ≡ (answer_of asked files).status) ⊎ (s ≡ status.NoMemory)
-ends_without asked files old new status.Done ends caused none = inl (sym ends)
-ends_without asked files old new status.Usage ends caused none = inl (sym ends)
-ends_without asked files old new (status.Elf fault) ends caused none = inl (sym ends)
-ends_without asked files old new (status.Schedule fault) ends caused none = inl (sym ends)
-ends_without asked files old new (status.Settings fault) ends caused none = inl (sym ends)
-ends_without asked files old new (status.Trace fault) ends caused none = inl (sym ends)
-ends_without asked files old new (status.State fault) ends caused none = inl (sym ends)
-ends_without asked files old new status.ReadFault ends caused none = absurd (none.reads caused)
-ends_without asked files old new status.WriteFault ends (inl rose) none = absurd (none.writes rose)
-ends_without asked files old new status.WriteFault ends (inr rose) none = absurd (none.prints rose)
-ends_without asked files old new status.NoMemory ends caused none = inr refl
-ends_without asked files old new status.Budget ends caused none = inl (sym ends)
-ends_without asked files old new status.Deadlock ends caused none = inl (sym ends)
-ends_without asked files old new status.Trapped ends caused none = inl (sym ends)
-
-pub meets_complete : (asked : Option Demand) (old new : Outside) (s : Status)
-    → Meets asked old new s
-    → Told old.held (λ files. IsComplete asked files old new s)
-meets_complete asked old new s meets = told_map old.held
-    (λ files ends none. ends_without asked files old new s ends meets.caused none)
-    meets.ends
+stopped_faulty demand a b (status.Place refused) stopped = file_faulty demand a b
+    (status.Place refused) refl stopped.words stopped.memory
+    stopped.why.0 stopped.why.1 stopped.only

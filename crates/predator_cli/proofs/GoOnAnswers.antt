@@ -22,7 +22,6 @@ use Rattle.trace_passes.specs.Passes.{trace_of, trace_refusal, refusal_of as ref
 use Rattle.trace_passes.specs.declared.wanted.Refusal.{Refusal}
 use Rattle.trace_passes.specs.declared.wanted.Wanted.{Wanted}
 use Rattle.predator_cli.specs.Answer.{answer_of}
-use Rattle.predator_cli.specs.Judged.{refusal_of}
 use Rattle.predator_cli.specs.GoesOn.{HoldsBoth, begun_of}
 use Rattle.command_files.specs.Readings.{Reading, first_refusal}
 use Rattle.predator_cli.specs.Replay.{begun_in, grid_in, levels_in, replay_readings, replay_work}
@@ -30,7 +29,7 @@ use Rattle.predator_cli.specs.Replay.{state_readings, trace_reading, wanted_afte
 use Rattle.command_files.specs.SettingsFiles.{settings_readings}
 use Rattle.predator_cli.specs.States.{judged_state, state_of_records, state_refusal}
 use Rattle.predator_cli.specs.TraceFaults.{status_of_refusal}
-use Rattle.command_files.specs.Works.{Work}
+use Rattle.command_files.specs.Works.{Work, refused_with}
 use Rattle.predator_cli.specs.declared.state_file.Begun.{Begun}
 use Rattle.command_files.specs.declared.status.Status.{Status}
 use Rattle.command_files.specs.Laws.Readings.{accepted_both}
@@ -110,5 +109,5 @@ module _ (demand : ReplayDemand) (files : Files) (harts : ℕ) (before : List Tr
         let none : first_refusal (replay_readings demand) files ≡ None =
         accepted_both (settings_readings demand.settings) (states ++ traces) (Some files)
         settings (accepted_both states traces (Some files) state_accepted went_on) in
-        ap (λ (r : Option Status). option_map_or refusal_of r (replay_work demand files)) none
+        ap (λ (r : Option Status). option_map_or refused_with r (replay_work demand files)) none
         ∙ work

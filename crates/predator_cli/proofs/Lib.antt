@@ -10,6 +10,7 @@ pub mod GoOnLaws
 pub mod GoodLaws
 pub mod ListedCounts
 pub mod PartLaws
+pub mod PlaceEnds
 pub mod ReplayEnds
 pub mod ReplayLaws
 pub mod Rows

@@ -18,7 +18,7 @@ use Rattle.command_files.specs.Laws.Settings.{settings_chosen, settings_pass}
 use Rattle.command_files.specs.Readings.{first_refusal}
 use Rattle.command_files.specs.SettingsFiles.{layout_of, levels_of, settings_in}
 use Rattle.command_files.specs.SettingsFiles.{settings_readings}
-use Rattle.command_files.specs.Works.{Work, done_with}
+use Rattle.command_files.specs.Works.{Work, done_with, refused_with}
 use Rattle.command_files.specs.declared.status.Status.{Status}
 use Rattle.command_line.specs.Replay.{ReplayDemand}
 use Rattle.command_line.specs.Split.{SplitDemand}
@@ -40,7 +40,6 @@ use Rattle.predator_cli.specs.Again.{replayed}
 use Rattle.predator_cli.specs.Answer.{answer_of}
 use Rattle.predator_cli.specs.Copies.{copy_with}
 use Rattle.predator_cli.specs.GoesOn.{HoldsBoth, IsCutIn, MayStand, work_of_both}
-use Rattle.predator_cli.specs.Judged.{refusal_of}
 use Rattle.predator_cli.specs.Parts.{AllFind, Counting, Cut, Finds, StateStays, halved}
 use Rattle.predator_cli.specs.Parts.{last_replayed, part_replay}
 use Rattle.predator_cli.specs.Replay.{grid_in, levels_in, replay_readings, trace_reading, whole}
@@ -161,7 +160,7 @@ module _
     whole_work files name t save settings is first full =
         let demand = part_replay how None name save in
         let chosen = settings_chosen how.settings files s settings in
-        ap (λ (r : Option Status). option_map_or refusal_of r
+        ap (λ (r : Option Status). option_map_or refused_with r
         (option_map_or (work_after save (grid_in demand files) (levels_in demand files) None)
         (trace_of (content files name)) (done_with []))) (whole_read files name t save settings is
         first)
@@ -212,7 +211,7 @@ halved_is d files t is =
     let none : first_refusal (split_readings d) files ≡ None =
     none_alone (option_map status_of_refusal (refuses any (content files d.trace)))
     (ap (option_map status_of_refusal) (trace_unrefused (content files d.trace) t is)) in
-    ap (λ (r : Option Status). option_map_or refusal_of r (split_work d files)) none
+    ap (λ (r : Option Status). option_map_or refused_with r (split_work d files)) none
     ∙ ap (λ (o : Option Trace). option_map_or
     (copy_with (split_text d.at) (halves d.at d.first d.second)) o (done_with [])) is
 

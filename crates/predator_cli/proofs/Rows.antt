@@ -6,12 +6,13 @@ use Rattle.command_line.specs.Convert.{ConvertDemand}
 use Rattle.command_line.specs.Explain.{ExplainDemand}
 use Rattle.command_line.specs.Gen.{GenDemand}
 use Rattle.command_line.specs.Misses.{MissesDemand}
+use Rattle.command_line.specs.Place.{PlaceDemand}
 use Rattle.command_line.specs.Replay.{ReplayDemand}
 use Rattle.command_line.specs.Run.{RunDemand}
 use Rattle.command_line.specs.Split.{SplitDemand}
 use Rattle.command_line.specs.Sweep.{SweepDemand}
 use Rattle.command_line.specs.Words.{replay, check, run, split, gen, convert, sweep, caches}
-use Rattle.command_line.specs.Words.{misses, explain}
+use Rattle.command_line.specs.Words.{place, misses, explain}
 use Rattle.shelf.specs.Shelf.{Files}
 use Rattle.predator_cli.specs.Again.{RunRepeats}
 use Rattle.predator_cli.specs.Caches.{caches_readings, caches_work}
@@ -24,6 +25,7 @@ use Rattle.predator_cli.specs.Gen.{gen_readings, gen_work}
 use Rattle.predator_cli.specs.ListedCounts.{TellsListedCount}
 use Rattle.predator_cli.specs.Misses.{misses_readings, misses_work}
 use Rattle.predator_cli.specs.Parts.{SplitRepeats}
+use Rattle.predator_cli.specs.Place.{place_readings, place_work}
 use Rattle.predator_cli.specs.Recounts.{ReplayIsRecounted, RunIsRecounted}
 use Rattle.predator_cli.specs.Replay.{replay_readings, replay_work}
 use Rattle.predator_cli.specs.Run.{RunStaysWithin, run_readings, run_work}
@@ -62,6 +64,10 @@ module _ (files : Files) where
   pub caches_row : (d : CachesDemand) → (readings_of (caches d) ≡ caches_readings d)
       × (work_of (caches d) files ≡ caches_work d files) × (is_copy (caches d) ≡ false)
   caches_row d = (refl, refl, refl)
+
+  pub place_row : (d : PlaceDemand) → (readings_of (place d) ≡ place_readings d)
+      × (work_of (place d) files ≡ place_work d files) × (is_copy (place d) ≡ false)
+  place_row d = (refl, refl, refl)
 
   pub misses_row : (d : MissesDemand) → (readings_of (misses d) ≡ misses_readings d)
       × (work_of (misses d) files ≡ misses_work d files) × (is_copy (misses d) ≡ false)

@@ -1,7 +1,7 @@
 -- What is promised of the commands beside their answers holds: a row a command.
 use Rattle.std.proofs.Common.{Option, Some, None}
 use Rattle.command_line.specs.Words.{Demand, replay, check, run, split, gen, convert, sweep}
-use Rattle.command_line.specs.Words.{caches, misses, explain}
+use Rattle.command_line.specs.Words.{caches, place, misses, explain}
 use Rattle.shelf.specs.Shelf.{Files}
 use Rattle.predator_cli.specs.Commands.{Command, ReportIsRecounted, StaysWithinBudget, command_of}
 use Rattle.predator_cli.proofs.ReplayLaws.{replay_recounted}
@@ -22,6 +22,7 @@ commands_are_sound short (gen d) = record { within = λ files. tt; recounts = λ
 commands_are_sound short (convert d) = record { within = λ files. tt; recounts = λ files. tt }
 commands_are_sound short (sweep d) = record { within = λ files. tt; recounts = λ files. tt }
 commands_are_sound short (caches d) = record { within = λ files. tt; recounts = λ files. tt }
+commands_are_sound short (place d) = record { within = λ files. tt; recounts = λ files. tt }
 commands_are_sound short (misses d) = record { within = λ files. tt; recounts = λ files. tt }
 commands_are_sound short (explain d) = record { within = λ files. tt; recounts = λ files. tt }
 

@@ -5,10 +5,10 @@ use Rattle.std.specs.Option.{option_map_or}
 use Rattle.shelf.specs.Shelf.{Files}
 use Rattle.command_line.specs.Words.{Demand, outputs as outputs_of}
 use Rattle.command_files.specs.Readings.{Reading, names_of}
-use Rattle.command_files.specs.Works.{Work}
+use Rattle.command_files.specs.Works.{Work, refused_with}
 use Rattle.command_files.specs.declared.status.Status.TheVariants as status
 use Rattle.predator_cli.specs.Commands.{is_copy, readings_of, work_of}
-use Rattle.predator_cli.specs.Judged.{judged, refusal_of}
+use Rattle.predator_cli.specs.Judged.{judged}
 
 -- the files that are read for words, none for words that are refused
 abbrev pub files_of : Option Demand → List Reading
@@ -25,5 +25,5 @@ abbrev pub are_copies : Option Demand → Bool
 are_copies asked = option_map_or is_copy asked false
 
 abbrev pub answer_of : Option Demand → Files → Work
-answer_of None files = refusal_of status.Usage
+answer_of None files = refused_with status.Usage
 answer_of (Some demand) files = judged (readings_of demand) (work_of demand) files

@@ -2,7 +2,7 @@
 -- files that a command writes stand in the table of its words, in `command_line`.
 use Rattle.std.specs.Prelude.{Bool, true, false, List, Option, Some, None}
 use Rattle.command_line.specs.Words.{Demand, replay, check, run, split, gen, convert, sweep}
-use Rattle.command_line.specs.Words.{caches, misses, explain}
+use Rattle.command_line.specs.Words.{caches, place, misses, explain}
 use Rattle.shelf.specs.Shelf.{Files}
 use Rattle.command_files.specs.Readings.{Reading}
 use Rattle.command_files.specs.Works.{Work}
@@ -15,6 +15,7 @@ use Rattle.predator_cli.specs.Gen.{gen_readings, gen_work}
 use Rattle.predator_cli.specs.ListedCounts.{TellsListedCount}
 use Rattle.predator_cli.specs.Misses.{misses_readings, misses_work}
 use Rattle.predator_cli.specs.Parts.{SplitRepeats}
+use Rattle.predator_cli.specs.Place.{place_readings, place_work}
 use Rattle.predator_cli.specs.Recounts.{ReplayIsRecounted, RunIsRecounted}
 use Rattle.predator_cli.specs.Replay.{replay_readings, replay_work}
 use Rattle.predator_cli.specs.Run.{RunStaysWithin, run_readings, run_work}
@@ -67,6 +68,7 @@ command_of (gen demand) = plain (gen_readings demand) (λ files. gen_work demand
 command_of (convert demand) = copy (convert_readings demand) (convert_work demand)
 command_of (sweep demand) = plain (sweep_readings demand) (sweep_work demand)
 command_of (caches demand) = plain (caches_readings demand) (caches_work demand)
+command_of (place demand) = plain (place_readings demand) (place_work demand)
 command_of (misses demand) = plain (misses_readings demand) (misses_work demand)
 command_of (explain demand) =
     record (plain (explain_readings demand) (explain_work demand)) {

@@ -1,15 +1,10 @@
 -- What a command answers: its files are read in an order, and the first that is refused ends it.
-use Rattle.std.specs.Prelude.{List, []}
+use Rattle.std.specs.Prelude.{List}
 use Rattle.std.specs.Option.{option_map_or}
 use Rattle.shelf.specs.Shelf.{Files}
-use Rattle.command_files.specs.Faults.{fault_text}
 use Rattle.command_files.specs.Readings.{Reading, first_refusal}
-use Rattle.command_files.specs.Works.{Work}
-use Rattle.command_files.specs.declared.status.Status.{Status}
-
-abbrev pub refusal_of : Status → Work
-refusal_of s = record { status = s; text = fault_text s; outputs = [] }
+use Rattle.command_files.specs.Works.{Work, refused_with}
 
 -- the first refusal, or the work
 abbrev pub judged : List Reading → (Files → Work) → Files → Work
-judged readings work files = option_map_or refusal_of (first_refusal readings files) (work files)
+judged readings work files = option_map_or refused_with (first_refusal readings files) (work files)

@@ -14,6 +14,7 @@ pub mod ListedCounts
 pub mod Meets
 pub mod Misses
 pub mod Parts
+pub mod Place
 pub mod Recounts
 pub mod Replay
 pub mod Run

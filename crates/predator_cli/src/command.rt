@@ -17,6 +17,7 @@ use crate::convert::convert;
 use crate::endings::{refuse, refuse_words};
 use crate::explain::explain;
 use crate::generate::generate;
+use crate::place::place;
 use crate::replay::replay;
 use crate::run::run;
 use crate::split::split;
@@ -43,6 +44,7 @@ fn obey<S: Shelf>(alloc: Global, words: &[String], shelf: &mut S) -> Status
         Ok(Demand::Convert(options)) => convert(alloc, &options, shelf),
         Ok(Demand::Sweep(options)) => sweep(alloc, &options, shelf),
         Ok(Demand::Caches(options)) => tell_caches(alloc, &options, shelf),
+        Ok(Demand::Place(options)) => place(alloc, &options, shelf),
         Ok(Demand::Misses(options)) => tell_misses(alloc, &options, shelf),
         Ok(Demand::Explain(options)) => explain(alloc, &options, shelf),
         Err(WordsFault::Usage(_)) => refuse_words(shelf),
@@ -72,7 +74,10 @@ fn obey<S: Shelf>(alloc: Global, words: &[String], shelf: &mut S) -> Status
 /// write under their names as they read it again. `sweep`, `caches` and `misses` pass over a whole
 /// trace: `sweep` prints what every shift of a line size counts, `caches` how many of each line's
 /// invalidations are left in private caches of a shape, and `misses` what the sharing of each of its
-/// lines costs.
+/// lines costs. `place` reads such a trace three times: for the object that it is asked about, for
+/// who touches its words, and for what the accesses come to with each word at a new place. It prints
+/// these places; its status is `Place` where there is no such object, where it is too large, or
+/// where the addresses have no room for the new places.
 pub fn predator<S: Shelf>(alloc: Global, words: &[String], shelf: &mut S) -> Status
     // Where the held files are told, it ends as the words and the files ask, or by a fault of the
     // outside before which nothing is refused.

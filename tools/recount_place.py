@@ -1,0 +1,122 @@
+#!/usr/bin/env python3
+"""Places the words of an object of a trace anew, and counts what that comes to.
+
+usage: tools/recount_place.py TRACE NAME [--size N]              (64 unless it is given)
+       tools/recount_place.py --try                              the worked lists below, and what they are to give
+
+Written from docs/RULES.md and the trace of docs/FORMATS.md alone, over whole lists: the harts that touch each word, the groups one behind
+the other, and the list with its accesses moved, counted by plain caches. It prints what `predator place` prints, also where it refuses."""
+
+import re
+import sys
+
+from judge_report import address, printed
+from traces import OBJECT, Alloc, Free, Symbol, records
+
+# The address and size of an object, accesses, the size of a line, and by docs/RULES.md the places of its words, the area and the three sums.
+WORKED = [
+    ((0x1000, 8), "W0 1000, W1 1004, W0 1000", 64, [0x1040, 0x1080], (0x1040, 128), (2, 0, 0)),
+    ((0x1000, 4), "W0 1000, W1 1000", 64, [0x1040], (0x1040, 64), (1, 1, 1)),
+    ((0x1000, 12), "W0 1000, W1 1004, W0 1000, W1 1008, W0 1008", 8, [0x1010, 0x1018, 0x1020], (0x1010, 24), (3, 1, 1)),
+    ((0x1004, 8), "R1 1004, R0 1008, W0 1004, W1 1008, W0 1004, W1 1008", 8, [0x1010, 0x1014], (0x1010, 8), (0, 3, 3)),
+]
+
+
+def object_of(name, items):
+    """The address and the size of the object that a name means."""
+    for it in items:
+        if isinstance(it, Symbol) and it.kind == OBJECT and it.name == name:
+            return it.addr, it.size
+    blocks = []
+    if re.fullmatch(rb"0x[0-9a-fA-F]{1,8}", name):
+        blocks = [it[:2] for it in items if isinstance(it, Alloc) and it.addr == int(name, 16)]
+    return blocks[0] if len(blocks) == 1 and blocks[0][1] else None
+
+
+def counts(accesses, size):
+    """Of each line that is written its count since its first write, by where the line begins."""
+    holders, found = {}, {}
+    for hart, addr, is_write in accesses:
+        base = addr // size * size
+        held = holders.setdefault(base, set())
+        if is_write:
+            found[base] = found[base] + bool(held - {hart}) if base in found else 0
+            held.clear()
+        held.add(hart)
+    return found
+
+
+def placed(accesses, begin, length, size):
+    """Who touches each word of the object, and the place of each; with them the area and the lines of the words of many harts."""
+    words = range(begin // 4 * 4, min(begin + length, 2**32), 4)
+    touched = {}
+    for hart, addr, _ in accesses:
+        touched.setdefault(addr // 4 * 4, set()).add(hart)
+    start = at = -(-max((word + 4 for word in touched), default=0) // size) * size
+    many, places, groups = range(0), {}, {}
+    for word in words:
+        harts = touched.get(word, ())
+        group = 257 if not harts else 256 if len(harts) > 1 else min(harts)
+        groups.setdefault(group, []).append(word)
+    for group in sorted(groups):
+        places.update((word, at + 4 * i) for i, word in enumerate(groups[group]))
+        end = at + -(-4 * len(groups[group]) // size) * size
+        many, at = range(at, end) if group == 256 else many, end
+    return touched, dict(sorted(places.items())), (start, at - start), many
+
+
+def sums(accesses, places, many, size):
+    """What the list counts, what the moved one does, and the part of that on the lines of the words of many harts."""
+    moved = [(hart, places.get(addr // 4 * 4, addr // 4 * 4) + addr % 4, is_write) for hart, addr, is_write in accesses]
+    after = counts(moved, size)
+    return sum(counts(accesses, size).values()), sum(after.values()), sum(it for base, it in after.items() if base in many)
+
+
+def told(trace, name, size):
+    """The whole text, or why there is none."""
+    items = list(records(trace))
+    accesses = [it for it in items if not isinstance(it, (Symbol, Alloc, Free))]
+    found = object_of(name, items)
+    if not found or found[1] > 2**24:
+        return [f"predator: place {'TooLarge' if found else 'NoObject'}"]
+    touched, places, area, many = placed(accesses, *found, size)
+    if sum(area) > 2**32:
+        return ["predator: place NoRoom"]
+    owners = {word: "many" if len(harts) > 1 else f"hart {min(harts)}" for word, harts in touched.items()}
+    before, after, many = sums(accesses, places, many, size)
+    return [
+        f"place {printed(name)} {address(found[0])} {found[1]} line {size}",
+        f"words {len(places)}",
+        *(f"word {address(word)} to {address(to)} {owners[word]}" for word, to in places.items() if word in owners),
+        f"area {address(area[0])} {area[1]}",
+        *(f"before {before}", f"after {after}", f"many {many}", "end"),
+    ]
+
+
+def try_worked():
+    """How many of the worked lists give something else."""
+    wrong = 0
+    for (begin, length), text, size, *wanted in WORKED:
+        accesses = [(int(it[1]), int(it.split()[1], 16), it[0] == "W") for it in text.split(", ")]
+        _, places, area, many = placed(accesses, begin, length, size)
+        given = [list(places.values()), area, sums(accesses, places, many, size)]
+        if given != wanted:
+            wrong += 1
+            print(f"{text} in lines of {size}: {given}, and {wanted} is wanted")
+    print(f"{len(WORKED)} lists, {wrong} wrong")
+    return wrong
+
+
+def main(words):
+    if words == ["--try"]:
+        return 1 if try_worked() else 0
+    if len(words) not in (2, 4) or words[2:3] not in ([], ["--size"]):
+        print(__doc__)
+        return 0 if words in (["--help"], ["-h"]) else 1
+    with open(words[0], "rb") as file:
+        sys.stdout.writelines(f"{it}\n" for it in told(file.read(), words[1].encode(), int((words[3:] or [64])[0])))
+    return 0
+
+
+if __name__ == "__main__":
+    sys.exit(main(sys.argv[1:]))
