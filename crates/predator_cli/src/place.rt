@@ -18,9 +18,7 @@ use crate::endings::{answer, refuse};
 use base::NoMemory;
 use command_files::Status;
 use command_line::PlaceOptions;
-use placement::{
-    Extent, Finder, Owners, PlaceRefusal, Plan, PlanFault, Recount, write_place,
-};
+use placement::{Extent, Finder, Owners, PlaceRefusal, Plan, PlanFault, Recount, write_place};
 use shelf::Shelf;
 use std::alloc::Global;
 
