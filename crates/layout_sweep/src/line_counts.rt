@@ -4,7 +4,6 @@ ghost use Rattle.std.specs.Prelude.{IsTrue, OnOk, if◌then◌else◌};
 ghost use Rattle.base.specs.Lines.{line_number};
 ghost use Rattle.base.specs.Touch.{is_write};
 ghost use Rattle.sharing_rules.specs.AccessLists.{AccessList};
-ghost use Rattle.sharing_rules.specs.Lines.{native_line};
 ghost use Rattle.layout_sweep.specs.Pages.{has_window, window_at, window_in};
 ghost use Rattle.layout_sweep.specs.Windows.{takes, window_after, window_of};
 
