@@ -2,7 +2,7 @@
 # Builds the studies of what fetch.sh has fetched into out/, with line tables: each code base by its own build, or its sources as they are,
 # with guest/cc as its compiler; and again with the repair, which is a few words put in by sed.
 #
-#     build.sh [STUDY ..]        ck_anderson, ck_ring, kt_for and sqlite, or those that are named
+#     build.sh [STUDY ..]        ck_anderson, ck_ring, kt_for, rte_ring and sqlite, or those that are named
 #
 # `make` and a compiler of this machine (for the tools of SQLite's build, as `tclsh` is) are wanted beside those of the kit. What was built
 # of SQLite stays, since that takes a minute each.
@@ -93,13 +93,43 @@ build_sqlite() {
     "${workload[@]}" "$out/sqlite3.o" -o "$out/sqlite.elf"
     "${workload[@]}" -DNO_STATISTICS "$out/sqlite3.o" -o "$out/sqlite-no_statistics.elf"
     "${workload[@]}" -DNO_STATISTICS "$out/sqlite3-apart.o" -o "$out/sqlite-apart.elf"
+    "${workload[@]}" -DNO_STATISTICS -DOWN_LINES "$out/sqlite3.o" -o "$out/sqlite-own_lines.elf"
+}
+
+# NAME FLAGS ..: DPDK's ring over its port to RISC-V, with what its build says of that (config/riscv/meson.build).
+rte_ring() {
+    local name=$1 dpdk=$fetched/dpdk made=$out/$1.headers it words=(-w)
+    shift
+    rm -rf "$made"
+    cp -r "$dpdk/lib/ring" "$made"
+    # (indices of both sides side by side, which the source checks against)
+    if [ "$name" != rte_ring ]; then
+        sed -i '/^struct rte_ring {$/,/^};$/{/pad[012]/d;s/} *__rte_cache_aligned;/};/}' "$made/rte_ring_core.h"
+        sed -i '/^\tRTE_BUILD_BUG_ON((offsetof/,/;$/d' "$made/rte_ring.c"
+    fi
+    for it in RTE_ARCH_RISCV RTE_FORCE_INTRINSICS RTE_EXEC_ENV_LINUX RTE_EXEC_ENV_IS_LINUX RTE_USE_C11_MEM_MODEL RTE_MAX_NUMA_NODES; do
+        echo "#define $it 1"
+    done >"$made/rte_build_config.h"
+    printf '#define %s %s\n' RTE_EXEC_ENV_IS_FREEBSD 0 RTE_EXEC_ENV_IS_WINDOWS 0 RTE_CACHE_LINE_SIZE 64 RTE_MAX_LCORE 128 >>"$made/rte_build_config.h"
+    for it in "$made" "$dpdk/config" "$dpdk"/lib/eal/{riscv/include,linux/include,include,common} "$dpdk"/lib/{log,kvargs,telemetry}; do
+        words+=(-I "$it")
+    done
+    "$cc" "$lines" "${words[@]}" -DALLOW_EXPERIMENTAL_API -include rte_config.h "$@" "$here/rte_ring.c" "$made/rte_ring.c" \
+        -o "$out/$name.elf"
+    rm -rf "$made"
+}
+
+build_rte_ring() {
+    rte_ring rte_ring
+    rte_ring rte_ring-together
+    rte_ring rte_ring-together-at-16 -DPLACE=16
 }
 
 mkdir -p "$out"
-(($# > 0)) || set -- ck_anderson ck_ring kt_for sqlite
+(($# > 0)) || set -- ck_anderson ck_ring kt_for rte_ring sqlite
 for study; do
     if [ ! -d "$fetched" ] || ! declare -F "build_$study" >/dev/null; then
-        echo "build.sh: $study: fetch.sh fetches the sources first, and the studies are ck_anderson, ck_ring, kt_for and sqlite" >&2
+        echo "build.sh: $study: fetch.sh fetches the sources first, and the studies are ck_anderson, ck_ring, kt_for, rte_ring and sqlite" >&2
         exit 1
     fi
     "build_$study"
