@@ -67,7 +67,7 @@ kt_for() {
 build_kt_for() {
     kt_for kt_for
     kt_for kt_for-apart
-    kt_for kt_for-blocks -DBLOCK=64
+    kt_for kt_for-blocks -DBLOCK=16
 }
 
 # NAME MAKES: an object of SQLite's one source, which is put together by its own build and changed by a sed script.

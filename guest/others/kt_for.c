@@ -3,12 +3,12 @@
 #include <stdio.h>
 
 #define THREADS 7
-#define NUMBERS 4480
+#define NUMBERS 3584
 #ifndef BLOCK
 #define BLOCK 1
 #endif
 
-static unsigned char lengths[NUMBERS];
+static _Alignas(64) int lengths[NUMBERS];
 
 static void measure(void *data, long block, int thread)
 {
