@@ -1,23 +1,31 @@
-// The C library's time.h, and what it leaves out without a clock: there is none, so that a clock that is asked answers -1.
+// The C library's time.h, and what it leaves out without a clock. The clock is made of steps: each step of any hart takes predator_step_time
+// nanoseconds, which a program may define itself and which is 1 where it doesn't, and the run begins at 0, whatever the clock's name is.
 #ifndef PREDATOR_TIME_H
 #define PREDATOR_TIME_H
 
 #include <predator_missing.h>
+#include <stdint.h>
 #include <sys/types.h>
 
 #ifdef __cplusplus
 extern "C" {
 #endif
 
+extern const uint32_t predator_step_time;
+
 struct timespec;
-int nanosleep(const struct timespec *time, struct timespec *rest) PREDATOR_NO_TIME;
-int clock_nanosleep(clockid_t clock, int flags, const struct timespec *time, struct timespec *rest) PREDATOR_NO_TIME;
+int nanosleep(const struct timespec *time, struct timespec *rest);
+int clock_nanosleep(clockid_t clock, int flags, const struct timespec *time, struct timespec *rest);
 
 #ifdef __cplusplus
 }
 #endif
 
 #include_next <time.h>
+
+#ifndef TIMER_ABSTIME
+#define TIMER_ABSTIME 4
+#endif
 
 #ifndef CLOCK_REALTIME
 #define CLOCK_REALTIME ((clockid_t)1)

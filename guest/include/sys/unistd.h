@@ -10,8 +10,8 @@
 extern "C" {
 #endif
 
-unsigned sleep(unsigned seconds) PREDATOR_NO_TIME;
-int usleep(useconds_t microseconds) PREDATOR_NO_TIME;
+unsigned sleep(unsigned seconds);
+int usleep(useconds_t microseconds);
 unsigned alarm(unsigned seconds) PREDATOR_NO_TIME;
 useconds_t ualarm(useconds_t microseconds, useconds_t again) PREDATOR_NO_TIME;
 int pause(void) PREDATOR_NO_SIGNAL;
