@@ -3,6 +3,7 @@
 #define PREDATOR_UTIME_H
 
 #include <predator_missing.h>
+#include <sys/types.h>
 
 #ifdef __cplusplus
 extern "C" {
