@@ -494,11 +494,18 @@ if [ -x "$predator" ]; then
     runs "what is refused at run time" late.elf 134 ""
     at=$(sed -n "s/^the call before \(0x[0-9a-f]*\) can't be had: nothing comes by itself after a time: let a thread look at the clock\$/\1/p" put)
     is "its reason, and the place of its call" grep -q -x main <(llvm-symbolizer --obj=late.elf "$((${at:-0} - 1))")
+    printf '#include <time.h>\nint main(void) { struct timespec t; clock_getres(CLOCK_MONOTONIC, &t); return (int)t.tv_nsec; }\n' >step.c
+    "$cc" step.c -o step.elf
+    runs "the time of a step" step.elf 1 ""
+    STEP_TIME=70 "$cc" step.c -o step.elf
+    runs "a longer step" step.elf 70 ""
+    STEP_TIME=71 "$build" step.elf step.c
+    runs "a longer step, by build.sh" step.elf 71 ""
     printf '#include <poll.h>\nint main(void) { return poll(0, 0, -1); }\n' >polls.c
     "$cc" polls.c -o polls.elf
     runs "poll as a wait" polls.elf 134 "poll: no file becomes ready: wait for another thread, or for a time"
 else
-    skip 17 "the built program isn't at $predator; what programs do wants it"
+    skip 20 "the built program isn't at $predator; what programs do wants it"
 fi
 
 echo "$passed passed, $failed failed, $skipped skipped"

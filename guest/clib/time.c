@@ -1,5 +1,5 @@
-// Time made of steps: each step of any hart takes predator_step_time nanoseconds, which a program may define itself, and the run begins at 0.
-// So a clock tells the same on every run. Who waits for a time goes round until the clock is there, without an access to what others have.
+// Time made of steps: each step of any hart takes a nanosecond, or as many as STEP_TIME said when the program was linked, and the run begins
+// at 0. So a clock tells the same on every run. Who waits for a time goes round until the clock is there, without an access to what others have.
 #include <errno.h>
 #include <sched.h>
 #include <sys/time.h>
@@ -7,14 +7,14 @@
 #include "../predator.h"
 #include "clock.h"
 
-const uint32_t predator_step_time __attribute__((weak)) = 1;
+// (a symbol of the linker's, whose address is the number)
+extern const char predator_step_time[] __attribute__((weak));
 
 #define SECOND 1000000000u
 
-// (volatile, since the program's own may have another value)
 static uint32_t step_time(void)
 {
-    return *(const volatile uint32_t *)&predator_step_time;
+    return predator_step_time == NULL ? 1 : (uint32_t)(uintptr_t)predator_step_time;
 }
 
 uint64_t predator_clock(void)

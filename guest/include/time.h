@@ -1,17 +1,14 @@
-// The C library's time.h, and what it leaves out without a clock. The clock is made of steps: each step of any hart takes predator_step_time
-// nanoseconds, which a program may define itself and which is 1 where it doesn't, and the run begins at 0, whatever the clock's name is.
+// The C library's time.h, and what it leaves out without a clock. The clock is made of steps: each step of any hart takes a nanosecond, or as
+// many as STEP_TIME said when the program was linked, and the run begins at 0, whatever the clock's name is.
 #ifndef PREDATOR_TIME_H
 #define PREDATOR_TIME_H
 
 #include <predator_missing.h>
-#include <stdint.h>
 #include <sys/types.h>
 
 #ifdef __cplusplus
 extern "C" {
 #endif
-
-extern const uint32_t predator_step_time;
 
 struct timespec;
 int nanosleep(const struct timespec *time, struct timespec *rest);
