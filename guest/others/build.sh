@@ -2,10 +2,10 @@
 # Builds the studies of what fetch.sh has fetched into out/, with line tables: each code base by its own build, or its sources as they are,
 # with guest/cc as its compiler; and again with the repair, which is a few words put in by sed.
 #
-#     build.sh [STUDY ..]        ck_anderson, ck_ring, kt_for, rte_ring and sqlite, or those that are named
+#     build.sh [STUDY ..]        ck_anderson, ck_ring, kt_for, rte_ring, sqlite and urcu_qsbr, or those that are named
 #
 # `make` and a compiler of this machine (for the tools of SQLite's build, as `tclsh` is) are wanted beside those of the kit. What was built
-# of SQLite stays, since that takes a minute each.
+# of SQLite and of liburcu stays, since that takes a minute each.
 set -eu
 here=$(cd "$(dirname "$(readlink -f "$0")")" && pwd)
 cc=$here/../cc
@@ -125,11 +125,25 @@ build_rte_ring() {
     rte_ring rte_ring-together-at-16 -DPLACE=16
 }
 
+# liburcu's own benchmark, by its configure: six readers and one that waits for them, for a second of 500,000 steps. (The names of the autotools
+# are those that aren't to be run again because a file is newer.)
+build_urcu_qsbr() {
+    local made=$out/liburcu tools=(AUTOMAKE=: AUTOCONF=: ACLOCAL=: AUTOHEADER=:)
+    [ ! -f "$out/urcu_qsbr.elf" ] || return 0
+    rm -rf "$made"
+    mkdir "$made"
+    (cd "$made" && "$fetched/liburcu/configure" -q CC="$cc" CPPFLAGS=-D__DragonFly__ CFLAGS="-O2 $lines" --host=riscv32 --disable-shared)
+    make -s -C "$made/src" "${tools[@]}" liburcu-common.la liburcu-qsbr.la
+    ARGUMENTS='6 1 1' STEP_TIME=2000 make -s -C "$made/tests/benchmark" "${tools[@]}" test_urcu_qsbr
+    mv "$made/tests/benchmark/test_urcu_qsbr" "$out/urcu_qsbr.elf"
+    rm -rf "$made"
+}
+
 mkdir -p "$out"
-(($# > 0)) || set -- ck_anderson ck_ring kt_for rte_ring sqlite
+(($# > 0)) || set -- ck_anderson ck_ring kt_for rte_ring sqlite urcu_qsbr
 for study; do
     if [ ! -d "$fetched" ] || ! declare -F "build_$study" >/dev/null; then
-        echo "build.sh: $study: fetch.sh fetches the sources first, and the studies are ck_anderson, ck_ring, kt_for, rte_ring and sqlite" >&2
+        echo "build.sh: $study: fetch.sh fetches the sources first, and the studies are ck_anderson, ck_ring, kt_for, rte_ring, sqlite and urcu_qsbr" >&2
         exit 1
     fi
     "build_$study"

@@ -7,4 +7,6 @@ here=$(cd "$(dirname "$(readlink -f "$0")")" && pwd)
 
 fetch ck ck
 fetch minimap2 minimap2
+fetch dpdk dpdk
 fetch sqlite3 sqlite3
+fetch liburcu liburcu

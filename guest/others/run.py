@@ -22,6 +22,7 @@ STUDIES = {
     "kt_for": ["kt_for", "kt_for-apart", "kt_for-blocks"],
     "rte_ring": ["rte_ring", "rte_ring-together", "rte_ring-together-at-16"],
     "sqlite": ["sqlite", "sqlite-no_statistics", "sqlite-apart", "sqlite-own_lines"],
+    "urcu_qsbr": ["urcu_qsbr"],
 }
 SETTINGS = "quantum = 10\n"
 # How many lines of a report, and how many of the misses, are shown, and of each how many lines that say what stands there.
