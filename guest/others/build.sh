@@ -122,7 +122,7 @@ rte_ring() {
 build_rte_ring() {
     rte_ring rte_ring
     rte_ring rte_ring-together
-    rte_ring rte_ring-together-at-16 -DPLACE=16
+    rte_ring rte_ring-together-at-24 -DPLACE=24
 }
 
 # liburcu's own benchmark, by its configure: six readers and one that waits for them, for a second of 500,000 steps. (The names of the autotools

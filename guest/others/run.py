@@ -6,12 +6,14 @@ fetch.sh has fetched the sources; build.sh builds them. --renew puts the tables 
 with exit 0, or a recount says otherwise than a report, `misses` or `explain`."""
 
 import os
+import re
 import subprocess
 import sys
+import tempfile
 
 HERE = os.path.dirname(os.path.abspath(__file__))
 sys.path.insert(0, os.path.join(HERE, "..", "studies"))
-from costs import Build  # noqa: E402
+from costs import Build, text  # noqa: E402
 from report import Run, block, renew, shown, table  # noqa: E402
 
 OUT = os.path.join(HERE, "out")
@@ -20,11 +22,14 @@ STUDIES = {
     "ck_anderson": ["ck_anderson", "ck_anderson-apart"],
     "ck_ring": ["ck_ring", "ck_ring-apart"],
     "kt_for": ["kt_for", "kt_for-apart", "kt_for-blocks"],
-    "rte_ring": ["rte_ring", "rte_ring-together", "rte_ring-together-at-16"],
+    "rte_ring": ["rte_ring", "rte_ring-together", "rte_ring-together-at-24"],
     "sqlite": ["sqlite", "sqlite-no_statistics", "sqlite-apart", "sqlite-own_lines"],
     "urcu_qsbr": ["urcu_qsbr"],
 }
 SETTINGS = "quantum = 10\n"
+# The builds of which a predicted line is looked at, and the one in which what the first of them predicts is observed, with how far its data moved.
+PREDICTED = ["rte_ring", "rte_ring-together", "kt_for-apart"]
+MOVED = {"rte_ring-together": ("rte_ring-together-at-24", 24)}
 # How many lines of a report, and how many of the misses, are shown, and of each how many lines that say what stands there.
 MOST, MOST_OF_ONE = 2, 6
 
@@ -47,17 +52,43 @@ def excerpt(name, run, build):
     )
 
 
+def useless(told, base, size):
+    """The useless misses of all lines of a text of misses that lie in a range."""
+    found = re.findall(r"^line (\S+) cold \d+ useful \d+ useless (\d+)$", told, re.MULTILINE)
+    return sum(int(count) for at, count in found if base <= int(at, 16) < base + size)
+
+
+def foretold(name, runs):
+    """The first predicted line of a report: what it costs under its own layout, what the lines of 64 bytes that it touches cost, and, where the
+    data lie so in another build, what is observed there."""
+    line = runs[name].report.of_kind("shifted", "doubled")[0]
+    with tempfile.TemporaryDirectory() as work:
+        settings, trace = os.path.join(work, "settings"), os.path.join(work, "trace")
+        with open(settings, "w") as file:
+            file.write(SETTINGS)
+        text("run", os.path.join(OUT, f"{name}.elf"), "--settings", settings, "--trace", trace)
+        there = useless(text("misses", trace, "--size", str(line.size), "--shift", str(line.base % line.size)), line.base, line.size)
+        inside = useless(text("misses", trace), line.base & -64, line.size + line.base % 64)
+    row = [name, line.kind, f"`{shown(line.base)}`", line.size, line.count, there, inside, "-", "-"]
+    if name in MOVED:
+        other, far = MOVED[name]
+        seen = [it for it in runs[other].report.of_kind("observed") if it.base == line.base + far]
+        row[-2:] = [f"`{shown(it.base)}` of {other}" for it in seen] + [it.count for it in seen] or ["-", "-"]
+    return row
+
+
 def main(words):
     names = [it for it in words if it != "--renew"] or list(STUDIES)
     if "--renew" in words and names != list(STUDIES):
         sys.exit("run.py: --renew is for all studies")
     subprocess.run([os.path.join(HERE, "build.sh"), *names], check=True)
-    costs, fights, parts, wrong = [], [], {}, []
+    runs, costs, fights, parts, wrong = {}, [], [], {}, []
     for study in names:
         shown_here = []
         for name in STUDIES[study]:
             path = os.path.join(OUT, f"{name}.elf")
             run, build = Run(path, SETTINGS), Build(path, SETTINGS, is_worst=True)
+            runs[name] = run
             counts = [len(run.report.of_kind("observed")), run.report.sum("observed"), run.by_word.sum("observed")]
             costs.append([name, run.report.steps, *counts, *build.total, run.told()])
             if build.pair:
@@ -68,6 +99,8 @@ def main(words):
     heads = ["Build", "Steps", "Observed lines", "Counts", "By word", "Cold", "Useful", "Useless", "Recount"]
     parts["others"] = table(heads, costs)
     parts["others' fights"] = table(["Build", "Line", "Count", "Who takes it most", "From whom", "Taken", "For the same word"], fights)
+    heads = ["Build", "Kind", "Predicted line", "Size", "Count", "Useless there", "Useless in its lines of 64", "Observed", "Count"]
+    parts["others foretold"] = table(heads, [foretold(it, runs) for it in PREDICTED if it in runs])
     for name, told in parts.items():
         print(f"\n== {name}\n\n{told}")
     for it in wrong:
