@@ -1,3 +1,4 @@
+# shellcheck shell=bash disable=SC2154
 # Fetches source packages of Debian (bookworm) into the folder `fetched` beside the script that sources this file and sets `here`, by apt-get
 # and dpkg-source (Debian: apt, dpkg-dev). Nothing of the system's own lists of packages is changed. What is there stays.
 work=$(mktemp -d)

@@ -16,7 +16,7 @@ lines=-gline-tables-only
 # Concurrency Kit, whose own build has no port to RISC-V, so it takes the compiler's atomic functions: a folder of its own for each build.
 # Its configure runs what it compiled, so it looks at this machine's compiler, of which nothing is kept but ck_md.h and some flags.
 ck() {
-    rm -rf "$out/$1"
+    rm -rf "${out:?}/$1"
     cp -r "$fetched/ck" "$out/$1"
     (cd "$out/$1" && ./configure --platform=unknown --use-cc-builtins --disable-double --without-pic >configure.log)
 }
