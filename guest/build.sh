@@ -9,7 +9,8 @@
 #
 # A program that includes a header of the C library or pthread.h is linked with Debian's picolibc, where that is installed, and any other
 # with the small kit alone; KIT=small and KIT=c say so for themselves. ARGUMENTS='4 in.txt "a b"' are the words that such a program's main
-# gets, quoted as in a shell. PAGE=4096 makes files that Linux can run too; without it they are as small as can be.
+# gets, quoted as in a shell. STEP_TIME=1000 is how many nanoseconds a step takes by its clock, which is else 1. PAGE=4096 makes files that
+# Linux can run too; without it they are as small as can be.
 set -eu
 here=$(cd "$(dirname "$(readlink -f "$0")")" && pwd)
 self=build.sh

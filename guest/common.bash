@@ -11,6 +11,8 @@ small=(-std=c11 -ffreestanding -ftls-model=local-exec -I "$here" -I "$here/inclu
 over_c=(-Wno-atomic-alignment -D_DEFAULT_SOURCE -ftls-model=local-exec
     -I "$here" -isystem "$here/include" -isystem "$picolibc/include")
 linked=(-nostdlib -static -fuse-ld=lld -Wl,--gc-sections -Wl,--build-id=none -Wl,--discard-locals)
+# (how many nanoseconds of a guest's clock each step takes)
+[ -z "${STEP_TIME:-}" ] || linked+=("-Wl,--defsym=predator_step_time=$STEP_TIME")
 
 fail() {
     echo "$self: $*" >&2

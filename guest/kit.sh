@@ -165,22 +165,15 @@ all=$(for it in $headers; do echo "#include <$it>"; done)
 cat >cannot.txt <<'C'
 pthread_cancel(pthread_self())|a hart can't be ended by another one
 pthread_kill(pthread_self(), 2)|there are no signals
-pthread_cond_timedwait(0, 0, 0)|there is no clock
-pthread_mutex_timedlock(0, 0)|there is no clock
+pthread_timedjoin_np(pthread_self(), 0, 0)|a thread has no clock of its own
 pthread_attr_setstack(0, 0, 0)|each hart has the stack
 pthread_mutex_consistent(0)|a mutex isn't told
 pthread_setschedprio(0, 1)|harts have no priorities
 pthread_atfork(0, 0, 0)|there is one process
-sem_timedwait(0, 0)|there is no clock
 sem_open("a", 0)|there is one process
-mtx_timedlock(0, 0)|there is no clock
-cnd_timedwait(0, 0, 0)|there is no clock
-thrd_sleep(0, 0)|there is no clock
-sleep(1)|there is no clock
-usleep(1)|there is no clock
-alarm(1)|there is no clock
-nanosleep(0, 0)|there is no clock
-select(0, 0, 0, 0, 0)|there is no clock
+alarm(1)|nothing comes by itself after a time
+setitimer(0, 0, 0)|nothing comes by itself after a time
+select(0, 0, 0, 0, 0)|nothing comes by itself after a time
 fork()|there is one process
 execv("a", 0)|there is one process
 system("a")|there is one process
@@ -496,16 +489,23 @@ if [ -x "$predator" ]; then
     runs "from joined objects" joined.elf 0 "3 1.000"
     runs "C++" plus.elf 0 "5 7 1 0"
     runs "C++ destructors" plus.elf 0 "gone"
-    printf '#include <unistd.h>\nint main(void) { return (int)sleep(1); }\n' >late.c
+    printf '#include <unistd.h>\nint main(void) { return (int)alarm(1); }\n' >late.c
     "$cc" -DPREDATOR_REFUSE_AT_RUN late.c -o late.elf
     runs "what is refused at run time" late.elf 134 ""
-    at=$(sed -n "s/^the call before \(0x[0-9a-f]*\) can't be had: there is no clock: wait for another thread, not for a time\$/\1/p" put)
+    at=$(sed -n "s/^the call before \(0x[0-9a-f]*\) can't be had: nothing comes by itself after a time: let a thread look at the clock\$/\1/p" put)
     is "its reason, and the place of its call" grep -q -x main <(llvm-symbolizer --obj=late.elf "$((${at:-0} - 1))")
-    printf '#include <poll.h>\nint main(void) { return poll(0, 0, 10); }\n' >polls.c
+    printf '#include <time.h>\nint main(void) { struct timespec t; clock_getres(CLOCK_MONOTONIC, &t); return (int)t.tv_nsec; }\n' >step.c
+    "$cc" step.c -o step.elf
+    runs "the time of a step" step.elf 1 ""
+    STEP_TIME=70 "$cc" step.c -o step.elf
+    runs "a longer step" step.elf 70 ""
+    STEP_TIME=71 "$build" step.elf step.c
+    runs "a longer step, by build.sh" step.elf 71 ""
+    printf '#include <poll.h>\nint main(void) { return poll(0, 0, -1); }\n' >polls.c
     "$cc" polls.c -o polls.elf
-    runs "poll as a wait" polls.elf 134 "poll: no file becomes ready, and there is no clock: wait for another thread, not for a time"
+    runs "poll as a wait" polls.elf 134 "poll: no file becomes ready: wait for another thread, or for a time"
 else
-    skip 17 "the built program isn't at $predator; what programs do wants it"
+    skip 20 "the built program isn't at $predator; what programs do wants it"
 fi
 
 echo "$passed passed, $failed failed, $skipped skipped"

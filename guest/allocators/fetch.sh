@@ -1,26 +1,9 @@
 #!/usr/bin/env bash
-# Fetches the allocators' sources from Debian (bookworm) into fetched/, by apt-get and dpkg-source (Debian: apt, dpkg-dev). Nothing of
-# the system's own lists of packages is changed. What is there stays.
+# Fetches the allocators' sources from Debian (bookworm) into fetched/.
 set -eu
 here=$(cd "$(dirname "$(readlink -f "$0")")" && pwd)
-work=$(mktemp -d)
-trap 'rm -rf "$work"' EXIT
-keys=/usr/share/keyrings/debian-archive-keyring.gpg
-mkdir -p "$work/lists/partial" "$here/fetched"
-echo "deb-src [signed-by=$keys] http://deb.debian.org/debian bookworm main" >"$work/sources.list"
-options=(-q -q -o "Dir::Etc::sourcelist=$work/sources.list" -o Dir::Etc::sourceparts=/dev/null -o "Dir::State::lists=$work/lists"
-    -o Dir::Cache::pkgcache= -o Dir::Cache::srcpkgcache= -o APT::Sandbox::User=root)
-
-# A package, and the folder that it is to stand in. (apt-get has compared its bytes with the signed list.)
-is_listed=
-fetch() {
-    [ -d "$here/fetched/$2" ] && return
-    [ -n "$is_listed" ] || apt-get "${options[@]}" update
-    is_listed=1
-    (cd "$work" && apt-get "${options[@]}" --download-only source "$1")
-    dpkg-source --no-check -x "$work/$1"_*.dsc "$work/$2" >/dev/null
-    mv "$work/$2" "$here/fetched/$2"
-}
+# shellcheck source=../from_debian.bash
+. "$here/../from_debian.bash"
 
 # Doug Lea's allocator is a file of libffi.
 fetch libffi dlmalloc

@@ -89,8 +89,10 @@ int poll(struct pollfd *files, nfds_t count, int time)
         it->revents = it->fd < 0 ? 0 : is_open(it->fd) ? it->events & can : POLLNVAL;
         ready += it->revents != 0;
     }
-    if (ready == 0 && time != 0) {
-        static const char text[] = "poll: no file becomes ready, and there is no clock: wait for another thread, not for a time\n";
+    if (ready == 0 && time > 0)
+        usleep((useconds_t)time * 1000);
+    if (ready == 0 && time < 0) {
+        static const char text[] = "poll: no file becomes ready: wait for another thread, or for a time\n";
         predator_write(2, text, sizeof text - 1);
         predator_exit_group(134);
     }

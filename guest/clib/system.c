@@ -3,8 +3,7 @@
 #include <signal.h>
 #include <stdint.h>
 #include <stdlib.h>
-#include <sys/time.h>
-#include <time.h>
+#include <sys/types.h>
 #include <unistd.h>
 #include "../predator.h"
 
@@ -62,36 +61,4 @@ ssize_t write(int file, const void *bytes, size_t count)
         return done;
     errno = -done;
     return -1;
-}
-
-// There is no clock.
-time_t time(time_t *now)
-{
-    if (now != NULL)
-        *now = -1;
-    return -1;
-}
-
-clock_t clock(void)
-{
-    return (clock_t)-1;
-}
-
-int gettimeofday(struct timeval *restrict now, void *restrict zone)
-{
-    (void)now, (void)zone;
-    errno = ENOSYS;
-    return -1;
-}
-
-int clock_gettime(clockid_t clock, struct timespec *now)
-{
-    (void)clock, (void)now;
-    errno = ENOSYS;
-    return -1;
-}
-
-int clock_getres(clockid_t clock, struct timespec *least)
-{
-    return clock_gettime(clock, least);
 }

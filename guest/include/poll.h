@@ -1,5 +1,5 @@
-// poll answers for the files 0 to 2, which never keep anyone waiting. Where none of them is asked for there is nothing to wait for, and no
-// clock either: with a time of 0 the answer is 0, and with another one the run ends with the reason.
+// poll answers for the files 0 to 2, which never keep anyone waiting. Where none of them is asked for there is nothing to wait for but a
+// time: the answer is 0 then, and where it would wait for ever the run ends with the reason.
 #ifndef PREDATOR_POLL_H
 #define PREDATOR_POLL_H
 

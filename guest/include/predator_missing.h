@@ -14,8 +14,8 @@
 
 #define PREDATOR_NO_CANCEL PREDATOR_MISSING(cancel, "a hart can't be ended by another one: let the thread look at a flag")
 #define PREDATOR_NO_SIGNAL PREDATOR_MISSING(signal, "there are no signals: harts meet by mutexes and condition variables")
-#define PREDATOR_NO_CLOCK PREDATOR_MISSING(clock, "there is no clock, so nothing ends after a time: wait without one")
-#define PREDATOR_NO_TIME PREDATOR_MISSING(time, "there is no clock: wait for another thread, not for a time")
+#define PREDATOR_NO_CLOCK PREDATOR_MISSING(clock, "a thread has no clock of its own, and is joined without a time")
+#define PREDATOR_NO_TIME PREDATOR_MISSING(time, "nothing comes by itself after a time: let a thread look at the clock")
 #define PREDATOR_NO_STACK PREDATOR_MISSING(stack, "each hart has the stack of the settings (`stack`), and no other")
 #define PREDATOR_NO_ROBUST PREDATOR_MISSING(robust, "a mutex isn't told that its holder has ended")
 #define PREDATOR_NO_PRIORITY PREDATOR_MISSING(priority, "harts have no priorities: a schedule says who runs")

@@ -234,6 +234,18 @@ void pthread_cleanup_leave(struct pthread_cleanup *cleanup, int runs);
     }                                                                                                                                      \
     while (0)
 
+// ---- waits that end at a time of the clock, where there is a C library (time.h has the clock)
+
+struct timespec;
+int pthread_mutex_timedlock(pthread_mutex_t *mutex, const struct timespec *until);
+int pthread_cond_timedwait(pthread_cond_t *cond, pthread_mutex_t *mutex, const struct timespec *until);
+int pthread_rwlock_timedrdlock(pthread_rwlock_t *lock, const struct timespec *until);
+int pthread_rwlock_timedwrlock(pthread_rwlock_t *lock, const struct timespec *until);
+#if __has_include(<sys/types.h>)
+int pthread_condattr_setclock(pthread_condattr_t *attr, clockid_t clock);
+int pthread_condattr_getclock(const pthread_condattr_t *attr, clockid_t *clock);
+#endif
+
 // ---- what can't be had
 
 #define PTHREAD_CANCEL_ENABLE 0
@@ -241,20 +253,14 @@ void pthread_cleanup_leave(struct pthread_cleanup *cleanup, int runs);
 #define PTHREAD_CANCEL_DEFERRED 0
 #define PTHREAD_CANCEL_ASYNCHRONOUS 1
 
-struct timespec;
 int pthread_cancel(pthread_t thread) PREDATOR_NO_CANCEL;
 int pthread_setcancelstate(int state, int *old) PREDATOR_NO_CANCEL;
 int pthread_setcanceltype(int type, int *old) PREDATOR_NO_CANCEL;
 void pthread_testcancel(void) PREDATOR_NO_CANCEL;
 int pthread_kill(pthread_t thread, int signal) PREDATOR_NO_SIGNAL;
 int pthread_sigqueue(pthread_t thread, int signal, ...) PREDATOR_NO_SIGNAL;
-int pthread_mutex_timedlock(pthread_mutex_t *mutex, const struct timespec *until) PREDATOR_NO_CLOCK;
-int pthread_cond_timedwait(pthread_cond_t *cond, pthread_mutex_t *mutex, const struct timespec *until) PREDATOR_NO_CLOCK;
-int pthread_rwlock_timedrdlock(pthread_rwlock_t *lock, const struct timespec *until) PREDATOR_NO_CLOCK;
-int pthread_rwlock_timedwrlock(pthread_rwlock_t *lock, const struct timespec *until) PREDATOR_NO_CLOCK;
 int pthread_timedjoin_np(pthread_t thread, void **result, const struct timespec *until) PREDATOR_NO_CLOCK;
 int pthread_getcpuclockid(pthread_t thread, int *clock) PREDATOR_NO_CLOCK;
-int pthread_condattr_setclock(pthread_condattr_t *attr, int clock) PREDATOR_NO_CLOCK;
 int pthread_attr_setstack(pthread_attr_t *attr, void *stack, size_t size) PREDATOR_NO_STACK;
 int pthread_attr_getstack(const pthread_attr_t *attr, void **stack, size_t *size) PREDATOR_NO_STACK;
 int pthread_attr_setstackaddr(pthread_attr_t *attr, void *stack) PREDATOR_NO_STACK;

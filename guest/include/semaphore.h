@@ -24,8 +24,10 @@ int sem_trywait(sem_t *semaphore);
 int sem_post(sem_t *semaphore);
 int sem_getvalue(sem_t *semaphore, int *value);
 
+// (until a time of the clock, where there is a C library)
 struct timespec;
-int sem_timedwait(sem_t *semaphore, const struct timespec *until) PREDATOR_NO_CLOCK;
+int sem_timedwait(sem_t *semaphore, const struct timespec *until);
+
 sem_t *sem_open(const char *name, int flags, ...) PREDATOR_NO_NAME;
 int sem_close(sem_t *semaphore) PREDATOR_NO_NAME;
 int sem_unlink(const char *name) PREDATOR_NO_NAME;

@@ -55,10 +55,11 @@ void *tss_get(tss_t key);
 
 void call_once(once_flag *once, void (*run)(void));
 
+// (by the clock, where there is a C library)
 struct timespec;
-int thrd_sleep(const struct timespec *time, struct timespec *rest) PREDATOR_NO_TIME;
-int mtx_timedlock(mtx_t *mutex, const struct timespec *until) PREDATOR_NO_CLOCK;
-int cnd_timedwait(cnd_t *cond, mtx_t *mutex, const struct timespec *until) PREDATOR_NO_CLOCK;
+int thrd_sleep(const struct timespec *time, struct timespec *rest);
+int mtx_timedlock(mtx_t *mutex, const struct timespec *until);
+int cnd_timedwait(cnd_t *cond, mtx_t *mutex, const struct timespec *until);
 
 #ifdef __cplusplus
 }

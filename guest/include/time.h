@@ -1,4 +1,5 @@
-// The C library's time.h, and what it leaves out without a clock: there is none, so that a clock that is asked answers -1.
+// The C library's time.h, and what it leaves out without a clock. The clock is made of steps: each step of any hart takes a nanosecond, or as
+// many as STEP_TIME said when the program was linked, and the run begins at 0, whatever the clock's name is.
 #ifndef PREDATOR_TIME_H
 #define PREDATOR_TIME_H
 
@@ -10,14 +11,18 @@ extern "C" {
 #endif
 
 struct timespec;
-int nanosleep(const struct timespec *time, struct timespec *rest) PREDATOR_NO_TIME;
-int clock_nanosleep(clockid_t clock, int flags, const struct timespec *time, struct timespec *rest) PREDATOR_NO_TIME;
+int nanosleep(const struct timespec *time, struct timespec *rest);
+int clock_nanosleep(clockid_t clock, int flags, const struct timespec *time, struct timespec *rest);
 
 #ifdef __cplusplus
 }
 #endif
 
 #include_next <time.h>
+
+#ifndef TIMER_ABSTIME
+#define TIMER_ABSTIME 4
+#endif
 
 #ifndef CLOCK_REALTIME
 #define CLOCK_REALTIME ((clockid_t)1)

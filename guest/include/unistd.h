@@ -27,8 +27,6 @@ long sysconf(int name);
 extern const size_t predator_break;
 void *sbrk(ptrdiff_t more);
 int brk(void *end);
-#else
-unsigned sleep(unsigned seconds) PREDATOR_NO_TIME;
 #endif
 
 #ifdef __cplusplus

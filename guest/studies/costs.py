@@ -40,32 +40,49 @@ def place(path, pc, name):
 
 
 class Build:
-    """A build that was run: its misses, and the pair of instructions that take the first line of its report most often."""
+    """A build that was run: its misses, and of one line the two instructions of which one takes it from the other most often. The line is the
+    first of the report, or, where `is_worst`, the first of the misses."""
 
-    def __init__(self, name, work):
-        self.path = os.path.join(work, f"{name}.elf")
-        settings, trace = os.path.join(work, "settings"), os.path.join(work, "trace")
-        with open(settings, "w") as file:
-            file.write(SETTINGS.get(name.split("-")[0], ""))
-        self.wrong = []
-        self.line = next(iter(Report(text("run", self.path, "--settings", settings, "--trace", trace)).of_kind("observed")), None)
-        counted = text("misses", trace)
-        self.total = re.search(r"^total cold (\d+) useful (\d+) useless (\d+)$", counted, re.MULTILINE).groups()
-        with open(trace, "rb") as file:
-            if list(recount_misses.told(file.read(), 64, 0)) != counted.splitlines():
-                self.wrong.append(f"{name}: recounted, the misses are other ones")
-        self.pair = self.line and self.explained(settings)
+    def __init__(self, path, settings_text="", is_worst=False):
+        self.path, self.wrong = path, []
+        with tempfile.TemporaryDirectory() as work:
+            settings, trace = os.path.join(work, "settings"), os.path.join(work, "trace")
+            with open(settings, "w") as file:
+                file.write(settings_text)
+            observed = Report(text("run", path, "--settings", settings, "--trace", trace)).of_kind("observed")
+            counted = text("misses", trace)
+            with open(trace, "rb") as file:
+                if list(recount_misses.told(file.read(), 64, 0)) != counted.splitlines():
+                    self.wrong.append(f"{path}: recounted, the misses are other ones")
+            self.total = re.search(r"^total cold (\d+) useful (\d+) useless (\d+)$", counted, re.MULTILINE).groups()
+            self.missed = [Missed(it) for it in re.split(r"^(?=line )", counted, flags=re.MULTILINE)[1:]]
+            lines = {it.base: it for it in observed}
+            bases = [it.base for it in (self.missed if is_worst else observed)]
+            self.base = next(iter(bases), None)
+            self.line = lines.get(self.base)
+            self.pair = None if self.base is None else self.explained(settings)
 
     def explained(self, settings):
-        words = f"{shown(self.line.base)} {self.line.size} {self.line.start}".split()
-        told = text("explain", self.path, *words, "--settings", settings)
-        count = re.search(r"^line .* count (\d+)$", told, re.MULTILINE)[1]
-        if int(count) != self.line.count:
-            self.wrong.append(f"{self.path}: the report counts {self.line.count} of {shown(self.line.base)}, and explain {count}")
+        start = self.line.start if self.line else 0
+        told = text("explain", self.path, shown(self.base), "64", str(start), "--settings", settings)
+        self.count = int(re.search(r"^line .* count (\d+)$", told, re.MULTILINE)[1])
+        if self.line and self.count != self.line.count:
+            self.wrong.append(f"{self.path}: the report counts {self.line.count} of {shown(self.base)}, and explain {self.count}")
         found = re.search(r"^pair (\S+) (\S+) taken (\d+) same (\d+)$", told, re.MULTILINE)
+        if found is None:
+            return None
         names = dict(re.findall(r"^site (\S+) .* (\S+)$", told, re.MULTILINE))
         places = [place(self.path, int(it, 16), names[it]) for it in found.groups()[:2]]
         return [*reversed(places), *found.groups()[2:]]
+
+
+class Missed:
+    """A line of the text of misses, with what stands on it."""
+
+    def __init__(self, told):
+        self.texts = [it for it in told.splitlines() if it.split()[0] in ("line", "object", "site")]
+        words = self.texts[0].split()
+        self.base, self.useful, self.useless = int(words[1], 16), int(words[5]), int(words[7])
 
 
 def main(words):
@@ -78,10 +95,10 @@ def main(words):
         # (with line tables; the instructions are those of the builds without)
         subprocess.run([os.path.join(TOP, "guest", "build.sh"), "studies", work], check=True)
         for name in (it for study in names for it in studies[study] if "-at-" not in it):
-            build = Build(name, work)
+            build = Build(os.path.join(work, f"{name}.elf"), SETTINGS.get(name.split("-")[0], ""))
             costs.append([name, *build.total])
             if build.pair:
-                fights.append([name, f"`{shown(build.line.base)}`", build.line.count, *build.pair])
+                fights.append([name, f"`{shown(build.base)}`", build.count, *build.pair])
             wrong += build.wrong
     heads = ["Build", "Line", "Count", "Who takes it most", "From whom", "Taken", "For the same word"]
     parts = {"costs": table(["Build", "Cold", "Useful", "Useless"], costs), "fights": table(heads, fights)}

@@ -64,14 +64,18 @@ class Report:
         return sum(it.count for it in self.of_kind(*kinds))
 
 
-def count_since(trace, line):
-    """The count of a line since its start, whatever opened it, by caches that are simulated over the whole list."""
-    held, count = set(), 0
+def counts_since(trace, lines):
+    """The counts of lines since their starts, whatever opened them, by caches that are simulated over the whole list."""
+    on = {}
+    for at, line in enumerate(lines):
+        for word in range(line.base // 4, (line.base + line.size) // 4):
+            on.setdefault(word, []).append(at)
+    held, counts = [set() for _ in lines], [0] * len(lines)
     for position, (hart, addr, is_write) in enumerate(accesses(trace)):
-        if line.base <= addr < line.base + line.size:
-            count += is_write and position > line.start and bool(held - {hart})
-            held = {hart} if is_write else held | {hart}
-    return count
+        for at in on.get(addr // 4, ()):
+            counts[at] += is_write and position > lines[at].start and bool(held[at] - {hart})
+            held[at] = {hart} if is_write else held[at] | {hart}
+    return counts
 
 
 def called(words, trace):
@@ -103,8 +107,8 @@ class Run:
                 self.output = file.read()
         self.wrong = [] if self.report.outcome == "outcome exit 0" else [self.report.outcome]
         self.wrong += differences(trace, 64, self.report) + differences(trace, 4, self.by_word)
-        for it in self.report.of_kind("shifted", "doubled"):
-            again = count_since(trace, it)
+        predicted = self.report.of_kind("shifted", "doubled")
+        for it, again in zip(predicted, counts_since(trace, predicted)):
             if again != it.count:
                 self.wrong.append(f"{it.text}: recounted {again}")
 

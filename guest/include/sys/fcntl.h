@@ -12,6 +12,7 @@ extern "C" {
 int open(const char *path, int flags, ...) PREDATOR_NO_FILE;
 int openat(int folder, const char *path, int flags, ...) PREDATOR_NO_FILE;
 int creat(const char *path, mode_t mode) PREDATOR_NO_FILE;
+int flock(int file, int how) PREDATOR_NO_FILE;
 
 #ifdef __cplusplus
 }

@@ -10,12 +10,17 @@ extern "C" {
 #endif
 
 struct stat;
+struct timespec;
 int stat(const char *path, struct stat *told) PREDATOR_NO_FILE;
 int lstat(const char *path, struct stat *told) PREDATOR_NO_FILE;
 int chmod(const char *path, mode_t mode) PREDATOR_NO_FILE;
 int fchmod(int file, mode_t mode) PREDATOR_NO_FILE;
 int mkdir(const char *path, mode_t mode) PREDATOR_NO_FILE;
 int mkfifo(const char *path, mode_t mode) PREDATOR_NO_FILE;
+int mknod(const char *path, mode_t mode, dev_t device) PREDATOR_NO_FILE;
+int fstatat(int folder, const char *__restrict path, struct stat *__restrict told, int flags) PREDATOR_NO_FILE;
+int utimensat(int folder, const char *path, const struct timespec *times, int flags) PREDATOR_NO_FILE;
+int futimens(int file, const struct timespec *times) PREDATOR_NO_FILE;
 
 #ifdef __cplusplus
 }

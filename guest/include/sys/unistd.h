@@ -10,14 +10,17 @@
 extern "C" {
 #endif
 
-unsigned sleep(unsigned seconds) PREDATOR_NO_TIME;
-int usleep(useconds_t microseconds) PREDATOR_NO_TIME;
+unsigned sleep(unsigned seconds);
+int usleep(useconds_t microseconds);
 unsigned alarm(unsigned seconds) PREDATOR_NO_TIME;
+useconds_t ualarm(useconds_t microseconds, useconds_t again) PREDATOR_NO_TIME;
 int pause(void) PREDATOR_NO_SIGNAL;
 
 pid_t fork(void) PREDATOR_NO_PROCESS;
+pid_t setsid(void) PREDATOR_NO_PROCESS;
 pid_t getppid(void) PREDATOR_NO_PROCESS;
 int execl(const char *path, const char *word, ...) PREDATOR_NO_PROCESS;
+int execle(const char *path, const char *word, ...) PREDATOR_NO_PROCESS;
 int execlp(const char *file, const char *word, ...) PREDATOR_NO_PROCESS;
 int execv(const char *path, char *const words[]) PREDATOR_NO_PROCESS;
 int execve(const char *path, char *const words[], char *const names[]) PREDATOR_NO_PROCESS;
@@ -27,10 +30,13 @@ int pthread_atfork(void (*prepare)(void), void (*parent)(void), void (*child)(vo
 
 int access(const char *path, int mode) PREDATOR_NO_FILE;
 int chdir(const char *path) PREDATOR_NO_FILE;
+int fchdir(int folder) PREDATOR_NO_FILE;
 int chmod(const char *path, mode_t mode) PREDATOR_NO_FILE;
 int fchmod(int file, mode_t mode) PREDATOR_NO_FILE;
 int chown(const char *path, uid_t owner, gid_t group) PREDATOR_NO_FILE;
 int fchown(int file, uid_t owner, gid_t group) PREDATOR_NO_FILE;
+int lchown(const char *path, uid_t owner, gid_t group) PREDATOR_NO_FILE;
+int lockf(int file, int command, off_t length) PREDATOR_NO_FILE;
 int dup(int file) PREDATOR_NO_FILE;
 int dup2(int file, int other) PREDATOR_NO_FILE;
 int ftruncate(int file, off_t length) PREDATOR_NO_FILE;

@@ -1,0 +1,150 @@
+#!/usr/bin/env bash
+# Builds the studies of what fetch.sh has fetched into out/, with line tables: each code base by its own build, or its sources as they are,
+# with guest/cc as its compiler; and again with the repair, which is a few words put in by sed.
+#
+#     build.sh [STUDY ..]        ck_anderson, ck_ring, kt_for, rte_ring, sqlite and urcu_qsbr, or those that are named
+#
+# `make` and a compiler of this machine (for the tools of SQLite's build, as `tclsh` is) are wanted beside those of the kit. What was built
+# of SQLite and of liburcu stays, since that takes a minute each.
+set -eu
+here=$(cd "$(dirname "$(readlink -f "$0")")" && pwd)
+cc=$here/../cc
+fetched=$here/fetched
+out=$here/out
+lines=-gline-tables-only
+
+# Concurrency Kit, whose own build has no port to RISC-V, so it takes the compiler's atomic functions: a folder of its own for each build.
+# Its configure runs what it compiled, so it looks at this machine's compiler, of which nothing is kept but ck_md.h and some flags.
+ck() {
+    rm -rf "${out:?}/$1"
+    cp -r "$fetched/ck" "$out/$1"
+    (cd "$out/$1" && ./configure --platform=unknown --use-cc-builtins --disable-double --without-pic >configure.log)
+}
+
+# NAME FOLDER PROGRAM WORDS FLAGS ..: a program of its regressions, as its own makefile has it, with main's words.
+ck_program() {
+    local name=$1 folder=$2 program=$3 words=$4
+    shift 4
+    ARGUMENTS=$words make -s -C "$out/$name/regressions/$folder" CC="$cc" PTHREAD_CFLAGS="-pthread $lines $*" "$program"
+    mv "$out/$name/regressions/$folder/$program" "$out/$name.elf"
+    rm -rf "${out:?}/$name"
+}
+
+build_ck_anderson() {
+    local name
+    for name in ck_anderson ck_anderson-apart; do
+        ck "$name"
+        # (a line for each slot)
+        [ "$name" = ck_anderson ] ||
+            sed -i '/^struct ck_spinlock_anderson_thread {$/,/^};$/s/^\tunsigned int position;$/&\n\tchar apart[56];/' \
+                "$out/$name/include/spinlock/anderson.h"
+        ck_program "$name" ck_spinlock/validate ck_anderson "7 1" -DITERATE=200
+    done
+}
+
+build_ck_ring() {
+    local name
+    for name in ck_ring ck_ring-apart; do
+        ck "$name"
+        # (the end of a ring, which is read all the time, apart from the beginning of the next one)
+        [ "$name" = ck_ring ] ||
+            sed -i '/^struct ck_ring {$/,/^};$/s/^\tunsigned int mask;$/&\n\tchar apart[56];/' "$out/$name/include/ck_ring.h"
+        ck_program "$name" ck_ring/validate ck_ring_spsc "7 1 32" -DITERATIONS=16
+    done
+}
+
+# NAME FLAGS ..: a table of numbers by klib's kt_for, of which minimap2 has the source.
+kt_for() {
+    local name=$1 source=$out/$1.kthread.c
+    shift
+    cp "$fetched/minimap2/kthread.c" "$source"
+    # (a line for each worker)
+    [ "$name" = kt_for ] || sed -i 's/^} ktf_worker_t;$/} __attribute__((aligned(64))) ktf_worker_t;/' "$source"
+    "$cc" "$lines" -I "$fetched/minimap2" "$@" "$source" "$here/kt_for.c" -o "$out/$name.elf"
+    rm "$source"
+}
+
+build_kt_for() {
+    kt_for kt_for
+    kt_for kt_for-apart
+    kt_for kt_for-blocks -DBLOCK=16
+}
+
+# NAME MAKES: an object of SQLite's one source, which is put together by its own build and changed by a sed script.
+sqlite() {
+    local name=$1
+    shift
+    [ ! -f "$out/$name.o" ] || return 0
+    if [ ! -f "$out/sqlite3/sqlite3.c" ]; then
+        mkdir -p "$out/sqlite3"
+        make -s -C "$out/sqlite3" -f "$fetched/sqlite3/Makefile.linux-gcc" TOP="$fetched/sqlite3" BCC="cc -O0" TCC=cc sqlite3.c
+    fi
+    sed "$@" "$out/sqlite3/sqlite3.c" >"$out/$name.c"
+    # (files aren't there, and databases in memory want none)
+    "$cc" -c "$lines" -w -DPREDATOR_REFUSE_AT_RUN -DSQLITE_THREADSAFE=1 -DSQLITE_OMIT_LOAD_EXTENSION=1 "$out/$name.c" -o "$out/$name.new"
+    mv "$out/$name.new" "$out/$name.o"
+    rm "$out/$name.c"
+}
+
+build_sqlite() {
+    sqlite sqlite3 ""
+    sqlite sqlite3-apart '/^struct sqlite3_mutex {$/,/^};$/s/^  pthread_mutex_t mutex;.*/&\n  char apart[112];/'
+    local workload=("$cc" "$lines" -I "$out/sqlite3" "$here/sqlite.c")
+    "${workload[@]}" "$out/sqlite3.o" -o "$out/sqlite.elf"
+    "${workload[@]}" -DNO_STATISTICS "$out/sqlite3.o" -o "$out/sqlite-no_statistics.elf"
+    "${workload[@]}" -DNO_STATISTICS "$out/sqlite3-apart.o" -o "$out/sqlite-apart.elf"
+    "${workload[@]}" -DNO_STATISTICS -DOWN_LINES "$out/sqlite3.o" -o "$out/sqlite-own_lines.elf"
+}
+
+# NAME FLAGS ..: DPDK's ring over its port to RISC-V, with what its build says of that (config/riscv/meson.build).
+rte_ring() {
+    local name=$1 dpdk=$fetched/dpdk made=$out/$1.headers it words=(-w)
+    shift
+    rm -rf "$made"
+    cp -r "$dpdk/lib/ring" "$made"
+    # (indices of both sides side by side, which the source checks against)
+    if [ "$name" != rte_ring ]; then
+        sed -i '/^struct rte_ring {$/,/^};$/{/pad[012]/d;s/} *__rte_cache_aligned;/};/}' "$made/rte_ring_core.h"
+        sed -i '/^\tRTE_BUILD_BUG_ON((offsetof/,/;$/d' "$made/rte_ring.c"
+    fi
+    for it in RTE_ARCH_RISCV RTE_FORCE_INTRINSICS RTE_EXEC_ENV_LINUX RTE_EXEC_ENV_IS_LINUX RTE_USE_C11_MEM_MODEL RTE_MAX_NUMA_NODES; do
+        echo "#define $it 1"
+    done >"$made/rte_build_config.h"
+    printf '#define %s %s\n' RTE_EXEC_ENV_IS_FREEBSD 0 RTE_EXEC_ENV_IS_WINDOWS 0 RTE_CACHE_LINE_SIZE 64 RTE_MAX_LCORE 128 >>"$made/rte_build_config.h"
+    for it in "$made" "$dpdk/config" "$dpdk"/lib/eal/{riscv/include,linux/include,include,common} "$dpdk"/lib/{log,kvargs,telemetry}; do
+        words+=(-I "$it")
+    done
+    "$cc" "$lines" "${words[@]}" -DALLOW_EXPERIMENTAL_API -include rte_config.h "$@" "$here/rte_ring.c" "$made/rte_ring.c" \
+        -o "$out/$name.elf"
+    rm -rf "$made"
+}
+
+build_rte_ring() {
+    rte_ring rte_ring
+    rte_ring rte_ring-together
+    rte_ring rte_ring-together-at-24 -DPLACE=24
+}
+
+# liburcu's own benchmark, by its configure: six readers and one that waits for them, for a second of 500,000 steps. (The names of the autotools
+# are those that aren't to be run again because a file is newer.)
+build_urcu_qsbr() {
+    local made=$out/liburcu tools=(AUTOMAKE=: AUTOCONF=: ACLOCAL=: AUTOHEADER=:)
+    [ ! -f "$out/urcu_qsbr.elf" ] || return 0
+    rm -rf "$made"
+    mkdir "$made"
+    (cd "$made" && "$fetched/liburcu/configure" -q CC="$cc" CPPFLAGS=-D__DragonFly__ CFLAGS="-O2 $lines" --host=riscv32 --disable-shared)
+    make -s -C "$made/src" "${tools[@]}" liburcu-common.la liburcu-qsbr.la
+    ARGUMENTS='6 1 1' STEP_TIME=2000 make -s -C "$made/tests/benchmark" "${tools[@]}" test_urcu_qsbr
+    mv "$made/tests/benchmark/test_urcu_qsbr" "$out/urcu_qsbr.elf"
+    rm -rf "$made"
+}
+
+mkdir -p "$out"
+(($# > 0)) || set -- ck_anderson ck_ring kt_for rte_ring sqlite urcu_qsbr
+for study; do
+    if [ ! -d "$fetched" ] || ! declare -F "build_$study" >/dev/null; then
+        echo "build.sh: $study: fetch.sh fetches the sources first, and the studies are ck_anderson, ck_ring, kt_for, rte_ring, sqlite and urcu_qsbr" >&2
+        exit 1
+    fi
+    "build_$study"
+done

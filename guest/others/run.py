@@ -1,0 +1,114 @@
+#!/usr/bin/env python3
+"""Builds and runs the studies of code that nobody here wrote, recounts their traces, and prints the tables of docs/STUDIES.md:
+run.py [--renew] [STUDY ..].
+
+fetch.sh has fetched the sources; build.sh builds them. --renew puts the tables into the page. It ends with 1 where a program doesn't end
+with exit 0, or a recount says otherwise than a report, `misses` or `explain`."""
+
+import os
+import re
+import subprocess
+import sys
+import tempfile
+
+HERE = os.path.dirname(os.path.abspath(__file__))
+sys.path.insert(0, os.path.join(HERE, "..", "studies"))
+from costs import Build, text  # noqa: E402
+from report import Run, block, renew, shown, table  # noqa: E402
+
+OUT = os.path.join(HERE, "out")
+# Of each study its builds: as it is, and after each repair.
+STUDIES = {
+    "ck_anderson": ["ck_anderson", "ck_anderson-apart"],
+    "ck_ring": ["ck_ring", "ck_ring-apart"],
+    "kt_for": ["kt_for", "kt_for-apart", "kt_for-blocks"],
+    "rte_ring": ["rte_ring", "rte_ring-together", "rte_ring-together-at-24"],
+    "sqlite": ["sqlite", "sqlite-no_statistics", "sqlite-apart", "sqlite-own_lines"],
+    "urcu_qsbr": ["urcu_qsbr"],
+}
+SETTINGS = "quantum = 10\n"
+# The builds of which a predicted line is looked at, and the one in which what the first of them predicts is observed, with how far its data moved.
+PREDICTED = ["rte_ring", "rte_ring-together", "kt_for-apart"]
+MOVED = {"rte_ring-together": ("rte_ring-together-at-24", 24)}
+# How many lines of a report, and how many of the misses, are shown, and of each how many lines that say what stands there.
+MOST, MOST_OF_ONE = 2, 6
+
+
+def first(lines):
+    """The first lines of a list, each with the beginning of what stands on it."""
+    made = []
+    for it in lines[:MOST]:
+        made += it[: 1 + MOST_OF_ONE] + [".."] * (len(it) > 1 + MOST_OF_ONE)
+    return made
+
+
+def excerpt(name, run, build):
+    """The first observed lines of a report, and the lines of its misses that are the most useless."""
+    observed = run.report.of_kind("observed")
+    missed = [it for it in build.missed if it.useless > 0]
+    return block(
+        [f"{name}: lines {len(run.report.lines)}, {len(observed)} of them observed", *first([[it.text, *it.objects] for it in observed])]
+        + [f"{name}: lines with useless misses {len(missed)}", *first([it.texts for it in missed])]
+    )
+
+
+def useless(told, base, size):
+    """The useless misses of all lines of a text of misses that lie in a range."""
+    found = re.findall(r"^line (\S+) cold \d+ useful \d+ useless (\d+)$", told, re.MULTILINE)
+    return sum(int(count) for at, count in found if base <= int(at, 16) < base + size)
+
+
+def foretold(name, runs):
+    """The first predicted line of a report: what it costs under its own layout, what the lines of 64 bytes that it touches cost, and, where the
+    data lie so in another build, what is observed there."""
+    line = runs[name].report.of_kind("shifted", "doubled")[0]
+    with tempfile.TemporaryDirectory() as work:
+        settings, trace = os.path.join(work, "settings"), os.path.join(work, "trace")
+        with open(settings, "w") as file:
+            file.write(SETTINGS)
+        text("run", os.path.join(OUT, f"{name}.elf"), "--settings", settings, "--trace", trace)
+        there = useless(text("misses", trace, "--size", str(line.size), "--shift", str(line.base % line.size)), line.base, line.size)
+        inside = useless(text("misses", trace), line.base & -64, line.size + line.base % 64)
+    row = [name, line.kind, f"`{shown(line.base)}`", line.size, line.count, there, inside, "-", "-"]
+    if name in MOVED:
+        other, far = MOVED[name]
+        seen = [it for it in runs[other].report.of_kind("observed") if it.base == line.base + far]
+        row[-2:] = [f"`{shown(it.base)}` of {other}" for it in seen] + [it.count for it in seen] or ["-", "-"]
+    return row
+
+
+def main(words):
+    names = [it for it in words if it != "--renew"] or list(STUDIES)
+    if "--renew" in words and names != list(STUDIES):
+        sys.exit("run.py: --renew is for all studies")
+    subprocess.run([os.path.join(HERE, "build.sh"), *names], check=True)
+    runs, costs, fights, parts, wrong = {}, [], [], {}, []
+    for study in names:
+        shown_here = []
+        for name in STUDIES[study]:
+            path = os.path.join(OUT, f"{name}.elf")
+            run, build = Run(path, SETTINGS), Build(path, SETTINGS, is_worst=True)
+            runs[name] = run
+            counts = [len(run.report.of_kind("observed")), run.report.sum("observed"), run.by_word.sum("observed")]
+            costs.append([name, run.report.steps, *counts, *build.total, run.told()])
+            if build.pair:
+                fights.append([name, f"`{shown(build.base)}`", build.count, *build.pair])
+            shown_here.append(excerpt(name, run, build))
+            wrong += [f"{name}: {it}" for it in run.wrong + build.wrong]
+        parts[study] = "\n\n".join(shown_here)
+    heads = ["Build", "Steps", "Observed lines", "Counts", "By word", "Cold", "Useful", "Useless", "Recount"]
+    parts["others"] = table(heads, costs)
+    parts["others' fights"] = table(["Build", "Line", "Count", "Who takes it most", "From whom", "Taken", "For the same word"], fights)
+    heads = ["Build", "Kind", "Predicted line", "Size", "Count", "Useless there", "Useless in its lines of 64", "Observed", "Count"]
+    parts["others foretold"] = table(heads, [foretold(it, runs) for it in PREDICTED if it in runs])
+    for name, told in parts.items():
+        print(f"\n== {name}\n\n{told}")
+    for it in wrong:
+        print(it)
+    if "--renew" in words:
+        renew(parts)
+    return 1 if wrong else 0
+
+
+if __name__ == "__main__":
+    sys.exit(main(sys.argv[1:]))
