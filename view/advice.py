@@ -4,6 +4,8 @@ import re
 
 # A word whose own misses are fewer than one in so many accesses is one hart's, but for looks at the start and the end.
 SELDOM = 20
+# An object behind the first one with fewer than one in so many of the run's misses is to be left as it is.
+LITTLE = 100
 # So many fields are named; the rest are a number.
 NAMED = 4
 INDEX = re.compile(r"\[\d+\]")
@@ -80,7 +82,7 @@ def groups_apart(own, thing, size):
     """Which words of a line belong apart."""
     found = groups(own)
     if len(found) > 2 and not any(it.element for it in own) and all(key[0] != "shared" for key in found):
-        return f"harts have words of their own in {thing.name}: give each hart's lines of their own, with `alignas({size})` on the type of its elements"
+        return f"harts have words of their own in {thing.name}: give each hart's words lines of their own, with `alignas({size})` on the type of its elements"
     if len(found) < 2:
         return f"begin {thing.name} on a line of its own, with `alignas({size})`"
     first = [told(key, it) for key, it in found.items()][: NAMED + 1]
@@ -94,7 +96,8 @@ def apart(words, thing, size, element):
     if thing.key[0] == "stack":
         return f"other harts use variables of this stack: `alignas({size})` on these, or a place of their own"
     if thing.key[0] == "block" and any(len({it.begin for it in line}) > 1 for line in lines(own)):
-        return f"let no two of these blocks share a line: `aligned_alloc({size}, ..)`, with sizes that are multiples of {size}"
+        how = f"`aligned_alloc({size}, ..)`, with sizes that are multiples of {size}, or {size} bytes more for each, and its start rounded up"
+        return f"let no two of these blocks share a line: {how}"
     own = fought(own)
     array = arrays([it.name.partition(", ")[0] for it in own if it.writes])
     if array is not None:
@@ -135,6 +138,11 @@ def placing(placed, name):
     more = len(told) - NAMED
     where = "; ".join(told[:NAMED]) + (f"; and {more} more" if more > 0 else "")
     return f"; `place` puts its words apart by their harts, {where}: then lines are taken {placed.after} times in all, and not {placed.before}"
+
+
+def little(thing, total):
+    """What to do about an object that has hardly any of all misses."""
+    return f"leave it: it has {thing.useless + thing.useful} of the {total} misses that aren't cold"
 
 
 def is_true(thing, is_counted):

@@ -118,7 +118,8 @@ def json_text(view):
 
 def location(view, file, number):
     """A line of a source, by its path from this folder on where it is there, and else as it was compiled."""
-    path = os.path.normpath((view.naming.sources.path(file) if view.naming.sources else None) or file)
+    found = view.naming.sources.path(file) if view.naming.sources else None
+    path = os.path.abspath(found) if found else os.path.normpath(file)
     below = os.path.relpath(path)
     path = path if below.startswith("..") else below
     uri = ("file://" if os.path.isabs(path) else "") + urllib.parse.quote(path, errors="surrogateescape")

@@ -161,12 +161,20 @@ class View:
         """What is shown of an object."""
         if thing.key not in self.cached:
             words = [it for spot in thing.worst_first() for it in words_of(spot, self.naming, self.by_word)]
-            names = {key: self.label(self.all[key]) for key in thing.beside}
-            todo = advice.sentence(thing, words, names, self.align_to(thing), self.misses is not None, self.element(thing))
-            todo += advice.placing(self.placed.get(thing.key), lambda addr: self.naming.word(addr, thing.example)[0])
+            todo = self.advised(thing, words)
             explained = self.explained.get(thing.worst().base)
             self.cached[thing.key] = Seen(thing, words, explained, todo, self.declared(thing))
         return self.cached[thing.key]
+
+    def advised(self, thing, words):
+        """What to do about an object."""
+        total = self.misses.total["useless"] + self.misses.total["useful"] if self.misses else 0
+        is_first = self.things[0] is thing or "object" in self.call.options
+        if not is_first and 0 < (thing.useless + thing.useful) * advice.LITTLE < total:
+            return advice.little(thing, total)
+        names = {key: self.label(self.all[key]) for key in thing.beside}
+        todo = advice.sentence(thing, words, names, self.align_to(thing), self.misses is not None, self.element(thing))
+        return todo + advice.placing(self.placed.get(thing.key), lambda addr: self.naming.word(addr, thing.example)[0])
 
     def align_to(self, thing):
         """The alignment that keeps apart what is seen, and what is predicted of lines twice as long."""

@@ -11,7 +11,7 @@ from typing import NamedTuple
 
 from faults import Fault
 from fields import Program, Variable
-from source_lines import Place, Sources
+from source_lines import Place, Sources, places
 
 from elftools.elf.elffile import ELFFile
 from elftools.elf.sections import SymbolTableSection
@@ -176,9 +176,7 @@ class NativeSources(Sources):
             words = [self.tool, "--output-style=JSON", "--inlines"]
             ran = subprocess.run(words, input=os.fsencode(rows), stdout=subprocess.PIPE, stderr=subprocess.DEVNULL)
             for (it, _, _), row in zip(asked, ran.stdout.decode("utf-8", "replace").splitlines()):
-                told = json.loads(row).get("Symbol", [])
-                frames = [Place(at.get("FunctionName", ""), at.get("FileName", ""), at.get("Line", 0)) for at in told]
-                self.places[it] = [at for at in frames if at.function or at.file]
+                self.places[it] = places(json.loads(row))
         for it in wanted:
             if not any(at.file and at.line for at in self.places[it]) and it in self.native.back.sites:
                 self.places[it] = told_by(self.native.back.sites[it]) or self.places[it]

@@ -6,7 +6,7 @@ from calls import TOP
 from faults import Fault
 from naming import shown
 from objects import Spot, words_of
-from screen import place_of
+from screen import counted, place_of
 from source_lines import PACKAGES
 
 # Colours that the colour blind tell apart (Okabe and Ito); each hart has a letter too.
@@ -84,13 +84,15 @@ def side(view, addr, role):
         text = sources.text(place.file)
         for number in range(max(1, place.line - AROUND), min(len(text), place.line + AROUND) + 1):
             lines.append({"number": number, "text": text[number - 1], "hit": number == place.line})
-    return {"role": role, "place": f"{place_of(view.naming, addr)}, {shown(addr)}", "lines": lines}
+    lacks = f"{place.file} isn't here: --sources tells where it is" if place else "it has no line of a source"
+    at = f", {shown(addr)}" if place else ""
+    return {"role": role, "place": place_of(view.naming, addr) + at, "lines": lines, "lacks": lacks}
 
 
 def pairs(view, explained):
     for it in explained.pairs[:PAIRS]:
         sides = [side(view, it.taker, "takes the line"), side(view, it.victim, "loses it")]
-        yield {"taken": it.taken, "same": it.same, "sides": sides}
+        yield {"taken": counted(it.taken, "time"), "same": it.same, "sides": sides}
 
 
 def worth_drawing(it):
@@ -114,6 +116,7 @@ def thing(view, it):
         "count": it.count,
         "lines": len(it.spots),
         "lives": len(it.lives),
+        "is_block": it.key[0] == "block",
         "beside": [view.all[key].name for key in it.beside],
         "worst": worst.name if worst else "",
         "fight": [place_of(view.naming, at) for at in (fight.taker, fight.victim)] if fight else [],

@@ -76,10 +76,11 @@ def row(view, place, thing, paint, width):
     yield f"{place:>3} {cells} {len(thing.spots):>6}  " + paint(BOLD, plain(view.label(thing))) + plain(lives + near)
     worst, fight = seen.worst(), seen.fight()
     if worst:
-        yield from fold(f"worst field  {worst.name}: {worst.writes} writes and {worst.reads} reads by {owner(worst)}", " " * 8, " " * 21, width)
+        much = f"{counted(worst.writes, 'write')} and {counted(worst.reads, 'read')} by {owner(worst)}"
+        yield from fold(f"worst field  {worst.name}: {much}", " " * 8, " " * 21, width)
     if fight:
         one, other = (place_of(view.naming, it) for it in fight[:2])
-        took = f"{fight.taken} times" + (f", {fight.same} of them for the same word" if fight.same else ", never for the same word")
+        took = counted(fight.taken, "time") + (f", {fight.same} of them for the same word" if fight.same else ", never for the same word")
         yield from fold(f"fighting     {other} takes the line from {one}, {took}", " " * 8, " " * 21, width)
     yield from fold(f"to do        {seen.todo}", " " * 8, " " * 21, width)
 

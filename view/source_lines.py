@@ -22,6 +22,12 @@ class Place(NamedTuple):
         return f"{os.path.basename(self.file)}:{self.line}" if self.file and self.line else ""
 
 
+def places(told):
+    """The frames of an address as llvm-symbolizer tells them, the innermost first."""
+    frames = [(it.get("FunctionName", ""), it.get("FileName", ""), it.get("Line", 0)) for it in told.get("Symbol", [])]
+    return [Place(function, file and os.path.normpath(file), line) for function, file, line in frames if function or file]
+
+
 class Sources:
     """The lines of a program's addresses, and the texts of its sources as far as they are there."""
 
@@ -46,8 +52,7 @@ class Sources:
         self.places.update({it: [] for it in wanted})
         for row in ran.stdout.decode("utf-8", "replace").splitlines():
             told = json.loads(row)
-            frames = [(it.get("FunctionName", ""), it.get("FileName", ""), it.get("Line", 0)) for it in told.get("Symbol", [])]
-            self.places[int(told["Address"], 16)] = [Place(*it) for it in frames if it[0] or it[1]]
+            self.places[int(told["Address"], 16)] = places(told)
 
     def frames(self, address):
         """The functions inlined at an address, the innermost first."""

@@ -30,9 +30,27 @@ def has(program, *commands):
     return all(f"usage: predator {it} " in told for it in commands)
 
 
-def schema():
-    with open(os.path.join(HERE, "..", "schema.json"), encoding="utf-8") as file:
+def schema(*path):
+    with open(os.path.join(HERE, *(path or ("..", "schema.json"))), encoding="utf-8") as file:
         return json.load(file)
+
+
+def sarif(path):
+    """The run of a SARIF file, which is judged by what the public schema asks, and by what that leaves to its text."""
+    with open(path, encoding="utf-8") as file:
+        found = json.load(file)
+    jsonschema.validate(found, schema("sarif.json"), cls=jsonschema.Draft202012Validator)
+    run = found["runs"][0]
+    ids = [it["id"] for it in run["tool"]["driver"]["rules"]]
+    assert len(ids) == len(set(ids))
+    assert {it["ruleId"] for it in run["results"]} <= set(ids)
+    return run
+
+
+def places(result):
+    """The files and lines of a result."""
+    found = [it["physicalLocation"] for it in result["locations"] + result.get("relatedLocations", [])]
+    return [(it["artifactLocation"]["uri"], it["region"]["startLine"]) for it in found]
 
 
 class Files(unittest.TestCase):
@@ -41,7 +59,7 @@ class Files(unittest.TestCase):
         cls.folder = tempfile.mkdtemp()
         cls.paths = {it: os.path.join(cls.folder, f"page.{it}") for it in ("json", "sarif", "html")}
         words = [f"--{it}={path}" for it, path in cls.paths.items()]
-        cls.status, _, cls.said = view("run", built("odd.elf"), "--set", "quantum=3,report=1", *words)
+        cls.status, _, cls.said = view("run", built("odd.elf"), "--set", "quantum=3,report=1", *words, cwd=HERE)
 
     @classmethod
     def tearDownClass(cls):
@@ -64,18 +82,16 @@ class Files(unittest.TestCase):
             jsonschema.validate(found, schema(), cls=jsonschema.Draft202012Validator)
 
     def test_sarif(self):
-        found = json.loads(self.read("sarif"))
-        self.assertEqual(found["version"], "2.1.0")
-        run = found["runs"][0]
-        rules = {it["id"] for it in run["tool"]["driver"]["rules"]}
+        jsonschema.Draft202012Validator.check_schema(schema("sarif.json"))
+        run = sarif(self.paths["sarif"])
         self.assertFalse(run["invocations"][0]["executionSuccessful"])
+        self.assertEqual({it["level"] for it in run["results"]}, {"warning"})
+        # (from this folder on, where the source is below it)
         for it in run["results"]:
-            self.assertIn(it["ruleId"], rules)
-            self.assertIn(it["level"], ("warning", "note"))
-            self.assertTrue(it["message"]["text"])
-            for place in it["locations"]:
-                self.assertRegex(place["physicalLocation"]["artifactLocation"]["uri"], r"odd\.c$")
-                self.assertGreater(place["physicalLocation"]["region"]["startLine"], 0)
+            for uri, line in places(it):
+                self.assertTrue(os.path.isfile(os.path.join(HERE, uri)), uri)
+                self.assertIn(line, range(1, 61))
+        self.assertIn(("programs/odd.c", 22), places(run["results"][0]))
 
     def test_page(self):
         text = self.read("html")
@@ -95,6 +111,7 @@ class Files(unittest.TestCase):
         status, text, said = view(report, "--html", page, f"--json={page}.json", f"--sarif={page}.sarif")
         self.assertEqual((status, said), (0, ""))
         self.assertIn("<i>&\\x00\"'", text)
+        self.assertEqual([places(it) for it in sarif(f"{page}.sarif")["results"]], [[]])
         with open(page, encoding="utf-8") as file:
             told = file.read()
         self.assertIn("<h1>r\\udcff&lt;b&gt;&amp;&#39;&#34;</h1>", told)
@@ -119,7 +136,8 @@ class Predicted(unittest.TestCase):
     def test_shown_where_more_would_be_missed(self):
         with tempfile.TemporaryDirectory() as folder:
             path = os.path.join(folder, "json")
-            _, text, _ = view("run", built("apart.elf"), "--set", "quantum=3", "--explain", "0", "--json", path, "--predicted")
+            words = ("--json", path, "--sarif", f"{path}.sarif", "--predicted")
+            _, text, _ = view("run", built("apart.elf"), "--set", "quantum=3", "--explain", "0", *words, cwd=folder)
             with open(path, encoding="utf-8") as file:
                 found = json.load(file)["predicted"]
             self.assertTrue(found)
@@ -128,6 +146,10 @@ class Predicted(unittest.TestCase):
             self.assertEqual({it["kind"] for it in found if it["shown"]}, {"doubled"})
             self.assertTrue(any("can't come to lie so" in it["why"] for it in found))
             self.assertIn("with lines of 128 bytes", text)
+            told = [it for it in sarif(f"{path}.sarif")["results"] if it["ruleId"] == "predicted-sharing"]
+            self.assertTrue(told)
+            for it in told:
+                self.assertEqual([uri for uri, _ in places(it)], ["file://" + built("apart.c")])
 
 
 class Large(unittest.TestCase):

@@ -25,7 +25,8 @@ class Screens(unittest.TestCase):
 
     def test_arena(self):
         _, text, _ = view("run", built("arena.elf"), *TURNS, "--type", "arena.c:17=node", "--words")
-        self.shows(text, "1 1187 1 794 1 block made at arena.c:17 < main (4 lives)", "let no two of these blocks share a line: `aligned_alloc(64, ..)`")
+        self.shows(text, "1 1187 1 794 1 block made at arena.c:17 < main (4 lives)", "64 bytes more for each, and its start rounded up")
+        self.shows(text, "let no two of these blocks share a line: `aligned_alloc(64, ..)`")
         self.shows(text, "0x00011014 199 200 0 2 .count")
 
     def test_shards_and_packed_slots(self):
@@ -100,6 +101,17 @@ class Screens(unittest.TestCase):
             _, text, _ = view(report, "--program", built("ring.elf"), "--words")
             self.shows(text, "0x00011004 579 145 many ring.tail")
 
+    def test_what_has_few_misses_is_left(self):
+        rows = 120 * ["0 W 1000 4", "1 W 1004 4"] + ["0 W 5000 4", "1 W 5004 4", "0 W 5000 4"]
+        with tempfile.TemporaryDirectory() as folder:
+            trace = os.path.join(folder, "t")
+            words = [os.path.join(TOP, "tools", "to_trace.py"), "-", trace]
+            subprocess.run(words, input="\n".join(rows), text=True, check=True, stdout=subprocess.DEVNULL)
+            _, text, _ = view("replay", trace)
+            self.shows(text, "2 1 0 0 1 memory at 0x00012000", "leave it: it has 1 of the 239 misses that aren't cold")
+            _, text, _ = view("replay", trace, "--object", "memory at 0x00012000")
+            self.assertNotIn("leave it", text)
+
     def test_a_report_with_its_lines_behind_it(self):
         rows = "line observed 0x00001000 64 start 0 count 200 verdict false\nobject block 0x00001000 24 born 0 live\nsite 0x000100b0 work\n"
         text = "predator report 1\noutcome exit 0\nsteps 0\naccesses 9\nlayout 64 0\nthresholds 16 64 100\nlines 1\n"
@@ -108,7 +120,7 @@ class Screens(unittest.TestCase):
             with open(report, "w", encoding="utf-8") as file:
                 file.write(f"{text}{rows}word 0x00001008 reads 1 writes 9 hart 3\nend\nwhere 0x000100b0 /home/me/kinds.c:59\n")
             _, text, _ = view(report, "--object", "kinds.c:59")
-            self.shows(text, "1 - - 200 1 block made at kinds.c:59 (work)", "worst field +8: 9 writes and 1 reads by hart 3")
+            self.shows(text, "1 - - 200 1 block made at kinds.c:59 (work)", "worst field +8: 9 writes and 1 read by hart 3")
 
     def test_refusals(self):
         for words, said in (
