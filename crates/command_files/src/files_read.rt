@@ -2,7 +2,7 @@
 
 use crate::state_faults::HARTS;
 use crate::status::{StateFault, Status};
-use command_line::{Demand, read_words};
+use command_line::{Demand, WordsFault, read_words};
 use std::alloc::Global;
 
 /// A trace that words have read.
@@ -36,7 +36,7 @@ fn no_files<'a>() -> FilesRead<'a> {
 
 fn of_trace(name: &str, again: bool) -> FilesRead<'_> {
     FilesRead {
-        trace: Some(TraceToRead { name, again }),
+        trace: Some(read_so(name, again)),
         ..no_files()
     }
 }
@@ -74,11 +74,26 @@ fn files_of<'a>(demand: &Demand<'a>) -> FilesRead<'a> {
     }
 }
 
+fn read_so(name: &str, again: bool) -> TraceToRead<'_> {
+    TraceToRead { name, again }
+}
+
 /// The trace that words have read, where they have one read.
 pub fn trace_to_read<'a>(alloc: Global, words: &'a [String]) -> Option<TraceToRead<'a>> {
     match read_words(alloc, words) {
-        Ok(demand) => files_of(&demand).trace,
-        Err(_) => None,
+        Ok(Demand::Replay(options)) => Some(read_so(options.trace, false)),
+        Ok(Demand::Split(options)) => Some(read_so(options.trace, true)),
+        Ok(Demand::Convert(options)) => Some(read_so(options.trace, true)),
+        Ok(Demand::Sweep(options)) => Some(read_so(options.trace, false)),
+        Ok(Demand::Caches(options)) => Some(read_so(options.trace, false)),
+        Ok(Demand::Place(options)) => Some(read_so(options.trace, true)),
+        Ok(Demand::Misses(options)) => Some(read_so(options.trace, false)),
+        Ok(Demand::Run(_)) => None,
+        Ok(Demand::Check(_)) => None,
+        Ok(Demand::Gen(_)) => None,
+        Ok(Demand::Explain(_)) => None,
+        Err(WordsFault::Usage(_)) => None,
+        Err(WordsFault::NoMemory) => None,
     }
 }
 
@@ -108,13 +123,36 @@ pub fn file_refused<'a>(demand: &Demand<'a>, status: &Status) -> Option<&'a str>
     }
 }
 
+// Of a program and settings, the file that is refused.
+fn refused_of<'a>(
+    program: Option<&'a str>,
+    settings: Option<&'a str>,
+    status: &Status,
+) -> Option<&'a str> {
+    match status {
+        Status::Elf(_) => program,
+        Status::Settings(_) => settings,
+        _ => None,
+    }
+}
+
 /// The name of a file that is refused whose beginning says more of why: a program or settings.
 pub fn file_to_look_at<'a>(alloc: Global, words: &'a [String], status: &Status) -> Option<&'a str> {
-    if !matches!(status, Status::Elf(_) | Status::Settings(_)) {
-        return None;
-    }
     match read_words(alloc, words) {
-        Ok(demand) => file_refused(&demand, status),
-        Err(_) => None,
+        Ok(Demand::Replay(options)) => refused_of(None, options.settings, status),
+        Ok(Demand::Check(options)) => refused_of(Some(options.program), options.settings, status),
+        Ok(Demand::Run(options)) => refused_of(Some(options.program), options.settings, status),
+        Ok(Demand::Explain(options)) => {
+            refused_of(Some(options.program), options.settings, status)
+        }
+        Ok(Demand::Split(_)) => None,
+        Ok(Demand::Gen(_)) => None,
+        Ok(Demand::Convert(_)) => None,
+        Ok(Demand::Sweep(_)) => None,
+        Ok(Demand::Caches(_)) => None,
+        Ok(Demand::Place(_)) => None,
+        Ok(Demand::Misses(_)) => None,
+        Err(WordsFault::Usage(_)) => None,
+        Err(WordsFault::NoMemory) => None,
     }
 }
