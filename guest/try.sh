@@ -381,12 +381,13 @@ C
     int main(void) { return pthread_cancel(pthread_self()); }' "a hart can't be ended by another one"
     cannot "signal" '#include <pthread.h>
     int main(void) { return pthread_kill(pthread_self(), 2); }' "there are no signals"
-    cannot "wait for a time" '#include <pthread.h>
-    int f(pthread_cond_t *c, pthread_mutex_t *m) { return pthread_cond_timedwait(c, m, 0); } int main(void) { return 0; }' "there is no clock"
+    cannot "join for a time" '#define _GNU_SOURCE
+    #include <pthread.h>
+    int main(void) { return pthread_timedjoin_np(pthread_self(), 0, 0); }' "a thread has no clock of its own"
     cannot "bring a stack" '#include <pthread.h>
     int main(void) { pthread_attr_t a; return pthread_attr_setstack(&a, 0, 0); }' "each hart has the stack"
-    cannot "sleep" '#include <unistd.h>
-    int main(void) { return (int)sleep(1); }' "there is no clock"
+    cannot "be woken by a clock" '#include <unistd.h>
+    int main(void) { return (int)alarm(1); }' "nothing comes by itself after a time"
 }
 
 try_c_library() {
