@@ -1,5 +1,5 @@
-// What is printed of each end. A kind of fault has a file, with what each of its faults is called and
-// what is said of it on standard error.
+// What is printed of each end. A kind of fault has a file, with what each of its faults is called,
+// and what is said of it on standard error.
 ghost use Rattle.std.specs.Prelude.{◌≡◌, ◌++◌, IfOk, string_bytes, codes};
 ghost use Rattle.command_files.specs.Faults.{fault_text};
 ghost use Rattle.command_files.specs.Texts.{line};

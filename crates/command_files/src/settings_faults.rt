@@ -72,8 +72,8 @@ fn toml_advice(alloc: Global, content: &[u8]) -> Result<String, AllocError> {
     }
 }
 
-/// What is wrong with settings that are refused, and what to do about it. `content` is that of their
-/// file, where it was looked at again.
+/// What is wrong with settings that are refused, and what to do about it. `content` is that of
+/// their file, where it was looked at again.
 pub fn settings_advice(
     alloc: Global,
     fault: &SettingsFault,

@@ -42,7 +42,7 @@ pub fn state_advice(alloc: Global, fault: StateFault) -> Result<String, AllocErr
             format!(in alloc; "saved with another layout or thresholds, as byte {place} shows")
         }
         StateFault::WrongPosition { saved, first } => format!(in alloc;
-            "its first access is number {first}, and {saved} is next: count the parts before it first"
+            "its first access is number {first}, not {saved}: count the parts before it first"
         ),
     }
 }

@@ -169,7 +169,7 @@ const ADVICE: [(Status, &str); 10] = [
             saved: 0,
             first: 6000,
         }),
-        "its first access is number 6000, and 0 is next: count the parts before it first",
+        "its first access is number 6000, not 0: count the parts before it first",
     ),
     (
         Status::State(StateFault::WrongSettings(32)),
