@@ -139,7 +139,7 @@ try_refusals() {
     printf '9 1\n' >schedule
     try "no schedule" 3 "$predator" run programs/counters.elf --schedule schedule
     try "bad settings" 4 "$predator" run programs/counters.elf --settings bad
-    says "bad settings" "\`harts\` is a whole number from 1 to 256"
+    says "bad settings" "bad: \`harts\` is a whole number from 1 to 256"
     try "no trace" 5 "$predator" replay settings
     try "no object" 13 "$predator" place t missing
     prints "no object" "predator: place NoObject"
