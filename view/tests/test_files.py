@@ -9,6 +9,7 @@ import struct
 import subprocess
 import sys
 import tempfile
+import time
 import unittest
 import warnings
 
@@ -174,14 +175,17 @@ class Large(unittest.TestCase):
         lines = 10**6
         with tempfile.TemporaryDirectory() as folder:
             path = os.path.join(folder, "report")
+            begun = time.process_time()
             self.write(path, lines)
+            wrote = time.process_time() - begun
             code = "import sys; sys.argv[0:1] = []; sys.path.insert(0, sys.argv[0]); import main; main.main(sys.argv[1:])"
             before = resource.getrusage(resource.RUSAGE_CHILDREN)
             ran = subprocess.run([sys.executable, "-c", code, os.path.join(HERE, ".."), path], capture_output=True, text=True)
             after = resource.getrusage(resource.RUSAGE_CHILDREN)
             self.assertIn(f"{7 * lines // 8}  table", ran.stdout)
             self.assertIn("block made in work < begin, by 0x00010408 (25000 lives)", ran.stdout)
-            self.assertLess(after.ru_utime - before.ru_utime, 20)
+            # 20 s of a quiet processor; beside other work all takes longer, the writing too.
+            self.assertLess(after.ru_utime - before.ru_utime, max(20, 4 * wrote))
             self.assertLess(after.ru_maxrss, 1 << 20)
 
 
