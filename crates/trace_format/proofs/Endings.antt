@@ -1,11 +1,13 @@
--- An end is given exactly where the bytes so far are a trace.
-use Rattle.std.proofs.Common.{◌≡◌, ℕ, List, Ok, sym, ap, ◌∙◌}
+-- An end is given exactly where the bytes so far are a trace, and else their first fault.
+use Rattle.std.proofs.Common.{◌≡◌, ℕ, List, Ok, Err, sym, ap, ◌∙◌}
 use Rattle.base.specs.declared.ending.Ending.{Ending}
+use Rattle.trace_format.specs.declared.fault.TraceFault.{TraceFault}
 use Rattle.trace_format.specs.declared.record.TraceRecord.{TraceRecord}
+use Rattle.trace_format.specs.Faults.{HasFault}
 use Rattle.trace_format.specs.Found.{IsTraceOf}
 use Rattle.trace_format.specs.Reading.{Reading, ending_of, reading_of}
 use Rattle.trace_format.specs.Laws.Traces.{trace_again}
-use Rattle.trace_format.specs.ReaderStates.{HasRead, ReadsTrace}
+use Rattle.trace_format.specs.ReaderStates.{HasRead, ReadsFault, ReadsTrace}
 
 module _ (now : Reading) (bytes : List ℕ) (first items : List TraceRecord) (e : Ending)
     (has : HasRead bytes first now items) where
@@ -24,3 +26,14 @@ module _ (now : Reading) (bytes : List ℕ) (first items : List TraceRecord) (e 
   trace_has_end reads =
       let t = reads.trace in
       ap ending_of has.reading ∙ (trace_again bytes t.version t.header t.items e t.trace).1
+
+pub fault_is_of_bytes : (now : Reading) (bytes : List ℕ) (first items : List TraceRecord)
+    → HasRead bytes first now items → (f : TraceFault)
+    → (ending_of (reading_of bytes).1 ≡ Err f → HasFault bytes (reading_of bytes).0 f)
+    → ending_of now ≡ Err f → ReadsFault bytes first items f
+fault_is_of_bytes now bytes first items has f law ends =
+    record {
+      records = (reading_of bytes).0;
+      behind = has.records;
+      fault = law (ap ending_of (sym has.reading) ∙ ends);
+    }

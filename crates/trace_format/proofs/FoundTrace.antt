@@ -15,8 +15,7 @@ use Rattle.trace_format.specs.declared.record.Version.{Version}
 use Rattle.trace_format.specs.declared.record.TraceRecord.{TraceRecord}
 use Rattle.trace_format.specs.declared.record.TraceRecord.TheVariants as records
 use Rattle.trace_format.specs.declared.read_so_far.ReadSoFar.{ReadSoFar}
-use Rattle.trace_format.specs.Spelling.{last_after, spell, spell_ending, spell_header, spell_record}
-use Rattle.trace_format.specs.Spelling.{spell_records}
+use Rattle.trace_format.specs.Spelling.{last_after, spell, spell_header, spell_record}
 use Rattle.trace_format.specs.Rules.{IsGoodHeader, IsGoodRecord, IsInner, last_position}
 use Rattle.trace_format.specs.Rules.{longest_trace, touch_in, touches_in}
 use Rattle.trace_format.specs.Judging.{header_judged, record_extent, record_judged}
@@ -27,33 +26,16 @@ use Rattle.trace_format.specs.Reading.{with_fault}
 use Rattle.trace_format.specs.Laws.Reading.{waiting}
 use Rattle.trace_format.specs.Laws.Extents.{extent_is_some, fronts_wait_at}
 use Rattle.trace_format.specs.Laws.Again.{ComesAt}
+use Rattle.trace_format.specs.Laws.Writing.{begun-ended, begun-more, last_more}
+use Rattle.trace_format.specs.Faults.{HasFault, IsOpenTrace, ended, nothing, unended}
 use Rattle.trace_format.specs.Found.{IsFound, IsTraceOf}
+use Rattle.trace_format.specs.Writing.{begun_with, last_behind}
 use Rattle.trace_format.specs.Laws.Bytes.{bytes_of}
 use Rattle.trace_format.proofs.FoundEnds.{header_found}
 use Rattle.trace_format.proofs.FoundRecord.{record_found}
+use Rattle.trace_format.proofs.Stops.{Stops, has_stopped, is_behind, stops_longer}
 
 -- ---- lists of records
-
-last_of : ℕ → List TraceRecord → ℕ
-last_of last [] = last
-last_of last (x ∷ xs) = last_of (last_after last x) xs
-
-last_of-more : (last : ℕ) (xs : List TraceRecord) (x : TraceRecord) → last_of last (xs ++ x ∷ [])
-    ≡ last_after (last_of last xs) x
-unfolding last_of
-last_of-more last [] x = refl
-last_of-more last (y ∷ ys) x = last_of-more (last_after last y) ys x
-
-spelled-more : (v : Version) (last : ℕ) (xs : List TraceRecord) (x : TraceRecord)
-    → spell_records v last (xs ++ x ∷ []) ≡ spell_records v last xs ++ spell_record v
-    (last_of last xs) x
-unfolding last_of
-spelled-more v last [] x = append-nil (spell_record v last x)
-spelled-more v last (y ∷ ys) x =
-    ap (λ (bytes : List ℕ). spell_record v last y ++ bytes)
-    (spelled-more v (last_after last y) ys x)
-    ∙ sym (append_assoc (spell_record v last y) (spell_records v (last_after last y) ys)
-    (spell_record v (last_of (last_after last y) ys) x))
 
 counted-one : (n : ℕ) (x : TraceRecord) → n + length (touches_in (x ∷ [])) ≡ counted_after n x
 counted-one n (records.Touch a) = refl
@@ -68,10 +50,6 @@ counted-more xs x =
     sym (ap length (filter_map-append touch_in xs (x ∷ [])) ∙ length-append (touches_in xs)
     (touches_in (x ∷ []))
     ∙ counted-one (length (touches_in xs)) x)
-
-last_first : (last : ℕ) → last ≡ 0 → last ≡ last_of 0 []
-unfolding last_of
-last_first last is = is
 
 -- ---- what waits is judged as soon as its bytes are there
 
@@ -101,10 +79,10 @@ record IsOpen (bytes : List ℕ) (items : List TraceRecord) (pending : List ℕ)
   inner : All IsInner items
   positions : p.header.first + p.counted ≤ last_position
   counted : p.counted ≡ length (touches_in items)
-  last : p.last ≡ last_of 0 items
+  last : p.last ≡ last_behind 0 items
   low : p.last < 2 ^ 32
-  place : p.place ≡ length (spell_header p.version p.header ++ spell_records p.version 0 items)
-  spelled : bytes ≡ (spell_header p.version p.header ++ spell_records p.version 0 items) ++ pending
+  place : p.place ≡ length (begun_with p.version p.header items)
+  spelled : bytes ≡ begun_with p.version p.header items ++ pending
   room : p.place + length pending ≤ longest_trace
   waits : length pending < record_extent p.version pending
   fits : All (λ b. b < 256) pending
@@ -117,18 +95,37 @@ record IsBefore (bytes : List ℕ) (items : List TraceRecord) (pending : List �
   waits : length pending < 20
   fits : All (λ b. b < 256) pending
 
+-- a whole trace, and nothing that waits
+record IsClosed (bytes : List ℕ) (items : List TraceRecord) (pending : List ℕ) (p : ReadSoFar)
+    (e : Ending) : Type 0 where
+  trace : IsTraceOf bytes items e
+  place : p.place ≡ length bytes
+  alone : pending ≡ []
+
 abbrev Keeps : Option ReadSoFar → Option Ending → List ℕ → List TraceRecord → List ℕ → Type 0
 Keeps None e bytes items pending = IsBefore bytes items pending e
 Keeps (Some p) None bytes items pending = IsOpen bytes items pending p
-Keeps (Some p) (Some e) bytes items pending = IsTraceOf bytes items e
+Keeps (Some p) (Some e) bytes items pending = IsClosed bytes items pending p e
 
 abbrev Stands : Option TraceFault → Option ReadSoFar → Option Ending → List ℕ → List TraceRecord
     → List ℕ → Type 0
-Stands (Some fault) p e bytes items pending = Unit {0}
+Stands (Some fault) p e bytes items pending = Stops bytes items fault
 Stands None p e bytes items pending = Keeps p e bytes items pending
 
 abbrev StandsAt : List ℕ → List TraceRecord → Reading → Type 0
 StandsAt bytes items r = Stands r.fault r.progress r.ending bytes items r.pending
+
+open_parts : (bytes : List ℕ) (items : List TraceRecord) (pending : List ℕ) (p : ReadSoFar)
+    → IsOpen bytes items pending p → IsOpenTrace p.header items
+open_parts bytes items pending p k =
+    let positions = k.positions in
+    let counted = k.counted in
+    record {
+      header = k.header;
+      records = k.good;
+      inner = k.inner;
+      positions = omega arith;
+    }
 
 -- ---- one more byte
 
@@ -186,7 +183,7 @@ module _ (before : List ℕ) (items : List TraceRecord) (pending : List ℕ) (b 
   waits_still (Some p) None k room short =
       let kept = k.room in
       let waits : length more < record_extent p.version more = grind (arith, nat_tests) in
-      let front = spell_header p.version p.header ++ spell_records p.version 0 items in
+      let front = begun_with p.version p.header items in
       let now : IsOpen bytes items more p =
       record {
         header = k.header;
@@ -211,7 +208,17 @@ module _ (before : List ℕ) (items : List TraceRecord) (pending : List ℕ) (b 
       → header_judged more ≡ j
       → (let now = header_read (waiting None e pending) j in StandsAt bytes (items ++ now.0) now.1)
   unfolding bytes more
-  header_stands e k len (Err fault) known = tt
+  header_stands e k len (Err fault) known =
+      let size : length more ≡ 20 = len in
+      record {
+        before = nothing;
+        unit = more;
+        rest = [];
+        good = tt;
+        records = append-nil items ∙ k.none;
+        spelled = ap (λ (xs : List ℕ). xs ++ b ∷ []) k.same ∙ sym (append-nil more);
+        judged = inl (record { whole = len; places = omega arith; says = known });
+      }
   header_stands e k len (Ok p) known =
       let is : All (λ b. b < 256) more = All-append (λ b. b < 256) pending (b ∷ []) k.fits
       (byte_is b small) in
@@ -233,7 +240,7 @@ module _ (before : List ℕ) (items : List TraceRecord) (pending : List ℕ) (b 
         inner = All-nil IsInner;
         positions = omega arith;
         counted = counted;
-        last = last_first p.last last;
+        last = last;
         low = omega arith;
         place = place ∙ size;
         spelled = same ∙ sym (append-nil (spell_header p.version p.header ++ []));
@@ -248,12 +255,12 @@ module _ (before : List ℕ) (items : List TraceRecord) (pending : List ℕ) (b 
   module _ (p : ReadSoFar) (k : IsOpen before items pending p)
       (room : p.place + length more ≤ longest_trace) where
     front : List ℕ
-    front = spell_header p.version p.header ++ spell_records p.version 0 items
+    front = begun_with p.version p.header items
 
     joined : bytes ≡ front ++ more
     unfolding bytes more front
-    joined = ap (λ (xs : List ℕ). xs ++ b ∷ []) k.spelled ∙ append_assoc
-        (spell_header p.version p.header ++ spell_records p.version 0 items) pending (b ∷ [])
+    joined = ap (λ (xs : List ℕ). xs ++ b ∷ []) k.spelled
+        ∙ append_assoc (begun_with p.version p.header items) pending (b ∷ [])
 
     size : length bytes ≡ p.place + length more
     unfolding front
@@ -262,25 +269,21 @@ module _ (before : List ℕ) (items : List TraceRecord) (pending : List ℕ) (b 
 
     -- the bytes once a record is found
     with_record : (item : TraceRecord) → IsFound p more item
-        → bytes ≡ spell_header p.version p.header ++ spell_records p.version 0 (items ++ item ∷ [])
+        → bytes ≡ begun_with p.version p.header (items ++ item ∷ [])
     unfolding front
     with_record item found =
         let v = p.version in
-        let h = spell_header v p.header in
-        let rs = spell_records v 0 items in
-        let last : spell_record v p.last item ≡ spell_record v (last_of 0 items) item =
+        let last : spell_record v p.last item ≡ spell_record v (last_behind 0 items) item =
         ap (λ (l : ℕ). spell_record v l item) k.last in
         joined ∙ ap (λ (xs : List ℕ). front ++ xs) (found.spelled ∙ last)
-        ∙ append_assoc h rs (spell_record v (last_of 0 items) item)
-        ∙ ap (λ (xs : List ℕ). h ++ xs) (sym (spelled-more v 0 items item))
+        ∙ begun-more v p.header items item
 
     open_after : (item : TraceRecord) → IsInner item → IsFound p more item
         → IsOpen bytes (items ++ item ∷ []) [] (progress_after p item (length more))
     open_after item inner found =
         let P : TraceRecord → Type 0 = IsGoodRecord p.header.harts in
         let whole = with_record item found in
-        let all = spell_header p.version p.header ++ spell_records p.version 0
-        (items ++ item ∷ []) in
+        let all = begun_with p.version p.header (items ++ item ∷ []) in
         record {
           header = k.header;
           good = All-append P items (item ∷ []) k.good (All-cons P item [] found.good (All-nil P));
@@ -288,7 +291,7 @@ module _ (before : List ℕ) (items : List TraceRecord) (pending : List ℕ) (b 
               (All-cons IsInner item [] inner (All-nil IsInner));
           positions = positions_after p item found.there k.positions;
           counted = ap (λ (n : ℕ). counted_after n item) k.counted ∙ counted-more items item;
-          last = ap (λ (l : ℕ). last_after l item) k.last ∙ sym (last_of-more 0 items item);
+          last = ap (λ (l : ℕ). last_after l item) k.last ∙ sym (last_more 0 items item);
           low = low_after p item found.good k.low;
           place = sym size ∙ ap length whole;
           spelled = whole ∙ sym (append-nil all);
@@ -298,34 +301,36 @@ module _ (before : List ℕ) (items : List TraceRecord) (pending : List ℕ) (b 
         }
 
     closed_after : (e : Ending) → IsFound p more (records.End e)
-        → IsTraceOf bytes (items ++ records.End e ∷ []) e
-    unfolding front spell
+        → IsClosed bytes (items ++ records.End e ∷ []) [] (progress_after p (records.End e)
+        (length more)) e
+    unfolding front
     closed_after e found =
-        let v = p.version in
-        let h = spell_header v p.header in
-        let rs = spell_records v 0 items in
-        let whole : bytes ≡ spell v p.header items e = joined
+        let whole : bytes ≡ spell p.version p.header items e = joined
         ∙ ap (λ (xs : List ℕ). front ++ xs) found.spelled
-        ∙ append_assoc h rs (spell_ending e) in
+        ∙ begun-ended p.version p.header items e in
         let positions = k.positions in
         let counted = k.counted in
         record {
-          version = v;
-          header = p.header;
-          items = items;
           trace = record {
-            good = record {
-              header = k.header;
-              records = k.good;
-              inner = k.inner;
-              ending = found.good;
-              positions = omega arith;
-              counted = found.there ∙ k.counted;
-              short = omega (arith, size, ap length whole);
+            version = p.version;
+            header = p.header;
+            items = items;
+            trace = record {
+              good = record {
+                header = k.header;
+                records = k.good;
+                inner = k.inner;
+                ending = found.good;
+                positions = omega arith;
+                counted = found.there ∙ k.counted;
+                short = omega (arith, size, ap length whole);
+              };
+              spelled = whole;
             };
-            spelled = whole;
+            records = refl;
           };
-          records = refl;
+          place = sym size;
+          alone = refl;
         }
 
     item_stands : (item : TraceRecord) → IsFound p more item
@@ -347,9 +352,100 @@ module _ (before : List ℕ) (items : List TraceRecord) (pending : List ℕ) (b 
         → record_judged p more ≡ j
         → (let now = record_read (waiting (Some p) None pending) p (length more) j in StandsAt bytes
         (items ++ now.0) now.1)
-    record_stands len (Err fault) known = tt
+    unfolding front
+    record_stands len (Err fault) known =
+        let v = p.version in
+        let there = is_behind p items k.counted k.last k.place in
+        record {
+          before = unended v p.header items;
+          unit = more;
+          rest = [];
+          good = open_parts before items pending p k;
+          records = append-nil items;
+          spelled = joined ∙ ap (λ (xs : List ℕ). front ++ xs) (sym (append-nil more));
+          judged = inl (record {
+            whole = len;
+            places = omega (arith, size, ap length joined);
+            says = subst (λ (q : ReadSoFar). record_judged q more ≡ Err fault) there known;
+          });
+        }
     record_stands len (Ok item) known = item_stands item
         (record_found p more item k.header.few k.low (bytes_of more more_fits) len known)
+
+  -- a byte behind a whole trace
+  after_end : (p : ReadSoFar) (e : Ending) → IsClosed before items pending p e
+      → eqb (p.place + length pending) longest_trace ≡ false
+      → Stops bytes (items ++ []) (faults.AfterEnd p.place)
+  unfolding bytes
+  after_end p e k room =
+      let t = k.trace in
+      let good = t.trace.good in
+      let whole : length before ≡ length (spell t.version t.header t.items e) =
+      ap length t.trace.spelled in
+      let none : length pending ≡ 0 = ap length k.alone in
+      let place = k.place in
+      let short = good.short in
+      let some : p.place < longest_trace = grind (arith, nat_tests) in
+      record {
+        before = ended t.version t.header t.items e;
+        unit = b ∷ [];
+        rest = [];
+        good = good;
+        records = append-nil items ∙ t.records;
+        spelled = ap (λ (xs : List ℕ). xs ++ b ∷ []) t.trace.spelled;
+        judged = inl (record {
+          whole = refl;
+          places = omega (arith, length-append (spell t.version t.header t.items e) (b ∷ []));
+          says = ap (λ (n : ℕ). faults.AfterEnd n) (sym (k.place ∙ whole));
+        });
+      }
+
+  -- a byte that no trace has a place for
+  last_place : (p : Option ReadSoFar) (e : Option Ending) → Keeps p e before items pending
+      → place_of p + length pending ≡ longest_trace
+      → Stops bytes (items ++ []) faults.TooLong
+  unfolding bytes
+  last_place None e k last =
+      let waits = k.waits in
+      absurd (omega arith)
+  last_place (Some p) None k last =
+      let front = begun_with p.version p.header items in
+      let place = k.place in
+      record {
+        before = unended p.version p.header items;
+        unit = pending;
+        rest = b ∷ [];
+        good = open_parts before items pending p k;
+        records = append-nil items;
+        spelled = ap (λ (xs : List ℕ). xs ++ b ∷ []) k.spelled
+            ∙ append_assoc front pending (b ∷ []);
+        judged = inr (record {
+          part = k.waits;
+          last = omega (arith, length-append front pending);
+          more = omega arith;
+          fault = refl;
+        });
+      }
+  last_place (Some p) (Some e) k last =
+      let t = k.trace in
+      let all = spell t.version t.header t.items e in
+      let whole : length before ≡ length all = ap length t.trace.spelled in
+      let none : length pending ≡ 0 = ap length k.alone in
+      let place = k.place in
+      record {
+        before = ended t.version t.header t.items e;
+        unit = [];
+        rest = b ∷ [];
+        good = t.trace.good;
+        records = append-nil items ∙ t.records;
+        spelled = ap (λ (xs : List ℕ). xs ++ b ∷ []) t.trace.spelled;
+        judged = inr (record {
+          part = omega arith;
+          last = omega (arith, length-append all []);
+          more = omega arith;
+          fault = refl;
+        });
+      }
 
   part_stands : (p : Option ReadSoFar) (e : Option Ending) → Keeps p e before items pending
       → eqb (place_of p + length pending) longest_trace ≡ false
@@ -366,19 +462,19 @@ module _ (before : List ℕ) (items : List TraceRecord) (pending : List ℕ) (b 
       in
       record_stands p k (grind (arith, nat_tests, longer)) (grind (arith, nat_tests, longer))
       (record_judged p more) refl
-  part_stands (Some p) (Some e) k room long = tt
+  part_stands (Some p) (Some e) k room long = after_end p e k room
 
   byte_stands : (f : Option TraceFault) (p : Option ReadSoFar) (e : Option Ending)
       → Stands f p e before items pending
       → (let now = byte_read (record { progress = p; pending = pending; ending = e; fault = f })
       b in StandsAt bytes (items ++ now.0) now.1)
-  unfolding byte_read more
-  byte_stands (Some fault) p e stands = tt
+  unfolding byte_read more bytes
+  byte_stands (Some fault) p e stands = stops_longer before (b ∷ []) items fault stands
   byte_stands None p e stands =
       let r = waiting p e pending in
       let P : List TraceRecord × Reading → Type 0 = λ now. StandsAt bytes (items ++ now.0) now.1 in
       by_test P (eqb (place_of p + length pending) longest_trace) ([], with_fault r faults.TooLong)
-      _ (λ last. tt)
+      _ (λ last. last_place p e stands (grind (arith, nat_tests)))
       (λ room. by_test P (ltb (length more) (extent_at p e more)) ([], record r { pending = more })
       (part_at r p e more)
       (λ short. waits_still p e stands room short) (λ long. part_stands p e stands room long))
@@ -414,21 +510,88 @@ ends bytes items (Some fault) p ending pending e stands is = absurd cc
 ends bytes items None None ending pending e stands is = absurd cc
 ends bytes items None (Some p) None pending e stands is = absurd cc
 ends bytes items None (Some p) (Some e') pending e stands is = subst (IsTraceOf bytes items)
-    (let same : e' ≡ e = cc in same) stands
+    (let same : e' ≡ e = cc in same) stands.trace
 
-pub trace_found : (bytes : List ℕ) (e : Ending) → All (λ b. b < 256) bytes
-    → ending_of (reading_of bytes).1 ≡ Ok e
-    → IsTraceOf bytes (reading_of bytes).0 e
-trace_found bytes e small is =
-    let r = (reading_of bytes).1 in
+same_fault : (a b : TraceFault) → (let r : Result Ending TraceFault = Err a in r ≡ Err b) → a ≡ b
+same_fault a b is = cc
+
+fault_in : (bytes : List ℕ) (items : List TraceRecord) (f : Option TraceFault)
+    (p : Option ReadSoFar) (ending : Option Ending) (pending : List ℕ) (fault : TraceFault)
+    → Stands f p ending bytes items pending
+    → ending_of (record { progress = p; pending = pending; ending = ending; fault = f })
+    ≡ Err fault
+    → HasFault bytes items fault
+fault_in bytes items (Some first) p ending pending fault stands is =
+    subst (HasFault bytes items) (same_fault first fault is) (has_stopped bytes items first stands)
+fault_in bytes items None None None pending fault stands is =
+    let waits = stands.waits in
+    record {
+      before = nothing;
+      unit = pending;
+      rest = [];
+      good = tt;
+      records = stands.none;
+      spelled = stands.same ∙ sym (append-nil pending);
+      judged = inr (inl (record {
+        wanted = tt;
+        part = stands.waits;
+        places = omega arith;
+        no_more = refl;
+        fault = sym (same_fault _ fault is)
+            ∙ ap (λ (n : ℕ). faults.Truncated n) (let none : 0 + length pending ≡ length pending =
+            omega arith in none);
+      }));
+    }
+fault_in bytes items None None (Some e) pending fault stands is = absurd cc
+fault_in bytes items None (Some p) None pending fault stands is =
+    let front = begun_with p.version p.header items in
+    let place = stands.place in
+    let room = stands.room in
+    let size : length (front ++ pending) ≡ p.place + length pending = omega
+    (arith, length-append front pending) in
+    record {
+      before = unended p.version p.header items;
+      unit = pending;
+      rest = [];
+      good = open_parts bytes items pending p stands;
+      records = refl;
+      spelled = stands.spelled ∙ ap (λ (xs : List ℕ). front ++ xs) (sym (append-nil pending));
+      judged = inr (inl (record {
+        wanted = tt;
+        part = stands.waits;
+        places = omega arith;
+        no_more = refl;
+        fault = sym (same_fault _ fault is) ∙ ap (λ (n : ℕ). faults.Truncated n) (sym size);
+      }));
+    }
+fault_in bytes items None (Some p) (Some e) pending fault stands is = absurd cc
+
+-- What is true of all bytes, read from the first on.
+stands_from_the_first : (bytes : List ℕ) → All (λ b. b < 256) bytes
+    → StandsAt bytes (reading_of bytes).0 (reading_of bytes).1
+stands_from_the_first bytes small =
     let first : StandsAt [] [] begin =
     record {
       none = refl;
       no_end = refl;
       same = refl;
       waits = omega arith;
-      fits = All-nil
-          (λ b. b < 256);
+      fits = All-nil (λ b. b < 256);
     } in
+    stands_on bytes [] [] begin small first
+
+pub trace_found : (bytes : List ℕ) (e : Ending) → All (λ b. b < 256) bytes
+    → ending_of (reading_of bytes).1 ≡ Ok e
+    → IsTraceOf bytes (reading_of bytes).0 e
+trace_found bytes e small is =
+    let r = (reading_of bytes).1 in
     ends bytes (reading_of bytes).0 r.fault r.progress r.ending r.pending e
-    (stands_on bytes [] [] begin small first) is
+    (stands_from_the_first bytes small) is
+
+pub fault_found : (bytes : List ℕ) (f : TraceFault) → All (λ b. b < 256) bytes
+    → ending_of (reading_of bytes).1 ≡ Err f
+    → HasFault bytes (reading_of bytes).0 f
+fault_found bytes f small is =
+    let r = (reading_of bytes).1 in
+    fault_in bytes (reading_of bytes).0 r.fault r.progress r.ending r.pending f
+    (stands_from_the_first bytes small) is

@@ -1,5 +1,6 @@
 pub mod Cuts
 pub mod Endings
+pub mod FaultAgain
 pub mod FoundEnds
 pub mod FoundRecord
 pub mod FoundRecords
@@ -12,5 +13,6 @@ pub mod Pieces
 pub mod ReadParts
 pub mod Runs
 pub mod ShortTouches
+pub mod Stops
 pub mod Worked
 pub mod WriteParts

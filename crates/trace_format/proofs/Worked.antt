@@ -1,5 +1,7 @@
 -- Worked cases of reading: each is closed by computing.
 use Rattle.std.proofs.Common.{◌≡◌, ℕ, ◌+◌, List, [], ◌∷◌, ◌++◌, replicate, Result, Ok, Err, refl}
+use Rattle.std.proofs.Common.{inl, inr, arith}
+use Rattle.std.proofs.lemmas.List.Elements.{All-nil}
 use Rattle.base.specs.declared.access.Kind.TheVariants.{Write}
 use Rattle.base.specs.declared.ending.Ending.{Ending}
 use Rattle.base.specs.declared.ending.Outcome.TheVariants.{Exit}
@@ -7,12 +9,16 @@ use Rattle.trace_format.specs.declared.fault.TraceFault.{TraceFault}
 use Rattle.trace_format.specs.declared.fault.TraceFault.TheVariants as faults
 use Rattle.trace_format.specs.declared.record.TraceRecord.{TraceRecord}
 use Rattle.trace_format.specs.declared.record.TraceRecord.TheVariants as records
+use Rattle.trace_format.specs.declared.record.Header.{Header}
 use Rattle.trace_format.specs.declared.record.Version.TheVariants.{One, Two}
 use Rattle.trace_format.specs.Spelling.{spell_header, spell_touch, spell_ending, spell}
 use Rattle.trace_format.specs.Judging.{header_judged, symbol_extent, record_extent, touch_judged}
 use Rattle.trace_format.specs.Judging.{short_touch_judged, symbol_judged, plain_judged}
 use Rattle.trace_format.specs.Judging.{outcome_judged, record_judged}
 use Rattle.trace_format.specs.Reading.{byte_read, read_on, reading_of, ending_of}
+use Rattle.trace_format.specs.Rules.{IsGoodRecord, IsGoodTrace, IsInner}
+use Rattle.trace_format.specs.Faults.{HasFault, IsOpenTrace}
+use Rattle.trace_format.specs.Faults.Beginning as beginnings
 
 -- PRDTRC01 or PRDTRC02, first position 0, so many harts, and zero
 head : ℕ → ℕ → List ℕ
@@ -142,3 +148,104 @@ module _ where
   unfolding header_judged record_extent touch_judged record_judged byte_read read_on what
       plain_writes
   too_far = refl
+
+-- ---- where the first fault stands
+
+eight : Header
+eight = record { first = 0; harts = 8 }
+
+begun_well : IsOpenTrace eight []
+unfolding eight
+begun_well = record {
+  header = record { position = omega arith; some = omega arith; few = omega arith };
+  records = All-nil (IsGoodRecord 8);
+  inner = All-nil IsInner;
+  positions = omega arith;
+}
+
+ended_well : IsGoodTrace One eight [] (an_end 0)
+unfolding eight an_end spell spell_header spell_ending
+ended_well = record {
+  header = record { position = omega arith; some = omega arith; few = omega arith };
+  records = All-nil (IsGoodRecord 8);
+  inner = All-nil IsInner;
+  ending = record { allowed = tt; outcome = omega arith; steps = omega arith; accesses = omega arith };
+  positions = omega arith;
+  counted = refl;
+  short = omega arith;
+}
+
+module _ where
+  -- a header of no version, and what follows doesn't matter
+  magic_stands : (rest : List ℕ) → HasFault (head 3 8 ++ rest) [] faults.BadMagic
+  unfolding header_judged head
+  magic_stands rest = record {
+    before = beginnings.nothing;
+    unit = head 3 8;
+    rest = rest;
+    good = tt;
+    records = refl;
+    spelled = refl;
+    judged = inl (record { whole = refl; places = omega arith; says = refl });
+  }
+
+  -- a byte that is no tag, behind a header
+  tag_stands : (rest : List ℕ) → HasFault (head 1 8 ++ 9 ∷ rest) [] (faults.BadTag 20)
+  unfolding spell_header record_extent record_judged head eight
+  tag_stands rest = record {
+    before = beginnings.unended One eight [];
+    unit = 9 ∷ [];
+    rest = rest;
+    good = begun_well;
+    records = refl;
+    spelled = refl;
+    judged = inl (record { whole = refl; places = omega arith; says = refl });
+  }
+
+  -- an end that tells three accesses behind none
+  count_stands : (rest : List ℕ) → HasFault (head 1 8 ++ (6 ∷
+      (replicate 8 0 ++ 0 ∷ (replicate 7 0 ++ 3 ∷ replicate 7 0)) ++ rest)) []
+      (faults.CountMismatch 3 0)
+  unfolding spell_header record_extent record_judged outcome_judged plain_judged head eight
+  count_stands rest = record {
+    before = beginnings.unended One eight [];
+    unit = 6 ∷ (replicate 8 0 ++ 0 ∷ (replicate 7 0 ++ 3 ∷ replicate 7 0));
+    rest = rest;
+    good = begun_well;
+    records = refl;
+    spelled = refl;
+    judged = inl (record { whole = refl; places = omega arith; says = refl });
+  }
+
+  -- an end without its last byte
+  cut_stands : HasFault (head 1 8 ++ 6 ∷ replicate 23 0) [] (faults.Truncated 44)
+  unfolding spell_header record_extent head eight
+  cut_stands = record {
+    before = beginnings.unended One eight [];
+    unit = 6 ∷ replicate 23 0;
+    rest = [];
+    good = begun_well;
+    records = refl;
+    spelled = refl;
+    judged = inr (inl (record {
+      wanted = tt;
+      part = omega arith;
+      places = omega arith;
+      no_more = refl;
+      fault = refl;
+    }));
+  }
+
+  -- a byte behind the end
+  byte_stands : (rest : List ℕ) → HasFault (head 1 8 ++ (ended 0 ++ 0 ∷ rest))
+      (records.End (an_end 0) ∷ []) (faults.AfterEnd 45)
+  unfolding spell spell_header spell_ending head ended an_end eight
+  byte_stands rest = record {
+    before = beginnings.ended One eight [] (an_end 0);
+    unit = 0 ∷ [];
+    rest = rest;
+    good = ended_well;
+    records = refl;
+    spelled = refl;
+    judged = inl (record { whole = refl; places = omega arith; says = refl });
+  }

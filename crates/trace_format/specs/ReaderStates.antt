@@ -3,6 +3,7 @@ use Rattle.std.specs.Prelude.{◌≡◌, ◌≤◌, ℕ, List, [], ◌++◌, len
 use Rattle.std.specs.Prelude.{Ok, Err, option_map, IsSome}
 use Rattle.base.specs.declared.ending.Ending.{Ending}
 use Rattle.trace_format.specs.declared.read_so_far.ReadSoFar.{ReadSoFar}
+use Rattle.trace_format.specs.Faults.{HasFault}
 use Rattle.trace_format.specs.Found.{IsTraceOf}
 use Rattle.trace_format.specs.declared.fault.TraceFault.{TraceFault}
 use Rattle.trace_format.specs.declared.record.TraceRecord.{TraceRecord}
@@ -78,6 +79,13 @@ pub record ReadsTrace (bytes : List ℕ) (first items : List TraceRecord) (e : E
   pub records : List TraceRecord
   pub behind : items ≡ first ++ records
   pub trace : IsTraceOf bytes records e
+
+-- The bytes have this first fault, and their records stand behind the first ones.
+pub record ReadsFault (bytes : List ℕ) (first items : List TraceRecord) (f : TraceFault) : Type 0
+  where
+    pub records : List TraceRecord
+    pub behind : items ≡ first ++ records
+    pub fault : HasFault bytes records f
 
 -- they tell the same version and header, or neither tells any
 pub record SameHead (p q : Option ReadSoFar) : Type 0 where

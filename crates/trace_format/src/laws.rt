@@ -1,10 +1,12 @@
 // Laws of what is read, for callers whose own clauses speak of traces.
-ghost use Rattle.std.specs.Prelude.{◌≡◌, ℕ, ◌^◌, ◌<◌, ◌≤◌, List, [], ◌++◌, length, Ok};
+ghost use Rattle.std.specs.Prelude.{◌≡◌, ℕ, ◌^◌, ◌<◌, ◌≤◌, List, [], ◌++◌, length, Ok, Err};
 ghost use Rattle.std.specs.List.{All};
 ghost use Rattle.base.specs.declared.ending.Ending.{Ending};
+ghost use Rattle.trace_format.specs.declared.fault.TraceFault.{TraceFault};
 ghost use Rattle.trace_format.specs.declared.record.TraceRecord.{TraceRecord};
 ghost use Rattle.trace_format.specs.declared.record.Version.{Version as Format};
 ghost use Rattle.trace_format.specs.declared.read_so_far.ReadSoFar.{ReadSoFar};
+ghost use Rattle.trace_format.specs.Faults.{HasFault};
 ghost use Rattle.trace_format.specs.Found.{IsFound, IsTraceOf};
 ghost use Rattle.trace_format.specs.Judging.{record_extent, record_judged};
 ghost use Rattle.trace_format.specs.Reading.{ending_of, reading_of};
@@ -25,4 +27,17 @@ pub fn what_is_read_was_spelled()
     ensures no_prefix { (v : Format) (harts last : ℕ) (a b : TraceRecord) (more : List ℕ)
         → IsGoodRecord harts a → IsGoodRecord harts b
         → spell_record v last b ≡ spell_record v last a ++ more → more ≡ [] }
+{}
+
+/// A fault stands behind a good beginning, at the first unit that is cut short or refused. Nothing
+/// is done.
+pub fn where_the_first_fault_stands()
+    // bytes that are no trace are the spelling of the records that are read, then one unit that is
+    // judged at this fault, whatever follows
+    ensures stands { (bytes : List ℕ) (f : TraceFault) → All (λ b. b < 256) bytes
+        → ending_of (reading_of bytes).1 ≡ Err f → HasFault bytes (reading_of bytes).0 f }
+    // such bytes have no other records, and no other fault
+    ensures only { (bytes : List ℕ) (items : List TraceRecord) (f : TraceFault)
+        → HasFault bytes items f
+        → ((reading_of bytes).0 ≡ items) × (ending_of (reading_of bytes).1 ≡ Err f) }
 {}

@@ -3,7 +3,8 @@ ghost use Rattle.std.specs.Prelude.{◌≡◌, ◌≢◌, ◌⊎◌, ◌+◌, �
 ghost use Rattle.std.specs.Prelude.{IsSome, IfOk};
 
 use crate::reader_state::{State, read_parts};
-use crate::{Header, TraceFault, TraceRecord, Version, what_is_read_was_spelled};
+use crate::{Header, TraceFault, TraceRecord, Version};
+use crate::{what_is_read_was_spelled, where_the_first_fault_stands};
 use base::{Ending, NoMemory};
 use std::alloc::{AllocError, Global};
 use std::marker::Model;
@@ -80,12 +81,13 @@ impl TraceReader {
     ghost use Rattle.std.specs.Prelude.{List, ℕ, Ok, Err, option_map};
     ghost use Rattle.std.specs.List.{All};
     ghost use Rattle.base.specs.declared.ending.Ending.{Ending};
+    ghost use Rattle.trace_format.specs.declared.fault.TraceFault.{TraceFault};
     ghost use Rattle.trace_format.specs.declared.record.TraceRecord.{TraceRecord};
     ghost use Rattle.trace_format.specs.Reading.{begin, ending_of};
     ghost use Rattle.trace_format.specs.Reading.{taken, with_fault};
     ghost use Rattle.trace_format.specs.Rules.{longest_trace};
     ghost use Rattle.trace_format.specs.ReaderStates.{AddsSome, HasRead, KeepsHead};
-    ghost use Rattle.trace_format.specs.ReaderStates.{ReadsOn, ReadsTrace, answer_at};
+    ghost use Rattle.trace_format.specs.ReaderStates.{ReadsFault, ReadsOn, ReadsTrace, answer_at};
 
     /// A reader before the first byte.
     pub fn new(alloc: Global) -> Result<TraceReader, NoMemory>
@@ -145,8 +147,14 @@ impl TraceReader {
         ensures whole { (bytes : List ℕ) (first items : List TraceRecord) (e : Ending)
             → HasRead bytes first self.now items
             → ReadsTrace bytes first items e → result ≡ Ok e }
+
+        // Else they are a good beginning and then one unit at fault, whatever follows.
+        ensures fault { (bytes : List ℕ) (first items : List TraceRecord) (f : TraceFault)
+            → All (λ b. b < 256) bytes → HasRead bytes first self.now items
+            → result ≡ Err f → ReadsFault bytes first items f }
     {
         what_is_read_was_spelled();
+        where_the_first_fault_stands();
         self.ending_so_far()
     }
 

@@ -22,9 +22,12 @@ use Rattle.trace_format.specs.Laws.Reading.{part_then, read_on-append, then_read
 use Rattle.trace_format.specs.Laws.Extents.{extent_is_some, fronts_wait_at}
 use Rattle.trace_format.specs.Laws.Spelling.{record_whole}
 use Rattle.trace_format.specs.Laws.Again.{ComesAt, header_again, record_again}
+use Rattle.trace_format.specs.Laws.Writing.{begun-ended}
+use Rattle.trace_format.specs.Faults.{IsOpenTrace, behind}
+use Rattle.trace_format.specs.Writing.{begun_with, last_behind}
 
 -- bytes that are judged whole are read at once
-part_alone : (p : Option ReadSoFar) (e : Option Ending) (bytes : List ℕ)
+pub part_alone : (p : Option ReadSoFar) (e : Option Ending) (bytes : List ℕ)
     → length bytes ≡ extent_at p e bytes → place_of p + length bytes ≤ longest_trace
     → read_on (waiting p e []) bytes ≡ (
       (part_at (waiting p e []) p e bytes).0 ++ [],
@@ -40,7 +43,7 @@ part_alone p e bytes whole low =
     ∙ ap (λ (xs : List ℕ). then_read (part_at (waiting p e []) p e xs) (drop n bytes)) all
     ∙ ap (λ (xs : List ℕ). then_read (part_at (waiting p e []) p e bytes) xs) none
 
-after_one : ReadSoFar → TraceRecord → ReadSoFar
+unfoldable pub after_one : ReadSoFar → TraceRecord → ReadSoFar
 after_one p item = progress_after p item (length (spell_record p.version p.last item))
 
 one_alone : (p : ReadSoFar) (item : TraceRecord) → p.header.harts ≤ 256 → p.last < 2 ^ 32
@@ -56,10 +59,6 @@ one_alone p item few low good there short =
     part_alone (Some p) None bytes (sym (record_whole p.version p.header.harts p.last item good))
     short
     ∙ rw (record_again p item few low good there) refl
-
-after_all : ReadSoFar → List TraceRecord → Ending → ReadSoFar
-after_all p [] e = after_one p (records.End e)
-after_all p (item ∷ items) e = after_all (after_one p item) items e
 
 -- an inner record counts where it is an access, and ends nothing
 record IsInnerAt (p : ReadSoFar) (item : TraceRecord) (items : List TraceRecord) : Type 0 where
@@ -89,29 +88,45 @@ inner_at p (records.Symbol kind addr size name) items inner good low fits =
     record { open_still = refl; counts = refl; low = low; there = tt }
 inner_at p (records.End e) items inner good low fits = absurd inner
 
-rest_again : (items : List TraceRecord) (e : Ending) (p : ReadSoFar) → p.header.harts ≤ 256
+-- ---- records that come behind others
+
+progress_with : (v : Version) (h : Header) (last c d n m : ℕ) → c ≡ d → n ≡ m
+    → (let p : ReadSoFar = record { version = v; header = h; counted = c; last = last; place = n } in
+    p ≡ record { version = v; header = h; counted = d; last = last; place = m })
+progress_with v h last c d n m counted place =
+    λ i. let p : ReadSoFar =
+    record { version = v; header = h; counted = counted i; last = last; place = place i } in p
+
+abbrev after_items : ReadSoFar → List TraceRecord → ReadSoFar
+after_items p items = record {
+  version = p.version;
+  header = p.header;
+  counted = p.counted + length (touches_in items);
+  last = last_behind p.last items;
+  place = p.place + length (spell_records p.version p.last items);
+}
+
+records_again : (items : List TraceRecord) (p : ReadSoFar) → p.header.harts ≤ 256
     → p.last < 2 ^ 32 → All (IsGoodRecord p.header.harts) items → All IsInner items
-    → IsGoodEnding p.header.harts e
-    → e.accesses ≡ p.counted + length (touches_in items) → p.header.first + (p.counted + length
-    (touches_in items)) ≤ last_position → p.place + length (spell_records p.version p.last items
-    ++ spell_ending e) ≤ longest_trace
-    → read_on (waiting (Some p) None []) (spell_records p.version p.last items ++ spell_ending e)
-    ≡ (items ++ records.End e ∷ [], waiting (Some (after_all p items e)) (Some e) [])
-unfolding after_all after_one
-rest_again [] e p few low good inner ending told fits short =
-    one_alone p (records.End e) few low ending (told ∙ omega arith) short
-rest_again (item ∷ items) e p few low good inner ending told fits short =
+    → p.header.first + (p.counted + length (touches_in items)) ≤ last_position
+    → p.place + length (spell_records p.version p.last items) ≤ longest_trace
+    → (read_on (waiting (Some p) None []) (spell_records p.version p.last items)
+    ≡ (items, waiting (Some (after_items p items)) None [])) × (last_behind p.last items < 2 ^ 32)
+unfolding read_on after_one
+records_again [] p few low good inner fits short =
+    let same : p ≡ after_items p [] =
+    progress_with p.version p.header p.last p.counted (p.counted + 0) p.place (p.place + 0)
+    (omega arith) (omega arith) in
+    (ap (λ (q : ReadSoFar). ([], waiting (Some q) None [])) same, low)
+records_again (item ∷ items) p few low good inner fits short =
     let v = p.version in
     let first = spell_record v p.last item in
-    let later = spell_records v (last_after p.last item) items ++ spell_ending e in
+    let later = spell_records v (last_after p.last item) items in
     let at =
     inner_at p item items (All-head IsInner item items inner) (All-head
     (IsGoodRecord p.header.harts) item items good) low fits in
-    let regrouped : (first ++ spell_records v (last_after p.last item) items) ++ spell_ending e ≡
-    first ++ later =
-    append_assoc first (spell_records v (last_after p.last item) items) (spell_ending e) in
-    let size : p.place + (length first + length later) ≤ longest_trace =
-    omega (arith, ap length regrouped, length-append first later) in
+    let counts = at.counts in
+    let both : length (first ++ later) ≡ length first + length later = length-append first later in
     let one =
     one_alone p item few low (All-head (IsGoodRecord p.header.harts) item items good) at.there
     (omega arith) in
@@ -123,45 +138,92 @@ rest_again (item ∷ items) e p few low good inner ending told fits short =
     ∙ ap (λ (x : Option Ending). (item ∷ [], waiting (Some (after_one p item)) x []))
     at.open_still in
     let rest =
-    rest_again items e (after_one p item) few at.low (All-tail (IsGoodRecord p.header.harts)
-    item items good) (All-tail IsInner item items inner) ending (told ∙ sym at.counts)
-    (omega (arith, at.counts)) (omega arith) in
-    ap (read_on (waiting (Some p) None [])) regrouped
-    ∙ read_on-append (waiting (Some p) None []) first later
-    ∙ ap (λ (x : List TraceRecord × Reading). then_read x later) open_one
-    ∙ ap (λ (x : List TraceRecord × Reading). (item ∷ x.0, x.1)) rest
+    records_again items (after_one p item) few at.low (All-tail (IsGoodRecord p.header.harts)
+    item items good) (All-tail IsInner item items inner) (omega arith) (omega arith) in
+    let same : after_items (after_one p item) items ≡ after_items p (item ∷ items) =
+    progress_with v p.header (last_behind (last_after p.last item) items) _ _ _ _ counts
+    (omega arith) in
+    (
+      read_on-append (waiting (Some p) None []) first later
+          ∙ ap (λ (x : List TraceRecord × Reading). then_read x later) open_one
+          ∙ ap (λ (x : List TraceRecord × Reading). (item ∷ x.0, x.1)) rest.0
+          ∙ ap (λ (q : ReadSoFar). (item ∷ items, waiting (Some q) None [])) same,
+      rest.1,
+    )
+
+-- ---- a trace from its header on
 
 header_length : (v : Version) (h : Header) → length (spell_header v h) ≡ 20
 unfolding spell_header
 header_length One h = refl
 header_length Two h = refl
 
+module _ (v : Version) (h : Header) (items : List TraceRecord) (good : IsOpenTrace h items)
+    (short : length (begun_with v h items) ≤ longest_trace) where
+  -- A header and records are read as these records, and the address of the last access is one of
+  -- 32 bits.
+  pub begun_again : (reading_of (begun_with v h items)
+      ≡ (items, waiting (Some (behind v h items)) None [])) × (last_behind 0 items < 2 ^ 32)
+  begun_again =
+      let front = spell_header v h in
+      let later = spell_records v 0 items in
+      let size : length (front ++ later) ≡ length front + length later =
+      length-append front later in
+      let twenty = header_length v h in
+      let few = good.header.few in
+      let positions = good.positions in
+      let head : read_on begin front ≡ ([], waiting (Some (begun v h)) None []) =
+      part_alone None None front twenty (omega arith)
+      ∙ rw (header_again v h good.header) refl in
+      let rest =
+      records_again items (begun v h) few (omega arith) good.records good.inner (omega arith)
+      (omega arith) in
+      let same : after_items (begun v h) items ≡ behind v h items =
+      progress_with v h (last_behind 0 items) _ _ _ _ (omega arith) (omega arith) in
+      (
+        read_on-append begin front later
+            ∙ ap (λ (x : List TraceRecord × Reading). then_read x later) head ∙ rest.0
+            ∙ ap (λ (q : ReadSoFar). (items, waiting (Some q) None [])) same,
+        rest.1,
+      )
+
+-- what is read of a whole trace
+abbrev pub read_whole : Version → Header → List TraceRecord → Ending → ReadSoFar
+read_whole v h items e = after_one (behind v h items) (records.End e)
+
 -- The bytes of a good trace are read as its records and its end.
-read_again : (bytes : List ℕ) (v : Version) (h : Header) (items : List TraceRecord) (e :
+pub read_again : (bytes : List ℕ) (v : Version) (h : Header) (items : List TraceRecord) (e :
     Ending)
     → IsTrace bytes v h items e
     → reading_of bytes ≡ (
       items ++ records.End e ∷ [],
       waiting
-          (Some (after_all (begun v h) items e)) (Some e) [],
+          (Some (read_whole v h items e)) (Some e) [],
     )
-unfolding spell
 read_again bytes v h items e is =
     let good = is.good in
-    let front = spell_header v h in
-    let later = spell_records v 0 items ++ spell_ending e in
-    let size : length (front ++ later) ≡ length front + length later =
-    length-append front later in
-    let twenty = header_length v h in
-    let head : read_on begin front ≡ ([], waiting (Some (begun v h)) None []) =
-    part_alone None None front twenty (omega (arith, good.short))
-    ∙ rw (header_again v h good.header) refl in
-    let rest =
-    rest_again items e (begun v h) good.header.few (omega arith) good.records good.inner
-    good.ending (good.counted ∙ omega arith) (omega (arith, good.positions)) (omega
-    (arith, good.short)) in
-    ap reading_of is.spelled ∙ read_on-append begin front later
-    ∙ ap (λ (x : List TraceRecord × Reading). then_read x later) head ∙ rest
+    let front = begun_with v h items in
+    let later = spell_ending e in
+    let whole : front ++ later ≡ spell v h items e = begun-ended v h items e in
+    let size : length front + length later ≡ length (spell v h items e) =
+    sym (length-append front later) ∙ ap length whole in
+    let positions = good.positions in
+    let short = good.short in
+    let few = good.header.few in
+    let open_trace : IsOpenTrace h items =
+    record {
+      header = good.header;
+      records = good.records;
+      inner = good.inner;
+      positions = good.positions;
+    } in
+    let begun = begun_again v h items open_trace (omega arith) in
+    let last =
+    one_alone (behind v h items) (records.End e) few begun.1 good.ending good.counted (omega arith)
+    in
+    ap reading_of (is.spelled ∙ sym whole) ∙ read_on-append begin front later
+    ∙ ap (λ (x : List TraceRecord × Reading). then_read x later) begun.0
+    ∙ ap (λ (x : List TraceRecord × Reading). (items ++ x.0, x.1)) last
 
 -- However they are cut, the records and the end are those that were spelled,
 pub trace_again : (bytes : List ℕ) (v : Version) (h : Header) (items : List TraceRecord) (e :
@@ -176,22 +238,16 @@ trace_again bytes v h items e is =
           (λ (x : List TraceRecord × Reading). ending_of x.1) whole,
     )
 
-head_kept : (p : ReadSoFar) (items : List TraceRecord) (e : Ending)
-    → ((after_all p items e).version ≡ p.version) × ((after_all p items e).header ≡ p.header)
-unfolding after_all after_one
-head_kept p [] e = (refl, refl)
-head_kept p (item ∷ items) e = head_kept (after_one p item) items e
-
 -- and so are the version and the header.
 pub head_again : (bytes : List ℕ) (v : Version) (h : Header) (items : List TraceRecord) (e :
     Ending)
     → IsTrace bytes v h items e
     → (p : ReadSoFar) × ((reading_of bytes).1.progress ≡ Some p) × (p.version ≡ v) × (p.header ≡ h)
+unfolding after_one
 head_again bytes v h items e is =
-    let whole = read_again bytes v h items e is in
-    let kept = head_kept (begun v h) items e in (
-      after_all (begun v h) items e,
+    let whole = read_again bytes v h items e is in (
+      read_whole v h items e,
       ap (λ (x : List TraceRecord × Reading). x.1.progress) whole,
-      kept.0,
-      kept.1,
+      refl,
+      refl,
     )

@@ -20,7 +20,7 @@ spell-append v last (x ∷ xs) ys =
     ap (λ (l : List ℕ). spell_record v last x ++ l) (spell-append v (last_after last x) xs ys)
     ∙ sym (append_assoc (spell_record v last x) (spell_records v (last_after last x) xs) _)
 
-last_more : (last : ℕ) (xs : List TraceRecord) (x : TraceRecord)
+pub last_more : (last : ℕ) (xs : List TraceRecord) (x : TraceRecord)
     → last_behind last (xs ++ x ∷ []) ≡ last_after (last_behind last xs) x
 last_more last [] x = refl
 last_more last (y ∷ ys) x = last_more (last_after last y) ys x
