@@ -25,4 +25,5 @@ pub mod SteadyLaws
 pub mod SummaryLaws
 pub mod SymbolLaws
 pub mod TraceFiles
+pub mod TrackLaws
 pub mod WriteEnds

@@ -1,11 +1,11 @@
 -- The state of what was seen, and the recount of what is reported.
 use Rattle.std.proofs.Common.{◌≡◌, ℕ, List, ◌++◌, ap, ◌∙◌}
-use Rattle.command_files.specs.SettingsFiles.{chosen_settings, layout_of, levels_of}
 use Rattle.command_line.specs.Replay.{ReplayDemand}
 use Rattle.sharing_rules.specs.Laws.Recounts.{listed_are_recounted}
 use Rattle.shelf.specs.Shelf.{Files}
 use Rattle.trace_passes.specs.Passes.{all_records}
 use Rattle.predator_cli.specs.Recounts.{ReplayIsRecounted}
+use Rattle.predator_cli.specs.Replay.{grid_in, levels_in}
 use Rattle.detector.specs.Watch.{Watch}
 use Rattle.saved_state.specs.Saving.{state_of}
 use Rattle.objects.specs.Objects.{Objects}
@@ -23,9 +23,13 @@ use Rattle.predator_cli.specs.States.{state_of_records, state_of_sighted}
 -- every line that the report of a replay lists is recounted
 pub replay_recounted : (d : ReplayDemand) (files : Files) → ReplayIsRecounted d files
 replay_recounted d files =
-    let s = chosen_settings d.settings files in
-    λ alone t read. listed_are_recounted (layout_of d.layout s) (levels_of d.layout s)
-    (touches_in (all_records t))
+    let g = grid_in d files in
+    let v = levels_in d files in
+    record {
+      whole = λ alone t read. listed_are_recounted g v (touches_in (all_records t));
+      behind = λ harts before t so. listed_are_recounted g v
+          (touches_in (before ++ all_records t));
+    }
 
 module _ (harts : ℕ) (s : Sighted) (w : Watch) (o : Objects) (all first second : List ℕ)
     (both : all ≡ first ++ second)

@@ -1,7 +1,9 @@
 -- What a replay gives that goes on from the saved state of some records.
-use Rattle.std.specs.Prelude.{◌≡◌, ℕ, ◌≤◌, ◌^◌, List, [], ◌∷◌, ◌++◌, length, flat_map, Option, Some}
+use Rattle.std.specs.Prelude.{◌≡◌, ℕ, ◌≤◌, ◌^◌, List, [], ◌∷◌, ◌++◌, length, flat_map, map}
+use Rattle.std.specs.Prelude.{Option, Some}
 use Rattle.std.specs.List.{All}
 use Rattle.command_line.specs.Replay.{ReplayDemand}
+use Rattle.detector.specs.Changes.{touched_all}
 use Rattle.saved_state.specs.Resuming.{kept_of_list}
 use Rattle.saved_state.specs.ObjectRules.{IsSavable}
 use Rattle.base.specs.Levels.{Levels}
@@ -10,12 +12,13 @@ use Rattle.base.specs.declared.ending.Ending.{Ending}
 use Rattle.shelf.specs.Shelf.{Files, content}
 use Rattle.sightings.specs.Lives.{objects_of}
 use Rattle.sightings.specs.Seen.{report_of_records}
+use Rattle.sightings.specs.Sights.{Sighted, report_of_sighted, sighted_after}
 use Rattle.saved_state.specs.OfLists.{MayKeep}
 use Rattle.trace_format.specs.Rules.{touches_in}
 use Rattle.trace_format.specs.declared.record.TraceRecord.{TraceRecord}
 use Rattle.trace_passes.specs.Passes.{Trace, all_records, trace_of}
-use Rattle.predator_cli.specs.Replay.{ended_at, grid_in, levels_in, shown}
-use Rattle.predator_cli.specs.States.{state_of_records}
+use Rattle.predator_cli.specs.Replay.{ended_at, grid_in, levels_in, replay_work, shown}
+use Rattle.predator_cli.specs.States.{state_of_records, state_of_sighted}
 use Rattle.command_files.specs.Works.{Work}
 use Rattle.predator_cli.specs.declared.state_file.Begun.{Begun}
 
@@ -60,6 +63,22 @@ pub record HoldsBoth (demand : ReplayDemand) (files : Files) (harts : ℕ) (befo
   pub trace : trace_of (content files demand.trace) ≡ Some t
   pub same_harts : t.header.harts ≡ harts
   pub first : t.header.first ≡ length (touches_in before)
+
+-- what was seen once a trace came behind it
+abbrev pub seen_behind : Begun → Trace → Sighted
+seen_behind begun t = sighted_after begun.sightings (all_records t)
+
+-- No track comes. The report and the state are of the tracks that were there, in order, each with
+-- the accesses of the trace in its range noted, and of no others.
+pub record NotesAlone (demand : ReplayDemand) (files : Files) (begun : Begun) (t : Trace) : Type 0
+  where
+    pub tracks : (seen_behind begun t).watch.tracks
+        ≡ map (touched_all begun.sightings.watch.position (touches_in (all_records t)))
+        begun.sightings.watch.tracks
+    pub work : replay_work demand files ≡ shown demand.save
+        (report_of_sighted (ended_at (seen_behind begun t).watch.position t.ending)
+        (seen_behind begun t))
+        (state_of_sighted t.header.harts (seen_behind begun t))
 
 -- its end tells how many accesses it has
 abbrev pub TellsItsCount : Trace → Type 0

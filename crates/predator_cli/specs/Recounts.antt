@@ -1,5 +1,5 @@
 -- What is promised of the counts in a report: what a plain recount of the same lines says of them.
-use Rattle.std.specs.Prelude.{◌≡◌, Some, None}
+use Rattle.std.specs.Prelude.{◌≡◌, ℕ, List, ◌++◌, Some, None}
 use Rattle.std.specs.List.{All}
 use Rattle.command_line.specs.Replay.{ReplayDemand}
 use Rattle.command_line.specs.Run.{RunDemand}
@@ -11,7 +11,10 @@ use Rattle.sharing_rules.specs.Recounts.{IsRecounted}
 use Rattle.shelf.specs.Shelf.{Files, content}
 use Rattle.trace_format.specs.Rules.{touches_in}
 use Rattle.trace_passes.specs.Passes.{Trace, all_records, trace_of}
-use Rattle.command_files.specs.SettingsFiles.{chosen_settings, layout_of, levels_of, native_of}
+use Rattle.trace_format.specs.declared.record.TraceRecord.{TraceRecord}
+use Rattle.command_files.specs.SettingsFiles.{chosen_settings, levels_of, native_of}
+use Rattle.predator_cli.specs.GoesOn.{HoldsBoth}
+use Rattle.predator_cli.specs.Replay.{grid_in, levels_in}
 use Rattle.predator_cli.specs.Run.{trace_for_demand}
 
 -- Every line that is listed of an access list is recounted: over the same list, under the line's
@@ -24,12 +27,15 @@ AreRecounted g v t = All (IsRecounted t) (listed g v t)
 abbrev pub IsRecountedIn : Grid → Levels → Trace → Type 0
 IsRecountedIn g v t = AreRecounted g v (touches_in (all_records t))
 
--- of the whole trace that a replay reads, under the layout and the thresholds of its report
-abbrev pub ReplayIsRecounted : ReplayDemand → Files → Type 0
-ReplayIsRecounted demand files =
-    let settings = chosen_settings demand.settings files in
-    demand.resume ≡ None → (t : Trace) → trace_of (content files demand.trace) ≡ Some t
-    → IsRecountedIn (layout_of demand.layout settings) (levels_of demand.layout settings) t
+-- of the whole trace that a replay reads, under the layout and the thresholds of its report; and
+-- where it goes on from the state of some records, of these followed by those of its trace
+pub record ReplayIsRecounted (demand : ReplayDemand) (files : Files) : Type 0 where
+  pub whole : demand.resume ≡ None → (t : Trace) → trace_of (content files demand.trace) ≡ Some t
+      → IsRecountedIn (grid_in demand files) (levels_in demand files) t
+  pub behind : (harts : ℕ) (before : List TraceRecord) (t : Trace)
+      → HoldsBoth demand files harts before t
+      → AreRecounted (grid_in demand files) (levels_in demand files)
+      (touches_in (before ++ all_records t))
 
 -- and of the trace of a run
 abbrev pub RunIsRecounted : RunDemand → Files → Type 0

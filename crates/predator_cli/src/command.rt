@@ -120,7 +120,8 @@ pub fn predator<S: Shelf>(alloc: Global, words: &[String], shelf: &mut S) -> Sta
         (StaysWithinBudget (demand_of (texts words.now))) }
     // Each count that a report of a run or of a whole trace lists is at most a plain recount of the
     // same line over the same accesses, under the line's own layout with tracking threshold 1, and
-    // after the line's start both count alike.
+    // after the line's start both count alike. So it is of a trace that goes on from the state of
+    // some records, over their accesses followed by its own.
     ensures recounts { Told (S.outside shelf.old).held
         (ReportIsRecounted (demand_of (texts words.now))) }
     // No other name's file changes.

@@ -7,6 +7,7 @@ ghost use Rattle.command_files.specs.SettingsFiles.{settings_readings};
 ghost use Rattle.command_line.specs.Replay.{ReplayDemand};
 ghost use Rattle.command_line.specs.Split.{SplitDemand};
 ghost use Rattle.command_line.specs.Words.{replay};
+ghost use Rattle.detector.specs.Changes.{AddNoTracks};
 ghost use Rattle.saved_state.specs.ObjectRules.{IsSavable};
 ghost use Rattle.base.specs.Levels.{Levels};
 ghost use Rattle.base.specs.Lines.{Grid};
@@ -18,12 +19,15 @@ ghost use Rattle.trace_format.specs.declared.record.TraceRecord.{TraceRecord as 
 ghost use Rattle.trace_files.specs.Copies.{first_half, second_half};
 ghost use Rattle.trace_passes.specs.Passes.{Trace, all_records, trace_of};
 ghost use Rattle.predator_cli.specs.Answer.{answer_of};
-ghost use Rattle.predator_cli.specs.GoesOn.{HoldsBoth, IsCutIn, MayStand, begun_of};
+ghost use Rattle.predator_cli.specs.GoesOn.{HoldsBoth, IsCutIn, MayStand, NotesAlone, begun_of};
 ghost use Rattle.predator_cli.specs.GoesOn.{work_of_both};
 ghost use Rattle.predator_cli.specs.Parts.{SplitRepeats};
-ghost use Rattle.predator_cli.specs.Replay.{grid_in, levels_in, replay_work, work_after};
+ghost use Rattle.predator_cli.specs.Replay.{begun_in, grid_in, levels_in, replay_work};
+ghost use Rattle.predator_cli.specs.Replay.{work_after};
 ghost use Rattle.predator_cli.specs.States.{judged_state, state_of_records};
+ghost use Rattle.predator_cli.specs.declared.state_file.Begun.{Begun};
 
+use detector::an_access_changes_what_it_meets;
 use saved_state::{the_state_of_a_list_is_taken_up, what_is_resumed_was_saved};
 use sightings::{what_is_noted_is_seen, what_stands_was_noted};
 use trace_parts::the_halves_are_traces;
@@ -57,8 +61,16 @@ pub fn a_replay_goes_on_from_a_list()
         → first_refusal (settings_readings demand.settings) files ≡ None
         → answer_of (Some (replay demand)) files ≡ work_of_both demand.save (grid_in demand files)
         (levels_in demand files) harts before t }
-    // and of a trace that was cut in parts, each saved and carried on, the last one gives what the
-    // whole trace gives
+    // Behind any state that is taken up, also one that no list has: where no write of the trace
+    // brings a line to the tracking threshold or to a multiple of the prediction threshold, the
+    // tracks are those of the state, each with the accesses in its range noted, and no more.
+    ensures no_new_track { (demand : ReplayDemand) (files : Files) (begun : Begun) (t : Trace)
+        → begun_in demand files ≡ Some begun
+        → trace_of (content files demand.trace) ≡ Some t
+        → AddNoTracks begun.sightings.watch (touches_in (all_records t))
+        → NotesAlone demand files begun t }
+    // Of a trace that was cut in parts, each saved and carried on, the last one gives what the whole
+    // trace gives,
     ensures carried { (save : Option (List ℕ)) (g : Grid) (v : Levels)
         (whole last : Trace) (earlier : List Trace) → IsCutIn whole earlier last
         → work_of_both save g v whole.header.harts (flat_map all_records earlier) last
@@ -79,6 +91,7 @@ pub fn a_replay_goes_on_from_a_list()
     what_stands_was_noted();
     a_trace_is_its_spelling();
     the_halves_are_traces();
+    an_access_changes_what_it_meets();
 }
 
 /// However often a trace is cut by `split`, its parts, each replayed from the saved state of those

@@ -1,13 +1,19 @@
 -- Which traces a copy writes, and what stands where it gave up.
-use Rattle.std.specs.Prelude.{◌≡◌, ◌≢◌, ◌⊎◌, ◌≤◌, ℕ, List, [], ◌∷◌, Option, Some, None}
+use Rattle.std.specs.Prelude.{◌≡◌, ◌≢◌, ◌⊎◌, ◌≤◌, ℕ, ◌==◌, List, [], ◌∷◌, Option, Some, None}
+use Rattle.std.specs.Prelude.{if◌then◌else◌}
+use Rattle.std.specs.Option.{option_or}
 use Rattle.shelf.specs.Shelf.{Files, Goes, Outside, Rose, Told, content}
 use Rattle.shelf.specs.Files.{Output, AllMayStand, AreWritten, one_file}
 use Rattle.shelf.specs.OnTheirWay.{IsNew}
+use Rattle.trace_format.specs.declared.fault.TraceFault.TheVariants as faults
 use Rattle.trace_format.specs.declared.record.Version.{Version}
 use Rattle.trace_format.specs.declared.record.Version.TheVariants.{One, Two}
 use Rattle.trace_passes.specs.declared.wanted.Wanted.{Wanted}
+use Rattle.trace_passes.specs.declared.passes.Passed.{Passed}
 use Rattle.trace_passes.specs.declared.wanted.Refusal.{Refusal}
-use Rattle.trace_passes.specs.Passes.{Trace, all_records, refusal_of, spell_trace, trace_of}
+use Rattle.trace_passes.specs.declared.wanted.Refusal.TheVariants as refusals
+use Rattle.trace_passes.specs.Passes.{Trace, all_records, header_refusal, refusal_of, spell_trace}
+use Rattle.trace_passes.specs.Passes.{trace_of}
 use Rattle.trace_format.specs.Splits.{begin_split, endings_of, halves_of, headers_of}
 use Rattle.trace_files.specs.declared.copy_fault.CopyFault.{CopyFault}
 use Rattle.trace_files.specs.declared.copy_fault.CopyFault.TheVariants.{ReadFault, WriteFault}
@@ -56,6 +62,28 @@ abbrev pub halves : ℕ → List ℕ → List ℕ → Trace → List Output
 halves at first second t =
     record { name = first; bytes = spell_trace (first_half at t) }
     ∷ record { name = second; bytes = spell_trace (second_half at t) } ∷ []
+
+-- ---- two readings that differ
+
+abbrev pub version_difference : Version → Version → Option Refusal
+version_difference One One = None
+version_difference Two Two = None
+version_difference _ _ = Some (refusals.Trace faults.BadMagic)
+
+abbrev pub count_difference : ℕ → ℕ → Option Refusal
+count_difference first second =
+    if first == second then None else Some (refusals.Trace (faults.CountMismatch first second))
+
+-- How a trace that is read again is refused beside the first reading: for another version, then for
+-- its header, of which as many harts and the same first position are wanted, then for another
+-- number of accesses.
+abbrev pub difference : Passed → Passed → Option Refusal
+difference first second =
+    option_or (version_difference first.version second.version)
+    (option_or (header_refusal
+    (record { harts = Some first.header.harts; first = Some first.header.first })
+    (Some second.header))
+    (count_difference first.ending.accesses second.ending.accesses))
 
 -- ---- what a call says
 

@@ -11,7 +11,7 @@ ghost use Rattle.trace_format.specs.Rules.{IsWritable};
 ghost use Rattle.trace_passes.specs.declared.wanted.Refusal.{Refusal as Refused};
 ghost use Rattle.trace_passes.specs.declared.wanted.Refusal.TheVariants as refusals;
 ghost use Rattle.trace_passes.specs.Passes.{Trace};
-ghost use Rattle.trace_files.specs.Copies.{HasStopped, IsJudged, any};
+ghost use Rattle.trace_files.specs.Copies.{HasStopped, IsJudged, any, difference};
 ghost use Rattle.trace_files.specs.Copying.{AreAlike, IsAccepted, IsCopied, IsCutShort};
 ghost use Rattle.trace_files.specs.Copying.{IsUnderWay};
 
@@ -147,6 +147,7 @@ pub(crate) fn copy_records<S: Shelf, T: Target>(
 // How a second reading is refused beside the first: for another version, header, or number of
 // accesses.
 pub(crate) fn differs(first: &Passed, second: &Passed) -> Option<Refusal>
+    ensures value { result ≡ difference first.now second.now }
     ensures alike { result ≡ None → AreAlike first.now second.now }
     ensures other { first.now ≡ second.now → result ≡ None }
 {

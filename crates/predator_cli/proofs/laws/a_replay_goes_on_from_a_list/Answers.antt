@@ -7,6 +7,7 @@ use Rattle.predator_cli.proofs.CutLaws.{carried_on, halves_cut}
 use Rattle.predator_cli.proofs.GoOnAnswers.{answered_on}
 use Rattle.predator_cli.proofs.GoOnLaws.{begun_there, gone_on, replay_taken, taken_up}
 use Rattle.predator_cli.proofs.GoodLaws.{of_harts, savable}
+use Rattle.predator_cli.proofs.TrackLaws.{notes_alone}
 use Rattle.predator_cli.proofs.laws.a_replay_goes_on_from_a_list.Goals as goal
 
 pub returns-clause-taken : goal.returns-clause-taken
@@ -44,6 +45,9 @@ returns-clause-answered c = λ demand files harts before t so settings.
     (returns-clause-replayed c demand files so.name harts before t so.named so.may so.state
     so.trace so.same_harts)
     settings
+
+pub returns-clause-no_new_track : goal.returns-clause-no_new_track
+returns-clause-no_new_track c = notes_alone c.an_access_changes_what_it_meets.ensures.none_added
 
 pub returns-clause-carried : goal.returns-clause-carried
 returns-clause-carried c = λ save g v whole final earlier cut.
