@@ -2,6 +2,7 @@ pub mod Again
 pub mod Answering
 pub mod Begun
 pub mod Conversions
+pub mod Differing
 pub mod Going
 pub mod Items
 pub mod Kept

@@ -1,7 +1,7 @@
 -- Which traces a copy writes, and what stands where it gave up.
 use Rattle.std.specs.Prelude.{◌≡◌, ◌≢◌, ◌⊎◌, ◌≤◌, ℕ, ◌==◌, List, [], ◌∷◌, Option, Some, None}
 use Rattle.std.specs.Prelude.{if◌then◌else◌}
-use Rattle.std.specs.Option.{option_or}
+use Rattle.std.specs.Option.{option_and_then, option_or}
 use Rattle.shelf.specs.Shelf.{Files, Goes, Outside, Rose, Told, content}
 use Rattle.shelf.specs.Files.{Output, AllMayStand, AreWritten, one_file}
 use Rattle.shelf.specs.OnTheirWay.{IsNew}
@@ -84,6 +84,21 @@ difference first second =
     (record { harts = Some first.header.harts; first = Some first.header.first })
     (Some second.header))
     (count_difference first.ending.accesses second.ending.accesses))
+
+-- what is told of a trace that was read
+abbrev pub told_of : Trace → Passed
+told_of t = record { version = t.version; header = t.header; ending = t.ending }
+
+-- how bytes are refused that are read again: where they are no trace, as such; else beside the
+-- first reading
+abbrev pub refusal_again : Passed → List ℕ → Option Refusal
+refusal_again first bytes =
+    option_or (refusal_of any bytes)
+    (option_and_then (λ t. difference first (told_of t)) (trace_of bytes))
+
+-- there are bytes that are refused so behind such a first reading
+abbrev pub IsOther : Passed → Refusal → Type 0
+IsOther first refusal = (bytes : List ℕ) × (refusal_again first bytes ≡ Some refusal)
 
 -- ---- what a call says
 

@@ -14,13 +14,14 @@ use Rattle.trace_format.specs.Writing.{begun_with, last_behind}
 use Rattle.trace_passes.specs.declared.passes.PassFault.{PassFault}
 use Rattle.trace_passes.specs.declared.passes.PassFault.TheVariants as passes
 use Rattle.trace_passes.specs.declared.passes.Passed.{Passed}
+use Rattle.trace_passes.specs.declared.wanted.Refusal.{Refusal}
 use Rattle.trace_passes.specs.Passes.{all_records, trace_of, trace_with}
 use Rattle.trace_format.specs.Splits.{HasSeen, Split, halves_of, headers_of}
 use Rattle.trace_files.specs.declared.split.Splitting.{Splitting}
 use Rattle.trace_files.specs.declared.copy_fault.CopyFault.{CopyFault}
 use Rattle.trace_files.specs.declared.copy_fault.CopyFault.TheVariants.{Refused, Changed, ReadFault}
 use Rattle.trace_files.specs.declared.copy_fault.CopyFault.TheVariants.{WriteFault, NoMemory}
-use Rattle.trace_files.specs.Copies.{HasCopyCause}
+use Rattle.trace_files.specs.Copies.{HasCopyCause, IsOther}
 
 -- ---- faults
 
@@ -68,6 +69,12 @@ pub record IsAccepted (held : Option Files) (name : List ℕ) (passed : Passed) 
   pub whole : Told held (λ files. bytes ≡ content files name)
   pub items : List TraceRecord
   pub is : trace_of bytes ≡ Some (trace_with passed items)
+
+-- The first reading was accepted, and the second is refused so beside it.
+pub record HasChanged (held : Option Files) (name : List ℕ) (refusal : Refusal) : Type 0 where
+  pub first : Passed
+  pub accepted : IsAccepted held name first
+  pub other : IsOther first refusal
 
 -- two readings told the same version, header and number of accesses
 pub record AreAlike (first second : Passed) : Type 0 where

@@ -6,8 +6,8 @@ ghost use Rattle.trace_format.specs.Rules.{touches_in};
 ghost use Rattle.trace_passes.specs.declared.wanted.Refusal.{Refusal as Refused};
 ghost use Rattle.trace_passes.specs.declared.wanted.Refusal.TheVariants as refusals;
 ghost use Rattle.trace_files.specs.Copies.{HasCopied, HasStopped, IsJudged, StaysWhereRefused};
-ghost use Rattle.trace_files.specs.Copies.{conversion, other_version};
-ghost use Rattle.trace_files.specs.Copying.{IsAccepted};
+ghost use Rattle.trace_files.specs.Copies.{IsOther, conversion, other_version};
+ghost use Rattle.trace_files.specs.Copying.{HasChanged, IsAccepted};
 
 use crate::CopyFault;
 use crate::copy::{accept, copy_again};
@@ -53,6 +53,8 @@ fn convert_accepted<S: Shelf>(
     ensures unrefused { (refusal : Refused) → result ≢ Err (CopyFault.Refused refusal) }
     ensures changed { (refusal : Refused) → result ≡ Err (CopyFault.Changed refusal)
         → (S.outside shelf.old).held ≡ None }
+    ensures other { (refusal : Refused) → result ≡ Err (CopyFault.Changed refusal)
+        → IsOther first.now refusal }
     ensures stopped { IfErr result (λ fault. HasStopped (S.outside shelf.old).held name.now
         (output.now ∷ []) (conversion output.now) (S.outside shelf.old)
         (S.outside shelf.new) fault) }
@@ -100,8 +102,12 @@ pub fn convert_trace<S: Shelf>(
     ensures stays { (refusal : Refused) → result ≡ Err (CopyFault.Refused refusal)
         → S.outside shelf.new ≡ S.outside shelf.old }
     ensures memory { result ≢ Err (CopyFault.Refused (refusals.Trace trace_faults.NoMemory)) }
+    // A second reading is refused as no trace, or beside the first: for its version, its number of
+    // harts, its first position, or its number of accesses.
     ensures changed { (refusal : Refused) → result ≡ Err (CopyFault.Changed refusal)
         → (S.outside shelf.old).held ≡ None }
+    ensures other { (refusal : Refused) → result ≡ Err (CopyFault.Changed refusal)
+        → HasChanged (S.outside shelf.old).held name.now refusal }
     // Only an accepted trace is written, whatever the fault.
     ensures accepted { result ≡ Err CopyFault.WriteFault
         → IsJudged (S.outside shelf.old).held name.now None }

@@ -10,8 +10,8 @@ ghost use Rattle.trace_format.specs.declared.record.TraceRecord.{TraceRecord as 
 ghost use Rattle.trace_format.specs.Rules.{IsWritable};
 ghost use Rattle.trace_passes.specs.declared.wanted.Refusal.{Refusal as Refused};
 ghost use Rattle.trace_passes.specs.declared.wanted.Refusal.TheVariants as refusals;
-ghost use Rattle.trace_passes.specs.Passes.{Trace};
-ghost use Rattle.trace_files.specs.Copies.{HasStopped, IsJudged, any, difference};
+ghost use Rattle.trace_passes.specs.Passes.{Trace, refusal_of};
+ghost use Rattle.trace_files.specs.Copies.{HasStopped, IsJudged, IsOther, any, difference};
 ghost use Rattle.trace_files.specs.Copying.{AreAlike, IsAccepted, IsCopied, IsCutShort};
 ghost use Rattle.trace_files.specs.Copying.{IsUnderWay};
 
@@ -127,6 +127,8 @@ pub(crate) fn copy_records<S: Shelf, T: Target>(
     ensures unrefused { (refusal : Refused) → result ≢ Err (CopyFault.Refused refusal) }
     ensures changed { (refusal : Refused) → result ≡ Err (CopyFault.Changed refusal)
         → IsJudged (S.outside shelf.old).held name.now (Some refusal) }
+    ensures found { (refusal : Refused) → result ≡ Err (CopyFault.Changed refusal)
+        → (bytes : List ℕ) × (refusal_of any bytes ≡ Some refusal) }
 {
     let mut cursor = match Cursor::new(alloc) {
         Ok(cursor) => cursor,
@@ -194,6 +196,8 @@ pub(crate) fn copy_again<S: Shelf, T: Target>(
     ensures unrefused { (refusal : Refused) → result ≢ Err (CopyFault.Refused refusal) }
     ensures changed { (refusal : Refused) → result ≡ Err (CopyFault.Changed refusal)
         → (S.outside shelf.old).held ≡ None }
+    ensures other { (refusal : Refused) → result ≡ Err (CopyFault.Changed refusal)
+        → IsOther first.now refusal }
 {
     let second = match copy_records(alloc, shelf, name, target) {
         Ok(passed) => passed,

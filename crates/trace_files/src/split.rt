@@ -11,8 +11,8 @@ ghost use Rattle.trace_passes.specs.declared.wanted.Refusal.{Refusal as Refused}
 ghost use Rattle.trace_passes.specs.declared.wanted.Refusal.TheVariants as refusals;
 ghost use Rattle.trace_format.specs.Splits.{HasSeen, headers_of};
 ghost use Rattle.trace_files.specs.Copies.{HasCopied, HasStopped, IsJudged, StaysWhereRefused};
-ghost use Rattle.trace_files.specs.Copies.{halves};
-ghost use Rattle.trace_files.specs.Copying.{HasSplit, IsAccepted, halves_so_far};
+ghost use Rattle.trace_files.specs.Copies.{IsOther, halves};
+ghost use Rattle.trace_files.specs.Copying.{HasChanged, HasSplit, IsAccepted, halves_so_far};
 
 use crate::CopyFault;
 use crate::copy::{accept, copy_again};
@@ -170,6 +170,8 @@ fn split_accepted<'a, S: Shelf>(
     ensures unrefused { (refusal : Refused) → result ≢ Err (CopyFault.Refused refusal) }
     ensures changed { (refusal : Refused) → result ≡ Err (CopyFault.Changed refusal)
         → (S.outside shelf.old).held ≡ None }
+    ensures other { (refusal : Refused) → result ≡ Err (CopyFault.Changed refusal)
+        → IsOther passed.now refusal }
     ensures stopped { IfErr result (λ fault. HasStopped (S.outside shelf.old).held name.now
         (first.now ∷ second.now ∷ []) (halves at first.now second.now) (S.outside shelf.old)
         (S.outside shelf.new) fault) }
@@ -224,8 +226,12 @@ pub fn split_trace<S: Shelf>(
         → IsJudged (S.outside shelf.old).held name.now (Some refusal) }
     ensures stays { (refusal : Refused) → result ≡ Err (CopyFault.Refused refusal)
         → S.outside shelf.new ≡ S.outside shelf.old }
+    // A second reading is refused as no trace, or beside the first: for its version, its number of
+    // harts, its first position, or its number of accesses.
     ensures changed { (refusal : Refused) → result ≡ Err (CopyFault.Changed refusal)
         → (S.outside shelf.old).held ≡ None }
+    ensures other { (refusal : Refused) → result ≡ Err (CopyFault.Changed refusal)
+        → HasChanged (S.outside shelf.old).held name.now refusal }
     // Only an accepted trace is written, whatever the fault.
     ensures accepted { result ≡ Err CopyFault.WriteFault
         → IsJudged (S.outside shelf.old).held name.now None }

@@ -174,6 +174,9 @@ impl Cursor {
         ensures refused { (refusal : Refused) → result ≡ Err (PassFault.Refused refusal)
             → Told (S.outside shelf.old).held
             (λ files. refusal_of wanted.now (content files name.now) ≡ Some refusal) }
+        // It is that of some bytes, also where none are told.
+        ensures found { (refusal : Refused) → result ≡ Err (PassFault.Refused refusal)
+            → (bytes : List ℕ) × (refusal_of wanted.now bytes ≡ Some refusal) }
         ensures memory { result ≢ Err (PassFault.Refused (refusals.Trace trace_faults.NoMemory)) }
         ensures cause { HasPassCause name.now (S.outside shelf.old) (S.outside shelf.new) result }
         ensures only { OnlyReads (S.outside shelf.old) (S.outside shelf.new) }

@@ -1,6 +1,7 @@
 use Rattle.std.proofs.Common.{◌≡◌}
 use Rattle.trace_passes.specs.Passes.{all_records, trace_with}
 use Rattle.trace_files.proofs.Stopped.{first_all, never_refused, same_parts, short_other, untold}
+use Rattle.trace_files.proofs.Differing.{no_trace_again, other_again}
 use Rattle.trace_files.proofs.copy.copy_again.Goals as goal
 
 pub returns-in-Err-clause-changed : goal.returns-in-Err-clause-changed
@@ -28,3 +29,14 @@ returns-in-Some-clause-changed g c = λ refusal same.
     c.in-Ok.passed copied.bytes copied.items
     c.requires.accepted copied.whole copied.is)
     (λ one. let none = c.differs.ensures.other one in absurd cc)
+
+pub returns-in-Err-clause-other : goal.returns-in-Err-clause-other
+returns-in-Err-clause-other g c = λ refusal same.
+    no_trace_again c.args.first.now refusal (c.in-Err.ensures.found refusal (cc))
+
+pub returns-in-Some-clause-other : goal.returns-in-Some-clause-other
+returns-in-Some-clause-other g c = λ refusal same.
+    let copied = c.in-Ok.ensures.copied c.requires.way.0 c.requires.way.1 in
+    let some = c.in-Some.is in
+    let value = c.differs.ensures.value in
+    other_again c.args.first.now c.in-Ok.passed copied.items copied.bytes refusal copied.is (cc)

@@ -1,6 +1,8 @@
-use Rattle.std.proofs.Common.{◌≢◌, ◌++◌, ℕ, List, All, Ok, Err, Option, refl, sym, ap, subst, take}
+use Rattle.std.proofs.Common.{◌≡◌, ◌≢◌, ◌++◌, ℕ, List, All, Ok, Err, Option, Some, refl, sym, ap, subst, take}
 use Rattle.trace_passes.specs.declared.passes.PassFault.{PassFault}
 use Rattle.trace_passes.specs.declared.passes.Passed.{Passed}
+use Rattle.trace_passes.specs.declared.wanted.Wanted.{Wanted}
+use Rattle.trace_passes.specs.Passes.{refusal_of}
 use Rattle.shelf.specs.Shelf.{Outside}
 use Rattle.shelf.specs.Files.{AreCut}
 use Rattle.shelf.specs.OnTheirWay.{IsOutputs}
@@ -151,3 +153,10 @@ returns-in-Err-advance-clause-changed g c = λ refusal same.
     (g.S.Shelf.outside c.args.shelf.now) (g.S.Shelf.outside c.pieces.shelf) c.pieces.invariant
     c.any.result c.any.ensures refusal
     (c.in-Err-advance.ensures.refused refusal (cc))
+
+pub returns-in-Err-advance-clause-found : goal.returns-in-Err-advance-clause-found
+returns-in-Err-advance-clause-found g c = λ refusal same.
+    let refused = was_refused c.in-Err-advance.fault c.second_fault-in-Err-advance.result refusal
+    c.second_fault-in-Err-advance.ensures (cc) in
+    let some = c.in-Err-advance.ensures.found refusal (cc) in
+    (some.0, subst (λ (w : Wanted). refusal_of w some.0 ≡ Some refusal) c.any.ensures some.1)

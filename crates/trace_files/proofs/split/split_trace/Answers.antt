@@ -42,6 +42,14 @@ returns-in-Ok-clause-changed g c = λ refusal same.
     subst (λ (o : Outside). o.held ≡ None) c.in-Ok.ensures.stays
     (c.split_accepted.ensures.changed refusal same)
 
+pub returns-in-Ok-clause-other : goal.returns-in-Ok-clause-other
+returns-in-Ok-clause-other g c = λ refusal same.
+    record {
+      first = c.in-Ok.passed;
+      accepted = c.in-Ok.ensures.accepted;
+      other = c.split_accepted.ensures.other refusal same;
+    }
+
 pub returns-in-Ok-clause-accepted : goal.returns-in-Ok-clause-accepted
 returns-in-Ok-clause-accepted g c = λ same.
     told_accepted (g.S.Shelf.outside c.args.shelf.now).held c.args.name.now c.in-Ok.passed

@@ -1,4 +1,4 @@
-use Rattle.std.proofs.Common.{◌≡◌, ◌+◌, ◌-◌, ◌≤◌, ◌<◌, ◌++◌, ℕ, List, Some, length, take, refl, sym}
+use Rattle.std.proofs.Common.{◌≡◌, ◌+◌, ◌-◌, ◌≤◌, ◌<◌, ◌++◌, ℕ, List, [], Some, length, take, refl, sym}
 use Rattle.std.proofs.Common.{ap, subst, ◌∙◌, arith}
 use Rattle.shelf.specs.Shelf.{Told, content}
 use Rattle.shelf.specs.Fetch.{IsFront}
@@ -63,6 +63,15 @@ returns-in_err-take_piece-clause-refused g c = λ refusal same.
     (c.deref.ensures.value ∙ back) (c.take_piece.ensures.refused refusal
     (cc) bytes more come.read.reading) in
     refused_file held name (bytes ++ take count into) c.args.wanted.now refusal front refused
+
+pub returns-in_err-take_piece-clause-found : goal.returns-in_err-take_piece-clause-found
+returns-in_err-take_piece-clause-found g c = λ refusal same.
+    let bytes = c.requires.0 in
+    let come = subst (HasCome (g.S.Shelf.outside c.args.shelf.now).held c.args.name.now
+    c.args.wanted.now bytes) (sym c.self.view_is) c.requires.1 in
+    let was_err = c.in_err-take_piece.was in
+    let handed_on = rw same at c.from_residual-in_err-take_piece.ensures.1 in
+    (_, c.take_piece.ensures.refused refusal (cc) bytes [] come.read.reading)
 
 pub returns-clause-more : goal.returns-clause-more
 returns-clause-more g c = λ same bytes reached.
