@@ -1,5 +1,5 @@
 -- What a trace changes of the tracks behind any state that is taken up.
-use Rattle.std.proofs.Common.{◌≡◌, ℕ, List, [], ◌∷◌, ◌++◌, map, Option, Some, refl, ap, ◌∙◌}
+use Rattle.std.proofs.Common.{◌≡◌, List, [], ◌∷◌, map, Option, Some, refl, ap, ◌∙◌}
 use Rattle.std.specs.Option.{option_map_or}
 use Rattle.base.specs.Touch.{Touch}
 use Rattle.command_files.specs.Works.{done_with}
@@ -12,8 +12,8 @@ use Rattle.trace_format.specs.Rules.{touches_in}
 use Rattle.trace_format.specs.declared.record.TraceRecord.{TraceRecord}
 use Rattle.trace_format.specs.declared.record.TraceRecord.TheVariants as records
 use Rattle.trace_passes.specs.Passes.{Trace, all_records, trace_of}
-use Rattle.predator_cli.specs.GoesOn.{NotesAlone, seen_behind}
-use Rattle.predator_cli.specs.Replay.{begun_in, grid_in, levels_in, replay_work, work_after}
+use Rattle.predator_cli.specs.GoesOn.{NotesAlone}
+use Rattle.predator_cli.specs.Replay.{begun_in, grid_in, levels_in, work_after}
 use Rattle.predator_cli.specs.declared.state_file.Begun.{Begun}
 
 -- records show what their accesses do

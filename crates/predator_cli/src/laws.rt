@@ -69,8 +69,8 @@ pub fn a_replay_goes_on_from_a_list()
         → trace_of (content files demand.trace) ≡ Some t
         → AddNoTracks begun.sightings.watch (touches_in (all_records t))
         → NotesAlone demand files begun t }
-    // Of a trace that was cut in parts, each saved and carried on, the last one gives what the whole
-    // trace gives,
+    // Of a trace that was cut in parts, each saved and carried on, the last one gives what the
+    // whole trace gives,
     ensures carried { (save : Option (List ℕ)) (g : Grid) (v : Levels)
         (whole last : Trace) (earlier : List Trace) → IsCutIn whole earlier last
         → work_of_both save g v whole.header.harts (flat_map all_records earlier) last

@@ -1,10 +1,10 @@
 -- Why a second reading is refused.
-use Rattle.std.proofs.Common.{◌≡◌, ℕ, List, Option, Some, None, ap, ◌∙◌}
+use Rattle.std.proofs.Common.{◌≡◌, ℕ, List, Option, Some, ap, ◌∙◌}
 use Rattle.std.specs.Option.{option_and_then, option_or}
 use Rattle.trace_format.specs.declared.record.TraceRecord.{TraceRecord}
 use Rattle.trace_passes.specs.declared.passes.Passed.{Passed}
 use Rattle.trace_passes.specs.declared.wanted.Refusal.{Refusal}
-use Rattle.trace_passes.specs.Passes.{Trace, refusal_of, trace_of, trace_with}
+use Rattle.trace_passes.specs.Passes.{refusal_of, trace_of, trace_with}
 use Rattle.trace_files.specs.Copies.{IsOther, any, difference, told_of}
 use Rattle.trace_files.specs.Laws.Copies.{trace_unrefused}
 

@@ -1,12 +1,11 @@
 -- Bytes that are a good beginning, and then a unit at fault, have these records and this fault.
 use Rattle.std.proofs.Common.{◌≡◌, ℕ, ◌+◌, ◌≤◌, ◌<◌, inl, inr, List, [], ◌∷◌, ◌++◌, length}
-use Rattle.std.proofs.Common.{Option, Some, None, Err, refl, sym, ap, ◌∙◌, ◌⊎◌, arith}
+use Rattle.std.proofs.Common.{Option, Some, None, Err, refl, sym, ap, ◌∙◌, arith}
 use Rattle.std.proofs.lemmas.List.{append-nil, length-append}
 use Rattle.base.specs.declared.ending.Ending.{Ending}
 use Rattle.trace_format.specs.declared.fault.TraceFault.{TraceFault}
 use Rattle.trace_format.specs.declared.fault.TraceFault.TheVariants as faults
 use Rattle.trace_format.specs.declared.record.TraceRecord.{TraceRecord}
-use Rattle.trace_format.specs.declared.record.TraceRecord.TheVariants as records
 use Rattle.trace_format.specs.declared.read_so_far.ReadSoFar.{ReadSoFar}
 use Rattle.trace_format.specs.Spelling.{spell, spell_ending}
 use Rattle.trace_format.specs.Rules.{longest_trace}
@@ -185,8 +184,7 @@ only_fault bytes items f has =
     ap reading_of has.spelled ∙ read_on-append begin front later
     ∙ ap (λ (x : List TraceRecord × Reading). then_read x later)
     (beginning_again before has.good unit.0)
-    ∙ ap (λ (x : List TraceRecord × Reading). (records_in before ++ x.0, x.1)) unit.1.read in
-    (
+    ∙ ap (λ (x : List TraceRecord × Reading). (records_in before ++ x.0, x.1)) unit.1.read in (
       ap (λ (x : List TraceRecord × Reading). x.0) whole ∙ append-nil (records_in before)
           ∙ sym has.records,
       ap (λ (x : List TraceRecord × Reading). ending_of x.1) whole ∙ unit.1.fault,

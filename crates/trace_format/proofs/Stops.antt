@@ -1,5 +1,5 @@
 -- A fault that no later byte changes.
-use Rattle.std.proofs.Common.{◌≡◌, ℕ, ◌+◌, ◌<◌, inl, inr, List, [], ◌++◌, length, sym, ap, ◌∙◌}
+use Rattle.std.proofs.Common.{◌≡◌, ℕ, inl, inr, List, [], ◌++◌, length, ap, ◌∙◌}
 use Rattle.std.proofs.Common.{◌⊎◌, append_assoc, arith}
 use Rattle.std.proofs.lemmas.List.{append-nil, length-append}
 use Rattle.trace_format.specs.declared.fault.TraceFault.{TraceFault}

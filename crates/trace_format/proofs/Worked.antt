@@ -169,7 +169,12 @@ ended_well = record {
   header = record { position = omega arith; some = omega arith; few = omega arith };
   records = All-nil (IsGoodRecord 8);
   inner = All-nil IsInner;
-  ending = record { allowed = tt; outcome = omega arith; steps = omega arith; accesses = omega arith };
+  ending = record {
+    allowed = tt;
+    outcome = omega arith;
+    steps = omega arith;
+    accesses = omega arith;
+  };
   positions = omega arith;
   counted = refl;
   short = omega arith;

@@ -3,8 +3,10 @@ ghost use Rattle.std.specs.Prelude.{◌≡◌, ◌≢◌, ◌⊎◌, ◌+◌, �
 ghost use Rattle.std.specs.Prelude.{IsSome, IfOk};
 
 use crate::reader_state::{State, read_parts};
-use crate::{Header, TraceFault, TraceRecord, Version};
-use crate::{what_is_read_was_spelled, where_the_first_fault_stands};
+use crate::{
+    Header, TraceFault, TraceRecord, Version, what_is_read_was_spelled,
+    where_the_first_fault_stands,
+};
 use base::{Ending, NoMemory};
 use std::alloc::{AllocError, Global};
 use std::marker::Model;

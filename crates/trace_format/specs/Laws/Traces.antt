@@ -1,6 +1,6 @@
 -- What a good trace spells is read as its records and its end.
 use Rattle.std.proofs.Common.{◌≡◌, ℕ, ◌+◌, ◌^◌, ◌≤◌, ◌<◌, List, [], ◌∷◌, ◌++◌, length, take, drop}
-use Rattle.std.proofs.Common.{All, Option, Some, None, Ok, refl, sym, ap, ◌∙◌, append_assoc, arith}
+use Rattle.std.proofs.Common.{All, Option, Some, None, Ok, refl, sym, ap, ◌∙◌, arith}
 use Rattle.std.proofs.lemmas.List.{drop_all, length-append, take_all}
 use Rattle.std.proofs.lemmas.List.Elements.{All-head, All-tail}
 use Rattle.base.specs.declared.ending.Ending.{Ending}
@@ -12,7 +12,7 @@ use Rattle.trace_format.specs.declared.record.TraceRecord.TheVariants as records
 use Rattle.trace_format.specs.declared.read_so_far.ReadSoFar.{ReadSoFar}
 use Rattle.trace_format.specs.Spelling.{last_after, spell, spell_ending, spell_header}
 use Rattle.trace_format.specs.Spelling.{spell_record, spell_records}
-use Rattle.trace_format.specs.Rules.{IsGoodEnding, IsGoodRecord, IsInner, IsTrace, last_position}
+use Rattle.trace_format.specs.Rules.{IsGoodRecord, IsInner, IsTrace, last_position}
 use Rattle.trace_format.specs.Rules.{longest_trace, touches_in}
 use Rattle.trace_format.specs.Judging.{begun}
 use Rattle.trace_format.specs.Reading.{Reading, begin, counted_after, ending_in, ending_of}
@@ -142,8 +142,7 @@ records_again (item ∷ items) p few low good inner fits short =
     item items good) (All-tail IsInner item items inner) (omega arith) (omega arith) in
     let same : after_items (after_one p item) items ≡ after_items p (item ∷ items) =
     progress_with v p.header (last_behind (last_after p.last item) items) _ _ _ _ counts
-    (omega arith) in
-    (
+    (omega arith) in (
       read_on-append (waiting (Some p) None []) first later
           ∙ ap (λ (x : List TraceRecord × Reading). then_read x later) open_one
           ∙ ap (λ (x : List TraceRecord × Reading). (item ∷ x.0, x.1)) rest.0
@@ -179,8 +178,7 @@ module _ (v : Version) (h : Header) (items : List TraceRecord) (good : IsOpenTra
       records_again items (begun v h) few (omega arith) good.records good.inner (omega arith)
       (omega arith) in
       let same : after_items (begun v h) items ≡ behind v h items =
-      progress_with v h (last_behind 0 items) _ _ _ _ (omega arith) (omega arith) in
-      (
+      progress_with v h (last_behind 0 items) _ _ _ _ (omega arith) (omega arith) in (
         read_on-append begin front later
             ∙ ap (λ (x : List TraceRecord × Reading). then_read x later) head ∙ rest.0
             ∙ ap (λ (q : ReadSoFar). (items, waiting (Some q) None [])) same,
