@@ -3,7 +3,8 @@
 //! `specs/Spelling.antt` has the format of both versions as the one spelling of each part,
 //! `specs/Rules.antt` the rules that the parts keep, `specs/Judging.antt` what the bytes of one
 //! record say, and `specs/Reading.antt` what any bytes say: the records that are whole in them, and
-//! the first fault. `specs/Splits.antt` says on which side of a cut each record goes.
+//! the first fault. `specs/Faults.antt` says where that one stands, by the spelling alone, and
+//! `specs/Splits.antt` on which side of a cut each record goes.
 //!
 //! A [`TraceReader`] takes pieces one after the other: what a piece leaves over is kept, and stands
 //! before the next. A [`TraceWriter`] gives the bytes of each record, and a [`Splitter`] the side of
