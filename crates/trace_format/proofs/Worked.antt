@@ -17,8 +17,7 @@ use Rattle.trace_format.specs.Judging.{short_touch_judged, symbol_judged, plain_
 use Rattle.trace_format.specs.Judging.{outcome_judged, record_judged}
 use Rattle.trace_format.specs.Reading.{byte_read, read_on, reading_of, ending_of}
 use Rattle.trace_format.specs.Rules.{IsGoodRecord, IsGoodTrace, IsInner}
-use Rattle.trace_format.specs.Faults.{HasFault, IsOpenTrace}
-use Rattle.trace_format.specs.Faults.Beginning as beginnings
+use Rattle.trace_format.specs.Faults.{HasFault, IsOpenTrace, ended as whole, nothing, unended}
 
 -- PRDTRC01 or PRDTRC02, first position 0, so many harts, and zero
 head : ℕ → ℕ → List ℕ
@@ -185,7 +184,7 @@ module _ where
   magic_stands : (rest : List ℕ) → HasFault (head 3 8 ++ rest) [] faults.BadMagic
   unfolding header_judged head
   magic_stands rest = record {
-    before = beginnings.nothing;
+    before = nothing;
     unit = head 3 8;
     rest = rest;
     good = tt;
@@ -198,7 +197,7 @@ module _ where
   tag_stands : (rest : List ℕ) → HasFault (head 1 8 ++ 9 ∷ rest) [] (faults.BadTag 20)
   unfolding spell_header record_extent record_judged head eight
   tag_stands rest = record {
-    before = beginnings.unended One eight [];
+    before = unended One eight [];
     unit = 9 ∷ [];
     rest = rest;
     good = begun_well;
@@ -213,7 +212,7 @@ module _ where
       (faults.CountMismatch 3 0)
   unfolding spell_header record_extent record_judged outcome_judged plain_judged head eight
   count_stands rest = record {
-    before = beginnings.unended One eight [];
+    before = unended One eight [];
     unit = 6 ∷ (replicate 8 0 ++ 0 ∷ (replicate 7 0 ++ 3 ∷ replicate 7 0));
     rest = rest;
     good = begun_well;
@@ -226,7 +225,7 @@ module _ where
   cut_stands : HasFault (head 1 8 ++ 6 ∷ replicate 23 0) [] (faults.Truncated 44)
   unfolding spell_header record_extent head eight
   cut_stands = record {
-    before = beginnings.unended One eight [];
+    before = unended One eight [];
     unit = 6 ∷ replicate 23 0;
     rest = [];
     good = begun_well;
@@ -246,7 +245,7 @@ module _ where
       (records.End (an_end 0) ∷ []) (faults.AfterEnd 45)
   unfolding spell spell_header spell_ending head ended an_end eight
   byte_stands rest = record {
-    before = beginnings.ended One eight [] (an_end 0);
+    before = whole One eight [] (an_end 0);
     unit = 0 ∷ [];
     rest = rest;
     good = ended_well;
