@@ -36,7 +36,7 @@ class Failed(Exception):
 
 
 class Caller:
-    """Calls predator, whose texts go through two files: with pipes a short run takes a third longer."""
+    """Calls predator, whose texts go through two files: with pipes a short run takes a third longer. What a run's program puts out is lost."""
 
     def __init__(self, predator, work):
         self.predator = predator
@@ -44,11 +44,11 @@ class Caller:
         # (the launcher asks for large pages as well: a short run takes half the time with them)
         self.env = {**os.environ, "GLIBC_TUNABLES": os.environ.get("GLIBC_TUNABLES", "glibc.malloc.hugetlb=1")}
 
-    def once(self, words):
+    def once(self, words, said):
         for it in (self.out, self.said):
             it.seek(0)
             it.truncate()
-        return subprocess.run([self.predator, *words], stdin=subprocess.DEVNULL, stdout=self.out, stderr=self.said, env=self.env).returncode
+        return subprocess.run([self.predator, *words], stdin=subprocess.DEVNULL, stdout=self.out, stderr=said, env=self.env).returncode
 
     def text(self, file):
         file.seek(0)
@@ -56,8 +56,10 @@ class Caller:
 
     def called(self, words):
         """The status of a call, and what it printed."""
-        for _ in range(TRIES):
-            status = self.once(words)
+        # (the last try says why it fails, and no program's output stands before that)
+        loud = [*words, "--output", os.devnull] if words[0] == "run" else words
+        for asked, said in [*[(words, subprocess.DEVNULL)] * (TRIES - 1), (loud, self.said)]:
+            status = self.once(asked, said)
             if status in GOOD.get(words[0], (0,)):
                 return status, self.text(self.out)
         said = [*self.text(self.out).strip().split("\n")[:1], *self.text(self.said).strip().split("\n")]

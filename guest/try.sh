@@ -48,6 +48,18 @@ says() {
     fi
 }
 
+# shows WHAT LINE ..: standard error of the last command had these lines and no more.
+shows() {
+    local what=$1
+    shift
+    tried=$((tried + 1))
+    if ! printf '%s\n' "$@" | cmp -s - said; then
+        echo "$what: not these lines on standard error: $*"
+        head -n 5 said
+        failed=$((failed + 1))
+    fi
+}
+
 quiet() {
     tried=$((tried + 1))
     if [ -s said ]; then
@@ -97,7 +109,7 @@ try_launcher() {
 
 try_commands() {
     try "counters" 0 "$predator" run "$here/built/counters.elf"
-    quiet "counters"
+    shows "counters" "sum 80000"
     prints "counters" "outcome exit 0"
     prints "counters" "accesses 160042"
     tried=$((tried + 1))
@@ -118,6 +130,7 @@ try_commands() {
     try "a half over its trace" 8 "$predator" split t 100000 other ./t
     try "the trace, still there" 0 cmp t back
     try "takings" 0 "$predator" explain programs/counters.elf 0x00011000 64 41
+    quiet "takings"
     prints "takings" "line 0x00011000 64 start 41 count 4007"
     try "misses" 0 "$predator" misses t
     prints "misses" "line 0x00011000 cold 8 useful 1 useless 4000"
@@ -230,6 +243,54 @@ refused() {
     done
 }
 
+# What a run lets be seen on standard error, whatever that is; the report and the status stay the same.
+try_shown() {
+    local written="$top/crates/worked_runs/data/writes.elf" it
+    try "what is put out, into a file" 0 "$predator" run programs/counters.elf --output put
+    quiet "what is put out, into a file"
+    cp out report
+    try "what is in the file" 0 grep -x "sum 80000" put
+    for it in ">shown" ">shown 2>/dev/null" ">shown 2>&-" ">shown 2>/dev/full" ">shown 2> >(true)" "2>&1 >shown | cat"; do
+        rm -f shown
+        # shellcheck disable=SC2016
+        try "a run with $it" 0 bash -c 'set -o pipefail; "$0" run programs/counters.elf '"$it" "$predator"
+        try "the report of a run with $it" 0 cmp shown report
+    done
+    # Standard error may be what the call writes, and then gets nothing.
+    for it in "2>over" "2>>over"; do
+        rm -f over
+        # shellcheck disable=SC2016
+        try "a trace over $it" 0 bash -c '"$0" run programs/counters.elf --trace over >shown '"$it" "$predator"
+        try "the report of a trace over $it" 0 cmp shown report
+        # shellcheck disable=SC2016
+        try "a replay of a trace over $it" 0 bash -c '"$0" replay over | cmp - report' "$predator"
+    done
+    # Bytes that are no text come as they are, and a line that isn't ended is.
+    try "bytes" 0 "$predator" run "$written" --output put
+    says "bytes" "the program ended with exit code 4"
+    cp out report
+    try "bytes on standard error" 0 "$predator" run "$written"
+    { cat put; printf '\npredator: the program ended with exit code 4\n'; } >wanted
+    cp out shown
+    cp said told
+    try "their report" 0 cmp shown report
+    try "the bytes" 0 cmp told wanted
+    try "an exit code" 0 "$predator" run programs/linked.elf
+    shows "an exit code" "linked" "predator: the program ended with exit code 14"
+    for it in "2>&-" "2>/dev/full"; do
+        # shellcheck disable=SC2016
+        try "an exit code with $it" 0 bash -c '"$0" run programs/linked.elf '"$it" "$predator"
+        prints "an exit code with $it" "outcome exit 14"
+    done
+    try "an exit code, explained" 0 "$predator" explain programs/linked.elf 0x00011000 64 0
+    quiet "an exit code, explained"
+    printf 'harts = 4\n' >four
+    try "too few harts" 0 "$predator" run programs/counters.elf --settings four
+    prints "too few harts" "outcome exit 1"
+    shows "too few harts" "predator: no hart was free for the last thread that was to start: \`harts\` is 4, and in the settings it may be up to 256" \
+        "predator: the program ended with exit code 1"
+}
+
 # Pipes, and files that are missing, closed, endless or full.
 try_streams() {
     local once="a pipe or a terminal can be read once; write it to a file first"
@@ -309,7 +370,7 @@ try_streams() {
         echo "skipped: a full disk, which wants the right to mount one"
     fi
     try "the trace is there" 0 bash -c '"$0" replay made | cmp - wanted' "$predator"
-    for words in "gen 3 three" "check programs/counters.elf" "run programs/counters.elf" "replay made"; do
+    for words in "gen 3 three" "check programs/counters.elf" "run programs/counters.elf --output /dev/null" "replay made"; do
         # shellcheck disable=SC2016
         fails "a closed output of $words" 8 "standard output: Bad file descriptor" bash -c '"$0" '"$words >&-" "$predator"
         # shellcheck disable=SC2016
@@ -377,6 +438,45 @@ C
     try "lone variables" 0 "$predator" run alone.elf
     prints "lone variables" "outcome exit 0"
 
+    # Nine harts of eight; of which one more starts once another one is free; and 257 of 256.
+    cat >nine.c <<'C'
+#include "predator.h"
+static int end(void *unused)
+{
+    (void)unused;
+    return 0;
+}
+int main(void)
+{
+    int last = 0;
+    for (int i = 0; i < MORE; i++)
+        last = predator_spawn(end, 0);
+    if (last != -EAGAIN)
+        return 1;
+#ifdef AGAIN
+    predator_join(1);
+    return predator_spawn(end, 0) != 1;
+#endif
+    return 0;
+}
+C
+    local few="no hart was free for the last thread that was to start: \`harts\` is"
+    try "a build for nine harts" 0 "$here/build.sh" nine.elf nine.c -- -DMORE=8
+    try "nine harts" 0 "$predator" run nine.elf
+    prints "nine harts" "outcome exit 0"
+    says "nine harts" "$few 8, and in the settings it may be up to 256"
+    printf 'harts = 9\n' >enough
+    try "nine of nine" 0 "$predator" run nine.elf --settings enough
+    shows "nine of nine" "predator: the program ended with exit code 1"
+    try "a build for one more" 0 "$here/build.sh" again.elf nine.c -- -DMORE=8 -DAGAIN
+    try "one more" 0 "$predator" run again.elf
+    prints "one more" "outcome exit 0"
+    quiet "one more"
+    try "a build for 257 harts" 0 "$here/build.sh" most.elf nine.c -- -DMORE=256
+    printf 'harts = 256\nstack = 4096\n' >most
+    try "257 harts" 0 "$predator" run most.elf --settings most
+    says "257 harts" "$few 256, and there are never more"
+
     cannot "cancel" '#include <pthread.h>
     int main(void) { return pthread_cancel(pthread_self()); }' "a hart can't be ended by another one"
     cannot "signal" '#include <pthread.h>
@@ -422,7 +522,39 @@ C
     try "a build without words" 0 "$here/build.sh" words.elf words.c
     try "a failed claim" 0 "$predator" run words.elf --output o
     prints "a failed claim" "outcome exit 134"
+    says "a failed claim" "the program ended with exit code 134"
     try "a failed claim is said" 0 grep "count == 3" o
+    cat >nine.c <<'C'
+#include <pthread.h>
+#include <stdio.h>
+#include <unistd.h>
+static void *wait(void *gate) { return pthread_barrier_wait(gate), gate; }
+int main(int count, char **words)
+{
+    pthread_t threads[8];
+    pthread_barrier_t gate;
+    int made = 0;
+    (void)words;
+    printf("%ld harts\n", sysconf(_SC_NPROCESSORS_ONLN));
+    pthread_barrier_init(&gate, NULL, 8);
+    while (made < 6 + count && pthread_create(&threads[made], NULL, wait, &gate) == 0)
+        made++;
+    wait(&gate);
+    for (int i = 0; i < made; i++)
+        pthread_join(threads[i], NULL);
+    return made != 7;
+}
+C
+    try "a build of eight threads" 0 "$here/build.sh" eight.elf nine.c
+    try "eight threads" 0 "$predator" run eight.elf
+    prints "eight threads" "outcome exit 0"
+    shows "eight threads" "8 harts"
+    try "a build of nine threads" 0 env ARGUMENTS=more "$here/build.sh" nine.elf nine.c
+    try "nine threads" 0 "$predator" run nine.elf
+    prints "nine threads" "outcome exit 0"
+    shows "nine threads" "8 harts" \
+        "pthread_create: each of the 8 harts is in use, so there is none for another thread: the settings may have more, as harts = 16" \
+        "predator: no hart was free for the last thread that was to start: \`harts\` is 8, and in the settings it may be up to 256"
 }
 
 # It takes minutes.
@@ -436,7 +568,7 @@ try_unproved() {
 [ $# -gt 0 ] || set -- program install kit c_library
 for part in "$@"; do
     case $part in
-        program) for it in launcher commands refusals outputs messages streams; do "try_$it"; done ;;
+        program) for it in launcher commands refusals outputs shown messages streams; do "try_$it"; done ;;
         install | kit | c_library | unproved) "try_$part" ;;
         *)
             sed -n '2,/^[^#]/s/^# \{0,1\}//p' "$here/try.sh" >&2

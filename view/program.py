@@ -41,6 +41,8 @@ class Predator:
         text = ran.stdout.decode("latin-1")
         if ran.returncode not in good:
             said = text.partition("\n")[0] if text.startswith("predator: ") else f"status {ran.returncode}"
+            if ran.stderr:
+                said += f" ({ran.stderr.decode('utf-8', 'replace').strip().rpartition(chr(10))[2].removeprefix('predator: ')})"
             raise Refused(f"`predator {words[0]}` was refused: {said.removeprefix('predator: ')}")
         return text
 
@@ -82,7 +84,8 @@ class Predator:
             return self.counted_by_pipes(words, readers)
         with tempfile.TemporaryDirectory(prefix="predator-view-") as folder:
             trace = os.path.join(folder, "trace")
-            self.text(with_trace(words, trace), REPORTED)
+            # (what the program puts out was shown with its report)
+            self.text(with_trace([words[0], "--output", os.devnull, *words[1:]], trace), REPORTED, stderr=subprocess.PIPE)
             return self.counted_of_file(trace, readers)
 
     def counted_by_pipes(self, words, readers):

@@ -66,7 +66,7 @@ def foretold(name, runs):
         settings, trace = os.path.join(work, "settings"), os.path.join(work, "trace")
         with open(settings, "w") as file:
             file.write(SETTINGS)
-        text("run", os.path.join(OUT, f"{name}.elf"), "--settings", settings, "--trace", trace)
+        text("run", os.path.join(OUT, f"{name}.elf"), "--settings", settings, "--trace", trace, "--output", os.devnull)
         there = useless(text("misses", trace, "--size", str(line.size), "--shift", str(line.base % line.size)), line.base, line.size)
         inside = useless(text("misses", trace), line.base & -64, line.size + line.base % 64)
     row = [name, line.kind, f"`{shown(line.base)}`", line.size, line.count, there, inside, "-", "-"]

@@ -49,7 +49,7 @@ class Build:
             settings, trace = os.path.join(work, "settings"), os.path.join(work, "trace")
             with open(settings, "w") as file:
                 file.write(settings_text)
-            observed = Report(text("run", path, "--settings", settings, "--trace", trace)).of_kind("observed")
+            observed = Report(text("run", path, "--settings", settings, "--trace", trace, "--output", os.devnull)).of_kind("observed")
             counted = text("misses", trace)
             with open(trace, "rb") as file:
                 if list(recount_misses.told(file.read(), 64, 0)) != counted.splitlines():

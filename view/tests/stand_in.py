@@ -1,6 +1,7 @@
 #!/usr/bin/python3
 """Stands for the proved program in the tests of view, where that isn't built: `run`, `replay`, `misses`, `explain` and `check` of small
-programs and traces, by machine.py and the judges of tools/. STAND_IN_LACKS names commands that it hasn't, and `pipes` if it reads none."""
+programs and traces, by machine.py and the judges of tools/. STAND_IN_LACKS names commands that it hasn't, and `pipes` if it reads none. STAND_IN_PUTS is
+what a program puts out."""
 
 import os
 import struct
@@ -109,6 +110,8 @@ def case_of_run(machine):
 def run(names, options):
     machine = machine_of(names[0], options)
     case = case_of_run(machine)
+    if "STAND_IN_PUTS" in os.environ and "--output" not in options:
+        print(os.environ["STAND_IN_PUTS"], file=sys.stderr)
     if "--trace" in options:
         with open(options["--trace"], "wb") as file:
             file.write(judge_report.trace_of(case))

@@ -67,6 +67,10 @@ class Screens(unittest.TestCase):
         self.assertEqual(view(*words, lacks="misses explain")[0], 2)
         self.assertEqual(view(*words, "--by", "count", lacks="misses explain")[0], 1)
 
+    def test_what_the_program_puts_out_is_shown_once(self):
+        for lacks in ("", "pipes"):
+            self.assertEqual(view("run", built("ring.elf"), *TURNS, lacks=lacks, STAND_IN_PUTS="put out")[2], "put out\n")
+
     def test_without_pipes_it_is_the_same(self):
         words = ("run", built("ring.elf"), *TURNS, "--explain", "0")
         self.assertEqual(view(*words, lacks="pipes"), view(*words))

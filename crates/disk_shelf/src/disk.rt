@@ -9,10 +9,11 @@ use crate::known_files::{FileId, KnownFiles};
 use crate::meter::Meter;
 use crate::open_files::{OpenFiles, ReadBytes};
 use crate::reasons::tell_fault;
-use shelf::{Shelf, ShelfError};
+use crate::run_end::RunEnd;
+use shelf::{RunShown, Shelf, ShelfError};
 use std::alloc::{AllocError, Global};
 use std::fs::{self, OpenFile, OpenOptions};
-use std::io::{self, ErrorKind, Print, Read, Seek, Write};
+use std::io::{self, ErrorKind, Print, Read, Seek, Stderr, Write};
 use std::marker::Model;
 use std::rt::{Clock, Files};
 
@@ -25,8 +26,10 @@ const STANDARD_INPUT: &str = "standard input";
 
 const INPUT_PATH: &str = "/dev/stdin";
 
+const ERROR_PATH: &str = "/dev/stderr";
+
 // The three streams that a process begins with, in the order of their numbers.
-const STREAMS: [&str; 3] = [INPUT_PATH, OUTPUT_PATH, "/dev/stderr"];
+const STREAMS: [&str; 3] = [INPUT_PATH, OUTPUT_PATH, ERROR_PATH];
 
 // The name of a trace that is standard input.
 const INPUT: &str = "-";
@@ -44,13 +47,15 @@ const IN_USE: &str = "the same file is in use under another name, and stays as i
 /// writing, and kept open, so that pipes and terminals serve where they are read, or written, from
 /// the front to the end. A regular file that it has read or begun is not begun under another name,
 /// nor is one that standard output is, and nothing is printed over one: that fails, and the file
-/// stays as it is. It says on standard error why a call failed, and shows there how far long work
-/// is where that is asked for.
+/// stays as it is. It says on standard error why a call failed, and where that is asked for shows
+/// there how far long work is and what a run puts out.
 #[derive(Drop)]
 pub struct DiskShelf<'a, R: Files + Print + Eprint + Clock + AllocGlobal> {
     runtime: &'a R,
     files: Opened<R::File>,
     meter: Meter,
+    stderr: Option<Stderr>,
+    run_end: RunEnd,
     reads: u64,
     writes: u64,
     prints: u64,
@@ -79,7 +84,7 @@ fn fault_of(count: &mut u64, error: &io::Error) -> ShelfError
     ShelfError::Failed
 }
 
-// Says why a call of the system failed, and counts it. A line of long work is taken away before.
+// Says why a call of the system failed, and counts it. Room is made for it before.
 fn tell_and_count<R: Eprint + AllocGlobal>(
     runtime: &R,
     meter: &mut Meter,
@@ -90,7 +95,7 @@ fn tell_and_count<R: Eprint + AllocGlobal>(
     ensures counted { count.new ≡ after_fault count.old result }
     ensures later { count.old ≤ count.new }
 {
-    meter.clear(runtime);
+    meter.make_room(runtime);
     tell_fault(runtime, name, &error);
     fault_of(count, &error)
 }
@@ -103,8 +108,8 @@ struct Expected {
 }
 
 // The files of a call, as the system has them: what stands for streams that were closed, the files
-// that are open, those that are known, and the regular file that standard output is, where it is
-// one.
+// that are open, those that are known, and the regular files that standard output and standard
+// error are, where they are any.
 #[derive(Drop)]
 struct Opened<F: Drop> {
     closed: Vec<F>,
@@ -112,6 +117,7 @@ struct Opened<F: Drop> {
     written: OpenFiles<F>,
     known: KnownFiles,
     printed: Option<FileId>,
+    said: Option<FileId>,
     expected: Option<Expected>,
 }
 
@@ -123,7 +129,8 @@ impl<F: Read + Write + Seek + OpenFile + Drop> Opened<F> {
             read: OpenFiles::new(runtime.alloc()),
             written: OpenFiles::new(runtime.alloc()),
             known: KnownFiles::new(runtime.alloc()),
-            printed: printed_file(runtime),
+            printed: file_of_stream(runtime, OUTPUT_PATH),
+            said: file_of_stream(runtime, ERROR_PATH),
             expected: None,
         }
     }
@@ -213,7 +220,16 @@ impl<F: Read + Write + Seek + OpenFile + Drop> Opened<F> {
 
     // Whether standard output is a file that is read or written.
     fn prints_over(&self) -> bool {
-        match self.printed {
+        self.is_known(self.printed)
+    }
+
+    // Whether standard error is one.
+    fn says_over(&self) -> bool {
+        self.is_known(self.said)
+    }
+
+    fn is_known(&self, file: Option<FileId>) -> bool {
+        match file {
             Some(id) => self.known.has(id),
             None => false,
         }
@@ -252,9 +268,9 @@ fn stand_ins<R: Files + AllocGlobal>(runtime: &R) -> Vec<R::File> {
     files
 }
 
-// The regular file that standard output is, where it is one.
-fn printed_file<R: Files>(runtime: &R) -> Option<FileId> {
-    let metadata = fs::metadata(runtime, OUTPUT_PATH).ok()?;
+// The regular file that a stream is, where it is one.
+fn file_of_stream<R: Files>(runtime: &R, path: &str) -> Option<FileId> {
+    let metadata = fs::metadata(runtime, path).ok()?;
     FileId::of(&metadata)
 }
 
@@ -278,6 +294,8 @@ impl<'a, R: Files + Print + Eprint + Clock + AllocGlobal> DiskShelf<'a, R> {
             runtime,
             files: Opened::new(runtime),
             meter,
+            stderr: None,
+            run_end: RunEnd::new(),
             reads: 0,
             writes: 0,
             prints: 0,
@@ -297,6 +315,25 @@ impl<'a, R: Files + Print + Eprint + Clock + AllocGlobal> DiskShelf<'a, R> {
         ensures { result ≡ record { reads = 0; writes = 0; prints = 0 } }
     {
         DiskShelf::with_meter(runtime, Meter::shown(runtime))
+    }
+
+    /// Shows on standard error what a run puts out from now on, unless that is a file that is read
+    /// or written. Nothing that contracts see changes.
+    pub fn show_output_on(&mut self, stderr: Stderr)
+        ensures { self.new ≡ self.old }
+    {
+        self.stderr = Some(stderr);
+    }
+
+    /// Says on standard error how a run went, once it is over: that no hart was free for the latest
+    /// that was to start, and an exit code other than 0. Nothing that contracts see changes.
+    pub fn tell_run_end(&mut self)
+        ensures { self.new ≡ self.old }
+    {
+        if !self.files.says_over() {
+            self.meter.make_room(self.runtime);
+            self.run_end.tell(self.runtime);
+        }
     }
 
     /// Hears how a trace will be read: once from its front to its end, or again. Where it is read
@@ -377,7 +414,7 @@ impl<R: Files + Print + Eprint + Clock + AllocGlobal> Shelf for DiskShelf<'_, R>
     }
 
     fn print(&mut self, piece: &[u8]) -> Result<(), ShelfError> {
-        self.meter.clear(self.runtime);
+        self.meter.make_room(self.runtime);
         match print_to(self.runtime, &self.files, piece) {
             Ok(()) => Ok(()),
             Err(error) => {
@@ -389,5 +426,19 @@ impl<R: Files + Print + Eprint + Clock + AllocGlobal> Shelf for DiskShelf<'_, R>
 
     fn show_steps(&mut self, made: u64, most: u64) {
         self.meter.show_steps(self.runtime, made, most);
+    }
+
+    fn show_run(&mut self, shown: RunShown<'_>) {
+        match shown {
+            RunShown::Output(bytes) => {
+                if let Some(stderr) = self.stderr {
+                    if !self.files.says_over() {
+                        self.meter.show_output(self.runtime, stderr, bytes);
+                    }
+                }
+            }
+            RunShown::NoFreeHart(harts) => self.run_end.note_no_free_hart(harts),
+            RunShown::ExitCode(code) => self.run_end.note_exit(code),
+        }
     }
 }

@@ -2,8 +2,8 @@
 //!
 //! [`DiskShelf`] tells nothing of what files hold, since nobody can: its meaning is how often calls
 //! have failed, and a call that fails is the cause of what the program answers. Beside that it says
-//! on standard error why a call failed, shows on a terminal how far long work is, and begins no
-//! regular file that is in use under another name.
+//! on standard error why a call failed, shows there what a run puts out and on a terminal how far
+//! long work is, and begins no regular file that is in use under another name.
 #![tactic(auto)]
 
 mod disk;
@@ -11,5 +11,6 @@ mod known_files;
 mod meter;
 mod open_files;
 mod reasons;
+mod run_end;
 
 pub use disk::DiskShelf;

@@ -1,5 +1,7 @@
-// Long work, as a terminal shows it: one line, written again once a second.
+// What stands on standard error while work goes on: the output of a run as it comes, and on a
+// terminal how far long work is, in one line that is written again once a second.
 
+use std::io::Stderr;
 use std::time::{Clock, Instant};
 
 const MIB: u64 = 1 << 20;
@@ -9,13 +11,15 @@ const MILLION: u64 = 1_000_000;
 // As long as the longest line, and shorter than a terminal is wide.
 const BLANK: &str = "                                                ";
 
-/// What is shown of work that lasts more than a second.
+/// What is shown of work that lasts more than a second, and of the output of a run.
 #[derive(Drop)]
 pub struct Meter {
     // When the last line was shown, or the work began. Where there is none, nothing is shown.
     since: Option<Instant>,
     // Whether a line stands on the terminal.
     stands: bool,
+    // Whether the last line of the output that is shown isn't ended yet.
+    is_amid_line: bool,
 }
 
 impl Meter {
@@ -24,6 +28,7 @@ impl Meter {
         Meter {
             since: None,
             stands: false,
+            is_amid_line: false,
         }
     }
 
@@ -32,11 +37,16 @@ impl Meter {
         Meter {
             since: Instant::now(clock).ok(),
             stands: false,
+            is_amid_line: false,
         }
     }
 
-    // Whether a second went by since the last line. The clock isn't read where nothing is shown.
+    // Whether a second went by since the last line. The clock isn't read where nothing is shown,
+    // nor where the output stands amid a line, which isn't written over.
     fn is_due(&mut self, clock: &impl Clock) -> bool {
+        if self.is_amid_line {
+            return false;
+        }
         let Some(since) = self.since else {
             return false;
         };
@@ -85,11 +95,28 @@ impl Meter {
         }
     }
 
-    /// Takes the line away, where one stands.
-    pub fn clear<R: Eprint>(&mut self, runtime: &R) {
+    /// Shows bytes of a run's output. Where they can't be shown they are lost.
+    pub fn show_output<R: Eprint>(&mut self, runtime: &R, stderr: Stderr, bytes: &[u8]) {
+        self.clear(runtime);
+        let _ = stderr.write_all(bytes);
+        self.is_amid_line = bytes.last() != Some(&b'\n');
+    }
+
+    // Takes the line away, where one stands.
+    fn clear<R: Eprint>(&mut self, runtime: &R) {
         if self.stands {
             self.stands = false;
             let _ = eprint!(runtime; "\r{BLANK}\r");
+        }
+    }
+
+    /// Makes room for what is said or printed: the line is taken away, where one stands, and the
+    /// last line of the output is ended.
+    pub fn make_room<R: Eprint>(&mut self, runtime: &R) {
+        self.clear(runtime);
+        if self.is_amid_line {
+            self.is_amid_line = false;
+            let _ = eprint!(runtime; "\n");
         }
     }
 }

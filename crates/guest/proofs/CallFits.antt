@@ -144,15 +144,22 @@ fits_exit h hart c f =
 
 fits_started : (h hart pc : ℕ) (s : Setup) (c : Config) (o : Option ℕ) → Fits h c
     → FitsTurn h (started_with s hart pc c o)
-fits_started h hart pc s c None f = fits_refused h hart 11 c f
+fits_started h hart pc s c None f = fits_refused h hart 11 (record c { lacks_hart = true })
+    (record {
+      states = f.states;
+      held = f.held;
+      phases = f.phases;
+      calls = f.calls;
+      plan = f.plan;
+    })
 fits_started h hart pc s c (Some new) f =
     let state : Registers = started pc (stack_end s new) (value_in c hart 3) (value_in c hart 11) in
     let d : Config = record c {
       states = set c.states new state;
       held = set c.held new None;
       phases = spawned c.phases;
-      calls =
-          set c.calls new [];
+      calls = set c.calls new [];
+      lacks_hart = false;
     } in
     fits_answered h hart new d
     (record {

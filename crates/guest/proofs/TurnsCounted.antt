@@ -123,7 +123,8 @@ exit_one hart s c room =
 
 started_one : (hart pc : ℕ) (s : Setup) (c : Config) (o : Option ℕ) → c.steps < s.budget
     → Counted s c (started_with s hart pc c o)
-started_one hart pc s c None room = refused_one hart 11 s c room
+started_one hart pc s c None room =
+    quiet_one s c (answered hart (minus 11) (record c { lacks_hart = true })) room refl refl
 started_one hart pc s c (Some new) room =
     record { room = room; steps = refl; accesses = omega arith }
 

@@ -14,6 +14,6 @@ config_of x = record {
   notes = x.notes;
   plan = x.schedule;
   steps = x.steps;
-  accesses =
-      x.accesses;
+  accesses = x.accesses;
+  lacks_hart = x.lacks_hart;
 }

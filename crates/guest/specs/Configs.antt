@@ -1,6 +1,6 @@
 -- The configurations of a guest's run: all that its steps change.
 use Rattle.std.specs.Prelude.{◌≡◌, ℕ, ◌+◌, ◌-◌, ◌*◌, ◌<◌, ◌^◌, List, [], length, replicate, Option}
-use Rattle.std.specs.Prelude.{None, slice_index_or, slice_set}
+use Rattle.std.specs.Prelude.{Bool, false, None, slice_index_or, slice_set}
 use Rattle.rv32_hart.specs.Space.{Space}
 use Rattle.rv32_hart.specs.Registers.{Registers, started, reg, with_reg, advanced}
 use Rattle.guest.specs.declared.phase.HartPhase.{HartPhase}
@@ -14,8 +14,8 @@ use Rattle.hart_scheduler.specs.Choices.{Plan}
 use Rattle.guest.specs.declared.setup.Setup.{Setup}
 
 -- The memory; the registers, the reservation, the phase and the call list of each hart; the heap,
--- and the blocks that are noted beside it; what the schedule has still to say; and the steps and the
--- accesses so far.
+-- and the blocks that are noted beside it; what the schedule has still to say; the steps and the
+-- accesses so far; and whether the latest spawn was refused because no hart was free.
 pub record Config : Type 0 where
   pub memory : Space
   pub states : List Registers
@@ -27,6 +27,7 @@ pub record Config : Type 0 where
   pub plan : Plan
   pub steps : ℕ
   pub accesses : ℕ
+  pub lacks_hart : Bool
 
 -- where a hart's stack ends
 abbrev pub stack_end : Setup → ℕ → ℕ
@@ -50,6 +51,7 @@ first_config s memory heap entry plan = record {
   plan = plan;
   steps = 0;
   accesses = 0;
+  lacks_hart = false;
 }
 
 -- a hart's registers

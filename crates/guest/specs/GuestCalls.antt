@@ -2,6 +2,7 @@
 -- its answer in x10.
 use Rattle.std.specs.Prelude.{ℕ, ◌-◌, ◌/◌, ◌%◌, ◌^◌, Bool, not, ◌&&◌, ◌||◌, nat_eq, nat_lt, min, List}
 use Rattle.std.specs.Prelude.{if◌then◌else◌, [], ◌∷◌, Option, None, Some, Result, Ok, Err, slice_set}
+use Rattle.std.specs.Prelude.{true, false}
 use Rattle.std.specs.List.{list_all, list_any, range_with_len}
 use Rattle.base.specs.Touch.{Touch}
 use Rattle.base.specs.declared.ending.Outcome.{Outcome}
@@ -121,9 +122,10 @@ exit_group_turn hart c = over (Exit (value_in c hart 10)) (counted (passed hart 
 
 -- ---- spawn
 
--- the hart starts with the caller's x3, has no reservation, and has made no call
+-- the hart starts with the caller's x3, has no reservation, and has made no call; whether none was
+-- free is kept
 abbrev pub started_with : Setup → ℕ → ℕ → Config → Option ℕ → RunTurn
-started_with s hart pc c None = refused hart 11 c
+started_with s hart pc c None = refused hart 11 (record c { lacks_hart = true })
 started_with s hart pc c (Some new) =
     quietly (answered hart new (record c {
       states = slice_set c.states new
@@ -131,6 +133,7 @@ started_with s hart pc c (Some new) =
       held = slice_set c.held new None;
       phases = spawned c.phases;
       calls = slice_set c.calls new [];
+      lacks_hart = false;
     }))
 
 -- at an address that can be fetched from, with an argument

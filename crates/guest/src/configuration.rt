@@ -20,7 +20,8 @@ use rv32_hart::{HartState, Memory, Reservations};
 use std::alloc::Global;
 
 /// The memory, the registers, reservation, phase and calls of each hart, the heap, the blocks that
-/// are noted beside it, what the schedule has still to say, and the counts.
+/// are noted beside it, what the schedule has still to say, the counts, and whether no hart was
+/// free for the latest that was to start.
 #[derive(Drop)]
 pub struct Configuration {
     pub memory: Memory,
@@ -33,6 +34,7 @@ pub struct Configuration {
     pub schedule: Schedule,
     pub steps: u64,
     pub accesses: u64,
+    pub lacks_hart: bool,
 }
 
 fn register(number: u8) -> Reg
@@ -144,6 +146,7 @@ impl Configuration {
             schedule,
             steps: 0,
             accesses: 0,
+            lacks_hart: false,
         })
     }
 

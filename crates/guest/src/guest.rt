@@ -175,6 +175,13 @@ impl Guest {
         self.config.accesses
     }
 
+    /// Whether the latest spawn was refused because no hart was free.
+    pub fn lacks_hart(&self) -> bool
+        ensures { result ≡ self.now.config.lacks_hart }
+    {
+        self.config.lacks_hart
+    }
+
     /// How the run has ended: None exactly before `step` answers `Ended`.
     pub fn ending(&self) -> Option<Ending>
         ensures { result ≡ self.now.ending }

@@ -207,9 +207,13 @@ impl Configuration {
                 );
                 self.held.clear(new);
                 self.calls[usize::from(new.number())].clear();
+                self.lacks_hart = false;
                 self.answer_quietly(hart, u32::from(new.number()))
             }
-            None => self.refuse(hart, AGAIN),
+            None => {
+                self.lacks_hart = true;
+                self.refuse(hart, AGAIN)
+            }
         }
     }
 

@@ -279,6 +279,23 @@ fn programs_run_as_their_rows_say(rt: HostRuntime) -> Result<(), Fail> {
     run_all(&rt, rt.alloc(), &ROWS)
 }
 
+// Whether a guest of so many harts lacks one once its program has made one more.
+fn lacks_hart(alloc: Global, harts: u16) -> Result<bool, Fail> {
+    if harts == 0 || harts > 256 {
+        return Err("no such harts".into());
+    }
+    let mut guest = guest_of(alloc, &TWO_HARTS, b"", harts, 1000)?;
+    run(&mut guest, &mut Vec::new(alloc))?;
+    Ok(guest.lacks_hart())
+}
+
+#[test]
+fn a_guest_lacks_a_hart_where_a_spawn_found_none(rt: HostRuntime) -> Result<(), Fail> {
+    assert!(rt; lacks_hart(rt.alloc(), 1)?);
+    assert!(rt; !lacks_hart(rt.alloc(), 2)?);
+    Ok(())
+}
+
 // A misaligned load of a hart, which is a trap.
 fn trap_of(hart: Hart) -> Row {
     Row {

@@ -16,6 +16,7 @@ fn main(rt: HostRuntime) -> ExitCode {
     } else {
         DiskShelf::new(&rt)
     };
+    shelf.show_output_on(rt.stderr());
     let status = match words_of(rt.alloc(), env::args(&rt)) {
         Ok(words) => {
             if let Some(trace) = trace_to_read(rt.alloc(), &words) {
@@ -26,6 +27,7 @@ fn main(rt: HostRuntime) -> ExitCode {
                 Some(name) => shelf.front_of(name),
                 None => Vec::new(rt.alloc()),
             };
+            shelf.tell_run_end();
             advise(&rt, &words, &status, front.as_slice());
             status
         }

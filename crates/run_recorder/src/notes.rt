@@ -12,10 +12,10 @@ ghost use Rattle.run_recorder.specs.Recording.{AreCutAfter, AreNoted, IsTold, by
 ghost use Rattle.run_recorder.specs.Recording.{records_told};
 
 use crate::files::{put_output, put_record};
-use crate::run_file::RunFile;
+use crate::run_file::{Content, RunFile};
 use base::Access;
 use guest::{Event, Guest};
-use shelf::{Shelf, ShelfError};
+use shelf::{RunShown, Shelf, ShelfError};
 use trace_files::TraceOutputs;
 use trace_format::TraceRecord;
 use trace_passes::Observer;
@@ -79,7 +79,17 @@ fn free_record(addr: u32) -> TraceRecord
     TraceRecord::Free { addr }
 }
 
-// Bytes that the guest puts out: the files get them.
+// Lets the shelf show bytes that the guest puts out, where no file gets them.
+fn show_output<S: Shelf>(shelf: &mut S, files: &[RunFile<'_>], bytes: &[u8])
+    ensures { S.outside shelf.new ≡ S.outside shelf.old }
+{
+    let is_kept = files.iter().any(|file| file.content == Content::Output);
+    if !is_kept {
+        shelf.show_run(RunShown::Output(bytes));
+    }
+}
+
+// Bytes that the guest puts out: the files get them, or the shelf shows them.
 fn note_output<S: Shelf>(
     shelf: &mut S,
     files: &[RunFile<'_>],
@@ -100,6 +110,7 @@ fn note_output<S: Shelf>(
     ensures begun { OnOk result (AreBegun (waiting_names outputs.new) (S.outside shelf.new)) }
     ensures count { length outputs.new ≡ length outputs.old }
 {
+    show_output(shelf, files, bytes);
     put_output(shelf, files, outputs, bytes)
 }
 

@@ -20,9 +20,9 @@ ghost use Rattle.run_recorder.specs.Recording.{AreCutAfter, AreNoted, HasStarted
 use crate::files::begin;
 use crate::notes::{note_event, note_record};
 use crate::run_file::RunFile;
-use base::Ending;
+use base::{Ending, Outcome};
 use guest::{Guest, Turn};
-use shelf::{Shelf, ShelfError};
+use shelf::{RunShown, Shelf, ShelfError};
 use std::alloc::Global;
 use trace_files::TraceOutputs;
 use trace_format::TraceRecord;
@@ -71,6 +71,22 @@ fn show_steps<S: Shelf>(shelf: &mut S, guest: &Guest)
     let made = guest.steps();
     if made % STRIDE == 0 {
         shelf.show_steps(made, guest.budget());
+    }
+}
+
+// Lets the shelf show that the latest hart that was to start found none free, and an exit code that
+// isn't 0.
+fn show_end<S: Shelf>(shelf: &mut S, guest: &Guest)
+    ensures { S.outside shelf.new ≡ S.outside shelf.old }
+{
+    if guest.lacks_hart() {
+        shelf.show_run(RunShown::NoFreeHart(guest.harts()));
+    }
+    if let Some(ending) = guest.ending() {
+        match ending.outcome {
+            Outcome::Exit(code) if code != 0 => shelf.show_run(RunShown::ExitCode(code)),
+            _ => {}
+        }
     }
 }
 
@@ -217,7 +233,8 @@ fn note_run<'a, S: Shelf, O: Observer>(
 
 /// Runs a guest to its end. The observer sees each record of the run's trace, the end last: the
 /// symbols, and then what each step tells. The files are written while the run goes on, each with
-/// what its content says.
+/// what its content says. Output that no file gets is shown to the shelf as it comes, and once the
+/// files are written how the guest ended, where its exit code isn't 0 or it lacks a hart.
 ///
 /// The guest is one that has made no step, of 1 to 256 harts, as `Guest::new` gives it, with a
 /// budget of at most 2^36. There are at most 2^20 symbols. The observer was given nothing. No two
@@ -257,7 +274,7 @@ pub fn record_run<S: Shelf, O: Observer>(
         (S.outside shelf.old) (S.outside shelf.new) error) }
 {
     let mut outputs = TraceOutputs::new(alloc);
-    note_run(
+    let ended = note_run(
         alloc,
         shelf,
         files,
@@ -265,5 +282,7 @@ pub fn record_run<S: Shelf, O: Observer>(
         &mut outputs,
         observer,
         symbols,
-    )
+    );
+    show_end(shelf, &guest);
+    ended
 }

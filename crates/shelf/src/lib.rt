@@ -24,5 +24,5 @@ pub use files::HeldFile;
 pub use memory::{Failing, MemoryShelf};
 pub use never_fails::NeverFails;
 pub use outputs::Outputs;
-pub use shelf::{Shelf, ShelfError};
+pub use shelf::{RunShown, Shelf, ShelfError};
 pub use whole_file::{FetchError, fetch};

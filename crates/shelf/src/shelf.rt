@@ -38,6 +38,17 @@ impl<T: Drop> From<AllocFailed<T>> for ShelfError {
     }
 }
 
+/// What a run lets be seen beside what is written and printed.
+#[derive(Clone, Copy, Debug)]
+pub enum RunShown<'a> {
+    /// Bytes that the guest puts out, and that no file gets.
+    Output(&'a [u8]),
+    /// The latest hart that was to start found none free, of so many.
+    NoFreeHart(u16),
+    /// The guest has ended by itself, with this exit code.
+    ExitCode(u32),
+}
+
 /// Files under names and a printed text, any of whose calls may fail.
 ///
 /// A file that is read and a file that is written under one name have nothing to do with each
@@ -96,6 +107,12 @@ pub trait Shelf {
     /// Hears how far long work is: so many steps are made, of at most `most`. A shelf may show
     /// that to whoever waits. It changes nothing outside, and is no call that can fail.
     fn show_steps(&mut self, _made: u64, _most: u64)
+        ensures { outside self.new ≡ outside self.old }
+    {}
+
+    /// Hears what a run lets be seen, which a shelf may show to whoever called for it. It changes
+    /// nothing outside, and is no call that can fail.
+    fn show_run(&mut self, _shown: RunShown<'_>)
         ensures { outside self.new ≡ outside self.old }
     {}
 }

@@ -19,20 +19,23 @@ returns-clause-noted g c =
     (λ f harts items put before on. subst
     (λ (l : List AnOutput). IsOutputs c.put_output.new.outputs l before new)
     (output_put harts c.args.files.now items put bytes)
-    (f (bytes_so_far harts items put) before on)) c.put_output.ensures.outputs
+    (f (bytes_so_far harts items put) before (rw c.show_output.ensures on)))
+    c.put_output.ensures.outputs
 
 pub returns-clause-cut : goal.returns-clause-cut
 returns-clause-cut g c =
     let bytes = c.args.bytes.now in
     let files = c.args.files.now in
     let old = g.S.Shelf.outside c.args.shelf.now in
+    let mid = g.S.Shelf.outside c.show_output.new.shelf in
     let new = g.S.Shelf.outside c.put_output.new.shelf in
     IfErr-weaker c.put_output.result (λ e. (more : Content → List ℕ) (before : Outside)
-    → IsOutputs c.args.outputs.now (outputs_of files more) before old
+    → IsOutputs c.args.outputs.now (outputs_of files more) before mid
     → AreCut (outputs_of files (longer more (output_part bytes))) before new e)
     (λ e. (harts : ℕ) (items : List TraceRecord) (put : List ℕ) (before : Outside)
     → AreNoted harts items put files c.args.outputs.now before old
     → AreCutAfter harts items (put ++ bytes) files before new e)
     (λ e cut harts items put before on. subst (λ (l : List AnOutput). AreCut l before new e)
-    (output_put harts files items put bytes) (cut (bytes_so_far harts items put) before on))
+    (output_put harts files items put bytes)
+    (cut (bytes_so_far harts items put) before (rw c.show_output.ensures on)))
     c.put_output.ensures.cut
