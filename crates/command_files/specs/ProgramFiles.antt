@@ -11,7 +11,7 @@ use Rattle.program_files.specs.declared.fault.ElfFault.TheVariants as elf
 use Rattle.program_files.specs.Faults.{read_fault, symbols_fault}
 use Rattle.program_files.specs.PlacedImages.{place_fault}
 use Rattle.command_files.specs.Readings.{Reading, reading}
-use Rattle.command_files.specs.SettingsFiles.{chosen_settings}
+use Rattle.command_files.specs.SettingsFiles.{AskedSettings, chosen_settings}
 use Rattle.command_files.specs.declared.status.Status.{Status}
 use Rattle.command_files.specs.declared.status.Status.TheVariants as status
 
@@ -43,7 +43,7 @@ pub record IsStartable (image : Image) : Type 0 where
   pub heap : image.heap_start ≤ image.heap_end
   pub stacks : image.heap_end + image.harts * image.stack ≡ image.top
 
--- the program of a name, under the settings of another
-abbrev pub program_reading : Option (List ℕ) → List ℕ → Reading
+-- the program of a name, under settings that are asked for
+abbrev pub program_reading : AskedSettings → List ℕ → Reading
 program_reading settings name =
     reading name (λ files. program_refusal (chosen_settings settings files) (content files name))

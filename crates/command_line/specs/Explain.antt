@@ -3,12 +3,14 @@ use Rattle.std.specs.Prelude.{ℕ, ◌^◌, ◌%◌, List, [], ◌∷◌, Option
 use Rattle.std.specs.Prelude.{option_and_then, option_map, codes}
 use Rattle.clap.specs.Words.{App, Row, Text, first_of}
 use Rattle.base.specs.Lines.{Grid}
+use Rattle.settings.specs.declared.changes.Changes.{Changes}
 use Rattle.command_line.specs.Apps.{plain_app, with_option, with_word}
 use Rattle.command_line.specs.Asked.{asked}
 use Rattle.command_line.specs.Demands.{text_of}
 use Rattle.command_line.specs.Layouts.{layout_at}
 use Rattle.command_line.specs.Names.{given}
 use Rattle.command_line.specs.Numbers.{address_of, below, number_of}
+use Rattle.command_line.specs.Set.{given_changes}
 use Rattle.command_line.specs.declared.explain.ExplainOptions.{ExplainOptions}
 
 abbrev pub explain_usage : Text
@@ -24,12 +26,13 @@ pub record ExplainDemand : Type 0 where
   pub start : ℕ
   pub settings : Option Text
   pub schedule : Option Text
+  pub set : Changes
 
 abbrev pub explain_app : App
 explain_app =
-    with_option (with_option (with_word (with_word (with_word (with_word
+    with_option (with_option (with_option (with_word (with_word (with_word (with_word
     (plain_app (codes "explain")) (codes "program")) (codes "base")) (codes "size"))
-    (codes "start")) (codes "settings")) (codes "schedule")
+    (codes "start")) (codes "settings")) (codes "schedule")) (codes "set")
 
 abbrev pub base_of : List Row → Option ℕ
 base_of rows = below (2 ^ 32) (option_and_then address_of (first_of (codes "base") rows))
@@ -40,21 +43,25 @@ size_of rows = option_and_then number_of (first_of (codes "size") rows)
 abbrev pub start_of : List Row → Option ℕ
 start_of rows = below (2 ^ 40) (option_and_then number_of (first_of (codes "start") rows))
 
-abbrev pub explain_with : List Row → Text → ℕ → ℕ → Grid → ExplainDemand
-explain_with rows program base start layout = record {
+abbrev pub explain_with : List Row → Text → ℕ → ℕ → Grid → Changes → ExplainDemand
+explain_with rows program base start layout changes = record {
   program = program;
   layout = layout;
   base = base;
   start = start;
   settings = first_of (codes "settings") rows;
   schedule = first_of (codes "schedule") rows;
+  set = changes;
 }
 
--- what its values ask for, unless no line of an allowed layout and of that size begins at the base
+-- what its values ask for, unless no line of an allowed layout and of that size begins at the base,
+-- or they name no changes that can be
 abbrev pub explain_of : List Row → Option ExplainDemand
 explain_of rows =
     option_and_then (λ program. option_and_then (λ base. option_and_then (λ size.
-    option_and_then (λ start. option_map (explain_with rows program base start)
+    option_and_then (λ start. option_and_then (λ layout.
+    option_map (explain_with rows program base start layout)
+    (given_changes (first_of (codes "set") rows)))
     (layout_at size (base % size)))
     (start_of rows))
     (size_of rows))
@@ -80,4 +87,5 @@ explain_meaning options = record {
   start = options.start;
   settings = text_of options.settings;
   schedule = text_of options.schedule;
+  set = options.set;
 }

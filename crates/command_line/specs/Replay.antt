@@ -2,11 +2,13 @@
 use Rattle.std.specs.Prelude.{List, [], ◌∷◌, ◌++◌, Option, option_map, option_and_then, codes}
 use Rattle.clap.specs.Words.{App, Row, Text, first_of}
 use Rattle.base.specs.Lines.{Grid}
+use Rattle.settings.specs.declared.changes.Changes.{Changes}
 use Rattle.command_line.specs.Apps.{plain_app, with_option, with_word}
 use Rattle.command_line.specs.Asked.{asked}
 use Rattle.command_line.specs.Demands.{text_of}
 use Rattle.command_line.specs.Layouts.{named_layout}
 use Rattle.command_line.specs.Names.{given}
+use Rattle.command_line.specs.Set.{given_changes}
 use Rattle.command_line.specs.declared.replay.ReplayOptions.{ReplayOptions}
 
 abbrev pub replay_usage : Text
@@ -14,34 +16,38 @@ replay_usage =
     codes "usage: predator replay TRACE [--settings F] [--size N] [--shift N]" ++
     codes " [--save F] [--resume F]\n"
 
--- count the accesses of a trace, with the settings of a file, if one is named, and under a layout,
--- if one is named; go on from a saved state, and save the state at the end, each if it is named
+-- count the accesses of a trace, with the settings of a file, if one is named, under changes, and
+-- under a layout, if one is named; go on from a saved state, and save the state at the end, each if it is named
 pub record ReplayDemand : Type 0 where
   pub trace : Text
   pub settings : Option Text
   pub layout : Option Grid
   pub save : Option Text
   pub resume : Option Text
+  pub set : Changes
 
 abbrev pub replay_app : App
 replay_app =
-    with_option (with_option (with_option (with_option (with_option (with_word
+    with_option (with_option (with_option (with_option (with_option (with_option (with_word
     (plain_app (codes "replay")) (codes "trace")) (codes "settings")) (codes "size"))
-    (codes "shift")) (codes "save")) (codes "resume")
+    (codes "shift")) (codes "save")) (codes "resume")) (codes "set")
 
-abbrev pub replay_under : List Row → Text → Option Grid → ReplayDemand
-replay_under rows trace layout = record {
+abbrev pub replay_under : List Row → Text → Option Grid → Changes → ReplayDemand
+replay_under rows trace layout changes = record {
   trace = trace;
   settings = first_of (codes "settings") rows;
   layout = layout;
   save = first_of (codes "save") rows;
   resume = first_of (codes "resume") rows;
+  set = changes;
 }
 
--- what its values ask for, unless its layout is none that is allowed
+-- what its values ask for, unless its layout is none that is allowed, or they name no changes that
+-- can be
 abbrev pub replay_of : List Row → Option ReplayDemand
 replay_of rows =
-    option_and_then (λ trace. option_map (replay_under rows trace)
+    option_and_then (λ trace. option_and_then (λ layout. option_map (replay_under rows trace layout)
+    (given_changes (first_of (codes "set") rows)))
     (named_layout (first_of (codes "size") rows) (first_of (codes "shift") rows)))
     (first_of (codes "trace") rows)
 
@@ -63,4 +69,5 @@ replay_meaning options = record {
   layout = options.layout;
   save = text_of options.save;
   resume = text_of options.resume;
+  set = options.set;
 }

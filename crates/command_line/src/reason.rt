@@ -21,6 +21,19 @@ const SHAPES: &str = concat!(
     "and sets times ways at most 4096"
 );
 
+/// Why a part of `--set` names no change.
+#[derive(Clone, Copy, PartialEq, Eq, Debug)]
+pub enum WrongChange {
+    /// It has no `=`.
+    Form,
+    /// What stands before `=` is no key of the settings file.
+    Key,
+    /// What stands behind `=` is no number.
+    Number,
+    /// A part before it changes the same key.
+    Again,
+}
+
 /// Why words are refused.
 #[derive(Debug, Drop)]
 pub enum Reason<'a> {
@@ -63,6 +76,13 @@ pub enum Reason<'a> {
     SweptSize(Option<&'a str>),
     /// The word for the size of a line is none that lines may have.
     LineSize(Option<&'a str>),
+    /// A part of `--set` names no change.
+    Change {
+        /// The part.
+        part: &'a str,
+        /// Why it names none.
+        wrong: WrongChange,
+    },
     /// The word for the place of a cut is no number.
     Place(Option<&'a str>),
     /// A file that is written has this name, and so has another one.
@@ -131,6 +151,18 @@ fn shape_text(
     }
 }
 
+// What is wrong with a part of `--set`.
+fn change_text(alloc: Global, part: &str, wrong: WrongChange) -> Result<String, AllocError> {
+    let why = match wrong {
+        WrongChange::Form => "is no KEY=N",
+        WrongChange::Key => "names no key of the settings",
+        WrongChange::Number =>
+            "gives no whole number below 2^64, in decimal digits without leading zeros",
+        WrongChange::Again => "names a key that stands before it",
+    };
+    format!(in alloc; "'{part}' in --set {why}")
+}
+
 impl Reason<'_> {
     /// What is wrong, in one line without its line feed.
     pub fn text(&self, alloc: Global) -> Result<String, AllocError> {
@@ -147,6 +179,7 @@ impl Reason<'_> {
             Reason::Layout { size, shift } => layout_text(alloc, *size, *shift),
             Reason::Line { base, size, start } => line_text(alloc, *base, *size, *start),
             Reason::Shape { size, sets, ways } => shape_text(alloc, *size, *sets, *ways),
+            Reason::Change { part, wrong } => change_text(alloc, *part, *wrong),
             Reason::Count(word) => {
                 let word = word.unwrap_or("");
                 format!(in alloc; "'{word}' is no count: N is a whole number up to 1000000000")
