@@ -2,6 +2,7 @@
 use Rattle.std.specs.Prelude.{◌≡◌, ◌≤◌, ◌+◌, ◌*◌, ◌%◌, ℕ, ◌^◌, nat_lt, List, length, Option, Some}
 use Rattle.std.specs.Prelude.{if◌then◌else◌}
 use Rattle.std.specs.Option.{option_or, option_map}
+use Rattle.command_line.specs.Set.{AskedSettings}
 use Rattle.shelf.specs.Shelf.{content}
 use Rattle.settings.specs.declared.values.Settings.{Settings}
 use Rattle.program_files.specs.declared.image.Space.{Space}
@@ -11,7 +12,7 @@ use Rattle.program_files.specs.declared.fault.ElfFault.TheVariants as elf
 use Rattle.program_files.specs.Faults.{read_fault, symbols_fault}
 use Rattle.program_files.specs.PlacedImages.{place_fault}
 use Rattle.command_files.specs.Readings.{Reading, reading}
-use Rattle.command_files.specs.SettingsFiles.{AskedSettings, chosen_settings}
+use Rattle.command_files.specs.SettingsFiles.{chosen_settings}
 use Rattle.command_files.specs.declared.status.Status.{Status}
 use Rattle.command_files.specs.declared.status.Status.TheVariants as status
 

@@ -4,6 +4,7 @@ use Rattle.std.specs.Option.{option_map_or}
 use Rattle.toml.specs.Data.{no_members}
 use Rattle.base.specs.Levels.{Levels}
 use Rattle.base.specs.Lines.{Grid}
+use Rattle.command_line.specs.Set.{AskedSettings}
 use Rattle.shelf.specs.Shelf.{Files, content}
 use Rattle.settings.specs.Answers.{settings_under, usual_under}
 use Rattle.settings.specs.Tables.{values_of}
@@ -17,15 +18,8 @@ use Rattle.command_files.specs.declared.status.Status.TheVariants as status
 abbrev pub usual_settings : Settings
 usual_settings = values_of no_members
 
--- the settings that are asked for: those of a file, if one is named, under changes
-pub record AskedSettings : Type 0 where
-  pub file : Option (List ℕ)
-  pub changes : Changes
-
-abbrev pub asked_under : Option (List ℕ) → Changes → AskedSettings
-asked_under file changes = record { file = file; changes = changes }
-
--- what is given for them; the usual ones under the changes where no file is named
+-- what is given for settings that are asked for; the usual ones under the changes where no file is
+-- named
 abbrev pub settings_in : AskedSettings → Files → Result Settings SettingsFault
 settings_in asked files =
     option_map_or (λ n. settings_under asked.changes (content files n)) asked.file

@@ -3,12 +3,13 @@ ghost use Rattle.std.specs.Prelude.{◌≡◌, ◌≢◌, Ok, Err, Some, None, I
 ghost use Rattle.std.specs.Option.{ForSome};
 ghost use Rattle.sharing_rules.specs.Listed.{may_predict};
 ghost use Rattle.command_line.specs.Demands.{text_of};
+ghost use Rattle.command_line.specs.Set.{asked_under};
 ghost use Rattle.settings.specs.Allowed.{IsAllowed};
 ghost use Rattle.shelf.specs.Shelf.{Told};
 ghost use Rattle.settings.specs.Answers.{usual_under};
 ghost use Rattle.settings.specs.Changed.{no_changes};
 ghost use Rattle.command_files.specs.Readings.{IsAccepted, IsRefusal, IsStopped};
-ghost use Rattle.command_files.specs.SettingsFiles.{asked_under, layout_of, levels_of, native_of};
+ghost use Rattle.command_files.specs.SettingsFiles.{layout_of, levels_of, native_of};
 ghost use Rattle.command_files.specs.SettingsFiles.{settings_in, settings_readings};
 ghost use Rattle.command_files.specs.SettingsFiles.{settings_refusal};
 

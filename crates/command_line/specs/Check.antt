@@ -6,18 +6,17 @@ use Rattle.command_line.specs.Apps.{plain_app, with_option, with_word}
 use Rattle.command_line.specs.Asked.{asked}
 use Rattle.command_line.specs.Demands.{text_of}
 use Rattle.command_line.specs.Names.{given}
-use Rattle.command_line.specs.Set.{given_changes}
+use Rattle.command_line.specs.Set.{AskedSettings, asked_under, given_changes}
 use Rattle.command_line.specs.declared.check.CheckOptions.{CheckOptions}
 
 abbrev pub check_usage : Text
 check_usage =
     codes "usage: predator check PROGRAM [--settings F]\n"
 
--- load and place a program, with the settings of a file, if one is named, under changes
+-- load and place a program under settings
 pub record CheckDemand : Type 0 where
   pub program : Text
-  pub settings : Option Text
-  pub set : Changes
+  pub settings : AskedSettings
 
 abbrev pub check_app : App
 check_app =
@@ -26,7 +25,7 @@ check_app =
 
 abbrev pub check_with : List Row → Text → Changes → CheckDemand
 check_with rows program changes =
-    record { program = program; settings = first_of (codes "settings") rows; set = changes }
+    record { program = program; settings = asked_under (first_of (codes "settings") rows) changes }
 
 -- what its values ask for, unless they name no changes that can be
 abbrev pub check_of : List Row → Option CheckDemand
@@ -40,7 +39,7 @@ asked_of_check words = asked check_app check_of words
 
 -- the files that are read, in the order in which they are, and those that are written
 abbrev pub check_inputs : CheckDemand → List Text
-check_inputs demand = given demand.settings (demand.program ∷ [])
+check_inputs demand = given demand.settings.file (demand.program ∷ [])
 
 abbrev pub check_outputs : CheckDemand → List Text
 check_outputs demand = []
@@ -50,6 +49,5 @@ abbrev pub check_meaning : CheckOptions → CheckDemand
 check_meaning options =
     record {
       program = options.program.now;
-      settings = text_of options.settings;
-      set = options.set;
+      settings = asked_under (text_of options.settings) options.set;
     }

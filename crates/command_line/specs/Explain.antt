@@ -10,7 +10,7 @@ use Rattle.command_line.specs.Demands.{text_of}
 use Rattle.command_line.specs.Layouts.{layout_at}
 use Rattle.command_line.specs.Names.{given}
 use Rattle.command_line.specs.Numbers.{address_of, below, number_of}
-use Rattle.command_line.specs.Set.{given_changes}
+use Rattle.command_line.specs.Set.{AskedSettings, asked_under, given_changes}
 use Rattle.command_line.specs.declared.explain.ExplainOptions.{ExplainOptions}
 
 abbrev pub explain_usage : Text
@@ -24,9 +24,8 @@ pub record ExplainDemand : Type 0 where
   pub layout : Grid
   pub base : ℕ
   pub start : ℕ
-  pub settings : Option Text
+  pub settings : AskedSettings
   pub schedule : Option Text
-  pub set : Changes
 
 abbrev pub explain_app : App
 explain_app =
@@ -49,9 +48,8 @@ explain_with rows program base start layout changes = record {
   layout = layout;
   base = base;
   start = start;
-  settings = first_of (codes "settings") rows;
+  settings = asked_under (first_of (codes "settings") rows) changes;
   schedule = first_of (codes "schedule") rows;
-  set = changes;
 }
 
 -- what its values ask for, unless no line of an allowed layout and of that size begins at the base,
@@ -73,7 +71,7 @@ asked_of_explain words = asked explain_app explain_of words
 
 -- the files that are read, in the order in which they are; none is written
 abbrev pub explain_inputs : ExplainDemand → List Text
-explain_inputs demand = given demand.settings (demand.program ∷ given demand.schedule [])
+explain_inputs demand = given demand.settings.file (demand.program ∷ given demand.schedule [])
 
 abbrev pub explain_outputs : ExplainDemand → List Text
 explain_outputs demand = []
@@ -85,7 +83,6 @@ explain_meaning options = record {
   layout = options.layout;
   base = options.base;
   start = options.start;
-  settings = text_of options.settings;
+  settings = asked_under (text_of options.settings) options.set;
   schedule = text_of options.schedule;
-  set = options.set;
 }

@@ -6,22 +6,21 @@ use Rattle.command_line.specs.Apps.{plain_app, with_option, with_word}
 use Rattle.command_line.specs.Asked.{asked}
 use Rattle.command_line.specs.Demands.{text_of}
 use Rattle.command_line.specs.Names.{given}
-use Rattle.command_line.specs.Set.{given_changes}
+use Rattle.command_line.specs.Set.{AskedSettings, asked_under, given_changes}
 use Rattle.command_line.specs.declared.run.RunOptions.{RunOptions}
 
 abbrev pub run_usage : Text
 run_usage =
     codes "usage: predator run PROGRAM [--settings F] [--schedule F] [--trace F] [--output F]\n"
 
--- run a program: its settings and the changes of them, its schedule, and where its trace and its output are written, each
+-- run a program under settings: its schedule, and where its trace and its output are written, each
 -- if it is named
 pub record RunDemand : Type 0 where
   pub program : Text
-  pub settings : Option Text
+  pub settings : AskedSettings
   pub schedule : Option Text
   pub trace : Option Text
   pub output : Option Text
-  pub set : Changes
 
 abbrev pub run_app : App
 run_app =
@@ -32,11 +31,10 @@ run_app =
 abbrev pub run_with : List Row → Text → Changes → RunDemand
 run_with rows program changes = record {
   program = program;
-  settings = first_of (codes "settings") rows;
+  settings = asked_under (first_of (codes "settings") rows) changes;
   schedule = first_of (codes "schedule") rows;
   trace = first_of (codes "trace") rows;
   output = first_of (codes "output") rows;
-  set = changes;
 }
 
 -- what its values ask for, unless they name no changes that can be
@@ -52,7 +50,7 @@ asked_of_run words = asked run_app run_of words
 -- the files that are read, in the order in which they are, and those that are written, in the order
 -- in which they are begun
 abbrev pub run_inputs : RunDemand → List Text
-run_inputs demand = given demand.settings (demand.program ∷ given demand.schedule [])
+run_inputs demand = given demand.settings.file (demand.program ∷ given demand.schedule [])
 
 abbrev pub run_outputs : RunDemand → List Text
 run_outputs demand = given demand.trace (given demand.output [])
@@ -61,9 +59,8 @@ run_outputs demand = given demand.trace (given demand.output [])
 abbrev pub run_meaning : RunOptions → RunDemand
 run_meaning options = record {
   program = options.program.now;
-  settings = text_of options.settings;
+  settings = asked_under (text_of options.settings) options.set;
   schedule = text_of options.schedule;
   trace = text_of options.trace;
   output = text_of options.output;
-  set = options.set;
 }

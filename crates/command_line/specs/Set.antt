@@ -1,4 +1,5 @@
--- The changes of settings that the option `--set` names: KEY=N, and more of them behind commas.
+-- The settings that a command is asked to have: those of a file, and the changes of them that the
+-- option `--set` names, KEY=N, and more of them behind commas.
 use Rattle.std.specs.Prelude.{ℕ, ◌==◌, if◌then◌else◌, is_none, List, [], ◌∷◌, Option, Some, None}
 use Rattle.std.specs.Prelude.{option_and_then}
 use Rattle.std.specs.List.{after_first, before_first, slice_split}
@@ -8,6 +9,14 @@ use Rattle.settings.specs.Keys.{key_named}
 use Rattle.settings.specs.declared.changes.Changes.{Changes}
 use Rattle.settings.specs.declared.key.Key.{Key}
 use Rattle.command_line.specs.Numbers.{number_of}
+
+-- the settings of a file, or the usual ones where none is named, under changes
+pub record AskedSettings : Type 0 where
+  pub file : Option (List ℕ)
+  pub changes : Changes
+
+abbrev pub asked_under : Option (List ℕ) → Changes → AskedSettings
+asked_under file changes = record { file = file; changes = changes }
 
 -- one change more, of a key that no other changes
 abbrev pub and_change : Changes → Key → ℕ → Option Changes

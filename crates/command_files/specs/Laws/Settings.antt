@@ -1,13 +1,13 @@
 -- What is read beside the settings.
 use Rattle.std.proofs.Common.{◌≡◌, ℕ, List, Option, Some, None, Ok, refl, ap}
+use Rattle.command_line.specs.Set.{AskedSettings, asked_under}
 use Rattle.shelf.specs.Shelf.{Files, Told, content}
 use Rattle.settings.specs.declared.changes.Changes.{Changes}
 use Rattle.settings.specs.declared.values.Settings.{Settings}
 use Rattle.shelf.specs.Laws.Told.{told_map}
 use Rattle.command_files.specs.ProgramFiles.{program_refusal}
 use Rattle.command_files.specs.Readings.{first_refusal}
-use Rattle.command_files.specs.SettingsFiles.{AskedSettings, asked_under, chosen_settings}
-use Rattle.command_files.specs.SettingsFiles.{settings_in, settings_readings}
+use Rattle.command_files.specs.SettingsFiles.{chosen_settings, settings_in, settings_readings}
 
 pub settings_chosen : (asked : AskedSettings) (files : Files) (s : Settings)
     → settings_in asked files ≡ Ok s
