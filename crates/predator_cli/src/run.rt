@@ -1,6 +1,6 @@
 // The command `run`.
-ghost use Rattle.std.specs.Prelude.{◌≡◌, ℕ, ◌≤◌, ◌^◌, ◌++◌, IfErr, IfOk, List, [], Ok, OnOk};
-ghost use Rattle.std.specs.Prelude.{Option, Some, length, take, None};
+ghost use Rattle.std.specs.Prelude.{◌≡◌, ◌≤◌, ◌^◌, ◌++◌, IfErr, IfOk, [], Ok, OnOk};
+ghost use Rattle.std.specs.Prelude.{Some, length, take, None};
 ghost use Rattle.command_line.specs.Demands.{text_of};
 ghost use Rattle.command_line.specs.Run.{run_meaning, run_outputs};
 ghost use Rattle.command_line.specs.Set.{AskedSettings};
