@@ -1,3 +1,3 @@
 mod FrontLaws
 pub mod SaveLaws
-pub mod UsualLemmas
+pub mod Usual

@@ -52,7 +52,7 @@ impl Judge for SettingsFile {
 }
 
 // The usual settings under changes.
-#[tactic(auto, using(crate::proofs::UsualLemmas::usual_given, crate::proofs::UsualLemmas::usual_refused))]
+#[tactic(auto, using(crate::proofs::Usual::usual_given, crate::proofs::Usual::usual_refused))]
 fn usual_settings(alloc: Global, changes: &Changes) -> Result<Settings, Status>
     ensures value { IfOk result (λ settings. usual_under changes.now ≡ Ok settings) }
     ensures allowed { IfOk result IsAllowed }
