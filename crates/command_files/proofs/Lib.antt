@@ -1,2 +1,3 @@
 mod FrontLaws
 pub mod SaveLaws
+pub mod Usual

@@ -2,6 +2,7 @@
 use Rattle.std.specs.Prelude.{◌≡◌, ◌≤◌, ◌+◌, ◌*◌, ◌%◌, ℕ, ◌^◌, nat_lt, List, length, Option, Some}
 use Rattle.std.specs.Prelude.{if◌then◌else◌}
 use Rattle.std.specs.Option.{option_or, option_map}
+use Rattle.command_line.specs.Set.{AskedSettings}
 use Rattle.shelf.specs.Shelf.{content}
 use Rattle.settings.specs.declared.values.Settings.{Settings}
 use Rattle.program_files.specs.declared.image.Space.{Space}
@@ -43,7 +44,7 @@ pub record IsStartable (image : Image) : Type 0 where
   pub heap : image.heap_start ≤ image.heap_end
   pub stacks : image.heap_end + image.harts * image.stack ≡ image.top
 
--- the program of a name, under the settings of another
-abbrev pub program_reading : Option (List ℕ) → List ℕ → Reading
+-- the program of a name, under settings that are asked for
+abbrev pub program_reading : AskedSettings → List ℕ → Reading
 program_reading settings name =
     reading name (λ files. program_refusal (chosen_settings settings files) (content files name))

@@ -1,6 +1,6 @@
--- Files that a command reads in an order, each of which may be refused, and how that order decides
--- an end.
-use Rattle.std.specs.Prelude.{◌≡◌, ◌≢◌, ◌⊎◌, ℕ, false, List, [], ◌∷◌, map, Option, Some, None}
+-- What a command judges in an order, files for the most part, each of which may be refused, and how
+-- that order decides an end.
+use Rattle.std.specs.Prelude.{◌≡◌, ◌≢◌, ◌⊎◌, ℕ, false, List, [], ◌∷◌, Option, Some, None}
 use Rattle.std.specs.Option.{option_or}
 use Rattle.shelf.specs.Shelf.{Files, Outside, Told, Rose, OnlyReads, content}
 use Rattle.command_files.specs.Statuses.{Kind, kind_of, done, refusal, read_fault, write_fault}
@@ -8,17 +8,27 @@ use Rattle.command_files.specs.Statuses.{no_memory, hides_no_memory}
 use Rattle.command_files.specs.declared.status.Status.{Status}
 use Rattle.command_files.specs.declared.status.Status.TheVariants as status
 
--- a file that is read, by its name, and how it is refused, if it is, beside the contents of all
--- files
+-- a file that is read, by its name, None where no file is read for it; and how it is refused, if it
+-- is, beside the contents of all files
 pub record Reading : Type 0 where
-  pub name : List ℕ
+  pub name : Option (List ℕ)
   pub refusal : Files → Option Status
 
 abbrev pub reading : List ℕ → (Files → Option Status) → Reading
-reading name refuses = record { name = name; refusal = refuses }
+reading name refuses = record { name = Some name; refusal = refuses }
+
+-- what is judged without a file
+abbrev pub unread : Option Status → Reading
+unread refused = record { name = None; refusal = λ files. refused }
+
+-- some names, behind another if there is one
+abbrev pub named_before : Option (List ℕ) → List (List ℕ) → List (List ℕ)
+named_before None names = names
+named_before (Some name) names = name ∷ names
 
 abbrev pub names_of : List Reading → List (List ℕ)
-names_of readings = map (λ r. r.name) readings
+names_of [] = []
+names_of (r ∷ later) = named_before r.name (names_of later)
 
 -- the refusal of the first file that is refused
 abbrev pub first_refusal : List Reading → Files → Option Status
@@ -30,11 +40,16 @@ abbrev pub RoseAt : List (List ℕ) → (List ℕ → ℕ) → (List ℕ → ℕ
 RoseAt [] before now = ⊥
 RoseAt (name ∷ names) before now = Rose (before name) (now name) ⊎ RoseAt names before now
 
+-- the faults of the one that is named
+abbrev pub RoseOf : Option (List ℕ) → (List ℕ → ℕ) → (List ℕ → ℕ) → Type 0
+RoseOf None before now = ⊥
+RoseOf (Some name) before now = Rose (before name) (now name)
+
 -- the faults of reading one of the files rose, and every file before it is accepted
 abbrev pub FailsInOrder : List Reading → Files → (List ℕ → ℕ) → (List ℕ → ℕ) → Type 0
 FailsInOrder [] files before now = ⊥
 FailsInOrder (r ∷ later) files before now =
-    Rose (before r.name) (now r.name) ⊎ ((r.refusal files ≡ None)
+    RoseOf r.name before now ⊎ ((r.refusal files ≡ None)
     × FailsInOrder later files before now)
 
 -- why a command stopped while it read its files: the first refusal, at which no number of faults of

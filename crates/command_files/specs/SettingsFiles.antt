@@ -4,31 +4,40 @@ use Rattle.std.specs.Option.{option_map_or}
 use Rattle.toml.specs.Data.{no_members}
 use Rattle.base.specs.Levels.{Levels}
 use Rattle.base.specs.Lines.{Grid}
+use Rattle.command_line.specs.Set.{AskedSettings}
 use Rattle.shelf.specs.Shelf.{Files, content}
-use Rattle.settings.specs.Answers.{settings_of}
+use Rattle.settings.specs.Answers.{settings_under, usual_under}
 use Rattle.settings.specs.Tables.{values_of}
+use Rattle.settings.specs.declared.changes.Changes.{Changes}
 use Rattle.settings.specs.declared.values.Settings.{Settings}
 use Rattle.settings.specs.declared.fault.SettingsFault.{SettingsFault}
-use Rattle.command_files.specs.Readings.{Reading, reading}
+use Rattle.command_files.specs.Readings.{Reading, reading, unread}
 use Rattle.command_files.specs.declared.status.Status.{Status}
 use Rattle.command_files.specs.declared.status.Status.TheVariants as status
 
 abbrev pub usual_settings : Settings
 usual_settings = values_of no_members
 
--- what the file of settings gives; the usual ones where none is named
-abbrev pub settings_in : Option (List ℕ) → Files → Result Settings SettingsFault
-settings_in name files = option_map_or (λ n. settings_of (content files n)) name (Ok usual_settings)
+-- what is given for settings that are asked for; the usual ones under the changes where no file is
+-- named
+abbrev pub settings_in : AskedSettings → Files → Result Settings SettingsFault
+settings_in asked files =
+    option_map_or (λ n. settings_under asked.changes (content files n)) asked.file
+    (usual_under asked.changes)
 
 abbrev pub settings_refusal : Result Settings SettingsFault → Option Status
 settings_refusal (Ok settings) = None
 settings_refusal (Err fault) = Some (status.Settings fault)
 
-abbrev pub settings_reading : List ℕ → Reading
-settings_reading name = reading name (λ files. settings_refusal (settings_of (content files name)))
+abbrev pub settings_reading : Changes → List ℕ → Reading
+settings_reading changes name =
+    reading name (λ files. settings_refusal (settings_under changes (content files name)))
 
-abbrev pub settings_readings : Option (List ℕ) → List Reading
-settings_readings name = option_map_or (λ n. settings_reading n ∷ []) name []
+-- the file, or the changes alone
+abbrev pub settings_readings : AskedSettings → List Reading
+settings_readings asked =
+    option_map_or (settings_reading asked.changes) asked.file
+    (unread (settings_refusal (usual_under asked.changes))) ∷ []
 
 -- the settings that hold where they are not refused
 abbrev pub accepted : Result Settings SettingsFault → Settings
@@ -36,8 +45,8 @@ accepted (Ok settings) = settings
 accepted (Err fault) = usual_settings
 
 -- the settings of a command
-abbrev pub chosen_settings : Option (List ℕ) → Files → Settings
-chosen_settings name files = accepted (settings_in name files)
+abbrev pub chosen_settings : AskedSettings → Files → Settings
+chosen_settings asked files = accepted (settings_in asked files)
 
 -- the native layout of the settings, under which alone something is predicted
 abbrev pub native_of : Settings → Grid

@@ -3,6 +3,7 @@
 use crate::state_faults::HARTS;
 use crate::status::{StateFault, Status};
 use command_line::{Demand, WordsFault, read_words};
+use settings::{Changes, Key, SettingsFault};
 use std::alloc::Global;
 
 /// A trace that words have read.
@@ -14,10 +15,11 @@ pub struct TraceToRead<'a> {
     pub again: bool,
 }
 
-// The files that a command reads, where it reads such ones.
+// The files that a command reads, where it reads such ones, and what is changed of its settings.
 #[derive(Clone, Copy)]
 struct FilesRead<'a> {
     settings: Option<&'a str>,
+    set: Changes,
     state: Option<&'a str>,
     trace: Option<TraceToRead<'a>>,
     program: Option<&'a str>,
@@ -27,6 +29,7 @@ struct FilesRead<'a> {
 fn no_files<'a>() -> FilesRead<'a> {
     FilesRead {
         settings: None,
+        set: Changes::none(),
         state: None,
         trace: None,
         program: None,
@@ -44,10 +47,12 @@ fn of_trace(name: &str, again: bool) -> FilesRead<'_> {
 fn of_program<'a>(
     program: &'a str,
     settings: Option<&'a str>,
+    set: Changes,
     schedule: Option<&'a str>,
 ) -> FilesRead<'a> {
     FilesRead {
         settings,
+        set,
         program: Some(program),
         schedule,
         ..no_files()
@@ -58,12 +63,25 @@ fn files_of<'a>(demand: &Demand<'a>) -> FilesRead<'a> {
     match demand {
         Demand::Replay(options) => FilesRead {
             settings: options.settings,
+            set: options.set,
             state: options.resume,
             ..of_trace(options.trace, false)
         },
-        Demand::Check(options) => of_program(options.program, options.settings, None),
-        Demand::Run(options) => of_program(options.program, options.settings, options.schedule),
-        Demand::Explain(options) => of_program(options.program, options.settings, options.schedule),
+        Demand::Check(options) => {
+            of_program(options.program, options.settings, options.set, None)
+        }
+        Demand::Run(options) => of_program(
+            options.program,
+            options.settings,
+            options.set,
+            options.schedule,
+        ),
+        Demand::Explain(options) => of_program(
+            options.program,
+            options.settings,
+            options.set,
+            options.schedule,
+        ),
         Demand::Split(options) => of_trace(options.trace, true),
         Demand::Convert(options) => of_trace(options.trace, true),
         Demand::Sweep(options) => of_trace(options.trace, false),
@@ -106,6 +124,17 @@ fn called(trace: TraceToRead<'_>) -> &str {
     }
 }
 
+// Whether a fault of the settings is of their file alone, and not of what is changed.
+fn is_of_file(fault: &SettingsFault, set: &Changes) -> bool {
+    match fault {
+        SettingsFault::OutOfRange(Key::Prediction) => {
+            set.prediction.is_none() && set.tracking.is_none()
+        }
+        SettingsFault::OutOfRange(key) => set.of(*key).is_none(),
+        _ => true,
+    }
+}
+
 /// The name of the file that such a refusal is of, where a file is refused.
 pub fn file_refused<'a>(demand: &Demand<'a>, status: &Status) -> Option<&'a str> {
     let files = files_of(demand);
@@ -113,7 +142,13 @@ pub fn file_refused<'a>(demand: &Demand<'a>, status: &Status) -> Option<&'a str>
     match status {
         Status::Elf(_) => files.program,
         Status::Schedule(_) => files.schedule,
-        Status::Settings(_) => files.settings,
+        Status::Settings(fault) => {
+            if is_of_file(fault, &files.set) {
+                files.settings
+            } else {
+                None
+            }
+        }
         Status::Trace(_)
         | Status::State(StateFault::WrongSettings(HARTS) | StateFault::WrongPosition { .. }) => {
             trace

@@ -1,35 +1,42 @@
 // The settings of a command.
-ghost use Rattle.std.specs.Prelude.{◌≡◌, Ok, None, IfOk, IfErr, IsOk, IsTrue, OnOk};
+ghost use Rattle.std.specs.Prelude.{◌≡◌, ◌≢◌, Ok, Err, Some, None, IfOk, IfErr, IsOk, IsTrue, OnOk};
 ghost use Rattle.std.specs.Option.{ForSome};
 ghost use Rattle.sharing_rules.specs.Listed.{may_predict};
 ghost use Rattle.command_line.specs.Demands.{text_of};
+ghost use Rattle.command_line.specs.Set.{asked_under};
 ghost use Rattle.settings.specs.Allowed.{IsAllowed};
 ghost use Rattle.shelf.specs.Shelf.{Told};
-ghost use Rattle.command_files.specs.Readings.{IsAccepted, IsStopped};
-ghost use Rattle.command_files.specs.SettingsFiles.{layout_of, levels_of, native_of, settings_in};
-ghost use Rattle.command_files.specs.SettingsFiles.{settings_readings};
+ghost use Rattle.settings.specs.Answers.{usual_under};
+ghost use Rattle.settings.specs.Changed.{no_changes};
+ghost use Rattle.command_files.specs.Readings.{IsAccepted, IsRefusal, IsStopped};
+ghost use Rattle.command_files.specs.SettingsFiles.{layout_of, levels_of, native_of};
+ghost use Rattle.command_files.specs.SettingsFiles.{settings_in, settings_readings};
+ghost use Rattle.command_files.specs.SettingsFiles.{settings_refusal};
 
 use crate::Status;
 use crate::files::{Judge, read_judged};
 use base::{Layout, Thresholds};
-use settings::{Settings, SettingsFault};
+use settings::{Changes, Settings, SettingsFault};
 use shelf::Shelf;
 use std::alloc::Global;
 
-/// A settings file, of at most 64 KiB.
-struct SettingsFile;
+/// A settings file, of at most 64 KiB, under changes.
+#[derive(Drop)]
+struct SettingsFile {
+    changes: Changes,
+}
 
 impl Judge for SettingsFile {
-    ghost use Rattle.settings.specs.Answers.{settings_of};
-    ghost use Rattle.command_files.specs.SettingsFiles.{settings_refusal};
+    ghost use Rattle.settings.specs.Answers.{settings_under};
 
     type Given = Settings;
 
     ghost most = { λ _. 65536 };
 
-    ghost refusal = { λ _ bytes. settings_refusal (settings_of bytes) };
+    ghost refusal = { λ file bytes. settings_refusal (settings_under file.changes bytes) };
 
-    ghost gives = { λ _ bytes settings. (settings_of bytes ≡ Ok settings) × IsAllowed settings };
+    ghost gives = { λ file bytes settings.
+        (settings_under file.changes bytes ≡ Ok settings) × IsAllowed settings };
 
     fn limit(&self) -> u64 {
         1 << 16
@@ -40,31 +47,53 @@ impl Judge for SettingsFile {
     }
 
     fn judge(&self, alloc: Global, bytes: &[u8]) -> Result<Settings, Status> {
-        Ok(Settings::read(alloc, bytes)?)
+        Ok(Settings::read(alloc, bytes, &self.changes)?)
     }
 }
 
-/// The settings that a file gives, or the usual ones where none is named; or why the command stops:
-/// `ReadFault` where the reading failed, `Settings` by the file's first fault, `NoMemory` where
-/// memory runs out.
+// The usual settings under changes.
+#[tactic(auto, using(crate::proofs::Usual::usual_given, crate::proofs::Usual::usual_refused))]
+fn usual_settings(alloc: Global, changes: &Changes) -> Result<Settings, Status>
+    ensures value { IfOk result (λ settings. usual_under changes.now ≡ Ok settings) }
+    ensures allowed { IfOk result IsAllowed }
+    ensures accepted { OnOk result (settings_refusal (usual_under changes.now) ≡ None) }
+    ensures refused { IfErr result (λ s. IsRefusal s
+        × (settings_refusal (usual_under changes.now) ≡ Some s)) }
+    ensures usual { changes.now ≡ no_changes → IsOk result }
+{
+    match Settings::usual_under(alloc, changes) {
+        Ok(settings) => Ok(settings),
+        Err(fault) => Err(Status::from(fault)),
+    }
+}
+
+/// The settings that a file gives under changes, or the usual ones under them where none is named;
+/// or why the command stops: `ReadFault` where the reading failed, `Settings` by the file's first
+/// fault, and then by the first key that the changes put out of its range, `NoMemory` where memory
+/// runs out.
 pub fn read_settings<S: Shelf>(
     alloc: Global,
     shelf: &mut S,
     name: Option<&str>,
+    changes: &Changes,
 ) -> Result<Settings, Status>
     ensures read { IfOk result (λ settings. Told (S.outside shelf.old).held
-        (λ files. settings_in (text_of name.entry) files ≡ Ok settings)) }
+        (λ files. settings_in (asked_under (text_of name.entry) changes.now) files
+        ≡ Ok settings)) }
     ensures allowed { IfOk result IsAllowed }
-    ensures accepted { OnOk result (IsAccepted (settings_readings (text_of name.entry))
+    ensures accepted { OnOk result (IsAccepted
+        (settings_readings (asked_under (text_of name.entry) changes.now))
         (S.outside shelf.old) (S.outside shelf.new)) }
-    ensures stopped { IfErr result (IsStopped (settings_readings (text_of name.entry))
+    ensures stopped { IfErr result (IsStopped
+        (settings_readings (asked_under (text_of name.entry) changes.now))
         (S.outside shelf.old) (S.outside shelf.new)) }
-    // Where none is named nothing is wanted.
-    ensures unnamed { text_of name.entry ≡ None → IsOk result }
+    // Where none is named no memory is wanted, and where nothing is changed either, nothing is.
+    ensures unnamed { text_of name.entry ≡ None → result ≢ Err Status.NoMemory }
+    ensures usual { text_of name.entry ≡ None → changes.now ≡ no_changes → IsOk result }
 {
     match name {
-        Some(name) => read_judged(alloc, shelf, name, &SettingsFile),
-        None => Ok(Settings::usual()),
+        Some(name) => read_judged(alloc, shelf, name, &SettingsFile { changes: *changes }),
+        None => usual_settings(alloc, changes),
     }
 }
 

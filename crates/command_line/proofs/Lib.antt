@@ -1,4 +1,5 @@
 pub mod AppLemmas
 pub mod AskedLemmas
 pub mod NumberLemmas
+pub mod SetLemmas
 pub mod ShapeLemmas

@@ -3,12 +3,14 @@ use Rattle.std.specs.Prelude.{ℕ, ◌^◌, ◌%◌, List, [], ◌∷◌, Option
 use Rattle.std.specs.Prelude.{option_and_then, option_map, codes}
 use Rattle.clap.specs.Words.{App, Row, Text, first_of}
 use Rattle.base.specs.Lines.{Grid}
+use Rattle.settings.specs.declared.changes.Changes.{Changes}
 use Rattle.command_line.specs.Apps.{plain_app, with_option, with_word}
 use Rattle.command_line.specs.Asked.{asked}
 use Rattle.command_line.specs.Demands.{text_of}
 use Rattle.command_line.specs.Layouts.{layout_at}
 use Rattle.command_line.specs.Names.{given}
 use Rattle.command_line.specs.Numbers.{address_of, below, number_of}
+use Rattle.command_line.specs.Set.{AskedSettings, asked_under, given_changes}
 use Rattle.command_line.specs.declared.explain.ExplainOptions.{ExplainOptions}
 
 abbrev pub explain_usage : Text
@@ -22,14 +24,14 @@ pub record ExplainDemand : Type 0 where
   pub layout : Grid
   pub base : ℕ
   pub start : ℕ
-  pub settings : Option Text
+  pub settings : AskedSettings
   pub schedule : Option Text
 
 abbrev pub explain_app : App
 explain_app =
-    with_option (with_option (with_word (with_word (with_word (with_word
+    with_option (with_option (with_option (with_word (with_word (with_word (with_word
     (plain_app (codes "explain")) (codes "program")) (codes "base")) (codes "size"))
-    (codes "start")) (codes "settings")) (codes "schedule")
+    (codes "start")) (codes "settings")) (codes "schedule")) (codes "set")
 
 abbrev pub base_of : List Row → Option ℕ
 base_of rows = below (2 ^ 32) (option_and_then address_of (first_of (codes "base") rows))
@@ -40,21 +42,24 @@ size_of rows = option_and_then number_of (first_of (codes "size") rows)
 abbrev pub start_of : List Row → Option ℕ
 start_of rows = below (2 ^ 40) (option_and_then number_of (first_of (codes "start") rows))
 
-abbrev pub explain_with : List Row → Text → ℕ → ℕ → Grid → ExplainDemand
-explain_with rows program base start layout = record {
+abbrev pub explain_with : List Row → Text → ℕ → ℕ → Grid → Changes → ExplainDemand
+explain_with rows program base start layout changes = record {
   program = program;
   layout = layout;
   base = base;
   start = start;
-  settings = first_of (codes "settings") rows;
+  settings = asked_under (first_of (codes "settings") rows) changes;
   schedule = first_of (codes "schedule") rows;
 }
 
--- what its values ask for, unless no line of an allowed layout and of that size begins at the base
+-- what its values ask for, unless no line of an allowed layout and of that size begins at the base,
+-- or they name no changes that can be
 abbrev pub explain_of : List Row → Option ExplainDemand
 explain_of rows =
     option_and_then (λ program. option_and_then (λ base. option_and_then (λ size.
-    option_and_then (λ start. option_map (explain_with rows program base start)
+    option_and_then (λ start. option_and_then (λ layout.
+    option_map (explain_with rows program base start layout)
+    (given_changes (first_of (codes "set") rows)))
     (layout_at size (base % size)))
     (start_of rows))
     (size_of rows))
@@ -66,7 +71,7 @@ asked_of_explain words = asked explain_app explain_of words
 
 -- the files that are read, in the order in which they are; none is written
 abbrev pub explain_inputs : ExplainDemand → List Text
-explain_inputs demand = given demand.settings (demand.program ∷ given demand.schedule [])
+explain_inputs demand = given demand.settings.file (demand.program ∷ given demand.schedule [])
 
 abbrev pub explain_outputs : ExplainDemand → List Text
 explain_outputs demand = []
@@ -78,6 +83,6 @@ explain_meaning options = record {
   layout = options.layout;
   base = options.base;
   start = options.start;
-  settings = text_of options.settings;
+  settings = asked_under (text_of options.settings) options.set;
   schedule = text_of options.schedule;
 }

@@ -13,6 +13,7 @@ pub mod Numbers
 pub mod Place
 pub mod Replay
 pub mod Run
+pub mod Set
 pub mod Split
 pub mod Sweep
 pub mod Words

@@ -1,42 +1,48 @@
 -- The command `run`: what its words ask for.
-use Rattle.std.specs.Prelude.{List, [], ◌∷◌, Option, option_map, codes}
+use Rattle.std.specs.Prelude.{List, [], ◌∷◌, Option, option_and_then, option_map, codes}
 use Rattle.clap.specs.Words.{App, Row, Text, first_of}
+use Rattle.settings.specs.declared.changes.Changes.{Changes}
 use Rattle.command_line.specs.Apps.{plain_app, with_option, with_word}
 use Rattle.command_line.specs.Asked.{asked}
 use Rattle.command_line.specs.Demands.{text_of}
 use Rattle.command_line.specs.Names.{given}
+use Rattle.command_line.specs.Set.{AskedSettings, asked_under, given_changes}
 use Rattle.command_line.specs.declared.run.RunOptions.{RunOptions}
 
 abbrev pub run_usage : Text
 run_usage =
     codes "usage: predator run PROGRAM [--settings F] [--schedule F] [--trace F] [--output F]\n"
 
--- run a program: its settings, its schedule, and where its trace and its output are written, each
+-- run a program under settings: its schedule, and where its trace and its output are written, each
 -- if it is named
 pub record RunDemand : Type 0 where
   pub program : Text
-  pub settings : Option Text
+  pub settings : AskedSettings
   pub schedule : Option Text
   pub trace : Option Text
   pub output : Option Text
 
 abbrev pub run_app : App
 run_app =
-    with_option (with_option (with_option (with_option (with_word (plain_app (codes "run"))
-    (codes "program")) (codes "settings")) (codes "schedule")) (codes "trace")) (codes "output")
+    with_option (with_option (with_option (with_option (with_option (with_word
+    (plain_app (codes "run")) (codes "program")) (codes "settings")) (codes "schedule"))
+    (codes "trace")) (codes "output")) (codes "set")
 
-abbrev pub run_with : List Row → Text → RunDemand
-run_with rows program = record {
+abbrev pub run_with : List Row → Text → Changes → RunDemand
+run_with rows program changes = record {
   program = program;
-  settings = first_of (codes "settings") rows;
+  settings = asked_under (first_of (codes "settings") rows) changes;
   schedule = first_of (codes "schedule") rows;
   trace = first_of (codes "trace") rows;
   output = first_of (codes "output") rows;
 }
 
--- what its values ask for
+-- what its values ask for, unless they name no changes that can be
 abbrev pub run_of : List Row → Option RunDemand
-run_of rows = option_map (run_with rows) (first_of (codes "program") rows)
+run_of rows =
+    option_and_then (λ program. option_map (run_with rows program)
+    (given_changes (first_of (codes "set") rows)))
+    (first_of (codes "program") rows)
 
 abbrev pub asked_of_run : List Text → Option RunDemand
 asked_of_run words = asked run_app run_of words
@@ -44,7 +50,7 @@ asked_of_run words = asked run_app run_of words
 -- the files that are read, in the order in which they are, and those that are written, in the order
 -- in which they are begun
 abbrev pub run_inputs : RunDemand → List Text
-run_inputs demand = given demand.settings (demand.program ∷ given demand.schedule [])
+run_inputs demand = given demand.settings.file (demand.program ∷ given demand.schedule [])
 
 abbrev pub run_outputs : RunDemand → List Text
 run_outputs demand = given demand.trace (given demand.output [])
@@ -53,7 +59,7 @@ run_outputs demand = given demand.trace (given demand.output [])
 abbrev pub run_meaning : RunOptions → RunDemand
 run_meaning options = record {
   program = options.program.now;
-  settings = text_of options.settings;
+  settings = asked_under (text_of options.settings) options.set;
   schedule = text_of options.schedule;
   trace = text_of options.trace;
   output = text_of options.output;

@@ -8,7 +8,9 @@ ghost use Rattle.command_line.specs.Words.{IsBounded, given_apart, meaning, chec
 use crate::demand::{Demand, WordsFault};
 use crate::forms::{matches_of, value_of};
 use crate::reason::Reason;
+use crate::set::{given_changes, wrong_changes};
 use clap::ArgMatches;
+use settings::Changes;
 use std::alloc::Global;
 
 /// What a `check` is asked for. A name is a text as it stands in the words.
@@ -18,6 +20,8 @@ pub struct CheckOptions<'a> {
     pub program: &'a str,
     /// The name of the settings file, where one is given.
     pub settings: Option<&'a str>,
+    /// The numbers in the place of those of the settings.
+    pub set: Changes,
 }
 
 // What the values of a `check` ask for.
@@ -25,10 +29,17 @@ fn options_in<'a>(matches: &ArgMatches<'a>) -> Option<CheckOptions<'a>>
     ensures { option_map check_meaning result ≡ check_of (rows_of (found_of matches.now)) }
 {
     let program = value_of(matches, "program")?;
+    let set = given_changes(value_of(matches, "set"))?;
     Some(CheckOptions {
         program,
         settings: value_of(matches, "settings"),
+        set,
     })
+}
+
+// Why they ask for nothing.
+fn refusal<'a>(matches: &ArgMatches<'a>) -> Reason<'a> {
+    wrong_changes(value_of(matches, "set")).unwrap_or(Reason::Missing("PROGRAM"))
 }
 
 // The same, with names apart.
@@ -41,7 +52,7 @@ fn demand_in<'a>(matches: &ArgMatches<'a>) -> Result<Demand<'a>, WordsFault<'a>>
 {
     match options_in(matches) {
         Some(options) => Ok(Demand::Check(options)),
-        None => Err(WordsFault::Usage(Reason::Missing("PROGRAM"))),
+        None => Err(WordsFault::Usage(refusal(matches))),
     }
 }
 
@@ -53,7 +64,7 @@ pub fn read_check<'a>(alloc: Global, words: &'a [String]) -> Result<Demand<'a>, 
         (given_apart check (asked_of_check (texts words.now)) ≡ None)) }
     ensures bounded { IfOk result IsBounded }
 {
-    match matches_of(alloc, "check", &["program"], &["settings"], words) {
+    match matches_of(alloc, "check", &["program"], &["settings", "set"], words) {
         Ok(matches) => demand_in(&matches),
         Err(fault) => Err(fault),
     }

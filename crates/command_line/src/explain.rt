@@ -14,8 +14,10 @@ use crate::demand::{Demand, WordsFault};
 use crate::forms::{matches_of, value_of};
 use crate::layout::{allowed_layout, number};
 use crate::reason::Reason;
+use crate::set::{given_changes, wrong_changes};
 use base::Layout;
 use clap::ArgMatches;
+use settings::Changes;
 use std::alloc::Global;
 
 /// What an `explain` is asked for. A name is a text as it stands in the words.
@@ -33,6 +35,8 @@ pub struct ExplainOptions<'a> {
     pub settings: Option<&'a str>,
     /// The name of the schedule, where one is given.
     pub schedule: Option<&'a str>,
+    /// The numbers in the place of those of the settings.
+    pub set: Changes,
 }
 
 // The base of a line: an address below 2^32.
@@ -76,6 +80,7 @@ fn options_in<'a>(matches: &ArgMatches<'a>) -> Option<ExplainOptions<'a>>
     let size = size_in(value_of(matches, "size"))?;
     let start = start_in(value_of(matches, "start"))?;
     let layout = layout_from(base, size)?;
+    let set = given_changes(value_of(matches, "set"))?;
     Some(ExplainOptions {
         program,
         layout,
@@ -83,6 +88,16 @@ fn options_in<'a>(matches: &ArgMatches<'a>) -> Option<ExplainOptions<'a>>
         start,
         settings: value_of(matches, "settings"),
         schedule: value_of(matches, "schedule"),
+        set,
+    })
+}
+
+// Why they ask for nothing.
+fn refusal<'a>(matches: &ArgMatches<'a>) -> Reason<'a> {
+    wrong_changes(value_of(matches, "set")).unwrap_or(Reason::Line {
+        base: value_of(matches, "base"),
+        size: value_of(matches, "size"),
+        start: value_of(matches, "start"),
     })
 }
 
@@ -97,11 +112,7 @@ fn demand_in<'a>(matches: &ArgMatches<'a>) -> Result<Demand<'a>, WordsFault<'a>>
 {
     match options_in(matches) {
         Some(options) => Ok(Demand::Explain(options)),
-        None => Err(WordsFault::Usage(Reason::Line {
-            base: value_of(matches, "base"),
-            size: value_of(matches, "size"),
-            start: value_of(matches, "start"),
-        })),
+        None => Err(WordsFault::Usage(refusal(matches))),
     }
 }
 
@@ -117,7 +128,7 @@ pub fn read_explain<'a>(alloc: Global, words: &'a [String]) -> Result<Demand<'a>
         alloc,
         "explain",
         &["program", "base", "size", "start"],
-        &["settings", "schedule"],
+        &["settings", "schedule", "set"],
         words,
     ) {
         Ok(matches) => demand_in(&matches),

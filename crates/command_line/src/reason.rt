@@ -16,10 +16,27 @@ const SWEPT: &str = "it is a power of two from 4 to 256";
 
 const LINE_SIZE: &str = "it is a power of two from 4 to 1024";
 
+const COUNT: &str = "N is a whole number up to 1000000000";
+
+const PLACE: &str = "K is a whole number up to 18446744073709551615";
+
 const SHAPES: &str = concat!(
     "--size is a power of two from 4 to 1024, --sets one from 1 to 1024, --ways from 1 to 64, ",
     "and sets times ways at most 4096"
 );
+
+/// Why a part of `--set` names no change.
+#[derive(Clone, Copy, PartialEq, Eq, Debug)]
+pub enum WrongChange {
+    /// It has no `=`.
+    Form,
+    /// What stands before `=` is no key of the settings file.
+    Key,
+    /// What stands behind `=` is no number.
+    Number,
+    /// A part before it changes the same key.
+    Again,
+}
 
 /// Why words are refused.
 #[derive(Debug, Drop)]
@@ -63,10 +80,50 @@ pub enum Reason<'a> {
     SweptSize(Option<&'a str>),
     /// The word for the size of a line is none that lines may have.
     LineSize(Option<&'a str>),
+    /// A part of `--set` names no change.
+    Change {
+        /// The part.
+        part: &'a str,
+        /// Why it names none.
+        wrong: WrongChange,
+    },
     /// The word for the place of a cut is no number.
     Place(Option<&'a str>),
     /// A file that is written has this name, and so has another one.
     SameName(&'a str),
+}
+
+// Whether a text is decimal digits, one or more.
+fn are_digits(text: &str) -> bool {
+    !text.is_empty() && text.bytes().all(|byte| byte.is_ascii_digit())
+}
+
+// What is wrong with how a number is spelled, where that is all that is.
+fn misspelling(word: &str) -> Option<&'static str> {
+    if word.strip_prefix('-').is_some_and(are_digits) {
+        Some("is negative")
+    } else if word.strip_prefix('+').is_some_and(are_digits) {
+        Some("has a sign")
+    } else if word.strip_prefix('0').is_some_and(are_digits) {
+        Some("has a leading zero")
+    } else {
+        None
+    }
+}
+
+// The first of some words that is a number but for its spelling, in a line with what is allowed.
+fn misspelled(
+    alloc: Global,
+    words: &[Option<&str>],
+    allowed: &str,
+) -> Result<Option<String>, AllocError> {
+    for word in words {
+        let word = word.unwrap_or("");
+        if let Some(wrong) = misspelling(word) {
+            return Ok(Some(format!(in alloc; "'{word}' {wrong}: {allowed}")?));
+        }
+    }
+    Ok(None)
 }
 
 // A line of what `clap` says, without its mark and its indentation.
@@ -90,12 +147,25 @@ fn said_by(alloc: Global, error: &Error) -> Result<String, AllocError> {
     Ok(said)
 }
 
+// The same, with more of a word that `clap` takes for an option, and that is a negative number.
+fn words_text(alloc: Global, error: &Error) -> Result<String, AllocError> {
+    let mut said = said_by(alloc, error)?;
+    let digit = said.strip_prefix("unexpected argument '-").and_then(|rest| rest.bytes().next());
+    if digit.is_some_and(|byte| byte.is_ascii_digit()) {
+        said.push_str(": no number is negative")?;
+    }
+    Ok(said)
+}
+
 // What is wrong with a size and a shift, of which one is given, or both.
 fn layout_text(
     alloc: Global,
     size: Option<&str>,
     shift: Option<&str>,
 ) -> Result<String, AllocError> {
+    if let Some(text) = misspelled(alloc, &[size, shift], ALLOWED)? {
+        return Ok(text);
+    }
     let size = size.unwrap_or("64");
     let shift = shift.unwrap_or("0");
     format!(in alloc; "'--size {size} --shift {shift}' is no layout: {ALLOWED}")
@@ -108,6 +178,9 @@ fn line_text(
     size: Option<&str>,
     start: Option<&str>,
 ) -> Result<String, AllocError> {
+    if let Some(text) = misspelled(alloc, &[base, size, start], LINES)? {
+        return Ok(text);
+    }
     let base = base.unwrap_or("");
     let size = size.unwrap_or("");
     let start = start.unwrap_or("");
@@ -121,6 +194,9 @@ fn shape_text(
     sets: Option<&str>,
     ways: Option<&str>,
 ) -> Result<String, AllocError> {
+    if let Some(text) = misspelled(alloc, &[size, sets, ways], SHAPES)? {
+        return Ok(text);
+    }
     match (size, sets, ways) {
         (None, _, _) => String::from_str(alloc, "--size is missing"),
         (_, None, _) => String::from_str(alloc, "--sets is missing"),
@@ -129,6 +205,30 @@ fn shape_text(
             "'--size {size} --sets {sets} --ways {ways}' is no shape of caches: {SHAPES}"
         ),
     }
+}
+
+// What is wrong with a number, by its spelling, or else as `what` says.
+fn number_text(
+    alloc: Global,
+    option: &str,
+    word: &str,
+    what: &str,
+    allowed: &str,
+) -> Result<String, AllocError> {
+    let wrong = misspelling(word).unwrap_or(what);
+    format!(in alloc; "'{option}{word}' {wrong}: {allowed}")
+}
+
+// What is wrong with a part of `--set`.
+fn change_text(alloc: Global, part: &str, wrong: WrongChange) -> Result<String, AllocError> {
+    let why = match wrong {
+        WrongChange::Form => "is no KEY=N",
+        WrongChange::Key => "names no key of the settings",
+        WrongChange::Number =>
+            "gives no whole number below 2^64, in decimal digits without leading zeros",
+        WrongChange::Again => "names a key that stands before it",
+    };
+    format!(in alloc; "'{part}' in --set {why}")
 }
 
 impl Reason<'_> {
@@ -142,29 +242,25 @@ impl Reason<'_> {
             Reason::UnknownCommand(word) => {
                 format!(in alloc; "'{word}' is no command; see predator --help")
             }
-            Reason::Words(error) => said_by(alloc, error),
+            Reason::Words(error) => words_text(alloc, error),
             Reason::Missing(name) => format!(in alloc; "{name} is missing"),
             Reason::Layout { size, shift } => layout_text(alloc, *size, *shift),
             Reason::Line { base, size, start } => line_text(alloc, *base, *size, *start),
             Reason::Shape { size, sets, ways } => shape_text(alloc, *size, *sets, *ways),
+            Reason::Change { part, wrong } => change_text(alloc, *part, *wrong),
             Reason::Count(word) => {
-                let word = word.unwrap_or("");
-                format!(in alloc; "'{word}' is no count: N is a whole number up to 1000000000")
+                number_text(alloc, "", word.unwrap_or(""), "is no count", COUNT)
             }
             Reason::SweptSize(Some(size)) => {
-                format!(in alloc; "'--size {size}' is no size to sweep: {SWEPT}")
+                number_text(alloc, "--size ", size, "is no size to sweep", SWEPT)
             }
             Reason::SweptSize(None) => format!(in alloc; "--size is missing: {SWEPT}"),
             Reason::LineSize(size) => {
                 let size = size.unwrap_or("64");
-                format!(in alloc; "'--size {size}' is no size of a line: {LINE_SIZE}")
+                number_text(alloc, "--size ", size, "is no size of a line", LINE_SIZE)
             }
             Reason::Place(word) => {
-                let word = word.unwrap_or("");
-                format!(in alloc;
-                    "'{word}' is no place: K is a whole number up to {}",
-                    u64::MAX
-                )
+                number_text(alloc, "", word.unwrap_or(""), "is no place", PLACE)
             }
             Reason::SameName(name) => {
                 format!(in alloc;

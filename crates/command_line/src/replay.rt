@@ -12,8 +12,10 @@ use crate::forms::{matches_of, value_of};
 use crate::layout::read_layout;
 use crate::names::is_given;
 use crate::reason::Reason;
+use crate::set::{given_changes, wrong_changes};
 use base::Layout;
 use clap::ArgMatches;
+use settings::Changes;
 use std::alloc::Global;
 
 /// What a `replay` is asked for. A name is a text as it stands in the words.
@@ -29,6 +31,8 @@ pub struct ReplayOptions<'a> {
     pub save: Option<&'a str>,
     /// The name of the saved state from which the trace goes on, where one is given.
     pub resume: Option<&'a str>,
+    /// The numbers in the place of those of the settings.
+    pub set: Changes,
 }
 
 // Whether a name is one of the files that are read.
@@ -49,18 +53,29 @@ fn has_names_apart(options: &ReplayOptions<'_>) -> bool
     }
 }
 
-// What the values of a `replay` ask for, unless its layout is none that is allowed.
+// What the values of a `replay` ask for, unless its layout is none that is allowed, or
+// they name no changes that can be.
 fn options_in<'a>(matches: &ArgMatches<'a>) -> Option<ReplayOptions<'a>>
     ensures { option_map replay_meaning result ≡ replay_of (rows_of (found_of matches.now)) }
 {
     let trace = value_of(matches, "trace")?;
     let layout = read_layout(value_of(matches, "size"), value_of(matches, "shift"))?;
+    let set = given_changes(value_of(matches, "set"))?;
     Some(ReplayOptions {
         trace,
         settings: value_of(matches, "settings"),
         layout,
         save: value_of(matches, "save"),
         resume: value_of(matches, "resume"),
+        set,
+    })
+}
+
+// Why they ask for nothing.
+fn refusal<'a>(matches: &ArgMatches<'a>) -> Reason<'a> {
+    wrong_changes(value_of(matches, "set")).unwrap_or(Reason::Layout {
+        size: value_of(matches, "size"),
+        shift: value_of(matches, "shift"),
     })
 }
 
@@ -80,10 +95,7 @@ fn demand_in<'a>(matches: &ArgMatches<'a>) -> Result<Demand<'a>, WordsFault<'a>>
                 Err(WordsFault::Usage(Reason::SameName(options.save.unwrap_or(options.trace))))
             }
         }
-        None => Err(WordsFault::Usage(Reason::Layout {
-            size: value_of(matches, "size"),
-            shift: value_of(matches, "shift"),
-        })),
+        None => Err(WordsFault::Usage(refusal(matches))),
     }
 }
 
@@ -99,7 +111,7 @@ pub fn read_replay<'a>(alloc: Global, words: &'a [String]) -> Result<Demand<'a>,
         alloc,
         "replay",
         &["trace"],
-        &["settings", "size", "shift", "save", "resume"],
+        &["settings", "size", "shift", "save", "resume", "set"],
         words,
     ) {
         Ok(matches) => demand_in(&matches),

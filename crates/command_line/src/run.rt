@@ -11,7 +11,9 @@ use crate::demand::{Demand, WordsFault};
 use crate::forms::{matches_of, value_of};
 use crate::names::is_given;
 use crate::reason::Reason;
+use crate::set::{given_changes, wrong_changes};
 use clap::ArgMatches;
+use settings::Changes;
 use std::alloc::Global;
 
 /// What a `run` is asked for. A name is a text as it stands in the words.
@@ -27,6 +29,8 @@ pub struct RunOptions<'a> {
     pub trace: Option<&'a str>,
     /// The name under which what the guest writes is written, where one is given.
     pub output: Option<&'a str>,
+    /// The numbers in the place of those of the settings.
+    pub set: Changes,
 }
 
 // Whether a name is one of the files that are read.
@@ -70,13 +74,20 @@ fn options_in<'a>(matches: &ArgMatches<'a>) -> Option<RunOptions<'a>>
     ensures { option_map run_meaning result ≡ run_of (rows_of (found_of matches.now)) }
 {
     let program = value_of(matches, "program")?;
+    let set = given_changes(value_of(matches, "set"))?;
     Some(RunOptions {
         program,
         settings: value_of(matches, "settings"),
         schedule: value_of(matches, "schedule"),
         trace: value_of(matches, "trace"),
         output: value_of(matches, "output"),
+        set,
     })
+}
+
+// Why they ask for nothing.
+fn refusal<'a>(matches: &ArgMatches<'a>) -> Reason<'a> {
+    wrong_changes(value_of(matches, "set")).unwrap_or(Reason::Missing("PROGRAM"))
 }
 
 // The same, with names apart.
@@ -95,7 +106,7 @@ fn demand_in<'a>(matches: &ArgMatches<'a>) -> Result<Demand<'a>, WordsFault<'a>>
                 Err(WordsFault::Usage(Reason::SameName(repeated(&options))))
             }
         }
-        None => Err(WordsFault::Usage(Reason::Missing("PROGRAM"))),
+        None => Err(WordsFault::Usage(refusal(matches))),
     }
 }
 
@@ -111,7 +122,7 @@ pub fn read_run<'a>(alloc: Global, words: &'a [String]) -> Result<Demand<'a>, Wo
         alloc,
         "run",
         &["program"],
-        &["settings", "schedule", "trace", "output"],
+        &["settings", "schedule", "trace", "output", "set"],
         words,
     ) {
         Ok(matches) => demand_in(&matches),

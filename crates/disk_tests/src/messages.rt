@@ -32,7 +32,7 @@ const SHAPE_3: &str = "'--size 64 --sets 3 --ways 8' is no shape of caches: --si
     two from 4 to 1024, --sets one from 1 to 1024, --ways from 1 to 64, and sets times ways at \
     most 4096";
 
-const WRONG_WORDS: [(&str, &str); 31] = [
+const WRONG_WORDS: [(&str, &str); 41] = [
     ("", "the command is missing; see predator --help"),
     ("reply t", "'reply' is no command; see predator --help"),
     ("run p --fast=1", "unexpected argument '--fast' found"),
@@ -78,11 +78,19 @@ const WRONG_WORDS: [(&str, &str); 31] = [
     ),
     (
         "gen 03 f",
-        "'03' is no count: N is a whole number up to 1000000000",
+        "'03' has a leading zero: N is a whole number up to 1000000000",
+    ),
+    (
+        "gen 1000000001 f",
+        "'1000000001' is no count: N is a whole number up to 1000000000",
     ),
     (
         "split -- t 04 a b",
-        "'04' is no place: K is a whole number up to 18446744073709551615",
+        "'04' has a leading zero: K is a whole number up to 18446744073709551615",
+    ),
+    (
+        "split t x a b",
+        "'x' is no place: K is a whole number up to 18446744073709551615",
     ),
     (
         "split t 4 a t",
@@ -101,6 +109,38 @@ const WRONG_WORDS: [(&str, &str); 31] = [
     ),
     ("replay t --size 48", LAYOUT_48),
     ("replay t --size 48 --save t", LAYOUT_48),
+    (
+        "sweep t --size -1",
+        "unexpected argument '-1' found: no number is negative",
+    ),
+    (
+        "sweep t --size=-1",
+        "'--size -1' is negative: it is a power of two from 4 to 256",
+    ),
+    (
+        "misses t --shift 04",
+        concat!(
+            "'04' has a leading zero: --size is a power of two from 4 to 1024, ",
+            "--shift a multiple of 4 below the size",
+        ),
+    ),
+    ("run p --set quantum", "'quantum' in --set is no KEY=N"),
+    (
+        "run p --set quantum=1,turns=1",
+        "'turns=1' in --set names no key of the settings",
+    ),
+    (
+        "check p --set quantum=01",
+        concat!(
+            "'quantum=01' in --set gives no whole number below 2^64, in decimal digits ",
+            "without leading zeros",
+        ),
+    ),
+    (
+        "explain p 0 64 0 --set harts=1,harts=2",
+        "'harts=2' in --set names a key that stands before it",
+    ),
+    ("replay t --set ,", "'' in --set is no KEY=N"),
     ("caches t --size 64 --sets 4", "--ways is missing"),
     ("caches t --size 64 --sets 3 --ways 8", SHAPE_3),
     (

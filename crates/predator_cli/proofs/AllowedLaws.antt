@@ -9,12 +9,16 @@ use Rattle.base.specs.Levels.{Levels, are_levels, is_from_to}
 use Rattle.base.specs.Lines.{Grid, is_layout}
 use Rattle.command_files.specs.Readings.{first_refusal}
 use Rattle.command_files.specs.SettingsFiles.{layout_of, levels_of, settings_in, settings_readings}
-use Rattle.command_files.specs.SettingsFiles.{settings_refusal, usual_settings}
+use Rattle.command_files.specs.SettingsFiles.{settings_refusal}
+use Rattle.command_line.specs.Set.{AskedSettings, asked_under}
 use Rattle.toml.specs.Data.{Data, Members, as_integer, get_member, no_members}
-use Rattle.settings.specs.Answers.{judged_table, settings_of, table_of, longest_content}
+use Rattle.settings.specs.Answers.{behind_own, judged_table, judged_under, judged_values}
+use Rattle.settings.specs.Answers.{longest_content, settings_under, table_of, usual_under}
+use Rattle.settings.specs.Changed.{changed_table}
 use Rattle.settings.specs.Keys.{form_of, has_form, is_native_line, key_name, keys_in_order, rule_of}
-use Rattle.settings.specs.Tables.{first_out_of_range, least_unknown, number_of}
+use Rattle.settings.specs.Tables.{first_out_of_range, number_of}
 use Rattle.settings.specs.Tables.{number_of_form, tracking_of, value_of, values_of, whole_of_form}
+use Rattle.settings.specs.declared.changes.Changes.{Changes}
 use Rattle.settings.specs.declared.fault.SettingsFault.{SettingsFault}
 use Rattle.settings.specs.declared.fault.SettingsFault.TheVariants.{TooLong, BadToml, OutOfRange}
 use Rattle.settings.specs.declared.key.Key.{Key}
@@ -111,34 +115,36 @@ values_then table s None none is =
     let same : values_of table ≡ s = cc in subst IsInRange same (table_in_range table none)
 values_then table s (Some key) none is = absurd cc
 
-table_then : (table : Members) (s : Settings) (o : Option (List ℕ)) → least_unknown table ≡ o
-    → judged_table table ≡ Ok s → IsInRange s
-table_then table s None none is =
-    values_then table s (first_out_of_range table) refl (rw none at is)
-table_then table s (Some name) none is = absurd (let no = rw none at is in cc)
+-- what a table gives under changes, behind what it gives alone
+own_then : (table : Members) (s : Settings) (own : Result Settings SettingsFault)
+    → behind_own own (judged_values table) ≡ Ok s → IsInRange s
+own_then table s (Ok before) is = values_then table s (first_out_of_range table) refl is
+own_then table s (Err fault) is = absurd cc
 
-content_then : (s : Settings) (o : Option Members)
-    → (let r : Result Settings SettingsFault = option_map_or judged_table o (Err BadToml) in r ≡ Ok s)
+content_then : (c : Changes) (s : Settings) (o : Option Members)
+    → (let r : Result Settings SettingsFault = option_map_or (judged_under c) o (Err BadToml) in
+    r ≡ Ok s)
     → IsInRange s
-content_then s None is = absurd cc
-content_then s (Some table) is = table_then table s (least_unknown table) refl is
+content_then c s None is = absurd cc
+content_then c s (Some table) is = own_then (changed_table c table) s (judged_table table) is
 
-long_then : (content : List ℕ) (s : Settings) (b : Bool)
+long_then : (c : Changes) (content : List ℕ) (s : Settings) (b : Bool)
     → (let r : Result Settings SettingsFault = cond b (Err TooLong)
-    (option_map_or judged_table (table_of content) (Err BadToml)) in r ≡ Ok s)
+    (option_map_or (judged_under c) (table_of content) (Err BadToml)) in r ≡ Ok s)
     → IsInRange s
-long_then content s true is = absurd cc
-long_then content s false is = content_then s (table_of content) is
+long_then c content s true is = absurd cc
+long_then c content s false is = content_then c s (table_of content) is
 
--- the settings that a content gives
-accepted_in_range : (content : List ℕ) (s : Settings) → settings_of content ≡ Ok s
-    → IsInRange s
-accepted_in_range content s is =
-    long_then content s (nat_lt longest_content (length content)) is
+-- the settings that a content gives under changes, and the usual ones under them
+accepted_in_range : (c : Changes) (content : List ℕ) (s : Settings)
+    → settings_under c content ≡ Ok s → IsInRange s
+accepted_in_range c content s is =
+    long_then c content s (nat_lt longest_content (length content)) is
 
-usual_in_range : IsInRange (values_of no_members)
-unfolding number_of
-usual_in_range = record { tracking = refl; prediction = refl; report = refl; line = refl }
+usual_in_range : (c : Changes) (s : Settings) → usual_under c ≡ Ok s → IsInRange s
+usual_in_range c s is =
+    let table = changed_table c no_members in
+    values_then table s (first_out_of_range table) refl is
 
 -- ---- what a detector may have under them
 
@@ -174,15 +180,24 @@ under_settings (Some g) s range given =
 
 -- ---- the settings of a command
 
-settled : (content : List ℕ) (r : Result Settings SettingsFault) → settings_of content ≡ r
-    → option_or (settings_refusal r) None ≡ None → (s : Settings) × (r ≡ Ok s) × IsInRange s
-settled content (Ok s) is none = (s, refl, accepted_in_range content s is)
-settled content (Err fault) is none = absurd cc
+-- settings that are not refused are there
+unless_refused : (r : Result Settings SettingsFault)
+    → option_or (settings_refusal r) None ≡ None → (s : Settings) × (r ≡ Ok s)
+unless_refused (Ok s) none = (s, refl)
+unless_refused (Err fault) none = absurd cc
 
--- settings that are not refused are there, and in range
-pub settings_found : (name : Option (List ℕ)) (files : Files)
-    → first_refusal (settings_readings name) files ≡ None
-    → (s : Settings) × (settings_in name files ≡ Ok s) × IsInRange s
-settings_found None files none = (usual_settings, refl, usual_in_range)
-settings_found (Some n) files none =
-    settled (content files n) (settings_of (content files n)) refl none
+found_in : (name : Option (List ℕ)) (c : Changes) (files : Files)
+    → first_refusal (settings_readings (asked_under name c)) files ≡ None
+    → (s : Settings) × (settings_in (asked_under name c) files ≡ Ok s) × IsInRange s
+found_in None c files none =
+    let found = unless_refused (usual_under c) none in
+    (found.0, found.1, usual_in_range c found.0 found.1)
+found_in (Some n) c files none =
+    let found = unless_refused (settings_under c (content files n)) none in
+    (found.0, found.1, accepted_in_range c (content files n) found.0 found.1)
+
+-- and in range
+pub settings_found : (asked : AskedSettings) (files : Files)
+    → first_refusal (settings_readings asked) files ≡ None
+    → (s : Settings) × (settings_in asked files ≡ Ok s) × IsInRange s
+settings_found asked files none = found_in asked.file asked.changes files none

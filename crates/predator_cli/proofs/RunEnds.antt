@@ -13,6 +13,7 @@ use Rattle.command_line.specs.Names.{are_apart, given, is_named}
 use Rattle.command_line.specs.Demands.{text_of}
 use Rattle.command_line.specs.Replay.{ReplayDemand}
 use Rattle.command_line.specs.Run.{RunDemand, run_meaning, run_outputs}
+use Rattle.command_line.specs.Set.{AskedSettings}
 use Rattle.command_line.specs.Split.{SplitDemand, split_outputs}
 use Rattle.command_line.specs.declared.run.RunOptions.{RunOptions}
 use Rattle.std.specs.Borrow.{Bor}
@@ -198,7 +199,7 @@ all_pass d later s is states none =
     ∙ none_alone (refuses_trace (wanted_after (begun_in d later)) d.trace later)
     (ap (option_map status_of_refusal) none)
 
-replay_passes : (settings : Option (List ℕ)) (name : List ℕ) (later : Files) (s : Settings)
+replay_passes : (settings : AskedSettings) (name : List ℕ) (later : Files) (s : Settings)
     → settings_in settings later ≡ Ok s
     → refusal_of whole (content later name) ≡ None
     → first_refusal (replay_readings (whole_replay settings name)) later ≡ None

@@ -5,6 +5,7 @@ use Rattle.sharing_rules.specs.Laws.Recounts.{listed_are_recounted}
 use Rattle.trace_format.specs.Rules.{touches_in}
 use Rattle.trace_passes.specs.Passes.{all_records}
 use Rattle.command_line.specs.Run.{RunDemand}
+use Rattle.command_line.specs.Set.{AskedSettings}
 use Rattle.settings.specs.declared.values.Settings.{Settings}
 use Rattle.hart_scheduler.specs.Choices.{Plan}
 use Rattle.program_files.specs.declared.image.Image.{Image}
@@ -29,7 +30,8 @@ abbrev pub RunsAreShort : Type 0
 RunsAreShort =
     (s : Setup) (c : Config) → c.steps ≡ 0 → c.accesses ≡ 0 → IsShort s (run_of s c)
 
-pub schedule_pass : (named name : Option (List ℕ)) (files : Files) (s : Settings) (plan : Plan)
+pub schedule_pass : (named : AskedSettings) (name : Option (List ℕ)) (files : Files) (s : Settings)
+    (plan : Plan)
     → settings_in named files ≡ Ok s
     → schedule_in s name files ≡ Ok plan → first_refusal (schedule_readings named name) files ≡ None
 schedule_pass named None files s plan is read = refl

@@ -2,6 +2,7 @@
 use Rattle.std.specs.Prelude.{◌≡◌, ℕ, List, Option, Some, None}
 use Rattle.command_line.specs.Replay.{ReplayDemand}
 use Rattle.command_line.specs.Run.{RunDemand}
+use Rattle.command_line.specs.Set.{AskedSettings}
 use Rattle.command_line.specs.Words.{Demand}
 use Rattle.shelf.specs.Files.{bytes_for}
 use Rattle.shelf.specs.Shelf.{Files}
@@ -13,7 +14,7 @@ use Rattle.predator_cli.specs.Replay.{replay_readings, replay_work}
 use Rattle.predator_cli.specs.Run.{run_readings, run_work}
 
 -- the replay of a whole trace with no layout named, which saves nothing
-abbrev pub whole_replay : Option (List ℕ) → List ℕ → ReplayDemand
+abbrev pub whole_replay : AskedSettings → List ℕ → ReplayDemand
 whole_replay settings trace = record {
   trace = trace;
   settings = settings;

@@ -8,6 +8,7 @@ use Rattle.command_files.specs.Readings.{first_refusal}
 use Rattle.command_files.specs.SettingsFiles.{settings_in, settings_readings}
 use Rattle.command_files.specs.Works.{Work}
 use Rattle.command_line.specs.Replay.{ReplayDemand}
+use Rattle.command_line.specs.Set.{AskedSettings}
 use Rattle.command_line.specs.Split.{SplitDemand}
 use Rattle.shelf.specs.Files.{bytes_for}
 use Rattle.shelf.specs.Shelf.{Files, content}
@@ -16,10 +17,10 @@ use Rattle.predator_cli.specs.Again.{replayed}
 use Rattle.predator_cli.specs.Judged.{judged}
 use Rattle.predator_cli.specs.Split.{split_readings, split_work}
 
--- how all parts are counted: under which settings and which layout, where they are named, and where
+-- how all parts are counted: under which settings, under which layout, where it is named, and where
 -- the state at the end is saved
 pub record Counting : Type 0 where
-  pub settings : Option (List ℕ)
+  pub settings : AskedSettings
   pub layout : Option Grid
   pub save : Option (List ℕ)
 

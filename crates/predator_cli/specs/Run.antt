@@ -4,6 +4,7 @@ use Rattle.std.specs.Prelude.{None, Result, Ok, Err}
 use Rattle.std.specs.List.{All}
 use Rattle.std.specs.Option.{option_map_or}
 use Rattle.command_line.specs.Run.{RunDemand}
+use Rattle.command_line.specs.Set.{AskedSettings}
 use Rattle.program_files.specs.declared.image.Image.{Image}
 use Rattle.program_files.specs.PlacedImages.{image_of}
 use Rattle.guest.specs.declared.setup.Setup.{Setup}
@@ -54,12 +55,12 @@ abbrev pub schedule_refusal : Result Plan ScheduleFault → Option Status
 schedule_refusal (Ok plan) = None
 schedule_refusal (Err fault) = Some (status.Schedule fault)
 
-abbrev pub schedule_reading : Option (List ℕ) → List ℕ → Reading
+abbrev pub schedule_reading : AskedSettings → List ℕ → Reading
 schedule_reading settings name =
     reading name
     (λ files. schedule_refusal (schedule_in (chosen_settings settings files) (Some name) files))
 
-abbrev pub schedule_readings : Option (List ℕ) → Option (List ℕ) → List Reading
+abbrev pub schedule_readings : AskedSettings → Option (List ℕ) → List Reading
 schedule_readings settings name = option_map_or (λ n. schedule_reading settings n ∷ []) name []
 
 -- the plan that holds where the schedule is not refused

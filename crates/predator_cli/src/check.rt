@@ -87,7 +87,7 @@ fn check_text<S: Shelf>(
     ensures stopped { IfErr result (IsStopped (check_readings (check_meaning options.now))
         (S.outside shelf.old) (S.outside shelf.new)) }
 {
-    let settings = match read_settings(alloc, shelf, options.settings) {
+    let settings = match read_settings(alloc, shelf, options.settings, &options.set) {
         Ok(settings) => settings,
         Err(status) => return Err(status),
     };

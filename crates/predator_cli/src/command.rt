@@ -59,7 +59,9 @@ fn obey<S: Shelf>(alloc: Global, words: &[String], shelf: &mut S) -> Status
 /// the words are refused, and else the first refusal of a file, if there is one. `ReadFault` comes
 /// only where reading a named file failed in this call and no file before it is refused,
 /// `WriteFault` only where printing or writing a named file failed and none is refused, and
-/// `NoMemory` where memory ran out.
+/// `NoMemory` where memory ran out. The settings are those of the file that is named, or the
+/// usual ones, with the numbers of `--set` in the place of theirs; they are judged by themselves
+/// first, and then with these numbers.
 ///
 /// `replay` reads a trace of at most 2^44 bytes, counts its accesses in one pass under the settings
 /// and the layout, and prints the report. `check` loads and places a program file of at most

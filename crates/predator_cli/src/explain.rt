@@ -71,6 +71,7 @@ fn run_of<'a>(options: &ExplainOptions<'a>) -> RunOptions<'a>
         schedule: options.schedule,
         trace: None,
         output: None,
+        set: options.set,
     }
 }
 

@@ -213,7 +213,7 @@ fn count_trace<S: Shelf>(
     ensures stopped { IfErr result (IsStopped (replay_readings (replay_meaning options.now))
         (S.outside shelf.old) (S.outside shelf.new)) }
 {
-    let settings = match read_settings(alloc, shelf, options.settings) {
+    let settings = match read_settings(alloc, shelf, options.settings, &options.set) {
         Ok(settings) => settings,
         Err(status) => return Err(status),
     };

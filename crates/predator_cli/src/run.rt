@@ -1,8 +1,9 @@
 // The command `run`.
-ghost use Rattle.std.specs.Prelude.{◌≡◌, ℕ, ◌≤◌, ◌^◌, ◌++◌, IfErr, IfOk, List, [], Ok, OnOk};
-ghost use Rattle.std.specs.Prelude.{Option, Some, length, take, None};
+ghost use Rattle.std.specs.Prelude.{◌≡◌, ◌≤◌, ◌^◌, ◌++◌, IfErr, IfOk, [], Ok, OnOk};
+ghost use Rattle.std.specs.Prelude.{Some, length, take, None};
 ghost use Rattle.command_line.specs.Demands.{text_of};
 ghost use Rattle.command_line.specs.Run.{run_meaning, run_outputs};
+ghost use Rattle.command_line.specs.Set.{AskedSettings};
 ghost use Rattle.command_line.specs.Words.{run as asks};
 ghost use Rattle.guest.specs.Runs.{IsShort, rest_of};
 ghost use Rattle.shelf.specs.Files.{AreCut, AreWritten};
@@ -159,11 +160,11 @@ fn read_schedule<S: Shelf>(
         (λ files. schedule_in settings.now (text_of name.entry) files ≡ Ok plan)) }
     ensures harts { IfOk result (λ plan. plan.harts ≡ settings.now.harts) }
     ensures quantum { IfOk result (λ plan. plan.quantum ≡ settings.now.quantum) }
-    ensures accepted { OnOk result ((named : Option (List ℕ)) → Told (S.outside shelf.old).held
+    ensures accepted { OnOk result ((named : AskedSettings) → Told (S.outside shelf.old).held
         (λ files. settings_in named files ≡ Ok settings.now)
         → IsAccepted (schedule_readings named (text_of name.entry)) (S.outside shelf.old)
         (S.outside shelf.new)) }
-    ensures stopped { IfErr result (λ status. (named : Option (List ℕ))
+    ensures stopped { IfErr result (λ status. (named : AskedSettings)
         → Told (S.outside shelf.old).held (λ files. settings_in named files ≡ Ok settings.now)
         → IsStopped (schedule_readings named (text_of name.entry)) (S.outside shelf.old)
         (S.outside shelf.new) status) }
@@ -234,7 +235,7 @@ pub fn load_guest<S: Shelf>(
 ) -> Result<Loaded, Status>
     ensures allowed { IfOk result (λ loaded. IsAllowed loaded.settings) }
     ensures settings { IfOk result (λ loaded. Told (S.outside shelf.old).held
-        (λ files. settings_in (text_of options.now.settings) files ≡ Ok loaded.settings)) }
+        (λ files. settings_in (run_meaning options.now).settings files ≡ Ok loaded.settings)) }
     ensures run { IfOk result (λ loaded. Told (S.outside shelf.old).held (λ files.
         rest_of loaded.guest ≡ run_for_demand (run_meaning options.now) loaded.settings files)) }
     ensures symbols { IfOk result (λ loaded. Told (S.outside shelf.old).held (λ files.
@@ -249,7 +250,7 @@ pub fn load_guest<S: Shelf>(
     ensures stopped { IfErr result (IsStopped (run_readings (run_meaning options.now))
         (S.outside shelf.old) (S.outside shelf.new)) }
 {
-    let settings = match read_settings(alloc, shelf, options.settings) {
+    let settings = match read_settings(alloc, shelf, options.settings, &options.set) {
         Ok(settings) => settings,
         Err(status) => return Err(status),
     };

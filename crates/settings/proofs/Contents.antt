@@ -1,5 +1,5 @@
 -- What a content gives, from what reading it as TOML gave.
-use Rattle.std.proofs.Common.{◌≡◌, ◌≤◌, ℕ, false, List, length, Some, None, Err, IsUtf8, sym, ◌∙◌}
+use Rattle.std.proofs.Common.{◌≡◌, ◌≤◌, ℕ, false, List, length, Result, Some, None, Err, IsUtf8, sym, ◌∙◌}
 use Rattle.std.proofs.Common.{inl, inr, arith}
 use Rattle.std.proofs.lemmas.Bool.{cases_Bool}
 use Rattle.std.proofs.lemmas.Bool.Decides.{nat_tests}
@@ -10,25 +10,27 @@ use Rattle.std.specs.Str.{is_utf8}
 use Rattle.toml.specs.Data.{Members, no_members}
 use Rattle.toml.specs.Errors.{IsBlank}
 use Rattle.toml.specs.Parse.{parse_document, lines}
+use Rattle.settings.specs.declared.fault.SettingsFault.{SettingsFault}
 use Rattle.settings.specs.declared.fault.SettingsFault.TheVariants.{BadToml}
+use Rattle.settings.specs.declared.values.Settings.{Settings}
 use Rattle.settings.specs.Tables.{least_unknown}
-use Rattle.settings.specs.Answers.{longest_content, settings_of, judged_table}
+use Rattle.settings.specs.Answers.{longest_content, settings_by}
 
 short : (content : List ℕ) → length content ≤ longest_content
     → nat_lt longest_content (length content) ≡ false
 short content h = grind (arith, nat_tests)
 
-pub settings_of-table : (content : List ℕ) (table : Members) → length content ≤ longest_content
-    → IsUtf8 content
+pub settings_by-table : (judged : Members → Result Settings SettingsFault) (content : List ℕ)
+    (table : Members) → length content ≤ longest_content → IsUtf8 content
     → parse_document content ≡ Some table
-    → settings_of content ≡ judged_table table
-settings_of-table content table fits text parsed =
+    → settings_by judged content ≡ judged table
+settings_by-table judged content table fits text parsed =
     rw (short content fits, is_utf8-from_IsUtf8 content text, parsed)
 
-pub settings_of-refused : (content : List ℕ) → length content ≤ longest_content
-    → (IsUtf8 content → parse_document content ≡ None)
-    → settings_of content ≡ Err BadToml
-settings_of-refused content fits refused =
+pub settings_by-refused : (judged : Members → Result Settings SettingsFault) (content : List ℕ)
+    → length content ≤ longest_content → (IsUtf8 content → parse_document content ≡ None)
+    → settings_by judged content ≡ Err BadToml
+settings_by-refused judged content fits refused =
     elim (cases_Bool (is_utf8 content)) [
       | inl text ↦ rw (short content fits, text, refused (IsUtf8-from_is_utf8 content text))
       | inr other ↦ rw (short content fits, other)

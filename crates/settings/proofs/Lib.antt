@@ -1,3 +1,4 @@
+pub mod ChangedLemmas
 pub mod Contents
 pub mod Numbers
 pub mod Unknown

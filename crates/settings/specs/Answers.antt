@@ -2,13 +2,15 @@
 use Rattle.std.specs.Prelude.{ℕ, nat_lt, if◌then◌else◌, List, length, Option, None, Result, Ok, Err}
 use Rattle.std.specs.Option.{option_map_or}
 use Rattle.std.specs.Str.{is_utf8}
-use Rattle.toml.specs.Data.{Members}
+use Rattle.toml.specs.Data.{Members, no_members}
 use Rattle.toml.specs.Parse.{parse_document}
 use Rattle.base.specs.Names.{name_of}
+use Rattle.settings.specs.declared.changes.Changes.{Changes}
 use Rattle.settings.specs.declared.values.Settings.{Settings}
 use Rattle.settings.specs.declared.fault.SettingsFault.{SettingsFault}
 use Rattle.settings.specs.declared.fault.SettingsFault.TheVariants.{TooLong, BadToml, UnknownKey}
 use Rattle.settings.specs.declared.fault.SettingsFault.TheVariants.{OutOfRange, NoMemory}
+use Rattle.settings.specs.Changed.{changed_table}
 use Rattle.settings.specs.Tables.{first_out_of_range, values_of, least_unknown}
 
 -- how many bytes a settings file may have
@@ -29,11 +31,33 @@ abbrev pub judged_table : Members → Result Settings SettingsFault
 judged_table table = option_map_or (λ name. Err (UnknownKey (name_of name))) (least_unknown table)
     (judged_values table)
 
--- the same of a content, unless it is too long or no table
-abbrev pub settings_of : List ℕ → Result Settings SettingsFault
-settings_of content =
+-- what comes behind a table's own values, unless it has a fault of its own
+abbrev pub behind_own : Result Settings SettingsFault → Result Settings SettingsFault
+    → Result Settings SettingsFault
+behind_own (Ok settings) later = later
+behind_own (Err fault) later = Err fault
+
+-- the values of a table under changes: its own faults come first
+abbrev pub judged_under : Changes → Members → Result Settings SettingsFault
+judged_under c table = behind_own (judged_table table) (judged_values (changed_table c table))
+
+-- what a content gives by what its table does, unless it is too long or no table
+abbrev pub settings_by : (Members → Result Settings SettingsFault) → List ℕ
+    → Result Settings SettingsFault
+settings_by judged content =
     if nat_lt longest_content (length content) then Err TooLong
-    else option_map_or judged_table (table_of content) (Err BadToml)
+    else option_map_or judged (table_of content) (Err BadToml)
+
+-- the settings of a content, alone and under changes
+abbrev pub settings_of : List ℕ → Result Settings SettingsFault
+settings_of content = settings_by judged_table content
+
+abbrev pub settings_under : Changes → List ℕ → Result Settings SettingsFault
+settings_under c content = settings_by (judged_under c) content
+
+-- the settings under changes where there is no file
+abbrev pub usual_under : Changes → Result Settings SettingsFault
+usual_under c = judged_values (changed_table c no_members)
 
 -- the fact holds unless the fault is want of memory
 abbrev pub UnlessMemory : SettingsFault → Type 0 → Type 0

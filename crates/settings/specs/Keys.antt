@@ -1,6 +1,6 @@
 -- The keys of a settings file, and the whole numbers that each may have.
 use Rattle.std.specs.Prelude.{◌≡◌, ℕ, ◌^◌, ◌-◌, ◌%◌, ◌==◌, ◌≤◌, Bool, ◌&&◌, eqb, max, List, [], ◌∷◌}
-use Rattle.std.specs.Prelude.{IsTrue, codes}
+use Rattle.std.specs.Prelude.{IsTrue, Option, bytes_eq, codes, find}
 use Rattle.std.specs.List.{list_any}
 use Rattle.base.specs.Levels.{is_from_to}
 use Rattle.settings.specs.declared.key.Key.{Key}
@@ -27,6 +27,10 @@ key_name Quantum = codes "quantum"
 key_name Budget = codes "budget"
 key_name Line = codes "line"
 key_name Seed = codes "seed"
+
+-- the key that is written so in the file
+abbrev pub key_named : List ℕ → Option Key
+key_named name = find (λ key. bytes_eq name (key_name key)) keys_in_order
 
 -- the native line sizes
 abbrev pub line_sizes : List ℕ

@@ -71,7 +71,7 @@ impl Rule {
 }
 
 impl Key {
-    ghost use Rattle.settings.specs.Keys.{keys_in_order, key_name, rule_of, HasForm};
+    ghost use Rattle.settings.specs.Keys.{keys_in_order, key_name, key_named, rule_of, HasForm};
 
     // The keys in the order in which they are judged.
     pub(crate) fn all() -> [Key; 10]
@@ -106,6 +106,25 @@ impl Key {
             Key::Budget => "budget",
             Key::Line => "line",
             Key::Seed => "seed",
+        }
+    }
+
+    /// The key that is written so in the file, if one is.
+    pub fn named(name: &str) -> Option<Key>
+        ensures { result ≡ key_named name.now }
+    {
+        match name {
+            "harts" => Some(Key::Harts),
+            "memory" => Some(Key::Memory),
+            "stack" => Some(Key::Stack),
+            "tracking" => Some(Key::Tracking),
+            "prediction" => Some(Key::Prediction),
+            "report" => Some(Key::Report),
+            "quantum" => Some(Key::Quantum),
+            "budget" => Some(Key::Budget),
+            "line" => Some(Key::Line),
+            "seed" => Some(Key::Seed),
+            _ => None,
         }
     }
 

@@ -1,17 +1,19 @@
 // How a settings file is read.
 ghost use Rattle.std.specs.Prelude.{◌≡◌, ◌≢◌, ◌≤◌, ◌<◌, ◌^◌, ◌↔◌, Err, IfSome, IfOk, IfErr, length};
-ghost use Rattle.std.specs.Prelude.{string_bytes, option_map, bytes_eq, Some, None, Ok};
+ghost use Rattle.std.specs.Prelude.{string_bytes, option_map, bytes_eq, Some, None, Ok, pos};
 ghost use Rattle.std.specs.List.{list_any};
 ghost use Rattle.toml.specs.View.{view, table_view};
 ghost use Rattle.toml.specs.Data.{no_members, get_member};
 ghost use Rattle.toml.specs.Errors.{IsBlank};
 ghost use Rattle.settings.specs.Keys.{key_name, form_of, HasForm};
+ghost use Rattle.settings.specs.Changed.{changed_table};
 ghost use Rattle.settings.specs.Tables.{number_of_form, number_beside, number_of, least_unknown};
-ghost use Rattle.settings.specs.Tables.{is_unknown, values_of};
-ghost use Rattle.settings.specs.Answers.{longest_content, judged_values, judged_table, settings_of};
-ghost use Rattle.settings.specs.Answers.{UnlessMemory};
+ghost use Rattle.settings.specs.Tables.{is_unknown, values_of, whole_of_form};
+ghost use Rattle.settings.specs.Answers.{longest_content, judged_under, judged_values};
+ghost use Rattle.settings.specs.Answers.{judged_table, settings_under, usual_under, UnlessMemory};
 ghost use Rattle.settings.specs.Allowed.{IsAllowed};
 
+use crate::changes::Changes;
 use crate::fault::SettingsFault;
 use crate::key::{Form, Key};
 use crate::values::Settings;
@@ -44,7 +46,7 @@ fn whole_number(value: &Value, form: Form) -> Option<u64>
 
 // What a table gives for a key beside a tracking threshold: None where its value is no whole number
 // of the key's form.
-fn number(table: &Table, key: Key, tracking: u64) -> Option<u64>
+fn own_number(table: &Table, key: Key, tracking: u64) -> Option<u64>
     requires { tracking ≤ 2 ^ 32 }
     ensures value { result ≡ number_beside tracking (table_view table.now) key }
     ensures form { IfSome result (HasForm (form_of tracking key)) }
@@ -56,58 +58,85 @@ fn number(table: &Table, key: Key, tracking: u64) -> Option<u64>
     }
 }
 
-// The same beside the table's own tracking threshold, of a key whose form does not rest on it.
-fn number_alone(table: &Table, key: Key) -> Option<u64>
+// A number, where it has the form.
+fn formed(number: u64, form: Form) -> Option<u64>
+    ensures value { result ≡ whole_of_form form (pos number) }
+    ensures form { IfSome result (HasForm form) }
+{
+    if form.holds(number) {
+        Some(number)
+    } else {
+        None
+    }
+}
+
+// What changes give for a key beside a tracking threshold, or else a table.
+fn number(table: &Table, changes: &Changes, key: Key, tracking: u64) -> Option<u64>
+    requires { tracking ≤ 2 ^ 32 }
+    ensures value { result ≡ number_beside tracking (changed_table changes.now
+        (table_view table.now)) key }
+    ensures form { IfSome result (HasForm (form_of tracking key)) }
+{
+    match changes.of(key) {
+        Some(number) => formed(number, key.rule(tracking).form),
+        None => own_number(table, key, tracking),
+    }
+}
+
+// The same beside their own tracking threshold, of a key whose form does not rest on it.
+fn number_alone(table: &Table, changes: &Changes, key: Key) -> Option<u64>
     requires { key ≢ Key.Prediction }
-    ensures value { result ≡ number_of (table_view table.now) key }
+    ensures value { result ≡ number_of (changed_table changes.now (table_view table.now)) key }
     ensures form { IfSome result (HasForm (form_of 0 key)) }
 {
-    number(table, key, 0)
+    number(table, changes, key, 0)
 }
 
-// The prediction threshold beside the table's tracking threshold.
-fn prediction_beside(table: &Table, tracking: u64) -> Option<u64>
-    requires own { number_of (table_view table.now) Key.Tracking ≡ Some tracking }
+// The prediction threshold beside their tracking threshold.
+fn prediction_beside(table: &Table, changes: &Changes, tracking: u64) -> Option<u64>
+    requires own { number_of (changed_table changes.now (table_view table.now)) Key.Tracking
+        ≡ Some tracking }
     requires small { tracking ≤ 2 ^ 32 }
-    ensures value { result ≡ number_of (table_view table.now) Key.Prediction }
+    ensures value { result ≡ number_of (changed_table changes.now (table_view table.now))
+        Key.Prediction }
     ensures form { IfSome result (HasForm (form_of tracking Key.Prediction)) }
 {
-    number(table, Key::Prediction, tracking)
+    number(table, changes, Key::Prediction, tracking)
 }
 
-// The values of a table, or the first key whose value is out of range.
-fn judge_values(table: &Table) -> Result<Settings, SettingsFault>
-    ensures value { result ≡ judged_values (table_view table.now) }
+// The values of a table under changes, or the first key whose value is out of range.
+fn judge_values(table: &Table, changes: &Changes) -> Result<Settings, SettingsFault>
+    ensures value { result ≡ judged_values (changed_table changes.now (table_view table.now)) }
     ensures allowed { IfOk result IsAllowed }
 {
-    let Some(harts) = number_alone(table, Key::Harts) else {
+    let Some(harts) = number_alone(table, changes, Key::Harts) else {
         return Err(SettingsFault::OutOfRange(Key::Harts));
     };
-    let Some(memory) = number_alone(table, Key::Memory) else {
+    let Some(memory) = number_alone(table, changes, Key::Memory) else {
         return Err(SettingsFault::OutOfRange(Key::Memory));
     };
-    let Some(stack) = number_alone(table, Key::Stack) else {
+    let Some(stack) = number_alone(table, changes, Key::Stack) else {
         return Err(SettingsFault::OutOfRange(Key::Stack));
     };
-    let Some(tracking) = number_alone(table, Key::Tracking) else {
+    let Some(tracking) = number_alone(table, changes, Key::Tracking) else {
         return Err(SettingsFault::OutOfRange(Key::Tracking));
     };
-    let Some(prediction) = prediction_beside(table, tracking) else {
+    let Some(prediction) = prediction_beside(table, changes, tracking) else {
         return Err(SettingsFault::OutOfRange(Key::Prediction));
     };
-    let Some(report) = number_alone(table, Key::Report) else {
+    let Some(report) = number_alone(table, changes, Key::Report) else {
         return Err(SettingsFault::OutOfRange(Key::Report));
     };
-    let Some(quantum) = number_alone(table, Key::Quantum) else {
+    let Some(quantum) = number_alone(table, changes, Key::Quantum) else {
         return Err(SettingsFault::OutOfRange(Key::Quantum));
     };
-    let Some(budget) = number_alone(table, Key::Budget) else {
+    let Some(budget) = number_alone(table, changes, Key::Budget) else {
         return Err(SettingsFault::OutOfRange(Key::Budget));
     };
-    let Some(line) = number_alone(table, Key::Line) else {
+    let Some(line) = number_alone(table, changes, Key::Line) else {
         return Err(SettingsFault::OutOfRange(Key::Line));
     };
-    let Some(seed) = number_alone(table, Key::Seed) else {
+    let Some(seed) = number_alone(table, changes, Key::Seed) else {
         return Err(SettingsFault::OutOfRange(Key::Seed));
     };
     Ok(Settings {
@@ -146,6 +175,14 @@ fn first_unknown(table: &Table) -> Option<&String>
     table.keys().find(|name| is_unknown_name(name.as_str()))
 }
 
+// The values of a table alone, or the first key whose value is out of range.
+fn judge_own(table: &Table) -> Result<Settings, SettingsFault>
+    ensures value { result ≡ judged_values (table_view table.now) }
+    ensures allowed { IfOk result IsAllowed }
+{
+    judge_values(table, &Changes::none())
+}
+
 // The values of a table, or its first fault.
 fn judge_table(alloc: Global, table: &Table) -> Result<Settings, SettingsFault>
     ensures accepted { IfOk result (λ settings. judged_table (table_view table.now) ≡ Ok settings) }
@@ -156,11 +193,28 @@ fn judge_table(alloc: Global, table: &Table) -> Result<Settings, SettingsFault>
         → result ≢ Err SettingsFault.NoMemory }
 {
     let Some(name) = first_unknown(table) else {
-        return judge_values(table);
+        return judge_own(table);
     };
     match Name::new(alloc, name.as_bytes()) {
         Ok(name) => Err(SettingsFault::UnknownKey(name)),
         Err(NoMemory) => Err(SettingsFault::NoMemory),
+    }
+}
+
+// The values of a table under changes, or its first fault: its own come first.
+fn judge_under(alloc: Global, table: &Table, changes: &Changes) -> Result<Settings, SettingsFault>
+    ensures accepted { IfOk result
+        (λ settings. judged_under changes.now (table_view table.now) ≡ Ok settings) }
+    ensures refused { IfErr result
+        (λ fault. UnlessMemory fault (judged_under changes.now (table_view table.now)
+        ≡ Err fault)) }
+    ensures allowed { IfOk result IsAllowed }
+    ensures known { least_unknown (table_view table.now) ≡ None
+        → result ≢ Err SettingsFault.NoMemory }
+{
+    match judge_table(alloc, table) {
+        Ok(_) => judge_values(table, changes),
+        Err(fault) => Err(fault),
     }
 }
 
@@ -184,12 +238,23 @@ impl Settings {
         }
     }
 
-    /// The settings that the content of a file gives, or its first fault, in the order of
-    /// `SettingsFault`. Want of memory may come before any of them but the first.
-    pub fn read(alloc: Global, content: &[u8]) -> Result<Settings, SettingsFault>
-        ensures accepted { IfOk result (λ settings. settings_of content.now ≡ Ok settings) }
+    /// The settings under changes where no file says otherwise, or the first key that is changed to
+    /// a number out of its range.
+    pub fn usual_under(alloc: Global, changes: &Changes) -> Result<Settings, SettingsFault>
+        ensures value { result ≡ usual_under changes.now }
+        ensures allowed { IfOk result IsAllowed }
+    {
+        judge_values(&Table::new(alloc), changes)
+    }
+
+    /// The settings that the content of a file gives under changes, or the first fault: those of the
+    /// content alone, in the order of `SettingsFault`, and then the first key whose value is out of
+    /// range under the changes. Want of memory may come before any of them but the first.
+    pub fn read(alloc: Global, content: &[u8], changes: &Changes) -> Result<Settings, SettingsFault>
+        ensures accepted { IfOk result
+            (λ settings. settings_under changes.now content.now ≡ Ok settings) }
         ensures refused { IfErr result
-            (λ fault. UnlessMemory fault (settings_of content.now ≡ Err fault)) }
+            (λ fault. UnlessMemory fault (settings_under changes.now content.now ≡ Err fault)) }
         ensures too_long { (result ≡ Err SettingsFault.TooLong)
             ↔ (longest_content < length content.now) }
         ensures allowed { IfOk result IsAllowed }
@@ -200,7 +265,7 @@ impl Settings {
             return Err(SettingsFault::TooLong);
         }
         match toml::table_from_slice(alloc, content) {
-            Ok(table) => judge_table(alloc, &table),
+            Ok(table) => judge_under(alloc, &table, changes),
             Err(error) => {
                 if error.is_memory() {
                     Err(SettingsFault::NoMemory)

@@ -1,7 +1,7 @@
 // What no clause says: that reading succeeds, and what files of the field give.
 ghost use Rattle.std.specs.Prelude.{◌≡◌, vec_len, IfOk};
 
-use settings::{Key, Settings, SettingsFault};
+use settings::{Changes, Key, Settings, SettingsFault};
 use std::alloc::{AllocError, Global};
 use std::test::Fail;
 
@@ -14,7 +14,7 @@ fn comment_of_length(alloc: Global, length: usize) -> Result<Vec<u8>, AllocError
 
 // Whether a text is read as these settings.
 fn gives(alloc: Global, text: &[u8], wanted: &Settings) -> bool {
-    match Settings::read(alloc, text) {
+    match Settings::read(alloc, text, &Changes::none()) {
         Ok(found) => found == *wanted,
         Err(_) => false,
     }
@@ -22,7 +22,7 @@ fn gives(alloc: Global, text: &[u8], wanted: &Settings) -> bool {
 
 // Whether a text is refused with this fault.
 fn is_refused(alloc: Global, text: &[u8], wanted: &SettingsFault) -> bool {
-    match Settings::read(alloc, text) {
+    match Settings::read(alloc, text, &Changes::none()) {
         Ok(_) => false,
         Err(found) => found == *wanted,
     }
@@ -52,6 +52,36 @@ fn an_absent_key_has_its_usual_value(rt: HostRuntime) {
     assert_eq!(rt; Settings::usual(), USUAL);
     assert!(rt; gives(rt.alloc(), b"", &USUAL));
     assert!(rt; gives(rt.alloc(), b"tracking = 70\n", &RAISED));
+}
+
+// Whether a text is read under changes as these settings.
+fn gives_under(alloc: Global, text: &[u8], changes: &Changes, wanted: &Settings) -> bool {
+    match Settings::read(alloc, text, changes) {
+        Ok(found) => found == *wanted,
+        Err(_) => false,
+    }
+}
+
+// Whether it is refused for the value of this key.
+fn is_refused_under(alloc: Global, text: &[u8], changes: &Changes, key: Key) -> bool {
+    match Settings::read(alloc, text, changes) {
+        Err(SettingsFault::OutOfRange(found)) => found == key,
+        _ => false,
+    }
+}
+
+#[test]
+fn changes_stand_in_the_place_of_a_file(rt: HostRuntime) {
+    let raised = Changes::none().with(Key::Tracking, 70);
+    let none = Changes::none().with(Key::Harts, 0);
+    assert!(rt; gives_under(rt.alloc(), b"", &raised, &RAISED));
+    assert!(rt; gives_under(rt.alloc(), b"tracking = 100", &raised, &RAISED));
+    assert!(rt; is_refused_under(rt.alloc(), b"prediction = 69", &raised, Key::Prediction));
+    // what the file has out of range comes first, and stays so where it is changed
+    assert!(rt; is_refused_under(rt.alloc(), b"seed = -1", &none, Key::Seed));
+    assert!(rt; is_refused_under(rt.alloc(), b"tracking = 0", &raised, Key::Tracking));
+    assert!(rt; is_refused_under(rt.alloc(), b"", &none, Key::Harts));
+    assert!(rt; Settings::usual_under(rt.alloc(), &raised) == Ok(RAISED));
 }
 
 const ALL_KEYS: &str = "# all keys\nseed = 4294967295\nline = 128\nbudget = 68_719_476_736\n\
@@ -110,7 +140,7 @@ fn what_is_no_toml_is_refused(rt: HostRuntime) {
 
 // Whether a text is refused for the value of this key.
 fn is_out_of_range(alloc: Global, text: &str, key: Key) -> bool {
-    match Settings::read(alloc, text.as_bytes()) {
+    match Settings::read(alloc, text.as_bytes(), &Changes::none()) {
         Err(SettingsFault::OutOfRange(found)) => found == key,
         _ => false,
     }
@@ -145,7 +175,7 @@ fn the_first_key_out_of_range_is_named(rt: HostRuntime) {
 
 // Whether a text is refused for a key of this name.
 fn names_unknown(alloc: Global, text: &str, name: &str) -> bool {
-    match Settings::read(alloc, text.as_bytes()) {
+    match Settings::read(alloc, text.as_bytes(), &Changes::none()) {
         Err(SettingsFault::UnknownKey(found)) => found.bytes() == name.as_bytes(),
         _ => false,
     }

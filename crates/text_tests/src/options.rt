@@ -4,9 +4,23 @@ use command_line::{
     CheckOptions, ConvertOptions, Demand, GenOptions, PlaceOptions, ReplayOptions, RunOptions,
     SplitOptions, WordsFault, read_words,
 };
+use settings::Changes;
 use std::alloc::{AllocError, Global};
 use std::process::Abort;
 use std::test::Fail;
+
+const NONE: Changes = Changes {
+    harts: None,
+    memory: None,
+    stack: None,
+    tracking: None,
+    prediction: None,
+    report: None,
+    quantum: None,
+    budget: None,
+    line: None,
+    seed: None,
+};
 
 // What a line asks for, none where it is refused.
 type Answer<'a> = Option<Demand<'a>>;
@@ -51,6 +65,7 @@ const REPLAYS: [(&str, Answer<'static>); 4] = [
             layout: None,
             save: None,
             resume: None,
+            set: NONE,
         })),
     ),
     (
@@ -61,6 +76,7 @@ const REPLAYS: [(&str, Answer<'static>); 4] = [
             layout: None,
             save: None,
             resume: None,
+            set: NONE,
         })),
     ),
     (
@@ -71,6 +87,7 @@ const REPLAYS: [(&str, Answer<'static>); 4] = [
             layout: None,
             save: None,
             resume: None,
+            set: NONE,
         })),
     ),
     (
@@ -81,6 +98,7 @@ const REPLAYS: [(&str, Answer<'static>); 4] = [
             layout: None,
             save: Some("b"),
             resume: Some("a"),
+            set: NONE,
         })),
     ),
 ];
@@ -99,6 +117,7 @@ const RUNS: [(&str, Answer<'static>); 3] = [
             schedule: None,
             trace: None,
             output: None,
+            set: NONE,
         })),
     ),
     (
@@ -109,6 +128,7 @@ const RUNS: [(&str, Answer<'static>); 3] = [
             schedule: Some("l"),
             trace: Some("t"),
             output: Some("o"),
+            set: NONE,
         })),
     ),
     // two inputs may have one name
@@ -120,6 +140,7 @@ const RUNS: [(&str, Answer<'static>); 3] = [
             schedule: Some("p"),
             trace: None,
             output: None,
+            set: NONE,
         })),
     ),
 ];
@@ -135,6 +156,7 @@ const OTHERS: [(&str, Answer<'static>); 4] = [
         Some(Demand::Check(CheckOptions {
             program: "p",
             settings: Some("s"),
+            set: NONE,
         })),
     ),
     (
@@ -167,8 +189,8 @@ fn reads_other_commands(rt: HostRuntime) -> Result<(), Fail> {
     all_answer(&rt, rt.alloc(), &OTHERS)
 }
 
-// Lines that ask for new places of an object of `t`, each with the name, the address that it is, and
-// the size of a line.
+// Lines that ask for new places of an object of `t`, each with the name, the address that it is,
+// and the size of a line.
 const PLACED: [(&str, &str, Option<u32>, u32); 9] = [
     ("place t x", "x", None, 64),
     ("place t 0x10", "0x10", Some(16), 64),
@@ -200,6 +222,61 @@ fn reads_names_of_objects(rt: HostRuntime) -> Result<(), Fail> {
     Ok(())
 }
 
+// Words for changes of the settings of `p`, each with the changes.
+const CHANGED: [(&str, Changes); 4] = [
+    (
+        "check p --set quantum=1",
+        Changes {
+            quantum: Some(1),
+            ..NONE
+        },
+    ),
+    (
+        "check p --set=report=1,harts=0,seed=18446744073709551615",
+        Changes {
+            report: Some(1),
+            harts: Some(0),
+            seed: Some(18_446_744_073_709_551_615),
+            ..NONE
+        },
+    ),
+    (
+        "check --set line=256,budget=3 p",
+        Changes {
+            line: Some(256),
+            budget: Some(3),
+            ..NONE
+        },
+    ),
+    (
+        "check p --set memory=1,stack=2,tracking=3,prediction=4",
+        Changes {
+            memory: Some(1),
+            stack: Some(2),
+            tracking: Some(3),
+            prediction: Some(4),
+            ..NONE
+        },
+    ),
+];
+
+fn check_under<'a>(set: Changes) -> Demand<'a> {
+    Demand::Check(CheckOptions {
+        program: "p",
+        settings: None,
+        set,
+    })
+}
+
+#[test]
+fn reads_changes_of_settings(rt: HostRuntime) -> Result<(), Fail> {
+    let alloc = rt.alloc();
+    for (line, set) in &CHANGED {
+        answers(&rt, alloc, line, &Some(check_under(*set)))?;
+    }
+    Ok(())
+}
+
 // Lines that ask to replay `t`, each with the settings, and the size and offset of the layout.
 const LAID_OUT: [(&str, Option<&str>, u32, u32); 3] = [
     ("replay --settings=s --size=64 -- t", Some("s"), 64, 0),
@@ -214,6 +291,7 @@ fn replay<'a>(settings: Option<&'a str>, layout: Option<Layout>) -> Demand<'a> {
         layout,
         save: None,
         resume: None,
+        set: NONE,
     })
 }
 
@@ -227,7 +305,7 @@ fn reads_layouts(rt: HostRuntime) -> Result<(), Fail> {
     Ok(())
 }
 
-const REFUSED: [&str; 52] = [
+const REFUSED: [&str; 70] = [
     // other words
     "replay",
     "replay a b",
@@ -271,6 +349,25 @@ const REFUSED: [&str; 52] = [
     "place t x --size 3",
     "place t x --size 2048",
     "place t x --size=",
+    // other changes of settings
+    "run p --set",
+    "run p --set=",
+    "run p --set quantum",
+    "run p --set =1",
+    "run p --set quantum=",
+    "run p --set quantum=01",
+    "run p --set quantum=1,",
+    "run p --set quantum=1,,report=1",
+    "run p --set turns=1",
+    "run p --set Quantum=1",
+    "run p --set quantum=1,quantum=1",
+    "run p --set quantum=18446744073709551616",
+    "run p --set quantum=1=1",
+    "run p --set quantum=1 --set report=1",
+    "replay t --set x=1 --save s",
+    "explain p 0 64 0 --set x",
+    "check p --set report=",
+    "sweep t --size 64 --set report=1",
     // one name for two files
     "run p --trace p",
     "run p --output s --settings s",

@@ -9,7 +9,7 @@ use Rattle.command_files.specs.Statuses.{Kind, kind_of, done, refusal, read_faul
 use Rattle.command_files.specs.Statuses.{no_memory}
 use Rattle.command_files.specs.Readings.{FailsInOrder, IsAccepted, IsRefusal, IsStopped}
 use Rattle.command_files.specs.Readings.{Reading, RoseAt, StopsBy}
-use Rattle.command_files.specs.Readings.{first_refusal, names_of, reading}
+use Rattle.command_files.specs.Readings.{first_refusal, named_before, names_of, reading, unread}
 use Rattle.command_files.specs.declared.status.Status.{Status}
 use Rattle.command_files.specs.declared.status.Status.TheVariants as status
 use Rattle.shelf.specs.Laws.Told.{told, told_map, told_both}
@@ -43,16 +43,31 @@ passed [] s2 files none = refl
 passed (x ∷ s1) s2 files none = rw (none_first (x.refusal files) (first_refusal s1 files) none)
     (passed s1 s2 files (none_later (x.refusal files) (first_refusal s1 files) none))
 
+-- a name before some, if there is one, changes nothing of those behind it
+rose_kept : (n : Option (List ℕ)) (l m : List (List ℕ)) (before now : List ℕ → ℕ)
+    → (RoseAt l before now → RoseAt m before now)
+    → RoseAt (named_before n l) before now → RoseAt (named_before n m) before now
+rose_kept None l m before now keeps rose = keeps rose
+rose_kept (Some name) l m before now keeps (inl rose) = inl rose
+rose_kept (Some name) l m before now keeps (inr rose) = inr (keeps rose)
+
+rose_behind : (n : Option (List ℕ)) (l : List (List ℕ)) (before now : List ℕ → ℕ)
+    → RoseAt l before now → RoseAt (named_before n l) before now
+rose_behind None l before now rose = rose
+rose_behind (Some name) l before now rose = inr rose
+
 rose_first : (s1 s2 : List Reading) (before now : List ℕ → ℕ) → RoseAt (names_of s1) before now
     → RoseAt (names_of (s1 ++ s2)) before now
 rose_first [] s2 before now rose = absurd rose
-rose_first (x ∷ s1) s2 before now (inl rose) = inl rose
-rose_first (x ∷ s1) s2 before now (inr rose) = inr (rose_first s1 s2 before now rose)
+rose_first (x ∷ s1) s2 before now rose =
+    rose_kept x.name (names_of s1) (names_of (s1 ++ s2)) before now
+    (rose_first s1 s2 before now) rose
 
 rose_later : (s1 s2 : List Reading) (before now : List ℕ → ℕ) → RoseAt (names_of s2) before now
     → RoseAt (names_of (s1 ++ s2)) before now
 rose_later [] s2 before now rose = rose
-rose_later (x ∷ s1) s2 before now rose = inr (rose_later s1 s2 before now rose)
+rose_later (x ∷ s1) s2 before now rose =
+    rose_behind x.name (names_of (s1 ++ s2)) before now (rose_later s1 s2 before now rose)
 
 fails_first : (s1 s2 : List Reading) (files : Files) (before now : List ℕ → ℕ)
     → FailsInOrder s1 files before now
@@ -185,6 +200,28 @@ refused_stopped name refuses a b s is_refusal is peace only =
       only = only;
     }
 
+-- ---- without a file
+
+pub unread_stopped : (refused : Option Status) (a : Outside) (s : Status) → IsRefusal s
+    → refused ≡ Some s → IsStopped (unread refused ∷ []) a a s
+unread_stopped refused a s is_refusal is =
+    let why : StopsBy (unread refused ∷ []) a a refusal s =
+    (told a.held (λ files. or_none refused s is), refl)
+    in
+    record {
+      why = rw is_refusal.kind why;
+      words = is_refusal.words;
+      memory = is_refusal.memory;
+      only = only_same a a refl;
+    }
+
+pub unread_accepted : (refused : Option Status) (a : Outside) → refused ≡ None
+    → IsAccepted (unread refused ∷ []) a a
+unread_accepted refused a none =
+    record { accepts = told a.held (λ files. none_alone refused none); same = refl }
+
+-- ---- a file that is refused alike
+
 alone_fails : (name : List ℕ) (r1 r2 : Files → Option Status) (files : Files)
     (before now : List ℕ → ℕ)
     → FailsInOrder (reading name r1 ∷ []) files before now
@@ -192,7 +229,6 @@ alone_fails : (name : List ℕ) (r1 r2 : Files → Option Status) (files : Files
 alone_fails name r1 r2 files before now (inl rose) = inl rose
 alone_fails name r1 r2 files before now (inr later) = absurd later.1
 
--- a file that is refused alike
 alike_why : (name : List ℕ) (r1 r2 : Files → Option Status) (a b : Outside) (k : Kind) (s : Status)
     → Told a.held (λ files. r2 files ≡ r1 files) → StopsBy (reading name r1 ∷ []) a b k s
     → StopsBy (reading name r2 ∷ []) a b k s

@@ -1,6 +1,5 @@
 use Rattle.std.proofs.Common.{◌≡◌, [], ◌∷◌, Ok}
 use Rattle.command_line.specs.Check.{check_meaning}
-use Rattle.command_line.specs.Demands.{text_of}
 use Rattle.shelf.specs.Shelf.{Told, content}
 use Rattle.command_files.specs.ProgramFiles.{program_reading, program_refusal}
 use Rattle.command_files.specs.Readings.{IsStopped}
@@ -12,9 +11,9 @@ use Rattle.predator_cli.proofs.check.check_text.Goals as goal
 
 pub returns-in-Err-clause-stopped : goal.returns-in-Err-clause-stopped
 returns-in-Err-clause-stopped g c =
-    let named = text_of c.args.options.now.settings in
-    stopped_first (settings_readings named)
-    (program_reading named c.args.options.now.program.now ∷ []) (g.S.Shelf.outside c.args.shelf.now)
+    let d = check_meaning c.args.options.now in
+    stopped_first (settings_readings d.settings)
+    (program_reading d.settings d.program ∷ []) (g.S.Shelf.outside c.args.shelf.now)
     (g.S.Shelf.outside c.read_settings.new.shelf) c.in-Err.status
     c.in-Err.ensures.stopped
 
