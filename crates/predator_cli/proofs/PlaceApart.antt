@@ -1,12 +1,11 @@
 -- The places that `place` prints keep apart what harts access.
-use Rattle.std.proofs.Common.{◌≡◌, ℕ, ◌+◌, ◌<◌, List, Option, None, Some, Result, Ok, All}
+use Rattle.std.proofs.Common.{◌≡◌, ℕ, ◌+◌, ◌<◌, List, Option, Some, Result, All}
 use Rattle.std.proofs.Common.{[], sym, ap, ◌∙◌, refl, subst, arith}
 use Rattle.std.proofs.lemmas.List.Elements.{All-from_recursion, All-push}
 use Rattle.std.specs.Option.{option_map_or}
 use Rattle.std.specs.Prelude.{IsFalse, IsTrue}
 use Rattle.std.specs.Result.{result_map_both}
 use Rattle.base.specs.Lines.{is_line_size, line_number}
-use Rattle.base.specs.Touch.{word_of}
 use Rattle.command_files.specs.Works.{done_or_refused, done_with}
 use Rattle.command_files.specs.declared.status.Status.TheVariants as status
 use Rattle.command_line.specs.Place.{PlaceDemand}
@@ -33,7 +32,7 @@ use Rattle.trace_format.specs.Rules.{IsGoodRecord, IsTrace, touches_in}
 use Rattle.trace_format.specs.declared.record.TraceRecord.{TraceRecord}
 use Rattle.trace_format.specs.declared.record.TraceRecord.TheVariants as records
 use Rattle.trace_passes.specs.Passes.{Trace, all_records, trace_of}
-use Rattle.predator_cli.specs.Apart.{AddsUp, IsPrinted, KeepsApart, PlaceKeepsApart}
+use Rattle.predator_cli.specs.Apart.{AddsUp, KeepsApart, PlaceKeepsApart}
 use Rattle.predator_cli.specs.Place.{Means, place_work, records_for}
 use Rattle.predator_cli.proofs.GoodLaws.{of_harts}
 

@@ -4,7 +4,7 @@ use Rattle.std.proofs.Common.{inl, inr, subst}
 use Rattle.std.proofs.lemmas.Bool.{cases_Bool}
 use Rattle.std.proofs.lemmas.Option.{none-some, option_and_then_some, same_Some}
 use Rattle.std.specs.List.{AllByRecursion}
-use Rattle.std.specs.Prelude.{IsTrue, codes, if◌then◌else◌, option_and_then, option_map}
+use Rattle.std.specs.Prelude.{IsTrue, codes, if◌then◌else◌, option_map}
 use Rattle.std.specs.Str.{bytes_eq}
 use Rattle.base.specs.Lines.{is_line_size}
 use Rattle.clap.specs.Walk.{is_empty}
@@ -87,20 +87,22 @@ among (c ∷ cs) command words d all is =
       | inr other ↦ among cs command words d all.1 (rw other at is)
     ]
 
+also : {P Q : Type 0} → P → Q → P × Q
+also p q = (p, q)
+
 each_sized : (words : List Text) → AllByRecursion (IsAsked words) commands
 each_sized words =
-    (mapped run IsSized (asked_of_run words) (λ d is. tt),
-    (mapped replay IsSized (asked_of_replay words) (λ d is. tt),
-    (mapped check IsSized (asked_of_check words) (λ d is. tt),
-    (mapped split IsSized (asked_of_split words) (λ d is. tt),
-    (mapped gen IsSized (asked_of_gen words) (λ d is. tt),
-    (mapped convert IsSized (asked_of_convert words) (λ d is. tt),
-    (mapped sweep IsSized (asked_of_sweep words) (λ d is. tt),
-    (mapped caches IsSized (asked_of_caches words) (λ d is. tt),
-    (mapped place IsSized (asked_of_place words) (place_sized words),
-    (mapped misses IsSized (asked_of_misses words) (λ d is. tt),
-    (mapped explain IsSized (asked_of_explain words) (λ d is. tt),
-    tt)))))))))))
+    also (mapped run IsSized (asked_of_run words) (λ d is. tt))
+    (also (mapped replay IsSized (asked_of_replay words) (λ d is. tt))
+    (also (mapped check IsSized (asked_of_check words) (λ d is. tt))
+    (also (mapped split IsSized (asked_of_split words) (λ d is. tt))
+    (also (mapped gen IsSized (asked_of_gen words) (λ d is. tt))
+    (also (mapped convert IsSized (asked_of_convert words) (λ d is. tt))
+    (also (mapped sweep IsSized (asked_of_sweep words) (λ d is. tt))
+    (also (mapped caches IsSized (asked_of_caches words) (λ d is. tt))
+    (also (mapped place IsSized (asked_of_place words) (place_sized words))
+    (also (mapped misses IsSized (asked_of_misses words) (λ d is. tt))
+    (also (mapped explain IsSized (asked_of_explain words) (λ d is. tt)) tt))))))))))
 
 pub words_sized : (words : List Text) (d : Demand) → demand_of words ≡ Some d → IsSized d
 words_sized [] d is = absurd (none-some d is)
