@@ -82,8 +82,8 @@ module _ (n : ℕ) (e : Extent) (t : AccessList) (sized : IsLineSize n) (harts :
       let group = in-group n (area_start n o) o.owners i w sized.some (owners-at e t i within) in
       let above = group.low in
       let below = group.high in
-      line_of n o (group_of w) (line_number n 0 x) x sized.some (in_line n _ x sized.some refl) above
-      (omega (arith, below))
+      line_of n o (group_of w) (line_number n 0 x) x sized.some (in_line n _ x sized.some refl)
+      above (omega (arith, below))
 
   one_owner : (i j : ℕ) → i < word_count e → j < word_count e
       → line_number n 0 (place n (owned_of e t) i) ≡ line_number n 0 (place n (owned_of e t) j)

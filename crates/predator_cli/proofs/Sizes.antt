@@ -25,8 +25,8 @@ use Rattle.command_line.specs.Run.{asked_of_run}
 use Rattle.command_line.specs.Split.{asked_of_split}
 use Rattle.command_line.specs.Sweep.{asked_of_sweep}
 use Rattle.command_line.specs.Words.{Demand, Named, asked_among, asked_of, caches, check, commands}
-use Rattle.command_line.specs.Words.{convert, demand_of, explain, gen, inputs, misses, outputs, place}
-use Rattle.command_line.specs.Words.{replay, run, split, sweep, with_names_apart}
+use Rattle.command_line.specs.Words.{convert, demand_of, explain, gen, inputs, misses, outputs}
+use Rattle.command_line.specs.Words.{place, replay, run, split, sweep, with_names_apart}
 
 -- what a test lets through
 let_through : {A : Type 0} (b : Bool) (o : Option A) (x : A) → (if b then o else None) ≡ Some x
