@@ -10,12 +10,14 @@ pub mod GoOnLaws
 pub mod GoodLaws
 pub mod ListedCounts
 pub mod PartLaws
+pub mod PlaceApart
 pub mod PlaceEnds
 pub mod ReplayEnds
 pub mod ReplayLaws
 pub mod Rows
 pub mod RunEnds
 pub mod RunLaws
+pub mod Sizes
 pub mod Sound
 pub mod SpelledAgain
 pub mod Standing

@@ -15,6 +15,7 @@ use Rattle.command_line.specs.Words.{replay, check, run, split, gen, convert, sw
 use Rattle.command_line.specs.Words.{place, misses, explain}
 use Rattle.shelf.specs.Shelf.{Files}
 use Rattle.predator_cli.specs.Again.{RunRepeats}
+use Rattle.predator_cli.specs.Apart.{PlaceKeepsApart}
 use Rattle.predator_cli.specs.Caches.{caches_readings, caches_work}
 use Rattle.predator_cli.specs.Check.{check_readings, check_work}
 use Rattle.predator_cli.specs.Commands.{RepeatsReport, ReportIsRecounted, StaysWithinBudget}
@@ -77,8 +78,8 @@ module _ (files : Files) where
       × (work_of (explain d) files ≡ explain_work d files) × (is_copy (explain d) ≡ false)
   explain_row d = (refl, refl, refl)
 
-  -- what is promised beside that of a run, of a replay, of a split and of `explain`; of another
-  -- command nothing
+  -- what is promised beside that of a run, of a replay, of a split, of `place` and of `explain`; of
+  -- another command nothing
   run_promises : (d : RunDemand) → RepeatsReport (run d) files
       → StaysWithinBudget (Some (run d)) files
       → ReportIsRecounted (Some (run d)) files
@@ -88,6 +89,10 @@ module _ (files : Files) where
   replay_promises : (d : ReplayDemand) → ReportIsRecounted (Some (replay d)) files
       → ReplayIsRecounted d files
   replay_promises d recounts = recounts
+
+  place_promises : (d : PlaceDemand) → ReportIsRecounted (Some (place d)) files
+      → PlaceKeepsApart d files
+  place_promises d recounts = recounts
 
   explain_promises : (d : ExplainDemand) → RepeatsReport (explain d) files
       → TellsListedCount d files

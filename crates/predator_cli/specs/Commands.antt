@@ -7,6 +7,7 @@ use Rattle.shelf.specs.Shelf.{Files}
 use Rattle.command_files.specs.Readings.{Reading}
 use Rattle.command_files.specs.Works.{Work}
 use Rattle.predator_cli.specs.Again.{RunRepeats}
+use Rattle.predator_cli.specs.Apart.{PlaceKeepsApart}
 use Rattle.predator_cli.specs.Caches.{caches_readings, caches_work}
 use Rattle.predator_cli.specs.Check.{check_readings, check_work}
 use Rattle.predator_cli.specs.Convert.{convert_readings, convert_work}
@@ -34,7 +35,8 @@ pub record Command : Type 1 where
   pub repeats : Files → Type 0
   -- it makes at most as many steps as its budget has
   pub within : Files → Type 0
-  -- a plain recount of each line that its report lists counts no less, and alike after its start
+  -- what holds of the counts and the places that it prints: of a report, that a plain recount of
+  -- each line that it lists counts no less, and alike after its start
   pub recounts : Files → Type 0
 
 -- a command of which no more is promised than what it answers
@@ -68,7 +70,10 @@ command_of (gen demand) = plain (gen_readings demand) (λ files. gen_work demand
 command_of (convert demand) = copy (convert_readings demand) (convert_work demand)
 command_of (sweep demand) = plain (sweep_readings demand) (sweep_work demand)
 command_of (caches demand) = plain (caches_readings demand) (caches_work demand)
-command_of (place demand) = plain (place_readings demand) (place_work demand)
+command_of (place demand) =
+    record (plain (place_readings demand) (place_work demand)) {
+      recounts = PlaceKeepsApart demand;
+    }
 command_of (misses demand) = plain (misses_readings demand) (misses_work demand)
 command_of (explain demand) =
     record (plain (explain_readings demand) (explain_work demand)) {

@@ -1,5 +1,6 @@
 pub mod Again
 pub mod Answer
+pub mod Apart
 pub mod Caches
 pub mod Check
 pub mod Commands

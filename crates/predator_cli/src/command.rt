@@ -29,6 +29,7 @@ use command_line::{Demand, WordsFault, read_words};
 use guest::runs_are_short;
 use shelf::Shelf;
 use std::alloc::Global;
+use trace_passes::a_trace_is_its_spelling;
 
 // Does what the words ask for.
 fn obey<S: Shelf>(alloc: Global, words: &[String], shelf: &mut S) -> Status
@@ -123,7 +124,11 @@ pub fn predator<S: Shelf>(alloc: Global, words: &[String], shelf: &mut S) -> Sta
     // Each count that a report of a run or of a whole trace lists is at most a plain recount of the
     // same line over the same accesses, under the line's own layout with tracking threshold 1, and
     // after the line's start both count alike. So it is of a trace that goes on from the state of
-    // some records, over their accesses followed by its own.
+    // some records, over their accesses followed by its own. The places that `place` prints of an
+    // object's words are all different and lie behind the accesses, words on one line have the same
+    // owner, and a line of one hart's words counts nothing once the accesses have moved. What the
+    // area counts then is the part of many harts, and where the object has its lines to itself, all
+    // else that they counted is saved.
     ensures recounts { Told (S.outside shelf.old).held
         (ReportIsRecounted (demand_of (texts words.now))) }
     // No other name's file changes.
@@ -135,5 +140,6 @@ pub fn predator<S: Shelf>(alloc: Global, words: &[String], shelf: &mut S) -> Sta
         (S.outside shelf.old) (S.outside shelf.new) result) }
 {
     runs_are_short();
+    a_trace_is_its_spelling();
     obey(alloc, words, shelf)
 }

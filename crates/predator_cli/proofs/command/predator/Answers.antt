@@ -1,5 +1,4 @@
 use Rattle.command_line.specs.Demands.{texts}
-use Rattle.command_line.specs.Words.{demand_of}
 use Rattle.shelf.specs.Laws.Told.{told}
 use Rattle.predator_cli.proofs.Sound.{report_is_recounted, stays_within}
 use Rattle.predator_cli.proofs.command.predator.Goals as goal
@@ -7,9 +6,11 @@ use Rattle.predator_cli.proofs.command.predator.Goals as goal
 pub returns-clause-within : goal.returns-clause-within
 returns-clause-within g c =
     told (g.S.Shelf.outside c.args.shelf.now).held
-    (stays_within c.runs_are_short.ensures (demand_of (texts c.args.words.now)))
+    (stays_within c.runs_are_short.ensures c.a_trace_is_its_spelling.ensures
+    (texts c.args.words.now))
 
 pub returns-clause-recounts : goal.returns-clause-recounts
 returns-clause-recounts g c =
     told (g.S.Shelf.outside c.args.shelf.now).held
-    (report_is_recounted c.runs_are_short.ensures (demand_of (texts c.args.words.now)))
+    (report_is_recounted c.runs_are_short.ensures c.a_trace_is_its_spelling.ensures
+    (texts c.args.words.now))
