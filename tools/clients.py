@@ -1,10 +1,11 @@
 #!/usr/bin/env python3
 """Puts load on a server of this machine.
 
-usage: tools/clients.py memcached|redis PORT CLIENTS TIMES [BYTES]       (100 bytes)
+usage: tools/clients.py memcached|redis PORT CLIENTS TIMES [--anew] [--in-step]
 
-So many clients at the same time each set a value of so many bytes under a key of their own, and get it back, so often. A wrong answer ends it
-with status 1, and no server on the port within a minute too."""
+So many clients at the same time each set a value of 100 bytes and get it back, so often: under a key of their own, or, --anew, under a new one
+each time. With --in-step all have asked before the first answer is read. A wrong answer ends it with status 1, and no server on the port within
+a minute too."""
 
 import socket
 import sys
@@ -44,23 +45,42 @@ def answer(client, count):
     return found
 
 
-def work(kind, client, number, times, size):
-    for turn in range(times):
-        for asked, wanted in kind(b"key-%d" % number, bytes([97 + turn % 26]) * size):
-            client.sendall(asked)
-            if answer(client, len(wanted)) != wanted:
-                sys.exit("a wrong answer")
+def check(client, wanted):
+    if answer(client, len(wanted)) != wanted:
+        sys.exit("a wrong answer")
 
 
-def main(kind, port, clients, times, size=100):
+def apart(client, own):
+    for asked, wanted in own:
+        client.sendall(asked)
+        check(client, wanted)
+
+
+def in_step(clients, asked):
+    for step in zip(*asked):
+        for client, (text, _) in zip(clients, step):
+            client.sendall(text)
+        for client, (_, wanted) in zip(clients, step):
+            check(client, wanted)
+
+
+def main(words, options):
+    kind, port, count, times = KINDS[words[0]], *map(int, words[1:])
     until = time.monotonic() + 60
-    clients = [connected(int(port), until) for _ in range(int(clients))]
-    with ThreadPoolExecutor(len(clients)) as pool:
-        list(pool.map(lambda it: work(kind, clients[it], it, int(times), int(size)), range(len(clients))))
+    clients = [connected(port, until) for _ in range(count)]
+    keys = [[b"key-%d-%d" % (it, turn) if "--anew" in options else b"key-%d" % it for turn in range(times)] for it in range(count)]
+    asked = [[it for turn, key in enumerate(own) for it in kind(key, bytes([97 + turn % 26]) * 100)] for own in keys]
+    if "--in-step" in options:
+        in_step(clients, asked)
+    else:
+        with ThreadPoolExecutor(count) as pool:
+            list(pool.map(apart, clients, asked))
 
 
 KINDS = {"memcached": memcached, "redis": redis}
 if __name__ == "__main__":
-    if len(sys.argv) not in (5, 6) or sys.argv[1] not in KINDS:
+    options = {it for it in sys.argv[1:] if it.startswith("-")}
+    words = [it for it in sys.argv[1:] if it not in options]
+    if len(words) != 4 or words[0] not in KINDS or options - {"--anew", "--in-step"}:
         sys.exit(__doc__)
-    main(KINDS[sys.argv[1]], *sys.argv[2:])
+    main(words, options)
