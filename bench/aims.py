@@ -135,6 +135,7 @@ def main():
         print("| " + " | ".join(row) + " |")
 
 
-if not os.access(PROGRAM, os.X_OK):
-    sys.exit("bench: build the program first: bin/predator replay examples/counters.trace")
-main()
+if __name__ == "__main__":
+    if not os.access(PROGRAM, os.X_OK):
+        sys.exit("bench: build the program first: bin/predator replay examples/counters.trace")
+    main()

@@ -12,6 +12,7 @@ import struct
 import subprocess
 import sys
 import tempfile
+from functools import cache
 from typing import NamedTuple
 
 from traces import FUNCTION, OBJECT, Alloc, Free, Symbol
@@ -146,21 +147,26 @@ def printed(name):
 
 def table_of(records):
     """The symbols, without those whose kind, address and size an earlier one has, and the blocks, each with its life."""
-    symbols, blocks = [], []
+    symbols, blocks, live = {}, [], {}
     for position, it in records:
         if isinstance(it, Symbol):
-            if it[:3] not in [one[:3] for one in symbols]:
-                symbols.append(it)
+            symbols.setdefault(it[:3], it)
             continue
-        for one in blocks:
-            if one[0].addr == it.addr and one[2] is None:
-                one[2] = position
+        if it.addr in live:
+            live.pop(it.addr)[2] = position
         if isinstance(it, Alloc):
-            blocks.append([it, position, None])
-    return symbols, blocks
+            live[it.addr] = [it, position, None]
+            blocks.append(live[it.addr])
+    return list(symbols.values()), blocks
 
 
-def objects_on(line, symbols, blocks, end):
+def site_names(symbols):
+    """Of an address the first function that holds it."""
+    functions = [it for it in symbols if it.kind == FUNCTION]
+    return cache(lambda site: next((printed(it.name) for it in functions if it.addr <= site < it.addr + it.size), "-"))
+
+
+def objects_on(line, symbols, blocks, end, name_of):
     """The objects that stand on a line, as a report lists them."""
     for it in symbols:
         if it.kind == OBJECT and it.addr < line.base + line.size and line.base < it.addr + it.size:
@@ -169,9 +175,7 @@ def objects_on(line, symbols, blocks, end):
         meets = it.size > 0 and it.addr < line.base + line.size and line.base < it.addr + it.size
         if meets and max(born, line.start) < (end if died is None else min(died, end)):
             yield f"object block {address(it.addr)} {it.size} born {born} {'live' if died is None else f'died {died}'}"
-            for site in filter(None, it.sites):
-                names = [one.name for one in symbols if one.kind == FUNCTION and one.addr <= site < one.addr + one.size]
-                yield f"site {address(site)} {printed(names[0]) if names else '-'}"
+            yield from (f"site {address(site)} {name_of(site)}" for site in it.sites if site)
 
 
 def verdict_of(words):
@@ -192,10 +196,11 @@ def report_of(case):
     yield f"thresholds {case.tracking} {'none' if case.layout else case.prediction} {case.report}"
     yield f"lines {len(rows)}"
     symbols, blocks = table_of(case.records)
+    name_of = site_names(symbols)
     for count, it in rows:
         words = words_of(case.accesses, *it[1:])
         yield f"line {KINDS[it.kind]} {address(it.base)} {it.size} start {it.start} count {count} verdict {verdict_of(words)}"
-        yield from objects_on(it, symbols, blocks, len(case.accesses))
+        yield from objects_on(it, symbols, blocks, len(case.accesses), name_of)
         for at, word in words.items():
             owner = "many" if len(word.harts) > 1 else f"hart {min(word.harts)}"
             yield f"word {address(at)} reads {word.reads} writes {word.writes} {owner}"

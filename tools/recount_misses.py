@@ -8,8 +8,9 @@ Written from docs/RULES.md and the trace of docs/FORMATS.md alone, over whole li
 and beside them, for each hart's copy of a line, the position at which it was loaded. It prints what `predator misses` prints."""
 
 import sys
+from bisect import bisect_left, bisect_right
 
-from judge_report import Line, address, objects_on, table_of
+from judge_report import Line, address, objects_on, site_names, table_of
 from traces import Alloc, Free, Symbol, records
 
 # Accesses, words of the call, and for each line its base with its cold, useful and useless misses, by what docs/RULES.md says.
@@ -30,37 +31,61 @@ def misses(accesses, size=64, shift=0):
         own = (hart, line)
         held = holders.setdefault(line, set())
         is_cold, is_miss = own not in came, hart not in held
-        is_needed = own not in loaded or any(it != hart and at > loaded[own] for it, at in written.get(word, {}).items())
+        is_needed = own not in loaded
+        if not is_needed and word in written:
+            since = loaded[own]
+            is_needed = any([it != hart and at > since for it, at in written[word].items()])
         if is_needed:
             loaded[own] = position
         if is_write:
             written.setdefault(word, {})[hart] = position
             held.clear()
         held.add(hart)
-        came.add(own)
-        row = counts.setdefault(line * size + shift, [0, 0, 0])
-        for at, more in enumerate((is_cold, is_needed - is_cold, is_miss - is_needed)):
-            row[at] += more
+        if is_miss or is_needed:
+            came.add(own)
+            row = counts.setdefault(line * size + shift, [0, 0, 0])
+            for at, more in enumerate((is_cold, is_needed - is_cold, is_miss - is_needed)):
+                row[at] += more
     return {base: tuple(row) for base, row in counts.items()}
+
+
+def parted(trace, others):
+    """The accesses of a trace, while the other records are put to the others, each behind so many accesses."""
+    count = 0
+    for it in records(trace):
+        if isinstance(it, (Symbol, Alloc, Free)):
+            others.append((count, it))
+        else:
+            count += 1
+            yield it
+    others.append((count, None))
+
+
+def by_lines(objects, bases, size):
+    """Of each line those objects that meet it, each given with its record, in their order; the bases rise."""
+    found = {base: [] for base in bases}
+    for record, it in objects:
+        for at in range(bisect_right(bases, record.addr - size), bisect_left(bases, record.addr + record.size)):
+            found[bases[at]].append(it)
+    return found
 
 
 def told(trace, size, shift):
     """The whole text."""
-    accesses, others = [], []
-    for it in records(trace):
-        if isinstance(it, (Symbol, Alloc, Free)):
-            others.append((len(accesses), it))
-        else:
-            accesses.append(it)
-    symbols, blocks = table_of(others)
-    counts = misses(accesses, size, shift)
+    others = []
+    counts = misses(parted(trace, others), size, shift)
+    end, _ = others.pop()
     rows = sorted(((-row[2], -row[1], base) for base, row in counts.items() if row[1] or row[2]))
+    bases = sorted(base for _, _, base in rows)
+    symbols, blocks = table_of(others)
+    name_of = site_names(symbols)
+    symbols, blocks = by_lines([(it, it) for it in symbols], bases, size), by_lines([(it[0], it) for it in blocks], bases, size)
     yield f"misses {size} {shift}"
-    yield f"accesses {len(accesses)}"
+    yield f"accesses {end}"
     yield f"lines {len(rows)}"
     for useless, useful, base in rows:
         yield f"line {address(base)} cold {counts[base][0]} useful {-useful} useless {-useless}"
-        yield from objects_on(Line(0, base, size, 0), symbols, blocks, len(accesses))
+        yield from objects_on(Line(0, base, size, 0), symbols[base], blocks[base], end, name_of)
     yield "total cold {} useful {} useless {}".format(*(sum(row[at] for row in counts.values()) for at in range(3)))
     yield "end"
 

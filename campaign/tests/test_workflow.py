@@ -115,7 +115,7 @@ class Workflow(Folder):
 
     def test_plain_machines(self):
         """Over a stand-in for ssh: one machine that can't be reached, and one with two places."""
-        self.write("ssh", 'shift 2; [ "$1" = gone ] && exit 255; echo "$1" >>"$MACHINES"; exec bash -c "$2"\n')
+        self.write("ssh", 'while [[ $1 == -o* ]]; do shift; done; [ "$1" = gone ] && exit 255; echo "$1" >>"$MACHINES"; exec bash -c "$2"\n')
         self.plan(PLAN)
         os.mkdir(self.at("plan.campaign"))
         self.write("plan.campaign/machines", "gone 3\nnear 2   # two jobs at once\n")

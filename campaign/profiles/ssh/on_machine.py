@@ -3,7 +3,7 @@
 
 The file `machines` names the machines, each with its number of places. A place is a lock, which this process holds as long as it lives,
 and a log of what the machine said.
-A machine that can't be reached is left out for the job."""
+A machine that can't be reached, or is lost on the way, is left out for the job."""
 
 import fcntl
 import os
@@ -15,6 +15,8 @@ import time
 # What ssh ends with if it couldn't reach the machine, or lost it.
 LOST = 255
 SSH = os.environ.get("PREDATOR_SSH", "ssh")
+# No password is asked for, and a machine that says nothing for a minute, at the beginning or later, is lost.
+OPTIONS = ["BatchMode=yes", "ConnectTimeout=60", "ServerAliveInterval=20", "ServerAliveCountMax=3"]
 
 
 def places():
@@ -56,7 +58,7 @@ def main(script):
             return 1
         command = f"cd {shlex.quote(os.getcwd())} && exec bash {shlex.quote(os.path.abspath(script))}"
         with open(f"places/{machine}-{place}.log", "ab") as log:
-            words = [*SSH.split(), "-o", "BatchMode=yes", machine, command]
+            words = [*SSH.split(), *(f"-o{it}" for it in OPTIONS), machine, command]
             status = subprocess.run(words, stdin=subprocess.DEVNULL, stdout=log, stderr=log).returncode
         os.close(lock)
         if status != LOST:

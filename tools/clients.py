@@ -1,0 +1,86 @@
+#!/usr/bin/env python3
+"""Puts load on a server of this machine.
+
+usage: tools/clients.py memcached|redis PORT CLIENTS TIMES [--anew] [--in-step]
+
+So many clients at the same time each set a value of 100 bytes and get it back, so often: under a key of their own, or, --anew, under a new one
+each time. With --in-step all have asked before the first answer is read. A wrong answer ends it with status 1, and no server on the port within
+a minute too."""
+
+import socket
+import sys
+import time
+from concurrent.futures import ThreadPoolExecutor
+
+
+def memcached(key, value):
+    """What is asked, and the answers that are wanted."""
+    yield b"set %s 0 0 %d\r\n%s\r\n" % (key, len(value), value), b"STORED\r\n"
+    yield b"get %s\r\n" % key, b"VALUE %s 0 %d\r\n%s\r\nEND\r\n" % (key, len(value), value)
+
+
+def redis(key, value):
+    yield b"*3\r\n$3\r\nSET\r\n$%d\r\n%s\r\n$%d\r\n%s\r\n" % (len(key), key, len(value), value), b"+OK\r\n"
+    yield b"*2\r\n$3\r\nGET\r\n$%d\r\n%s\r\n" % (len(key), key), b"$%d\r\n%s\r\n" % (len(value), value)
+
+
+def connected(port, until):
+    while True:
+        try:
+            return socket.create_connection(("127.0.0.1", port), timeout=600)
+        except ConnectionRefusedError:
+            if time.monotonic() > until:
+                sys.exit(f"no server on port {port}")
+            time.sleep(0.1)
+
+
+def answer(client, count):
+    """So many bytes."""
+    found = b""
+    while len(found) < count:
+        more = client.recv(count - len(found))
+        if not more:
+            break
+        found += more
+    return found
+
+
+def check(client, wanted):
+    if answer(client, len(wanted)) != wanted:
+        sys.exit("a wrong answer")
+
+
+def apart(client, own):
+    for asked, wanted in own:
+        client.sendall(asked)
+        check(client, wanted)
+
+
+def in_step(clients, asked):
+    for step in zip(*asked):
+        for client, (text, _) in zip(clients, step):
+            client.sendall(text)
+        for client, (_, wanted) in zip(clients, step):
+            check(client, wanted)
+
+
+def main(words, options):
+    kind, port, count, times = KINDS[words[0]], *map(int, words[1:])
+    until = time.monotonic() + 60
+    clients = [connected(port, until) for _ in range(count)]
+    keys = [[b"key-%d-%d" % (it, turn) if "--anew" in options else b"key-%d" % it for turn in range(times)] for it in range(count)]
+    asked = [[it for turn, key in enumerate(own) for it in kind(key, bytes([97 + turn % 26]) * 100)] for own in keys]
+    if "--in-step" in options:
+        in_step(clients, asked)
+    else:
+        with ThreadPoolExecutor(count) as pool:
+            list(pool.map(apart, clients, asked))
+
+
+KINDS = {"memcached": memcached, "redis": redis}
+if __name__ == "__main__":
+    options = {it for it in sys.argv[1:] if it.startswith("-")}
+    words = [it for it in sys.argv[1:] if it not in options]
+    if len(words) != 4 or words[0] not in KINDS or options - {"--anew", "--in-step"}:
+        sys.exit(__doc__)
+    main(words, options)
