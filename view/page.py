@@ -78,8 +78,7 @@ def matrix(explained):
 def side(view, addr, role):
     """One instruction's place, with the lines of its source around it."""
     sources = view.naming.sources
-    place = sources.place(addr) if sources else None
-    lines = []
+    place, lines = (sources.place(addr) or sources.near(addr)) if sources else None, []
     if place:
         text = sources.text(place.file)
         for number in range(max(1, place.line - AROUND), min(len(text), place.line + AROUND) + 1):

@@ -31,6 +31,9 @@ class Refused(Fault):
 
 
 class Predator:
+    """The program. What the first run says on standard error, which has what the guest puts out too, is handed on as it comes; the runs behind it
+    would say the same again, so theirs is lost. Only a status tells that a call has failed."""
+
     def __init__(self):
         self.command = launcher()
         self.known = None
@@ -82,7 +85,7 @@ class Predator:
             return self.counted_by_pipes(words, readers)
         with tempfile.TemporaryDirectory(prefix="predator-view-") as folder:
             trace = os.path.join(folder, "trace")
-            self.text(with_trace(words, trace), REPORTED)
+            self.text(with_trace(words, trace), REPORTED, stderr=subprocess.DEVNULL)
             return self.counted_of_file(trace, readers)
 
     def counted_by_pipes(self, words, readers):

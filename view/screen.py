@@ -24,12 +24,12 @@ class Paint:
 
 def place_of(naming, addr):
     """An instruction's line in the source and its function, or its address."""
-    place = naming.sources.place(addr) if naming.sources else None
-    frames = naming.sources.frames(addr) if naming.sources else []
-    names = [it.function for it in frames if it.function]
-    if place is None:
-        return f"0x{addr:08x}" + (f" ({names[0]})" if names else "")
-    return f"{place.short()} ({' < '.join(names[:2])})" if names else place.short()
+    sources = naming.sources
+    place = sources.place(addr) if sources else None
+    names = [it.function for it in sources.frames(addr) if it.function] if sources else []
+    near = sources.near(addr) if sources and place is None else None
+    told = place.short() if place else f"near {near.short()}" if near else f"0x{addr:08x}"
+    return f"{told} ({' < '.join(names[:2])})" if names else told
 
 
 def outcome(view, paint):
