@@ -165,7 +165,7 @@ def misses(names, options):
 
 
 def place(names, options):
-    lines = recount_place.told(read(names[0]), os.fsencode(names[1]), int(options.get("--size", 64)))
+    lines = recount_place.told(read(names[0]), names[1].encode(), int(options.get("--size", 64)))
     if lines[0].startswith("predator: "):
         raise LookupError(lines[0])
     return lines
@@ -179,6 +179,8 @@ def main(words):
         return 1
     try:
         lines = list(works[words[0]](*words_of(words[1:])))
+    except UnicodeEncodeError:
+        return 1
     except OSError:
         print("predator: read fault")
         return 7

@@ -52,9 +52,12 @@ class Places(unittest.TestCase):
         self.assertIn("wide (hart 0); wide+68 (hart 1): then lines are taken 0 times in all, and not 239", told)
 
     def test_names_as_they_are_spelled(self):
-        for name, printed in ((b"--size", "--size"), (b"two words\\", "two\\x20words\\x5c"), (b"\xff\x1b[31m", "\\xff\\x1b[31m")):
+        for name, printed in ((b"--size", "--size"), (b"two words\\", "two\\x20words\\x5c"), (b"\xc3\xa9\x1b[31m", "\\xc3\\xa9\\x1b[31m")):
             (told,) = self.todo(fight(0x1000, 0x1004), named(name, 0x1000, 8))
             self.assertIn(f"{printed} (hart 0); {printed}+4 (hart 1): then", told)
+        # (no word of a call may be so)
+        (told,) = self.todo(fight(0x1000, 0x1004), named(b"\xff", 0x1000, 8))
+        self.assertNotIn("`place`", told)
 
     def test_too_large_and_no_room(self):
         for symbol, words in ((named(b"table", 0x1000, 2**24 + 4), (0x1000, 0x1004)), (named(b"last", 0xFFFFFFC0, 64), (0xFFFFFFC0, 0xFFFFFFFC))):
