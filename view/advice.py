@@ -10,7 +10,7 @@ LITTLE = 100
 NAMED = 4
 # So many misses of a word, or fewer, are looks at the start and the end.
 LOOKS = 2
-# Turns of more steps than this, and at least so many misses, and it is said that short turns may show more.
+# Turns of more steps than this, and at least so many misses on one line, and it is said that short turns may show more.
 SHORT, MANY = 10, 50
 # An index, and one of elements that share a word.
 INDEX, PACKED = re.compile(r"\[\d+(?:\.\.\d+)?\]"), re.compile(r"\[\d+\.\.\d+\]")
@@ -103,20 +103,29 @@ def fought(own):
     return next((it for it in lines(own) if len(groups(it)) > 1), own and lines(own)[0])
 
 
-def in_pieces(thing, size):
-    """What to do about memory without a type of which each hart has pieces."""
+def naming_fields(words, thing):
+    """How to have the fields of a block named whose type nobody told, or nothing."""
     site = thing.name.partition(" made at ")[2].partition(" ")[0]
+    return f" (`--type {site}=TYPE` names its fields)" if site and is_untyped(words, thing) else ""
+
+
+def is_untyped(words, thing):
+    return thing.key[0] == "block" and all(it.name[:1] == "+" for it in words)
+
+
+def in_pieces(words, thing, size):
+    """What to do about memory without a type of which each hart has pieces."""
     how = f"`alignas({size})` on the type of its elements" + (f" and `aligned_alloc({size}, ..)`" if thing.key[0] == "block" else "")
-    names = f" (`--type {site}=TYPE` names its fields)" if site else ""
     rounded = f"in an arena by rounding up where its pieces begin, and their sizes, to multiples of {size}"
-    return f"harts have words of their own in {thing.name}: give each hart's words lines of their own, in an array by {how}, {rounded}{names}"
+    said = f"harts have words of their own in {thing.name}: give each hart's words lines of their own, in an array by {how}, {rounded}"
+    return said + naming_fields(words, thing)
 
 
 def is_raw(words, thing):
     """Whether an object is memory without a type, or bytes, of which each hart has its own."""
-    untyped = thing.key[0] == "block" and all(it.name[:1] == "+" for it in words)
     own = groups(words)
-    return len(own) > 1 and all(key[0] != "shared" for key in own) and (untyped or all(PACKED.search(it.name) for it in words))
+    is_plain = is_untyped(words, thing) or all(PACKED.search(it.name) for it in words)
+    return len(own) > 1 and all(key[0] != "shared" for key in own) and is_plain
 
 
 def groups_apart(own, thing, size, element):
@@ -128,7 +137,8 @@ def groups_apart(own, thing, size, element):
         return f"begin {thing.name} on a line of its own, with `alignas({size})`"
     first = [told(key, it, size, element) for key, it in found.items()][: NAMED + 1]
     more = len(found) - len(first)
-    return f"these belong apart, with `alignas({size})` before each: " + "; ".join(first) + (f"; and {more} more" if more else "")
+    listed = "; ".join(first) + (f"; and {more} more" if more else "")
+    return f"these belong apart, with `alignas({size})` before each: {listed}{naming_fields(own, thing)}"
 
 
 def apart(words, thing, size, element):
@@ -141,7 +151,7 @@ def apart(words, thing, size, element):
         return f"let no two of these blocks share a line: {how}"
     own = fought(own)
     if own and is_raw(own, thing):
-        return in_pieces(thing, size)
+        return in_pieces(own, thing, size)
     written = [it for it in own if it.writes]
     array = array_of(written) if written else None
     if array is not None:
@@ -214,8 +224,8 @@ def truly(thing, words, own, is_counted):
 
 def in_turns(thing, words, turns):
     """That long turns hide what harts do at the same time, where that may be."""
-    own = [it for it in words if it.key == thing.key]
-    if turns <= SHORT or thing.useful + thing.useless < MANY or len(groups(fought(own) or ())) < 2:
+    own, missed = [it for it in words if it.key == thing.key], thing.worst().missed
+    if turns <= SHORT or missed is None or missed.useful + missed.useless < MANY or len(groups(fought(own) or ())) < 2:
         return ""
     return f"; but harts took turns of {turns} steps, which hides what they do at the same time: look with `quantum = 1` in the settings too"
 

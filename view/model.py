@@ -109,14 +109,22 @@ class View:
         return [it for it in self.predicted if name is None or name in {self.all[key].name for key in it.keys if key in self.all}]
 
     def label(self, thing):
-        """An object's name, and what tells it from others of the same one: an address."""
+        """An object's name, and what tells it from others of the same one: the line that an inlined function was called from, or an address."""
         if self.label_counts is None:
-            self.label_counts = Counter(it.name for it in self.all.values())
+            self.label_counts = Counter(name for it in self.all.values() for name in {it.name, it.name + self.caller(it)})
         if self.label_counts[thing.name] < 2:
             return thing.name
         if thing.key[0] == "block" and thing.example.sites:
-            return f"{thing.name}, by {shown(self.naming.chain(thing.example.sites)[0].addr)}"
+            own = thing.name + self.caller(thing)
+            return own if self.label_counts[own] == 1 else f"{thing.name}, by {shown(self.naming.chain(thing.example.sites)[0].addr)}"
         return f"{thing.name}, at {shown(thing.key[2])}" if thing.key[0] == "symbol" else thing.name
+
+    def caller(self, thing):
+        """Of blocks that an inlined function makes the line that it was called from, as a part of their label."""
+        if thing.key[0] != "block" or not thing.example.sites or not self.naming.sources:
+            return ""
+        lines = [it.short() for it in self.naming.sources.frames(self.naming.chain(thing.example.sites)[0].addr) if it.short()]
+        return f", from {lines[-1]}" if len(lines) > 1 else ""
 
     def is_named(self, thing):
         name = self.call.options.get("object")

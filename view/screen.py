@@ -70,7 +70,7 @@ def row(view, place, thing, paint, width):
     seen = view.seen(thing)
     numbers = [thing.useless, thing.useful] if view.misses else ["-", "-"]
     lives = f" ({len(thing.lives)} lives)" if thing.key[0] == "block" and len(thing.lives) > 1 else ""
-    beside = [view.all[it].name for it in thing.beside]
+    beside = [view.label(view.all[it]) for it in thing.beside]
     near = f", beside {', '.join(beside[:3])}" + (f" and {len(beside) - 3} more" if len(beside) > 3 else "") if beside else ""
     cells = "".join(f" {it:>8}" for it in (*numbers, thing.count))
     yield f"{place:>3} {cells} {len(thing.spots):>6}  " + paint(BOLD, plain(view.label(thing))) + plain(lives + near)
