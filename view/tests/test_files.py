@@ -185,7 +185,7 @@ class Program(unittest.TestCase):
     def test_shows_what_the_stand_in_shows(self):
         explains = [] if has(PROGRAM, "explain") else ["--explain", "0"]
         with tempfile.TemporaryDirectory() as folder:
-            for name in ("ring", "arena", "shards", "anderson", "odd", "apart"):
+            for name in ("ring", "arena", "shards", "anderson", "flags", "pieces", "odd", "apart"):
                 with open(os.path.join(folder, "s"), "w", encoding="utf-8") as file:
                     file.write("quantum = 3\n")
                 texts = []
