@@ -8,7 +8,12 @@ SELDOM = 20
 LITTLE = 100
 # So many fields are named; the rest are a number.
 NAMED = 4
-INDEX = re.compile(r"\[\d+\]")
+# So many misses of a word, or fewer, are looks at the start and the end.
+LOOKS = 2
+# Turns of more steps than this, and at least so many misses on one line, and it is said that short turns may show more.
+SHORT, MANY = 10, 50
+# An index, and one of elements that share a word.
+INDEX, PACKED = re.compile(r"\[\d+(?:\.\.\d+)?\]"), re.compile(r"\[\d+\.\.\d+\]")
 
 
 def patterns(names):
@@ -32,7 +37,17 @@ def is_shared(word):
     """Whether harts hand a word to each other; a word's own misses tell, and without them its harts."""
     if word.useful is None:
         return word.hart == "many" and word.writes > 0
-    return word.writes > 0 and word.useful * SELDOM > word.reads + word.writes
+    return word.writes > 0 and word.useful > LOOKS and word.useful * SELDOM > word.reads + word.writes
+
+
+def is_packed(word):
+    """Whether several fields or elements lie in a word, which counts as one."""
+    return ", " in word.name or PACKED.search(word.name) is not None
+
+
+def is_waited_for(words):
+    """Whether harts look at elements of an array far more often than these change."""
+    return len(words) > 1 and sum(it.reads for it in words) >= 2 * sum(it.writes for it in words)
 
 
 def arrays(names):
@@ -45,6 +60,13 @@ def arrays(names):
         if len({it[depth] for it in indices}) > 1:
             return heads[0][depth]
     return None
+
+
+def array_of(words):
+    """The array in which some words first differ, or whose elements share the one word; or none."""
+    names = [it.name.partition(", ")[0] for it in words]
+    alone = PACKED.search(names[0]) if len(set(names)) == 1 else None
+    return names[0][: alone.start()] if alone else arrays(names)
 
 
 def groups(words):
@@ -60,9 +82,12 @@ def groups(words):
     return found
 
 
-def told(key, words):
-    """A group of words, and whose it is."""
-    return f"{listing(it.name for it in words)} ({key[0]})"
+def told(key, words, size, element):
+    """A group of words, and whose it is; of an array whose elements each belong apart, how."""
+    array = array_of(words) if key[0] == "shared" and (is_waited_for(words) or all(map(is_packed, words))) else None
+    if not array:
+        return f"{listing(it.name for it in words)} ({key[0]})"
+    return f"each element of {array} (shared; `alignas({size})` on {element(array) or 'the type of an element'})"
 
 
 def lines(words):
@@ -78,16 +103,42 @@ def fought(own):
     return next((it for it in lines(own) if len(groups(it)) > 1), own and lines(own)[0])
 
 
-def groups_apart(own, thing, size):
+def naming_fields(words, thing):
+    """How to have the fields of a block named whose type nobody told, or nothing."""
+    site = thing.name.partition(" made at ")[2].partition(" ")[0]
+    return f" (`--type {site}=TYPE` names its fields)" if site and is_untyped(words, thing) else ""
+
+
+def is_untyped(words, thing):
+    return thing.key[0] == "block" and all(it.name[:1] == "+" for it in words)
+
+
+def in_pieces(words, thing, size):
+    """What to do about memory without a type of which each hart has pieces."""
+    how = f"`alignas({size})` on the type of its elements" + (f" and `aligned_alloc({size}, ..)`" if thing.key[0] == "block" else "")
+    rounded = f"in an arena by rounding up where its pieces begin, and their sizes, to multiples of {size}"
+    said = f"harts have words of their own in {thing.name}: give each hart's words lines of their own, in an array by {how}, {rounded}"
+    return said + naming_fields(words, thing)
+
+
+def is_raw(words, thing):
+    """Whether an object is memory without a type, or bytes, of which each hart has its own."""
+    own = groups(words)
+    is_plain = is_untyped(words, thing) or all(PACKED.search(it.name) for it in words)
+    return len(own) > 1 and all(key[0] != "shared" for key in own) and is_plain
+
+
+def groups_apart(own, thing, size, element):
     """Which words of a line belong apart."""
     found = groups(own)
     if len(found) > 2 and not any(it.element for it in own) and all(key[0] != "shared" for key in found):
         return f"harts have words of their own in {thing.name}: give each hart's words lines of their own, with `alignas({size})` on the type of its elements"
     if len(found) < 2:
         return f"begin {thing.name} on a line of its own, with `alignas({size})`"
-    first = [told(key, it) for key, it in found.items()][: NAMED + 1]
+    first = [told(key, it, size, element) for key, it in found.items()][: NAMED + 1]
     more = len(found) - len(first)
-    return f"these belong apart, with `alignas({size})` before each: " + "; ".join(first) + (f"; and {more} more" if more else "")
+    listed = "; ".join(first) + (f"; and {more} more" if more else "")
+    return f"these belong apart, with `alignas({size})` before each: {listed}{naming_fields(own, thing)}"
 
 
 def apart(words, thing, size, element):
@@ -99,10 +150,13 @@ def apart(words, thing, size, element):
         how = f"`aligned_alloc({size}, ..)`, with sizes that are multiples of {size}, or {size} bytes more for each, and its start rounded up"
         return f"let no two of these blocks share a line: {how}"
     own = fought(own)
-    array = arrays([it.name.partition(", ")[0] for it in own if it.writes])
+    if own and is_raw(own, thing):
+        return in_pieces(own, thing, size)
+    written = [it for it in own if it.writes]
+    array = array_of(written) if written else None
     if array is not None:
         return f"give each element of {array or 'it'} lines of its own: `alignas({size})` on {element(array) or 'the type of an element'}"
-    return groups_apart(own, thing, size)
+    return groups_apart(own, thing, size, element)
 
 
 def neighbours(words, thing, names):
@@ -151,17 +205,47 @@ def is_true(thing, is_counted):
     return {it.line.verdict for it in thing.spots if it.line} == {"true"}
 
 
-def sentence(thing, words, names, size, is_counted, element):
-    """What to do; the words are those of the worst line first, and `names` those of the objects beside it by their keys."""
+def packed_most(own):
+    """Those of some shared words in which several fields or elements lie, if they are most of what is missed; else nothing."""
+    packed = [it for it in own if is_packed(it)]
+    return written_most(packed) if 2 * sum(it.useful or 1 for it in packed) > sum(it.useful or 1 for it in own) else ""
+
+
+def truly(thing, words, own, is_counted):
+    """What to do about words that harts hand to each other, `own` of some."""
+    total, packed = thing.useful + thing.useless, packed_most(own)
+    much = f" ({thing.useful} of {total} misses bring what another hart wrote)" if is_counted else ""
+    said = f"the sharing of {written_most(own) or thing.name} is true{much}"
+    if packed:
+        how = "where harts use different ones, give each a line of its own and look again"
+        return f"{said}, as far as whole words tell, and several fields or elements lie in one word there: {how}"
+    return f"{said}: write it less often, or give each hart its own; padding doesn't help" + cost(thing, words)
+
+
+def in_turns(thing, words, turns):
+    """That long turns hide what harts do at the same time, where that may be."""
+    own, missed = [it for it in words if it.key == thing.key], thing.worst().missed
+    if turns <= SHORT or missed is None or missed.useful + missed.useless < MANY or len(groups(fought(own) or ())) < 2:
+        return ""
+    return f"; but harts took turns of {turns} steps, which hides what they do at the same time: look with `quantum = 1` in the settings too"
+
+
+def written_most(words):
+    """Some words by their names, those that are written most first."""
+    return listing(it.name for it in sorted(words, key=lambda it: -it.writes))
+
+
+def sentence(thing, words, names, size, is_counted, element, turns=0):
+    """What to do; the words are those of the worst line first, `names` those of the objects beside it by their keys, and `turns` how many steps
+    a hart's turn has, where that is known."""
     total = thing.useful + thing.useless
     if is_counted and not total:
         return "nothing: its lines are taken, and yet no hart misses them"
     if is_counted and not words and thing.useless:
         return f"{thing.useless} of {total} misses bring nothing new; with a lower `report` (and `tracking`) in the settings its words are told"
-    shared = listing(it.name for it in sorted(words, key=lambda it: -it.writes) if is_shared(it) and it.key == thing.key) or thing.name
-    if is_true(thing, is_counted) and (not is_counted or thing.useless * SELDOM < thing.useful):
-        much = f" ({thing.useful} of {total} misses bring what another hart wrote)" if is_counted else ""
-        return f"the sharing of {shared} is true{much}: write it less often, or give each hart its own; padding doesn't help" + cost(thing, words)
+    own, truth = [it for it in words if is_shared(it) and it.key == thing.key], is_true(thing, is_counted)
+    if truth and (not is_counted or thing.useless * SELDOM < thing.useful):
+        return truly(thing, words, own, is_counted) + in_turns(thing, words, turns)
     beside = neighbours(words, thing, names)
     if beside:
         what = f"{thing.name} and {listing(beside)} share lines: put `alignas({size})` on each"
@@ -169,6 +253,10 @@ def sentence(thing, words, names, size, is_counted, element):
         what = apart(words, thing, size, element)
     if not is_counted:
         return what
-    if is_true(thing, is_counted):
-        return f"{thing.useful} of {total} misses bring what another hart wrote, so write {shared} less often; to save up to {thing.useless} more, {what}"
-    return f"{what}; this saves up to {thing.useless} of {total} misses" + cost(thing, words)
+    saved, packed = f"this saves up to {thing.useless} of {total} misses", packed_most(own)
+    if not truth:
+        return f"{what}; {saved}" + cost(thing, words)
+    if packed:
+        return f"{what}; {saved}, or more: several fields or elements lie in a word of {packed}"
+    shared = written_most(own) or thing.name
+    return f"{thing.useful} of {total} misses bring what another hart wrote, so write {shared} less often; to save up to {thing.useless} more, {what}"

@@ -167,10 +167,10 @@ def paths(die, low, high, depth=0):
 
 
 def folded(names):
-    """Names that differ in a last index alone become one: `[4]`, `[5]`, `[6]` is `[4..6]`."""
-    parts = [re.fullmatch(r"(.*)\[(\d+)\]", it) for it in names]
-    if len(names) > 1 and all(parts) and len({it[1] for it in parts}) == 1:
-        return [f"{parts[0][1]}[{parts[0][2]}..{parts[-1][2]}]"]
+    """Names that differ in a last index alone become one: `[4].key`, `[5].key`, `[6].key` is `[4..6].key`."""
+    parts = [re.fullmatch(r"(.*)\[(\d+)\]([^\[]*)", it) for it in names]
+    if len(names) > 1 and all(parts) and len({(it[1], it[3]) for it in parts}) == 1:
+        return [f"{parts[0][1]}[{parts[0][2]}..{parts[-1][2]}]{parts[0][3]}"]
     return names
 
 

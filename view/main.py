@@ -130,7 +130,7 @@ def is_above(view):
     found = False
     for it in view.chosen():
         if getattr(it, by) > most:
-            say(f"{it.name} has {getattr(it, by)} {'useless misses' if by == 'useless' else 'counted'}, more than {most}")
+            say(f"{view.label(it)} has {getattr(it, by)} {'useless misses' if by == 'useless' else 'counted'}, more than {most}")
             found = True
     return found
 

@@ -11,10 +11,11 @@ from naming import shown
 from objects import Thing, things_of, words_of, worst_word
 from predicted import judged, layouts
 from program import Refused, each_line, misses_under, setting, stacks
-from reports import Symbol, bytes_of
+from reports import Symbol
 
 WORD = (4, 0)
-HARTS = 8
+# What the settings say of these where they say nothing.
+HARTS, QUANTUM = 8, 100
 
 
 class Seen:
@@ -73,16 +74,16 @@ class View:
         return self.call.subject if self.call.how == "replay" else self.call.value_of("--trace")
 
     def place(self, predator, things):
-        """Has a placement of the first variables counted, where the trace is a file that can be read again and again."""
+        """Has a placement of the first objects counted, where the trace is a file that can be read again and again."""
         trace, most = self.trace() if self.call.how != "file" else None, self.call.number("explain", EXPLAIN)
         if trace is None or not os.path.isfile(trace) or not predator.has("place"):
             return
         for it in things[:most]:
-            if it.key[0] == "symbol":
-                placed = predator.placed(trace, bytes_of(it.key[1]), self.report.size)
-                # (of several variables of one name it takes the first)
-                if placed and placed.addr == it.key[2]:
-                    self.placed[it.key] = placed
+            name = it.name_to_place()
+            placed = None if name is None else predator.placed(trace, name, self.report.size)
+            # (of several variables of one name it takes the first)
+            if placed and placed.addr == it.example.addr:
+                self.placed[it.key] = placed
 
     def arrange(self):
         """Puts the lines together by objects."""
@@ -108,14 +109,22 @@ class View:
         return [it for it in self.predicted if name is None or name in {self.all[key].name for key in it.keys if key in self.all}]
 
     def label(self, thing):
-        """An object's name, and what tells it from others of the same one: an address."""
+        """An object's name, and what tells it from others of the same one: the line that an inlined function was called from, or an address."""
         if self.label_counts is None:
-            self.label_counts = Counter(it.name for it in self.all.values())
+            self.label_counts = Counter(name for it in self.all.values() for name in {it.name, it.name + self.caller(it)})
         if self.label_counts[thing.name] < 2:
             return thing.name
         if thing.key[0] == "block" and thing.example.sites:
-            return f"{thing.name}, by {shown(self.naming.chain(thing.example.sites)[0].addr)}"
+            own = thing.name + self.caller(thing)
+            return own if self.label_counts[own] == 1 else f"{thing.name}, by {shown(self.naming.chain(thing.example.sites)[0].addr)}"
         return f"{thing.name}, at {shown(thing.key[2])}" if thing.key[0] == "symbol" else thing.name
+
+    def caller(self, thing):
+        """Of blocks that an inlined function makes the line that it was called from, as a part of their label."""
+        if thing.key[0] != "block" or not thing.example.sites or not self.naming.sources:
+            return ""
+        lines = [it.short() for it in self.naming.sources.frames(self.naming.chain(thing.example.sites)[0].addr) if it.short()]
+        return f", from {lines[-1]}" if len(lines) > 1 else ""
 
     def is_named(self, thing):
         name = self.call.options.get("object")
@@ -173,8 +182,15 @@ class View:
         if not is_first and 0 < (thing.useless + thing.useful) * advice.LITTLE < total:
             return advice.little(thing, total)
         names = {key: self.label(self.all[key]) for key in thing.beside}
-        todo = advice.sentence(thing, words, names, self.align_to(thing), self.misses is not None, self.element(thing))
+        todo = advice.sentence(thing, words, names, self.align_to(thing), self.misses is not None, self.element(thing), self.turns())
         return todo + advice.placing(self.placed.get(thing.key), lambda addr: self.naming.word(addr, thing.example)[0])
+
+    def turns(self):
+        """How many steps a hart's turn has, or 0 where that isn't known."""
+        words = self.call.settings_words()
+        if self.call.how != "run" or any(it.startswith("--schedule") for it in words):
+            return 0
+        return setting(words, "quantum", QUANTUM)
 
     def align_to(self, thing):
         """The alignment that keeps apart what is seen, and what is predicted of lines twice as long."""

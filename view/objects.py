@@ -6,7 +6,7 @@ import heapq
 from collections import Counter
 from typing import NamedTuple
 
-from reports import Block, Symbol, objects_of
+from reports import Block, Symbol, bytes_of, objects_of
 
 # So many lines of an object are looked at word by word: its first ones.
 LINES = 64
@@ -67,6 +67,12 @@ class Thing:
 
     def worst(self):
         return self.worst_first()[0]
+
+    def name_to_place(self):
+        """What `place` may know the object by, or none: a variable by its name, and the only block of a call site by its address."""
+        if self.key[0] == "symbol":
+            return bytes_of(self.key[1])
+        return f"{self.example.addr:#010x}" if self.key[0] == "block" and len(self.lives) == 1 else None
 
 
 def key_of(thing, naming, addr):

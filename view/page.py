@@ -14,8 +14,9 @@ COLOURS = ("#e69f00", "#56b4e9", "#009e73", "#f0e442", "#8fb8ff", "#ff9f6b", "#e
 MANY = "background:repeating-linear-gradient(45deg,#fff 0 6px,#c9c9c9 6px 9px)"
 # So many lines of an object, pairs of instructions, words in a row and lines of a source are drawn.
 LINES, PAIRS, ROW, AROUND, STRIPS = 24, 3, 16, 2, 24
-# A line that has less than one part in so many of the object's worst line isn't drawn.
-FEW = 50
+# A line that has less than one part in so many of the object's worst line isn't drawn; nor, behind the first ones of an object, is one with less
+# than one part in so many of all.
+FEW, FIRST, LITTLE = 50, 4, 100
 
 
 def letter(hart):
@@ -26,10 +27,10 @@ def colour(hart):
     return COLOURS[hart % len(COLOURS)]
 
 
-def cell(word, most, own, strip=""):
-    """A word's cell; `own` says whether the word is the object's."""
+def cell(word, most, own, strip="", is_alone=False):
+    """A word's cell; `own` says whether the word is the object's, and `is_alone` whether it is the only one."""
     hart = None if word.hart == "many" else int(word.hart)
-    field = word.name.removeprefix(strip) or word.name
+    field = word.name.removeprefix(strip) or (word.name if is_alone else "+0")
     return {
         "title": f"{shown(word.addr)} {word.name}: {word.reads} reads, {word.writes} writes, " + ("many harts" if hart is None else f"hart {hart}"),
         "letter": "✱" if hart is None else letter(hart),
@@ -45,8 +46,8 @@ def cell(word, most, own, strip=""):
 def cells(base, size, words, thing, name):
     """The cells of a range, in order; none where a word wasn't accessed."""
     most = max([it.reads for it in words] + [it.writes for it in words] + [1])
-    at = {it.addr: it for it in words}
-    return [cell(at[it], most, at[it].key == thing, name) if it in at else None for it in range(base, base + size, 4)]
+    at, is_alone = {it.addr: it for it in words}, sum(it.key == thing for it in words) < 2
+    return [cell(at[it], most, at[it].key == thing, name, is_alone) if it in at else None for it in range(base, base + size, 4)]
 
 
 def row(spot, seen, size):
@@ -78,8 +79,7 @@ def matrix(explained):
 def side(view, addr, role):
     """One instruction's place, with the lines of its source around it."""
     sources = view.naming.sources
-    place = sources.place(addr) if sources else None
-    lines = []
+    place, lines = (sources.place(addr) or sources.near(addr)) if sources else None, []
     if place:
         text = sources.text(place.file)
         for number in range(max(1, place.line - AROUND), min(len(text), place.line + AROUND) + 1):
@@ -95,20 +95,27 @@ def pairs(view, explained):
         yield {"taken": counted(it.taken, "time"), "same": it.same, "sides": sides}
 
 
-def worth_drawing(it):
-    """The first lines of an object, those with few of the worst one's misses and counts left out."""
+def worth_drawing(view, it):
+    """The first lines of an object, those left out that have few of the misses and counts of its worst one, or of all."""
 
     def much(spot):
         return (spot.missed.useless + spot.missed.useful if spot.missed else 0) + (spot.line.count if spot.line else 0)
 
-    return [one for one in it.worst_first()[:LINES] if one.told() and much(one) * FEW >= much(it.worst())]
+    total, worst = sum(one.useless + one.useful + one.count for one in view.things), much(it.worst())
+    first = [one for one in it.worst_first()[:LINES] if one.told() and much(one) * FEW >= worst]
+    return [one for at, one in enumerate(first) if at < FIRST or much(one) * LITTLE >= total]
+
+
+def in_code(text):
+    """A sentence in pieces, every second one of which stands in backquotes."""
+    return text.split("`")
 
 
 def thing(view, it):
     """One object as the template has it."""
     seen = view.seen(it)
     worst, fight = seen.worst(), seen.fight()
-    drawn = sorted(worth_drawing(it), key=lambda one: one.base)
+    drawn = sorted(worth_drawing(view, it), key=lambda one: one.base)
     return {
         "name": view.label(it),
         "useless": it.useless if view.misses else "-",
@@ -117,11 +124,11 @@ def thing(view, it):
         "lines": len(it.spots),
         "lives": len(it.lives),
         "is_block": it.key[0] == "block",
-        "beside": [view.all[key].name for key in it.beside],
+        "beside": [view.label(view.all[key]) for key in it.beside],
         "worst": worst.name if worst else "",
         "fight": [place_of(view.naming, at) for at in (fight.taker, fight.victim)] if fight else [],
         "declared": "{}:{}".format(*seen.declared) if seen.declared else "",
-        "todo": seen.todo,
+        "todo": in_code(seen.todo),
         "rows": [row(one, seen, view.report.size) for one in drawn],
         "more": len(it.spots) - len(drawn),
         "explained": shown(seen.explained.base) if seen.explained else "",

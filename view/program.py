@@ -31,6 +31,9 @@ class Refused(Fault):
 
 
 class Predator:
+    """The program. What the first run says on standard error, which has what the guest puts out too, is handed on as it comes; the runs behind it
+    would say the same again, so theirs is lost. Only a status tells that a call has failed."""
+
     def __init__(self):
         self.command = launcher()
         self.known = None

@@ -24,12 +24,12 @@ class Paint:
 
 def place_of(naming, addr):
     """An instruction's line in the source and its function, or its address."""
-    place = naming.sources.place(addr) if naming.sources else None
-    frames = naming.sources.frames(addr) if naming.sources else []
-    names = [it.function for it in frames if it.function]
-    if place is None:
-        return f"0x{addr:08x}" + (f" ({names[0]})" if names else "")
-    return f"{place.short()} ({' < '.join(names[:2])})" if names else place.short()
+    sources = naming.sources
+    place = sources.place(addr) if sources else None
+    names = [it.function for it in sources.frames(addr) if it.function] if sources else []
+    near = sources.near(addr) if sources and place is None else None
+    told = place.short() if place else f"near {near.short()}" if near else f"0x{addr:08x}"
+    return f"{told} ({' < '.join(names[:2])})" if names else told
 
 
 def outcome(view, paint):
@@ -70,7 +70,7 @@ def row(view, place, thing, paint, width):
     seen = view.seen(thing)
     numbers = [thing.useless, thing.useful] if view.misses else ["-", "-"]
     lives = f" ({len(thing.lives)} lives)" if thing.key[0] == "block" and len(thing.lives) > 1 else ""
-    beside = [view.all[it].name for it in thing.beside]
+    beside = [view.label(view.all[it]) for it in thing.beside]
     near = f", beside {', '.join(beside[:3])}" + (f" and {len(beside) - 3} more" if len(beside) > 3 else "") if beside else ""
     cells = "".join(f" {it:>8}" for it in (*numbers, thing.count))
     yield f"{place:>3} {cells} {len(thing.spots):>6}  " + paint(BOLD, plain(view.label(thing))) + plain(lives + near)

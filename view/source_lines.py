@@ -8,6 +8,8 @@ from typing import NamedTuple
 
 from faults import Fault
 
+# So many instructions before one without a line are looked at.
+NEAR = 16
 PACKAGES = "apt-get install llvm python3-pyelftools python3-jinja2"
 
 
@@ -62,6 +64,19 @@ class Sources:
     def place(self, address):
         """The innermost line of an address that is known, or none."""
         return next((it for it in self.frames(address) if it.file and it.line), None)
+
+    def near(self, address):
+        """Where the compiler has made one instruction of several lines and so told none: the line of the nearest one before it in its function."""
+        function = next((it.function for it in reversed(self.frames(address))), "")
+        before = range(address - 4, max(address - 4 * NEAR, 0) - 1, -4)
+        self.find(before)
+        for it in before if function else ():
+            frames = self.frames(it)
+            if not frames or frames[-1].function != function:
+                return None
+            if self.place(it):
+                return self.place(it)
+        return None
 
     def path(self, file):
         """Where a source is on this machine, or none."""

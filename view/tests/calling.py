@@ -6,12 +6,22 @@ import subprocess
 HERE = os.path.dirname(os.path.abspath(__file__))
 TOP = os.path.dirname(os.path.dirname(HERE))
 STAND_IN = os.path.join(HERE, "stand_in.py")
+# The program, where it is built.
+PROGRAM = os.environ.get("PREDATOR_PROGRAM") or os.path.join(TOP, "crates", "predator", "out", "predator")
 # What a run of the small programs has turns of.
 TURNS = ("--set", "quantum=3")
 
 
 def built(name):
     return os.path.join(HERE, "programs", name)
+
+
+def has(program, *commands):
+    """Whether a program is there and knows some commands."""
+    if not os.access(program, os.X_OK):
+        return False
+    told = subprocess.run([program], capture_output=True, text=True).stdout
+    return all(f"usage: predator {it} " in told for it in commands)
 
 
 def view(*words, program=STAND_IN, lacks="", cwd=None, **more):

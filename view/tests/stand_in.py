@@ -1,7 +1,7 @@
 #!/usr/bin/python3
 """Stands for the proved program in the tests of view, where that isn't built: `run`, `replay`, `misses`, `explain` and `check` of small
-programs and traces, by machine.py and the judges of tools/. STAND_IN_LACKS names commands that it hasn't, and `pipes` if it reads none. STAND_IN_PUTS is
-what a program puts out."""
+programs and traces, by machine.py and the judges of tools/. STAND_IN_LACKS names commands that it hasn't, and `pipes` if it reads none;
+STAND_IN_PUTS is what a program puts out, and STAND_IN_SAYS what each run says on standard error beside it."""
 
 import os
 import struct
@@ -13,6 +13,7 @@ sys.path[:0] = [HERE, os.path.join(HERE, "..", "..", "tools")]
 
 import judge_report  # noqa: E402
 import recount_misses  # noqa: E402
+import recount_place  # noqa: E402
 import traces  # noqa: E402
 
 LACKS = os.environ.get("STAND_IN_LACKS", "").split()
@@ -87,6 +88,7 @@ def machine_of(name, options, runs=True):
     machine = Machine(name, settings_of(options))
     if runs:
         machine.run()
+        sys.stderr.write(os.environ.get("STAND_IN_SAYS", ""))
     return machine
 
 
@@ -164,44 +166,11 @@ def misses(names, options):
     return recount_misses.told(read(names[0]), int(options.get("--size", 64)), int(options.get("--shift", 0)))
 
 
-def total(accesses, size):
-    """How often the lines were taken after their first writes."""
-    held, written, count = {}, set(), 0
-    for hart, addr, writes in accesses:
-        line = addr // size
-        harts = held.setdefault(line, set())
-        if writes:
-            count += line in written and bool(harts - {hart})
-            written.add(line)
-            harts.clear()
-        harts.add(hart)
-    return count
-
-
 def place(names, options):
-    """An object's words by their harts, each group on lines of its own."""
-    records, size = list(traces.records(read(names[0]))), int(options.get("--size", 64))
-    accesses = [it for it in records if not isinstance(it, (traces.Symbol, traces.Alloc, traces.Free))]
-    named = (it for it in records if isinstance(it, traces.Symbol) and it.kind == 1 and it.name == names[1].encode())
-    found = next(named, None)
-    if found is None:
-        raise LookupError("predator: place NoObject")
-    owners, end = {}, 0
-    for hart, addr, _ in accesses:
-        word, end = addr // 4 * 4, max(end, addr // 4 * 4 + 4)
-        if found.addr < word + 4 and word < found.addr + found.size:
-            owners[word] = 256 if owners.get(word, hart) != hart else hart
-    at, moved, first = -(-end // size) * size, {}, {}
-    for group in sorted(set(owners.values())):
-        first[group] = at
-        for number, word in enumerate(sorted(it for it in owners if owners[it] == group)):
-            moved[word] = at + 4 * number
-        at += -(-4 * list(owners.values()).count(group) // size) * size
-    yield f"place {names[1]} {found.addr:#010x} {found.size} line {size}"
-    yield from (f"word {it:#010x} to {moved[it]:#010x} {'many' if owners[it] == 256 else f'hart {owners[it]}'}" for it in sorted(owners))
-    after = [(hart, moved.get(addr // 4 * 4, addr // 4 * 4), writes) for hart, addr, writes in accesses]
-    many = [it for it in after if it[1] >= first.get(256, 2**33)]
-    yield from (f"before {total(accesses, size)}", f"after {total(after, size)}", f"many {total(many, size)}", "end")
+    lines = recount_place.told(read(names[0]), names[1].encode(), int(options.get("--size", 64)))
+    if lines[0].startswith("predator: "):
+        raise LookupError(lines[0])
+    return lines
 
 
 def main(words):
@@ -212,6 +181,8 @@ def main(words):
         return 1
     try:
         lines = list(works[words[0]](*words_of(words[1:])))
+    except UnicodeEncodeError:
+        return 1
     except OSError:
         print("predator: read fault")
         return 7

@@ -13,22 +13,13 @@ import time
 import unittest
 import warnings
 
-from calling import HERE, TOP, built, view
+from calling import HERE, PROGRAM, built, has, view
 
 with warnings.catch_warnings():
     warnings.simplefilter("ignore")
     import jsonschema
 
 BROWSER = shutil.which("chromium")
-PROGRAM = os.environ.get("PREDATOR_PROGRAM") or os.path.join(TOP, "crates", "predator", "out", "predator")
-
-
-def has(program, *commands):
-    """Whether a program is there and knows some commands."""
-    if not os.access(program, os.X_OK):
-        return False
-    told = subprocess.run([program], capture_output=True, text=True).stdout
-    return all(f"usage: predator {it} " in told for it in commands)
 
 
 def schema(*path):
@@ -194,7 +185,7 @@ class Program(unittest.TestCase):
     def test_shows_what_the_stand_in_shows(self):
         explains = [] if has(PROGRAM, "explain") else ["--explain", "0"]
         with tempfile.TemporaryDirectory() as folder:
-            for name in ("ring", "arena", "shards", "anderson", "odd", "apart"):
+            for name in ("ring", "arena", "shards", "anderson", "flags", "pieces", "odd", "apart"):
                 with open(os.path.join(folder, "s"), "w", encoding="utf-8") as file:
                     file.write("quantum = 3\n")
                 texts = []

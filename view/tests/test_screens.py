@@ -10,11 +10,13 @@ import unittest
 from calling import STAND_IN, TOP, TURNS, built, joined, view
 
 
-class Screens(unittest.TestCase):
+class Shown(unittest.TestCase):
     def shows(self, text, *parts):
         for it in parts:
             self.assertIn(it, joined(text))
 
+
+class Screens(Shown):
     def test_ring_with_statistics(self):
         status, text, said = view("run", built("ring.elf"), *TURNS)
         self.assertEqual((status, said), (0, ""))
@@ -28,23 +30,6 @@ class Screens(unittest.TestCase):
         self.shows(text, "1 1187 1 794 1 block made at arena.c:17 < main (4 lives)", "64 bytes more for each, and its start rounded up")
         self.shows(text, "let no two of these blocks share a line: `aligned_alloc(64, ..)`")
         self.shows(text, "0x00011014 199 200 0 2 .count")
-
-    def test_shards_and_packed_slots(self):
-        _, text, _ = view("run", built("shards.elf"), *TURNS, "--explain", "0")
-        self.shows(text, "give each element of shards lines of its own: `alignas(64)` on `struct shard`; this saves up to 2147 of 2147 misses")
-        _, text, _ = view("run", built("anderson.elf"), *TURNS, "--explain", "0")
-        self.shows(text, "1 478 98 184 1 lock", "give each element of lock.slots lines of its own", "the sharing of guarded is true")
-        # (a line that the report doesn't list)
-        self.shows(text, "2 0 97 0 1 guarded worst field guarded: 100 writes and 100 reads by many harts")
-
-    def test_what_the_screen_says_mends_it(self):
-        for name, thing in (("ring", "stats"), ("arena", "block"), ("shards", "shards"), ("anderson", "lock")):
-            with tempfile.TemporaryDirectory() as folder:
-                path = os.path.join(folder, "json")
-                view("run", built(f"{name}-repaired.elf"), *TURNS, "--explain", "0", "--json", path)
-                with open(path, encoding="utf-8") as file:
-                    left = [it["useless"] for it in json.load(file)["objects"] if it["name"].startswith(thing)]
-                self.assertEqual(sum(left), 0, name)
 
     def test_a_trap_is_loud(self):
         _, text, _ = view("run", built("odd.elf"), *TURNS, "--explain=0", "--object", "stack of hart 0")
@@ -198,6 +183,48 @@ class Screens(unittest.TestCase):
             texts.append(text)
         self.assertIn(b"\033[1;31m!! THE RUN", texts[0])
         self.assertNotIn(b"\033", texts[1])
+
+
+class Repairs(Shown):
+    def test_shards_and_packed_slots(self):
+        _, text, _ = view("run", built("shards.elf"), *TURNS, "--explain", "0")
+        self.shows(text, "give each element of shards lines of its own: `alignas(64)` on `struct shard`; this saves up to 2147 of 2147 misses")
+        _, text, _ = view("run", built("anderson.elf"), *TURNS, "--explain", "0")
+        self.shows(text, "1 478 98 184 1 lock", "give each element of lock.slots lines of its own", "the sharing of guarded is true")
+        # (a line that the report doesn't list)
+        self.shows(text, "2 0 97 0 1 guarded worst field guarded: 100 writes and 100 reads by many harts")
+
+    def test_a_byte_for_each_slot(self):
+        _, text, _ = view("run", built("flags.elf"), *TURNS, "--explain", "0")
+        self.shows(text, "1 408 458 284 1 lock", "worst field lock.slots[4..7].is_free", "each element of lock.slots (shared; `alignas(64)` on `struct slot`)")
+        self.shows(text, "this saves up to 408 of 866 misses, or more: several fields or elements lie in a word of lock.slots[4..7].is_free")
+        _, text, _ = view("run", built("flags.elf"), "--explain", "0")
+        self.shows(text, "1 0 98", "as far as whole words tell, and several fields or elements lie in one word there", "give each a line of its own and look again")
+        self.shows(text, "harts took turns of 100 steps, which hides what they do at the same time: look with `quantum = 1` in the settings too")
+
+    def test_pieces_of_one_block(self):
+        _, text, _ = view("run", built("pieces.elf"), *TURNS, "--explain", "1")
+        self.shows(text, "1 872 1 591 1 block made at pieces.c:41 < main", "in an array by `alignas(64)` on the type of its elements and `aligned_alloc(64, ..)`")
+        self.shows(text, "in an arena by rounding up where its pieces begin, and their sizes, to multiples of 64 (`--type pieces.c:41=TYPE` names its fields)")
+        # (an instruction that the compiler made of two lines)
+        self.shows(text, "near pieces.c:28 (work) takes the line from near pieces.c:28 (work), 380 times, never for the same word")
+
+    def test_what_a_guest_says_is_handed_on_once(self):
+        words, says = ("run", built("ring.elf"), *TURNS, "--explain", "1"), "predator: exit 7\nworker 3 of 4"
+        for lacks in ("", "pipes", "misses"):
+            status, text, _ = view(*words, lacks=lacks)
+            self.assertEqual(view(*words, lacks=lacks, STAND_IN_SAYS=says), (status, text, says))
+        status, _, said = view(*words, "--fail-above", "297", STAND_IN_SAYS=says + "\n")
+        self.assertEqual((status, said), (1, says + "\npredator view: stats has 298 useless misses, more than 297\n"))
+
+    def test_what_the_screen_says_mends_it(self):
+        for name, thing in (("ring", "stats"), ("arena", "block"), ("shards", "shards"), ("anderson", "lock"), ("flags", "lock"), ("pieces", "block")):
+            with tempfile.TemporaryDirectory() as folder:
+                path = os.path.join(folder, "json")
+                view("run", built(f"{name}-repaired.elf"), *TURNS, "--explain", "0", "--json", path)
+                with open(path, encoding="utf-8") as file:
+                    left = [it["useless"] for it in json.load(file)["objects"] if it["name"].startswith(thing)]
+                self.assertEqual(sum(left), 0, name)
 
 
 class Against(unittest.TestCase):

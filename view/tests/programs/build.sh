@@ -12,7 +12,7 @@ make() {
     shift
     "$kit/guest/build.sh" "$out" "$@" -fdebug-prefix-map="$PWD"=.
 }
-for it in ring arena shards anderson; do
+for it in ring arena shards anderson flags pieces; do
     make "$it.elf" "$it.c" --
     make "$it-repaired.elf" "$it.c" -- -DREPAIRED
 done

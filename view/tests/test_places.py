@@ -1,0 +1,92 @@
+"""What `place` answers of an object, and what the screen says to do then: over the stand-in, and over the program where it is built."""
+
+import os
+import sys
+import tempfile
+import unittest
+
+from calling import PROGRAM, STAND_IN, TOP, has, joined, view
+
+sys.path.insert(0, os.path.join(TOP, "tools"))
+
+from judge_report import Access, Case, Ending, trace_of  # noqa: E402
+from traces import OBJECT, Alloc, Free, Symbol  # noqa: E402
+
+
+def fight(*words, turns=120):
+    """Each hart writes a word of its own in turn."""
+    return [Access(hart, True, addr, 4) for _ in range(turns) for hart, addr in enumerate(words)]
+
+
+def named(name, addr, size):
+    return (0, Symbol(OBJECT, addr, size, name))
+
+
+class Places(unittest.TestCase):
+    program = STAND_IN
+
+    def todo(self, accesses, *records, shows=1, options=()):
+        """What the screen says to do about the first object of a trace, or more of them."""
+        with tempfile.TemporaryDirectory() as folder:
+            trace = os.path.join(folder, "t")
+            with open(trace, "wb") as file:
+                file.write(trace_of(Case(accesses, list(records), Ending("exit 0", 9, (0, 0, 0, 0)), 2, 16, 64, 100, 64, None)))
+            status, text, said = view("replay", trace, *options, program=self.program)
+        self.assertEqual((status, said), (0, ""))
+        told = [it.partition("  worst field")[0] for it in text.split("to do ")[1:]]
+        return [joined(it.partition("Predicted:")[0].partition(" predicted line")[0]) for it in told][:shows]
+
+    def test_apart_by_harts(self):
+        (told,) = self.todo(fight(0x1000, 0x1004), named(b"queue", 0x1000, 8))
+        self.assertIn("this saves up to 238 of 238 misses; `place` puts its words apart by their harts, queue (hart 0); queue+4 (hart 1): then", told)
+        self.assertIn("then lines are taken 0 times in all, and not 239", told)
+
+    def test_words_of_many_harts(self):
+        (told,) = self.todo(fight(0x1000, 0x1000), named(b"lock", 0x1000, 4))
+        self.assertIn("`place` gains nothing: with its words put apart by their harts, lines are taken 239 times in all, and 239 as they lie", told)
+        (told,) = self.todo([*fight(0x1000, 0x1004), *fight(0x1008, 0x1008)], named(b"both", 0x1000, 12))
+        self.assertIn("both (hart 0); both+4 (hart 1); both+8 (many harts): then lines are taken 239 times in all, and not 479", told)
+
+    def test_lines_of_another_size(self):
+        (told,) = self.todo(fight(0x1000, 0x1044), named(b"wide", 0x1000, 72), options=("--size", "128"))
+        self.assertIn("wide (hart 0); wide+68 (hart 1): then lines are taken 0 times in all, and not 239", told)
+
+    def test_names_as_they_are_spelled(self):
+        for name, printed in ((b"--size", "--size"), (b"two words\\", "two\\x20words\\x5c"), (b"\xc3\xa9\x1b[31m", "\\xc3\\xa9\\x1b[31m")):
+            (told,) = self.todo(fight(0x1000, 0x1004), named(name, 0x1000, 8))
+            self.assertIn(f"{printed} (hart 0); {printed}+4 (hart 1): then", told)
+        # (no word of a call may be so)
+        (told,) = self.todo(fight(0x1000, 0x1004), named(b"\xff", 0x1000, 8))
+        self.assertNotIn("`place`", told)
+
+    def test_too_large_and_no_room(self):
+        for symbol, words in ((named(b"table", 0x1000, 2**24 + 4), (0x1000, 0x1004)), (named(b"last", 0xFFFFFFC0, 64), (0xFFFFFFC0, 0xFFFFFFFC))):
+            (told,) = self.todo(fight(*words), symbol)
+            self.assertRegex(told, "^(harts have|these belong|begin) .*this saves up to 238 of 238 misses$")
+
+    def test_the_first_of_one_name(self):
+        first, second = self.todo([*fight(0x1000, 0x1004), *fight(0x2000, 0x2004, turns=90)], named(b"own", 0x1000, 8), named(b"own", 0x2000, 8), shows=2)
+        self.assertIn("`place` puts its words apart", first)
+        self.assertNotIn("place", second)
+
+    def test_a_block_by_its_address(self):
+        made = (0, Alloc(0x2000, 16, (0x104, 0, 0, 0)))
+        (told,) = self.todo(fight(0x2000, 0x2004), made)
+        self.assertIn("`place` puts its words apart by their harts, +0 (hart 0); +4 (hart 1): then lines are taken 0 times in all", told)
+        # (of several that were made there none is meant)
+        earlier = [(0, Alloc(0x2000, 16, (0x200, 0, 0, 0))), (0, Free(0x2000))]
+        (told,) = self.todo(fight(0x2000, 0x2004), *earlier, made)
+        self.assertNotIn("`place`", told)
+
+
+@unittest.skipUnless(has(PROGRAM, "misses", "place"), "the program isn't built, or has no place")
+class PlacesOfTheProgram(Places):
+    program = PROGRAM
+
+    def test_the_largest(self):
+        (told,) = self.todo(fight(0x1000, 0x1004), named(b"table", 0x1000, 2**24))
+        self.assertIn("then lines are taken 0 times in all", told)
+
+
+if __name__ == "__main__":
+    unittest.main()
