@@ -118,6 +118,12 @@ class Objects(unittest.TestCase):
         rows = ["line observed 0x0100ffc0 64 start 0 count 300 verdict true", word(0x100FFC0, 5, 50, "many")]
         self.assertEqual(view_of(rows, memory=memory).things[0].name, "stack of hart 0")
 
+    def test_thread_local_variables_have_names(self):
+        rows = ["line observed 0x0100ffc0 64 start 0 count 300 verdict true", "object block 0x0100ffe0 8 born 0 live"]
+        rows += ["site 0x00010080 thread_locals", "site 0x0001000c _start", word(0x100FFE0, 5, 50, "many")]
+        memory = Memory((0xF90000, 0x1010000), 8)
+        self.assertEqual(view_of(rows, memory=memory).things[0].name, "thread-local variables")
+
     def test_keys_have_no_addresses(self):
         rows = []
         for base, site in ((0x2000, 0x204), (0x2040, 0x200), (0x2080, 0x300)):
