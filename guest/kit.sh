@@ -79,9 +79,10 @@ has_library=
 
 # ---- what stands in built/ is what is built
 
-mkdir copy
 kit=copy/guest
-cp -r "$here" $kit
+mkdir -p $kit
+# (without what was fetched and built of others)
+tar -C "$here" -c --exclude=fetched --exclude=out . | tar -C $kit -x
 rm -rf $kit/built
 mkdir $kit/built
 # (of the studies, those that are kept)
