@@ -1,7 +1,7 @@
 #!/usr/bin/env bash
 # Tries what guest/README.md says of the kit on code that nobody here wrote, each claim on two code bases or more:
 #
-#     claims.sh [CLAIM ..]       mmap, sbrk, cxx, harts, clock, words, refusals, configure and cmake, or those that are named
+#     claims.sh [CLAIM ..]       mmap, sbrk, cxx, harts, clock, words, refusals, threads, configure and cmake, or those that are named
 #
 # fetch.sh has fetched the sources, and build.sh has built the studies. What is built here goes to out/claims/. The last line is
 # `N passed, M failed`, and the status is 0 exactly if nothing failed.
@@ -77,9 +77,11 @@ claim_cxx() {
 
 # The allocators ask the kit itself for memory, by sbrk or by mmap; `blocks` are large enough for both.
 bash_malloc() {
-    local bash=$fetched/bash
-    built "$1: bash's malloc is built" "$cc" $lines -w -DHAVE_UNISTD_H -DHAVE_STRING_H -DHAVE_STDLIB_H -DHAVE_MMAP -DSIZEOF_LONG=4 \
-        -I "$bash/lib/malloc" -I "$bash/include" -I "$bash" "$here/claims/blocks.c" "$bash/lib/malloc/malloc.c" -o bash_malloc.elf
+    local bash=$fetched/bash words=(-w -include stdint.h -DHAVE_UNISTD_H -DHAVE_STRING_H -DHAVE_STDLIB_H -DHAVE_MMAP -DHAVE_DECL_SBRK=1)
+    # (as its configure would have them)
+    words+=(-DSIZEOF_LONG=4 -Du_bits16_t=uint16_t -Du_bits32_t=uint32_t -Dbits64_t=int64_t)
+    built "$1: bash's malloc is built" "$cc" $lines "${words[@]}" -I "$bash/lib/malloc" -I "$bash/include" -I "$bash" \
+        "$here/claims/blocks.c" "$bash/lib/malloc/malloc.c" -o bash_malloc.elf
     ran "$1: bash's malloc runs" bash_malloc.elf 0 whole
 }
 
@@ -148,6 +150,20 @@ claim_refusals() {
     refused "refusals: TinyXML-2's files" "$no" "$cxx" -c -DANDROID_NDK -I "$fetched/tinyxml2" "$fetched/tinyxml2/tinyxml2.cpp" -o no.o
 }
 
+# gnulib's tests of what pthread.h and threads.h have, up to eleven threads at once, each with fewer rounds.
+claim_threads() {
+    local it tests=$fetched/gnulib/tests kind
+    : >config.h
+    for it in pthread-{mutex,cond,rwlock,spin,once1,once2,tss,thread} call_once cnd mtx tss thrd_create thrd_current thread_local; do
+        kind=(-DUSE_ISOC_THREADS=1)
+        [[ $it != pthread-* ]] || kind=(-DUSE_POSIX_THREADS=1 -DHAVE_SEMAPHORE_H=1)
+        sed 's/^#define REPEAT_COUNT .*/#define REPEAT_COUNT 100/' "$tests/test-$it.c" >"test-$it.c"
+        built "threads: gnulib's test-$it is built" "$cc" $lines -w "${kind[@]}" -I . -I "$tests" -idirafter "$fetched/gnulib/lib" "test-$it.c" \
+            -o "test-$it.elf"
+        MORE="harts = 24" ran "threads: gnulib's test-$it" "test-$it.elf" 0 ""
+    done
+}
+
 claim_configure() {
     local made=$out/xz-configure
     liburcu
@@ -174,7 +190,7 @@ claim_cmake() {
     told "CMake: zstd's library, by build.sh" $?
 }
 
-(($# > 0)) || set -- mmap sbrk cxx harts clock words refusals configure cmake
+(($# > 0)) || set -- mmap sbrk cxx harts clock words refusals threads configure cmake
 for claim; do
     if ! declare -F "claim_$claim" >/dev/null; then
         echo "claims.sh: $claim is no claim" >&2

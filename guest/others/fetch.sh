@@ -15,3 +15,4 @@ fetch xz-utils xz
 fetch bash bash
 fetch pugixml pugixml
 fetch tinyxml2 tinyxml2
+fetch gnulib gnulib
