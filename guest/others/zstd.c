@@ -1,4 +1,4 @@
-// A text of words that come again, compressed by zstd in jobs of 64 KiB for four threads of its own, and unpacked to see that it is whole.
+// A text of words that come again, compressed by zstd in jobs of 32 KiB for four threads of its own, and unpacked to see that it is whole.
 #include <stdio.h>
 #include <stdlib.h>
 #include <string.h>
@@ -8,7 +8,7 @@
 
 #define THREADS 4
 #define SIZE (8 * JOB)
-#define JOB (64 << 10)
+#define JOB (32 << 10)
 
 static size_t must(size_t answer)
 {
