@@ -1,4 +1,4 @@
-// A text of words that come again, compressed by liblzma in blocks of 8 KiB by four threads of its own, and unpacked to see that it is whole.
+// A text of words that come again, compressed by liblzma in blocks of 4 KiB by four threads of its own, and unpacked to see that it is whole.
 #include <lzma.h>
 #include <stdio.h>
 #include <stdlib.h>
@@ -7,8 +7,8 @@
 #include "text.h"
 
 #define THREADS 4
-#define SIZE (8 * BLOCK)
-#define BLOCK (8 << 10)
+#define SIZE (6 * BLOCK)
+#define BLOCK (4 << 10)
 // How many milliseconds a call waits for its threads: 0 for as long as it takes.
 #ifndef TIMEOUT
 #define TIMEOUT 0

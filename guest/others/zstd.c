@@ -7,7 +7,7 @@
 #include "text.h"
 
 #define THREADS 4
-#define SIZE (8 * JOB)
+#define SIZE (4 * JOB)
 #define JOB (32 << 10)
 
 static size_t must(size_t answer)
