@@ -10,7 +10,8 @@
 # A program that includes a header of the C library or pthread.h is linked with Debian's picolibc, where that is installed, and any other
 # with the small kit alone; KIT=small and KIT=c say so for themselves. ARGUMENTS='4 in.txt "a b"' are the words that such a program's main
 # gets, quoted as in a shell. STEP_TIME=1000 is how many nanoseconds a step takes by its clock, which is else 1. PAGE=4096 makes files that
-# Linux can run too; without it they are as small as can be.
+# Linux can run too; without it they are as small as can be. PLAIN=yes leaves out what the kit tells beside the program, and the room for
+# other words of main, as for the studies, whose addresses stand in the documents.
 set -eu
 here=$(cd "$(dirname "$(readlink -f "$0")")" && pwd)
 self=build.sh
@@ -20,6 +21,7 @@ page=${PAGE:-16}
 # How much is kept for debuggers, and what the kit's parts are compiled with beside it.
 debug=(-g)
 tells=(-DPREDATOR_TELLS)
+[ -z "${PLAIN:-}" ] || tells=()
 work=
 
 usage() {
@@ -176,7 +178,7 @@ trap 'rm -rf "$work"' EXIT
 if (($# == 1)) && [ "$1" = examples ]; then
     mkdir -p "$here/built"
     # Line tables name files from the folder above guest/ on, wherever that is. The documents tell the examples' addresses, so they have
-    # the kit without the text that tells of too many threads.
+    # the kit without what it tells.
     cd "$here/.."
     here=guest
     debug=(-gline-tables-only)

@@ -17,7 +17,7 @@ work=$(mktemp -d)
 trap 'rm -rf "$work"' EXIT
 cd "$work" || exit 1
 export XDG_CACHE_HOME=$work/cache
-unset KIT ARGUMENTS PAGE PICOLIBC
+unset KIT ARGUMENTS PAGE PICOLIBC PLAIN
 passed=0 failed=0 skipped=0
 
 pass() { passed=$((passed + 1)); }
@@ -79,9 +79,10 @@ has_library=
 
 # ---- what stands in built/ is what is built
 
-mkdir copy
 kit=copy/guest
-cp -r "$here" $kit
+mkdir -p $kit
+# (without what was fetched and built of others)
+tar -C "$here" -c --exclude=fetched --exclude=out . | tar -C $kit -x
 rm -rf $kit/built
 mkdir $kit/built
 # (of the studies, those that are kept)
@@ -351,6 +352,28 @@ builds "words of main, by build.sh" env ARGUMENTS='4 "in the.txt"' "$build" word
 is "the words are there" bash -c 'for it; do llvm-strings "$it" | grep -x -q "in the.txt" || exit; done' all words.elf words2.elf
 builds "by build.sh" "$build" built.elf main.c add.c
 
+# ---- other words of main, in a copy
+
+is "other words, and what was left" "$here/words.py" words.elf other.elf a "b c" ""
+is "the file of the words is as it was" bash -c 'llvm-strings words.elf | grep -x -q "in the.txt"'
+is "the copy differs in its room alone" bash -c 'test "$(cmp -l words.elf other.elf | wc -l)" -le 4096'
+refuses "words of a program without a C library" "there is no room for words of its own" "$here/words.py" small.elf x.elf a
+refuses "words of one that is plain" "there is no room for words of its own" "$here/words.py" $kit/built/as_is.elf x.elf a
+PLAIN=yes "$build" plain.elf main.c add.c
+refuses "words of one that was built plain" "there is no room for words of its own" "$here/words.py" plain.elf x.elf a
+refuses "too many words" "its words take more than 4096 bytes" "$here/words.py" words.elf x.elf "$(printf 'x%.0s' {1..4080})"
+is "no copy then" test ! -e x.elf
+# (4096 bytes: the count, two places, the null, "program" and the word, each with its 0)
+is "as many as there is room for" "$here/words.py" words.elf full.elf "$(printf 'x%.0s' {1..4071})"
+refuses "one more byte" "its words take more than 4096 bytes" "$here/words.py" words.elf x.elf "$(printf 'x%.0s' {1..4072})"
+for it in main.c nowhere.elf /dev/null; do
+    "$here/words.py" $it x.elf a >out 2>said
+    is "$it is left to the program" test $? = 3
+done
+head -c 3000 words.elf >short.elf
+"$here/words.py" short.elf x.elf a >out 2>said
+is "a part of a program is left to the program" test $? = 3
+
 # ---- C++
 
 cat >plus.cc <<'C'
@@ -395,6 +418,16 @@ refuses "type information" "-frtti" "$cxx" casts.cc -o x.elf
 refuses "type information that is insisted on" "can't be had: C++ has no type information here" "$cxx" -frtti casts.cc -o x.elf
 printf 'struct a { int x; ~a() { x = 1; } }; thread_local a it;\nint main() { return it.x; }\n' >local.cc
 refuses "a thread's variable with a destructor" "can't be had: a thread_local variable" "$cxx" local.cc -o x.elf
+cat >place.cc <<'C'
+#include <new>
+struct a { int x; a(int x) : x(x) {} };
+alignas(a) static char room[sizeof(a)];
+int main() { a *it = new (room) a(3), *other = new (std::nothrow) a(4); int sum = it->x + other->x; it->~a(); delete other; return sum; }
+C
+for it in c++98 c++11 c++17; do
+    sed "s/$([ $it = c++98 ] && echo 'alignas(a) ' || echo '^$')//" place.cc >place2.cc
+    builds "new at a place, $it" "$cxx" -std=$it -Wall -Wextra -Werror place2.cc -o place.elf
+done
 echo '#include <vector>' >vector.cc
 refuses "C++'s library" "'vector' file not found" "$cxx" -c vector.cc
 
@@ -484,6 +517,68 @@ if [ -x "$predator" ]; then
     runs "the driver's program" one.elf 0 "3 1.000"
     runs "words of main" words.elf 0 "[in the.txt]"
     runs "words of main, by build.sh" words2.elf 0 "[in the.txt]"
+    mkdir copies
+    launched=(env TMPDIR="$work/copies" PREDATOR_PROGRAM="$predator" "$here/../bin/predator" run)
+    runs "other words of main" other.elf 0 "[b c]"
+    is "an empty word too" grep -q -x -F "[]" put
+    is "words of main at run time" "${launched[@]}" words.elf --output put -- 1 "two words" --output
+    is "all of them, and no other" cmp put <(printf '6 2.000\n[1]\n[two words]\n[--output]\n')
+    is "none at run time" "${launched[@]}" words.elf --output put --
+    is "those that it was built with then" grep -q -x -F "[in the.txt]" put
+    is "its name behind --" "${launched[@]}" --output put -- words.elf
+    refuses "words of a small program" "there is no room for words of its own" "${launched[@]}" small.elf -- 1
+    refuses "words of no program" "nowhere.elf: No such file" "${launched[@]}" nowhere.elf -- 1
+    refuses "the program as the trace" "stays as it is" "${launched[@]}" words.elf --trace ./words.elf -- 1
+    is "no copy is left" rmdir copies
+    # What a report says of blocks and of what each hart has for itself.
+    cat >blocks.c <<'C'
+#include <pthread.h>
+#include <stdint.h>
+#include <stdio.h>
+#include <stdlib.h>
+#include <sys/mman.h>
+static _Thread_local volatile int *shown;
+static volatile int *words[3], **of_other;
+static pthread_barrier_t both;
+static void *run(void *at)
+{
+    int own[2] = {0, 0};
+    if (at != NULL)
+        shown = own, of_other = &shown;
+    pthread_barrier_wait(&both);
+    for (int i = 0; i < 300; i++) {
+        for (int j = 0; j < 3; j++)
+            words[j][at != NULL] += i;
+        *of_other = words[0];
+    }
+    pthread_barrier_wait(&both);
+    return NULL;
+}
+int main(void)
+{
+    pthread_t thread;
+    words[0] = realloc(malloc(8), 24);
+    words[1] = aligned_alloc(256, 40);
+    words[2] = mmap(NULL, 100, PROT_READ | PROT_WRITE, MAP_PRIVATE | MAP_ANONYMOUS, -1, 0);
+    printf("0x%08x 24\n0x%08x 40\n0x%08x 4096\n", (unsigned)(uintptr_t)words[0], (unsigned)(uintptr_t)words[1], (unsigned)(uintptr_t)words[2]);
+    pthread_barrier_init(&both, NULL, 2);
+    pthread_create(&thread, NULL, run, words);
+    run(NULL);
+    pthread_join(thread, NULL);
+    free((void *)words[1]);
+    return munmap((void *)words[2], 100);
+}
+C
+    "$cc" blocks.c -o blocks.elf
+    echo "quantum = 3" >settings
+    runs "blocks of realloc, aligned_alloc and mmap" blocks.elf 0 "" --settings settings
+    is "three blocks" test "$(wc -l <put)" = 3
+    while read -r at size; do
+        is "the block of $size bytes as its user sees it" grep -q "^object block $at $size born" report
+    done <put
+    awk '/^object block/ { it = $3 " " $4; getline; if ($3 != "thread_locals") print it; else own++ } END { exit own == 0 }' report >seen
+    is "a hart's own variables have a name" test $? = 0
+    is "no other blocks" cmp <(LC_ALL=C sort -u seen) <(LC_ALL=C sort put)
     runs "position independent" pic.elf 0 "3 1.000"
     runs "without optimisation" o0.elf 0 "3 1.000"
     runs "from joined objects" joined.elf 0 "3 1.000"
@@ -505,7 +600,7 @@ if [ -x "$predator" ]; then
     "$cc" polls.c -o polls.elf
     runs "poll as a wait" polls.elf 134 "poll: no file becomes ready: wait for another thread, or for a time"
 else
-    skip 20 "the built program isn't at $predator; what programs do wants it"
+    skip 38 "the built program isn't at $predator; what programs do wants it"
 fi
 
 echo "$passed passed, $failed failed, $skipped skipped"

@@ -19,6 +19,9 @@
     andi    tp, tp, -256            # (as aligned as any of them may be)
     mv      sp, tp
     jal     t0, make_own            # (by t0, which the call list takes for a call as well)
+#ifdef PREDATOR_TELLS
+    jal     t0, thread_locals
+#endif
 #endif
     .endm
 
@@ -65,6 +68,27 @@ make_own:
 3:
     jr      t0
     .size   make_own, . - make_own
+
+#ifdef PREDATOR_TELLS
+# Notes them as a block, whose first call site is in here, so that a report names it by this function.
+    .type   thread_locals, @function
+thread_locals:
+    mv      t3, a0
+    mv      t4, a1
+    mv      t6, t0
+    jal     t0, 1f
+    mv      t0, t6
+    jr      t0
+1:
+    mv      a0, tp
+    sub     a1, t2, tp              # (what make_own left)
+    li      a7, 1031                # block
+    ecall
+    mv      a0, t3
+    mv      a1, t4
+    jr      t0
+    .size   thread_locals, . - thread_locals
+#endif
 #endif
 
     .text

@@ -30,7 +30,7 @@ def read(path):
 
 def documents():
     for folder, folders, files in os.walk(TOP):
-        folders[:] = [it for it in folders if it not in ("out", ".git", "crates", "__pycache__")]
+        folders[:] = [it for it in folders if it not in ("out", "fetched", ".git", "crates", "__pycache__")]
         yield from (os.path.relpath(os.path.join(folder, it), TOP) for it in files if it.endswith((".md", ".1")))
 
 
@@ -66,7 +66,7 @@ def words_of_sources():
     """Every word of the files that aren't documents."""
     found = set()
     for folder, folders, files in os.walk(TOP):
-        folders[:] = [it for it in folders if it not in ("out", ".git", "docs", "__pycache__")]
+        folders[:] = [it for it in folders if it not in ("out", "fetched", ".git", "docs", "__pycache__")]
         for it in files:
             found.add(it)
             if it.endswith((".rt", ".antt", ".sh", ".py", ".c", ".h", ".S", ".txt", ".bash", ".edit", ".case")) or "." not in it:

@@ -4,7 +4,7 @@ import re
 
 from faults import Fault
 
-USAGE = """usage: predator view run PROGRAM [options of run] [OPTIONS]
+USAGE = """usage: predator view run PROGRAM [options of run] [OPTIONS] [-- WORD ..]
        predator view replay TRACE [options of replay] [--program PROGRAM] [OPTIONS]
        predator view REPORT [--program PROGRAM] [OPTIONS]          (the report - is standard input)"""
 HELP = (
@@ -31,6 +31,7 @@ Options:
   --fail-above N     ends with 1 if an object has more than N useless misses, and with 3 if the run didn't end by exit 0
   --by count         judges by the report's count instead
   --help, -h         this page
+Words behind a `--` that follows PROGRAM are for its `main`.
 
 Status: 0 shown; 1 an object is above N; 2 refused, which standard error tells; 3 the run didn't end by exit 0 (with --fail-above); 127 a
 package is missing, or the program. Colours are for terminals, unless NO_COLOR is set."""
@@ -43,11 +44,12 @@ TOP, EXPLAIN = 10, 3
 
 
 class Call:
-    """What is asked: `how` is run, replay or file; `subject` the program, the trace or the report; `words` what goes to the program."""
+    """What is asked: `how` is run, replay or file; `subject` the program, the trace or the report; `words` what goes to the program, and `own`
+    what its guest gets, with the `--` before it."""
 
     def __init__(self, words):
         self.how = words[0] if words and words[0] in ("run", "replay") else "file"
-        self.options = {"type": []}
+        self.options, self.own = {"type": []}, []
         self.words, names = self.split(words[1:] if self.how != "file" else words)
         if "help" in self.options:
             return
@@ -67,6 +69,9 @@ class Call:
         while at < len(words):
             word, at = words[at], at + 1
             name, has_value, value = word.partition("=")
+            if word == "--" and self.how == "run" and names:
+                self.own = words[at - 1 :]
+                return rest, names
             if word == "--":
                 return [*rest, "--", *words[at:]], [*names, *words[at:]]
             if name[:2] == "--" and name[2:] in VALUES or word == "-h" or word[2:] in FLAGS and word[:2] == "--":
@@ -148,7 +153,7 @@ class Call:
         return None
 
     def words_to_run(self):
-        """The words of the same run without its outputs, which were written already."""
+        """The words of the same run without its outputs, which were written already, and without the guest's own."""
         kept, at = ["run"], 0
         while at < len(self.words):
             word = self.words[at]

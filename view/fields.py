@@ -198,7 +198,7 @@ class Program:
     """A program file."""
 
     def __init__(self, path):
-        self.path, self.variables, self.scanned = path, {}, False
+        self.path, self.variables, self.scanned, self.own = path, {}, False, None
         try:
             with open(path, "rb") as file:
                 self.sha256 = hashlib.file_digest(file, "sha256").hexdigest()
@@ -214,12 +214,21 @@ class Program:
 
     def symbols(self):
         """The address and size of each symbol of data; none where the table is damaged."""
+        return {(at, size): name for at, size, name in self.symbols_of("STT_OBJECT")}
 
+    def thread_locals(self):
+        """The place among a hart's own variables, the size and the name of each."""
+        if self.own is None:
+            self.own = self.symbols_of("STT_TLS")
+        return self.own
+
+    def symbols_of(self, kind):
         def found():
             tables = [it for it in self.elf.iter_sections() if isinstance(it, SymbolTableSection)]
-            return {(it["st_value"], it["st_size"]): it.name for table in tables for it in table.iter_symbols() if it["st_info"]["type"] == "STT_OBJECT"}
+            symbols = [it for table in tables for it in table.iter_symbols() if it["st_info"]["type"] == kind]
+            return [(it["st_value"], it["st_size"], it.name) for it in symbols]
 
-        return sound(found, {})
+        return sound(found, [])
 
     def scan(self):
         """Finds the variables with an address, and types by name, once."""

@@ -81,7 +81,7 @@ def stranger(program, report):
 def report_of(call, predator):
     if call.how == "file":
         return Report(read(call.subject), call.subject)
-    return predator.report([call.how, *call.words])
+    return predator.report([call.how, *call.words, *call.own])
 
 
 def check_name(view):

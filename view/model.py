@@ -59,7 +59,7 @@ class View:
                 file.write("tracking = 1\nreport = 1\n")
             readers = [*map(misses_under, wanted), each_line(own, settings)]
             try:
-                counted = predator.counted_of_file(trace, readers) if trace else predator.counted_of_run(self.call.words_to_run(), readers)
+                counted = predator.counted_of_file(trace, readers) if trace else predator.counted_of_run([*self.call.words_to_run(), *self.call.own], readers)
             except Refused as refused:
                 self.notes.append(f"misses are unknown: {refused}")
                 return
@@ -152,7 +152,7 @@ class View:
         def one(spot):
             start = spot.line.start if spot.line else 0
             try:
-                return predator.explained([self.call.program, f"{spot.base:#010x}", str(self.report.size), str(start), *words])
+                return predator.explained([self.call.program, f"{spot.base:#010x}", str(self.report.size), str(start), *words, *self.call.own])
             except Refused as refused:
                 return refused
 

@@ -11,6 +11,8 @@ ALLOCATORS = {
     *("malloc", "calloc", "realloc", "reallocarray", "aligned_alloc", "memalign", "posix_memalign", "valloc", "strdup", "strndup"),
     *("predator_alloc", "mmap", "sbrk", "_Znwj", "_Znaj", "_Znwm", "_Znam", "operator"),
 }
+# The function of the kit that notes what each hart has for itself.
+OWN = "thread_locals"
 # Where harts begin: callers that say nothing.
 BEGINNINGS = {
     *("_start", "start", "predator_start", "thread_entry", "hart_entry", "predator_thread", "begin_thread", "-"),
@@ -97,6 +99,8 @@ class Naming:
     def block(self, sites):
         if not sites:
             return "block without call sites"
+        if sites[0].name == OWN:
+            return "thread-local variables"
         chain = self.chain(sites)
         at = self.site(chain[0])
         rest = [it.name for it in chain[1:]]
@@ -143,6 +147,9 @@ class Naming:
         if isinstance(thing, Symbol):
             variable = self.program.variable(thing.addr)
             return self.parts(variable.type, name, offset) if variable and variable.type is not None else None
+        if thing.sites and thing.sites[0].name == OWN:
+            own = next((it for it in self.program.thread_locals() if it[0] <= offset < it[0] + it[1]), None)
+            return self.parts(None, own[2], offset - own[0]) if own else None
         element = self.type_of_block(thing)
         return None if element is None else self.element(element, "", offset, thing.size)
 

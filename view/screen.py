@@ -43,6 +43,8 @@ def outcome(view, paint):
         "deadlock": "no hart could run any more",
         "part": "it is a part of a trace that was cut",
     }
+    if report.outcome.endswith(("load-misaligned", "store-misaligned")):
+        advice[report.outcome] = "its address is no multiple of its size: use `memcpy`, or a type with `__attribute__((packed))`, which goes by bytes"
     if not report.ended_well():
         yield paint(RED, plain(f"!! THE RUN DIDN'T END BY EXIT 0: {told}"))
         yield paint(RED, f"!! {advice.get(report.outcome, 'what follows is what it did until then')}")

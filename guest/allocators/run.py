@@ -39,7 +39,7 @@ WORKLOADS = {"own": [], "handed over": ["-DPASSED"]}
 def build(out, sources, flags):
     words = [os.path.join(TOP, "guest", "build.sh"), out, os.path.join(HERE, "workload.c"), *sources, "--"]
     words += ["-g0", "-I", os.path.join(HERE, "shim"), "-I", os.path.join(TOP, "guest"), *flags]
-    subprocess.run(words, check=True, env={**os.environ, "KIT": "c"})
+    subprocess.run(words, check=True, env={**os.environ, "KIT": "c", "PLAIN": "yes"})
 
 
 def heap_of(path):

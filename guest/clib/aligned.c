@@ -1,4 +1,4 @@
-// Blocks at multiples of more than 16. The run's block is then larger, and begins before.
+// Blocks at multiples of more than 16. The heap's block is then larger, and begins before; that of the report is what was asked for.
 #include "heap.h"
 #include <stdlib.h>
 

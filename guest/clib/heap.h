@@ -6,6 +6,8 @@
 #include <stddef.h>
 #include <stdint.h>
 
+#include "../predator.h"
+
 static inline int predator_call(int number, uintptr_t argument)
 {
     register uintptr_t a0 __asm__("a0") = argument;
@@ -34,13 +36,33 @@ struct front {
     uint32_t mark, unused;
 };
 
+// Of a block of the heap the report has the part that a program is given, and not what stands before and behind it: a block that is noted at
+// the address of a living one ends its life, and then ends itself. (The studies' programs are as they were without it.)
+static inline __attribute__((always_inline)) void tell_part(const void *block, const void *part, size_t size)
+{
+#ifdef PREDATOR_TELLS
+    if (predator_block(block, 1) == 0)
+        predator_unblock(block);
+    predator_block(part, size);
+#endif
+    (void)block, (void)part, (void)size;
+}
+
+static inline __attribute__((always_inline)) void tell_end(const void *part)
+{
+#ifdef PREDATOR_TELLS
+    predator_unblock(part);
+#endif
+    (void)part;
+}
+
 static inline uint32_t mark_of(const void *address, const struct front *front)
 {
     return (uint32_t)(uintptr_t)address ^ (uint32_t)(uintptr_t)front->block ^ 0x5EEDB10Cu;
 }
 
 // A block with a front, where one may be needed: at an address that is a multiple of `align`, 16 or more.
-static inline void *fronted(size_t align, size_t size)
+static inline __attribute__((always_inline)) void *fronted(size_t align, size_t size)
 {
     if (size > SIZE_MAX - align - sizeof(struct front)) {
         errno = ENOMEM;
@@ -50,6 +72,7 @@ static inline void *fronted(size_t align, size_t size)
     if (block == NULL)
         return NULL;
     char *address = (char *)(((uintptr_t)block + sizeof(struct front) + align - 1) & ~(uintptr_t)(align - 1));
+    tell_part(block, address, size);
     struct front *front = (struct front *)address - 1;
     front->block = block;
     front->size = size;

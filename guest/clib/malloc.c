@@ -1,8 +1,7 @@
 // malloc and free over the heap of the run. A block is one of the run's blocks, of just the size that was asked, and neither of the two
-// makes an access of its own. In a program that has realloc each block has 16 bytes in front, with its size.
+// makes an access of its own. In a program that has realloc each block has 16 bytes in front, with its size, of which the report says nothing.
 #include "heap.h"
 #include <stdlib.h>
-#include "../predator.h"
 
 void *malloc(size_t size)
 {
@@ -28,6 +27,7 @@ void free(void *address)
     if (front->mark != mark_of(address, front))
         refuse();
     front->mark = 0;
+    tell_end(address);
     if (heap_free(front->block) != 0)
         refuse();
 }

@@ -14,12 +14,28 @@
 int main(int count, char **words, char **names);
 void __libc_init_array(void);
 
+#ifdef PREDATOR_TELLS
+// What main gets, in 4 KiB of which words.py makes others in a copy of the program: how many words, where they are, a null, and their bytes.
+struct room {
+    int count;
+    char *words[1023];
+} predator_arguments __attribute__((aligned(64))) = {
+    sizeof((char *[]){"program", PREDATOR_ARGUMENTS NULL}) / sizeof(char *) - 1,
+    {"program", PREDATOR_ARGUMENTS NULL},
+};
+#endif
+
 // Run by start.S in place of main.
 _Noreturn void predator_start(void)
 {
+#ifdef PREDATOR_TELLS
+    __libc_init_array();
+    exit(main(predator_arguments.count, predator_arguments.words, environ));
+#else
     static char *words[] = {"program", PREDATOR_ARGUMENTS NULL};
     __libc_init_array();
     exit(main(sizeof words / sizeof *words - 1, words, environ));
+#endif
 }
 
 void _init(void)

@@ -2,16 +2,19 @@
 # Builds the studies of what fetch.sh has fetched into out/, with line tables: each code base by its own build, or its sources as they are,
 # with guest/cc as its compiler; and again with the repair, which is a few words put in by sed.
 #
-#     build.sh [STUDY ..]        ck_anderson, ck_ring, kt_for, rte_ring, sqlite and urcu_qsbr, or those that are named
+#     build.sh [STUDY ..]        all of them, or those that are named
 #
-# `make` and a compiler of this machine (for the tools of SQLite's build, as `tclsh` is) are wanted beside those of the kit. What was built
-# of SQLite and of liburcu stays, since that takes a minute each.
+# `make`, `cmake` and a compiler of this machine (for the tools of SQLite's build, as `tclsh` is) are wanted beside those of the kit. What was
+# built of SQLite, liburcu, zstd and xz stays, since that takes a minute each.
 set -eu
 here=$(cd "$(dirname "$(readlink -f "$0")")" && pwd)
 cc=$here/../cc
 fetched=$here/fetched
 out=$here/out
 lines=-gline-tables-only
+studies=(ck_anderson ck_ring kt_for rte_ring sqlite urcu_qsbr zstd xz)
+# The names of the autotools are those that aren't to be run again because a file is newer.
+tools=(AUTOMAKE=: AUTOCONF=: ACLOCAL=: AUTOHEADER=:)
 
 # Concurrency Kit, whose own build has no port to RISC-V, so it takes the compiler's atomic functions: a folder of its own for each build.
 # Its configure runs what it compiled, so it looks at this machine's compiler, of which nothing is kept but ck_md.h and some flags.
@@ -125,10 +128,9 @@ build_rte_ring() {
     rte_ring rte_ring-together-at-24 -DPLACE=24
 }
 
-# liburcu's own benchmark, by its configure: six readers and one that waits for them, for a second of 500,000 steps. (The names of the autotools
-# are those that aren't to be run again because a file is newer.)
+# liburcu's own benchmark, by its configure: six readers and one that waits for them, for a second of 500,000 steps.
 build_urcu_qsbr() {
-    local made=$out/liburcu tools=(AUTOMAKE=: AUTOCONF=: ACLOCAL=: AUTOHEADER=:)
+    local made=$out/liburcu
     [ ! -f "$out/urcu_qsbr.elf" ] || return 0
     rm -rf "$made"
     mkdir "$made"
@@ -139,11 +141,35 @@ build_urcu_qsbr() {
     rm -rf "$made"
 }
 
+# zstd's library by CMake, with jobs of 32 KiB at least in place of 512.
+build_zstd() {
+    local made=$out/zstd words=(-DZSTD_MULTITHREAD_SUPPORT=ON -DZSTD_LEGACY_SUPPORT=OFF -DZSTD_BUILD_SHARED=OFF -DZSTD_BUILD_PROGRAMS=OFF)
+    if [ ! -f "$made/lib/libzstd.a" ]; then
+        rm -rf "$made"
+        cmake -S "$fetched/zstd/build/cmake" -B "$made" -DCMAKE_TOOLCHAIN_FILE="$here/../toolchain.cmake" "${words[@]}" \
+            -DCMAKE_C_FLAGS="$lines -w -DZSTDMT_JOBSIZE_MIN=32768" >"$out/zstd.log"
+        cmake --build "$made" >>"$out/zstd.log"
+    fi
+    "$cc" "$lines" -I "$fetched/zstd/lib" "$here/zstd.c" "$made/lib/libzstd.a" -o "$out/zstd.elf"
+}
+
+# liblzma by xz's configure.
+build_xz() {
+    local made=$out/xz
+    if [ ! -f "$made/src/liblzma/.libs/liblzma.a" ]; then
+        rm -rf "$made"
+        mkdir "$made"
+        (cd "$made" && "$fetched/xz/configure" -q CC="$cc" CFLAGS="-O2 $lines" --host=riscv32 --disable-shared --disable-nls)
+        make -s -C "$made/src/liblzma" "${tools[@]}"
+    fi
+    "$cc" "$lines" -I "$fetched/xz/src/liblzma/api" "$here/xz.c" "$made/src/liblzma/.libs/liblzma.a" -o "$out/xz.elf"
+}
+
 mkdir -p "$out"
-(($# > 0)) || set -- ck_anderson ck_ring kt_for rte_ring sqlite urcu_qsbr
+(($# > 0)) || set -- "${studies[@]}"
 for study; do
     if [ ! -d "$fetched" ] || ! declare -F "build_$study" >/dev/null; then
-        echo "build.sh: $study: fetch.sh fetches the sources first, and the studies are ck_anderson, ck_ring, kt_for, rte_ring, sqlite and urcu_qsbr" >&2
+        echo "build.sh: $study: fetch.sh fetches the sources first, and the studies are ${studies[*]}" >&2
         exit 1
     fi
     "build_$study"

@@ -10,3 +10,9 @@ fetch minimap2 minimap2
 fetch dpdk dpdk
 fetch sqlite3 sqlite3
 fetch liburcu liburcu
+fetch libzstd zstd
+fetch xz-utils xz
+fetch bash bash
+fetch pugixml pugixml
+fetch tinyxml2 tinyxml2
+fetch gnulib gnulib

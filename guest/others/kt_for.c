@@ -2,7 +2,9 @@
 #include <kthread.h>
 #include <stdio.h>
 
+#ifndef THREADS
 #define THREADS 7
+#endif
 #define NUMBERS 3584
 #ifndef BLOCK
 #define BLOCK 1

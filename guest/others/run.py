@@ -25,8 +25,12 @@ STUDIES = {
     "rte_ring": ["rte_ring", "rte_ring-together", "rte_ring-together-at-24"],
     "sqlite": ["sqlite", "sqlite-no_statistics", "sqlite-apart", "sqlite-own_lines"],
     "urcu_qsbr": ["urcu_qsbr"],
+    "zstd": ["zstd"],
+    "xz": ["xz"],
 }
 SETTINGS = "quantum = 10\n"
+# (their coders want some MiB for each thread)
+LARGE = {"zstd": SETTINGS + "memory = 67108864\n", "xz": SETTINGS + "memory = 67108864\n"}
 # The builds of which a predicted line is looked at, and the one in which what the first of them predicts is observed, with how far its data moved.
 PREDICTED = ["rte_ring", "rte_ring-together", "kt_for-apart"]
 MOVED = {"rte_ring-together": ("rte_ring-together-at-24", 24)}
@@ -87,7 +91,8 @@ def main(words):
         shown_here = []
         for name in STUDIES[study]:
             path = os.path.join(OUT, f"{name}.elf")
-            run, build = Run(path, SETTINGS), Build(path, SETTINGS, is_worst=True)
+            settings = LARGE.get(study, SETTINGS)
+            run, build = Run(path, settings), Build(path, settings, is_worst=True)
             runs[name] = run
             counts = [len(run.report.of_kind("observed")), run.report.sum("observed"), run.by_word.sum("observed")]
             costs.append([name, run.report.steps, *counts, *build.total, run.told()])

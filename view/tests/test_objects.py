@@ -118,6 +118,18 @@ class Objects(unittest.TestCase):
         rows = ["line observed 0x0100ffc0 64 start 0 count 300 verdict true", word(0x100FFC0, 5, 50, "many")]
         self.assertEqual(view_of(rows, memory=memory).things[0].name, "stack of hart 0")
 
+    def test_a_misaligned_access_has_advice(self):
+        view = view_of(["line observed 0x00001000 64 start 0 count 300 verdict true", "object symbol a 0x00001000 4", word(0x1000, 5, 50, "many")])
+        for cause, told in (("load-misaligned", "`memcpy`"), ("store-misaligned", "`memcpy`"), ("load-outside", "until then")):
+            view.report.outcome = f"trap hart 0 pc 0x00010000 {cause}"
+            self.assertIn(told, "\n".join(screen(view, Paint(io.StringIO()))))
+
+    def test_thread_local_variables_have_names(self):
+        rows = ["line observed 0x0100ffc0 64 start 0 count 300 verdict true", "object block 0x0100ffe0 8 born 0 live"]
+        rows += ["site 0x00010080 thread_locals", "site 0x0001000c _start", word(0x100FFE0, 5, 50, "many")]
+        memory = Memory((0xF90000, 0x1010000), 8)
+        self.assertEqual(view_of(rows, memory=memory).things[0].name, "thread-local variables")
+
     def test_keys_have_no_addresses(self):
         rows = []
         for base, site in ((0x2000, 0x204), (0x2040, 0x200), (0x2080, 0x300)):

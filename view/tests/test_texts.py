@@ -130,6 +130,11 @@ class Words(unittest.TestCase):
         self.assertEqual(call.words_to_run(), ["run", "p.elf", "--settings", "s", "--set", "quantum=1"])
         self.assertEqual((call.number("top", 10), call.value_of("--trace"), "words" in call.options), (3, "t", True))
 
+    def test_words_of_the_guest(self):
+        call = Call(["run", "--top=3", "p.elf", "--settings", "s", "--", "--words", "a"])
+        self.assertEqual((call.subject, call.words, call.own), ("p.elf", ["p.elf", "--settings", "s"], ["--", "--words", "a"]))
+        self.assertEqual((call.words_to_run(), "words" in call.options), (["run", "p.elf", "--settings", "s"], False))
+
     def test_others(self):
         self.assertEqual(Call(["replay", "t", "--program", "p"]).program, "p")
         self.assertEqual(Call(["r.report"]).how, "file")
