@@ -38,6 +38,9 @@ typedef struct {
 #define sr_isError(it) ((it).value < 0)
 #define sr_Err(it) ((UWord) - (it).value)
 #define sr_Res(it) ((UWord)(it).value)
+/* The C library's `syscall`: the program's calls of that name are looked at (waits.c). */
+extern __typeof__(syscall) *own_syscall;
+extern volatile int calls_of_trace; /* so many threads are in a call of the system by which a trace or table is written */
 SysRes predator_do_syscall(UWord number, UWord, UWord, UWord, UWord, UWord, UWord, UWord, UWord);
 #define CALL(number, a, b, c, d) predator_do_syscall(number, (UWord)(a), (UWord)(b), (UWord)(c), (UWord)(d), 0, 0, 0, 0)
 
@@ -57,7 +60,7 @@ typedef siginfo_t vki_siginfo_t;
 #define predator_sigemptyset(set) (*(set) = 0)
 #define predator_sigaddset(set, number) (*(set) |= 1UL << ((number)-1))
 
-#define predator_open(path, flags, mode) CALL(SYS_open, path, (flags) | O_CLOEXEC, mode, 0)
+#define predator_open(path, flags, mode) CALL(SYS_openat, AT_FDCWD, path, (flags) | O_CLOEXEC, mode)
 const HChar *predator_program(void);
 #define PROGRAM_PATH predator_program()
 #define predator_get_startup_wd() ""
