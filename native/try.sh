@@ -65,6 +65,19 @@ within "longest turn" 50 300 "$("$judge" turns t)"
 "$run" --trace t -- ./apart >/dev/null 2>&1
 same "apart: nothing is taken" 0 "$("$judge" taken t counters)"
 
+# The table back leads to where the program has its variable: its file's address, and where the file was mapped.
+back() { # NAME TRACE PROGRAM
+    local place was bias in_file
+    place=$("$judge" place "$2" counters)
+    was=$("$here/../tools/to_trace.py" --back "$2.table" "$place")
+    bias=$(awk -v file="/$3" '$1 == "map" && substr($0, length($0) - length(file) + 1) == file { print $4 }' "$2.table")
+    in_file=$(nm "$3" | awk '$3 == "counters" { print $1 }')
+    same "$1" "$(printf '%s was 0x%x' "$place" $((bias + 0x$in_file)))" "$was"
+}
+"$run" --quantum 1000 --trace t -- ./counters >/dev/null 2>&1
+back "the table back" t counters
+has "the table back: no such page" "is no address of the trace" "$("$here/../tools/to_trace.py" --back t.table 0x00000010)"
+
 # The same bytes on every run.
 for name in counters kinds; do
     for it in 1 2 3; do "$run" --trace same$it -- ./$name >/dev/null 2>&1; done
@@ -405,6 +418,7 @@ for row in "1 79900 80000" "10 15900 16100" "100 1590 1620" "1000 155 170"; do
     within "built: takings at $1" "$2" "$3" "$("$judge" taken t counters)"
 done
 same "built: a word's accesses" "10000 10000 1" "$("$judge" word t counters 4)"
+back "built: the table back" t counters.tsan
 for it in 1 2 3; do said=$("$run" --built --trace same$it -- ./kinds.tsan 2>&1; echo $?); done
 same "built: kinds" "$right" "$said"
 if setarch -R true 2>/dev/null; then

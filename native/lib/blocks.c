@@ -10,10 +10,10 @@ static void *made(void *block, size_t size, Addr caller)
 {
     if (block && self >= 0 && !inside) {
         hold();
-        inside = 1;
+        inside = recording = 1;
         call_of_block = (call_of_new ? call_of_new : caller) - 1;
         trace_block(self + 1, (Addr)block, size);
-        inside = 0;
+        inside = recording = 0;
     }
     call_of_new = 0;
     return block;
@@ -23,9 +23,9 @@ static void ends_block(void *block)
     if (!block || self < 0 || inside)
         return;
     hold();
-    inside = 1;
+    inside = recording = 1;
     trace_free(self + 1, (Addr)block);
-    inside = 0;
+    inside = recording = 0;
 }
 SHOWN void *malloc(size_t size) { return made(__libc_malloc(size), size, CALLER); }
 SHOWN void *calloc(size_t count, size_t each) { return made(__libc_calloc(count, each), count * each, CALLER); }

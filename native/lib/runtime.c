@@ -14,7 +14,7 @@ long left = 100;
 __thread int self LOCAL = -1, inside LOCAL;
 __thread Addr calls[DEPTH] LOCAL, call_of_block LOCAL;
 __thread unsigned depth LOCAL;
-volatile int holder;
+volatile int holder, recording;
 static int records_all, stopped;
 static volatile int busy;
 static unsigned long turns; /* were given so far */
@@ -59,55 +59,68 @@ void give(int hart)
         CALL(SYS_futex, &harts[hart].turn, FUTEX_WAKE_PRIVATE, 1, 0);
 }
 
-/* Whether a thread waits in a call of the system, and not to write a trace. */
-static int sleeps(int tid)
+/* What a thread that waits for its turn saw of the holder, when it looked. */
+typedef struct {
+    unsigned long turns; /* so many were given */
+    long long ran;       /* for so many ns the holder has had the processor, or -1 where it didn't sleep */
+} Look;
+
+/* For how long a thread has had the processor, if it waits in a call of the system, and not to write a trace; or -1. */
+static long long asleep(int tid)
 {
     char path[60], text[300];
     const char *end;
+    struct timespec ran;
     snprintf(path, sizeof path, "/proc/self/task/%d/stat", tid);
-    SysRes file = tid > 0 && calls_of_trace == 0 ? predator_open(path, O_RDONLY, 0) : (SysRes){-ENOENT};
+    SysRes file = tid > 0 && !recording && calls_of_trace == 0 ? predator_open(path, O_RDONLY, 0) : (SysRes){-ENOENT};
     if (sr_isError(file))
-        return 0;
+        return -1;
     SysRes count = CALL(SYS_read, sr_Res(file), text, sizeof text - 1, 0);
     predator_close(sr_Res(file));
     text[sr_isError(count) ? 0 : sr_Res(count)] = 0;
     end = strrchr(text, ')');
-    return end && end[1] == ' ' && end[2] == 'S' && calls_of_trace == 0;
+    /* (the clock of a thread's time is named by its number) */
+    if (!end || end[1] != ' ' || end[2] != 'S' || calls_of_trace || sr_isError(CALL(SYS_clock_gettime, ~(UWord)tid << 3 | 6, &ran, 0, 0)))
+        return -1;
+    return ran.tv_sec * 1000000000LL + ran.tv_nsec;
 }
 
-/* For a thread that has waited for its turn for some time, and `seen` turns were given when it looked before. Where the holder waits in a
-   call of the system that isn't known here, it loses the turn: what it waits for may be another thread. */
-static void look_at_holder(int me, unsigned long *seen)
+/* For a thread that has waited for its turn for some time. Where the holder has slept since the last look, in a call of the system that isn't
+   known here, it loses the turn: what it waits for may be another thread. */
+static void look_at_holder(int me, Look *last)
 {
     enter();
+    Look now = {turns, -1};
     int it = holder;
-    if (harts[me].state == AWAY) { /* its turn was taken in a signal's handler */
+    if (harts[me].state == AWAY) /* its turn was taken in a signal's handler */
         harts[me].state = WANTS;
-        if (it < 0)
-            give(me);
-    } else if (it >= 0 && it != me && turns == *seen && harts[it].turn == 0 && next_of(it) == me && sleeps(harts[it].tid)) {
+    if (it >= 0 && it != me && harts[it].turn == 0 && next_of(it) == me)
+        now.ran = asleep(harts[it].tid);
+    if (it < 0 && harts[me].state == WANTS) {
+        give(me);
+    } else if (now.ran >= 0 && now.turns == last->turns && now.ran == last->ran) {
         holder = -1;
         __sync_synchronize();
         /* (still: from here on it can't go on without being seen) */
-        if (sleeps(harts[it].tid)) {
+        if (asleep(harts[it].tid) == now.ran) {
             harts[it].state = AWAY;
             give(me);
         } else {
             holder = it;
         }
     }
-    *seen = turns;
+    *last = now;
     leave();
 }
 
 void rest(int me)
 {
-    static const struct timespec look = {0, 50000000};
-    unsigned long seen = 0;
+    static const struct timespec each = {0, 50000000};
+    Look last = {0, -1};
     while (__atomic_load_n(&harts[me].turn, __ATOMIC_ACQUIRE) == 0 && __atomic_load_n(&holder, __ATOMIC_ACQUIRE) != me) {
-        SysRes waited = CALL(SYS_futex, &harts[me].turn, FUTEX_WAIT_PRIVATE, 0, &look);
+        SysRes waited = CALL(SYS_futex, &harts[me].turn, FUTEX_WAIT_PRIVATE, 0, &each);
         if (sr_isError(waited) && sr_Err(waited) == ETIMEDOUT)
-            look_at_holder(me, &seen);
+            look_at_holder(me, &last);
     }
     harts[me].turn = 0;
     left = quantum;
@@ -115,16 +128,20 @@ void rest(int me)
 
 void pass(void)
 {
-    int me = self, next;
+    int me = self, next, has_turn;
     enter();
+    harts[me].state = WANTS;
     next = next_of(me);
-    if (next != me && holder == me)
+    if (holder < 0 || (holder == me && next != me))
         give(next);
+    has_turn = holder == me;
     leave();
-    if (next != me)
-        rest(me);
-    else
+    if (has_turn) {
+        harts[me].turn = 0;
         left = quantum;
+    } else {
+        rest(me);
+    }
 }
 
 void regain(void)
@@ -176,6 +193,8 @@ int wake(const void *at, int most)
         first->timed = 0;
         first->at = 0;
     }
+    if (count > 0 && holder < 0) /* no thread of those that are known has woken them */
+        give(next_of(0));
     leave();
     return count;
 }
@@ -261,7 +280,7 @@ static void in_child(void)
     int me = self;
     trace_leave();
     memset(harts, 0, sizeof harts);
-    busy = calls_of_trace = 0;
+    busy = calls_of_trace = recording = 0;
     if (me >= 0)
         first_thread();
 }

@@ -41,6 +41,7 @@ typedef struct {
 extern Hart harts[MOST_PLACES];
 extern int top, live; /* no place from `top` on is in use; so many threads live */
 extern volatile int holder; /* whose turn it is, or -1 */
+extern volatile int recording; /* the holder is writing something down */
 extern unsigned long waits;
 extern long left; /* so many accesses has the turn still */
 extern __thread int self LOCAL; /* the thread's hart, or -1 */
@@ -83,9 +84,9 @@ static inline void note(const volatile void *addr, unsigned size, int writes)
     left--;
     if (!trace_records)
         return;
-    inside = 1;
+    inside = recording = 1;
     trace_access(self, writes, (Addr)addr, size);
-    inside = 0;
+    inside = recording = 0;
 }
 static inline void touch(const volatile void *addr, unsigned size, int writes)
 {

@@ -14,7 +14,8 @@ static void ends(void *mine)
     leave();
     wake(it, MOST_PLACES);
     enter();
-    give(next_of(it - harts));
+    if (holder < 0 || holder == it - harts)
+        give(next_of(it - harts));
     self = -1;
     leave();
 }
