@@ -163,6 +163,7 @@ odd abort 134 part "" 2>/dev/null
 odd catch 6 "exit 6" caught
 odd fork 6 "exit 6" "child
 parent 0"
+odd vfork 6 "exit 6" "vfork 3"
 odd system 6 "exit 6" "system 3"
 odd childless 6 "exit 6" "no child"
 odd exec 0 part "another program"
@@ -443,6 +444,7 @@ built kill 137 part "" 2>/dev/null
 built fault 139 part "" 2>/dev/null
 built abort 134 part "" 2>/dev/null
 built catch 6 "exit 6" caught
+built vfork 6 "exit 6" "vfork 3"
 built system 6 "exit 6" "system 3"
 built childless 6 "exit 6" "no child"
 built exec 0 part "another program"
@@ -582,8 +584,17 @@ if [ $? = 1 ]; then
     else
         skip "guest's examples: the system doesn't let memory lie where it lay"
     fi
+    # The commands of docs/NATIVE.md.
+    if /usr/bin/python3 -c 'import elftools, jinja2' 2>/dev/null && command -v llvm-symbolizer llvm-dwarfdump >/dev/null; then
+        mkdir docs
+        while read -r line; do
+            has "docs" ": as it stands there" "$line"
+        done < <("$here/tries/docs.py" docs 2>&1)
+    else
+        skip "docs: the packages of view aren't installed (Debian: python3-pyelftools python3-jinja2 llvm)"
+    fi
 else
-    skip "reports, and guest's examples: the program isn't built (bin/predator builds it)"
+    skip "reports, docs, and guest's examples: the program isn't built (bin/predator builds it)"
     export PREDATOR_PROGRAM=$here/../view/tests/stand_in.py STAND_IN_LACKS=place
 fi
 

@@ -18,7 +18,7 @@ volatile int holder, recording;
 static int records_all, stopped;
 static volatile int busy;
 static unsigned long turns; /* were given so far */
-static long quantum = 100;
+static long quantum = 100, own_process;
 #define DEFINED(name) __typeof__(name) *own_##name;
 #define FIND(name) OWN(name);
 ALL(DEFINED)
@@ -253,6 +253,8 @@ UInt predator_get_StackTrace(ThreadId tid, Addr *own, UInt most, Addr *sps, Addr
 
 void at_end(int status, void *none)
 {
+    if (CALL(SYS_getpid, 0, 0, 0, 0).value != own_process) /* a child of vfork, which has this program's memory */
+        return;
     hold();
     if (self >= 0 || live == 0)
         trace_end(True, status & 0xff);
@@ -270,6 +272,7 @@ static void first_thread(void)
 {
     self = holder = 0;
     top = live = 1;
+    own_process = CALL(SYS_getpid, 0, 0, 0, 0).value;
     harts[0].state = WANTS;
     harts[0].thread = pthread_self();
     harts[0].tid = CALL(SYS_gettid, 0, 0, 0, 0).value;
