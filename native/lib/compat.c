@@ -77,6 +77,18 @@ Bool predator_is_kept(Int fd)
     return is;
 }
 
+static vki_sigset_t signals_before;
+
+void predator_hold_signals(void)
+{
+    vki_sigset_t set = 0;
+    predator_sigaddset(&set, SIGPIPE);
+    predator_sigaddset(&set, SIGXFSZ);
+    CALL(SYS_rt_sigprocmask, SIG_BLOCK, &set, &signals_before, sizeof set);
+}
+
+void predator_let_signals(void) { CALL(SYS_rt_sigprocmask, SIG_SETMASK, &signals_before, 0, sizeof signals_before); }
+
 /* ---- Memory: powers of two, from pages of the system ---- */
 
 typedef struct Free {

@@ -70,6 +70,10 @@ void predator_keep(Int fd);
 Bool predator_is_kept(Int fd);
 #define KEEP_FILE(fd) predator_keep(fd)
 #define FILE_IS_KEPT(fd) predator_is_kept(fd)
+void predator_hold_signals(void); /* those that a write sends which can't be done */
+void predator_let_signals(void);
+#define HOLD_SIGNALS() predator_hold_signals()
+#define LET_SIGNALS() predator_let_signals()
 #define predator_close(fd) ((void)CALL(SYS_close, fd, 0, 0, 0))
 static inline Off64T predator_lseek(Int fd, Off64T to, Int how) { return CALL(SYS_lseek, fd, to, how, 0).value; }
 #define predator_strerror(error) strerrordesc_np(error)

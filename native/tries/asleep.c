@@ -40,8 +40,10 @@ int main(void)
         return 4;
     for (int i = 0; i < THREADS; i++) {
         pthread_join(thread[i], &bad);
-        sum += bad ? 0 : counters[i];
+        sum -= bad ? 1 : 0;
     }
+    for (int i = 0; i < THREADS; i++)
+        sum += counters[i];
     printf("sum %ld\n", sum);
     return 0;
 }
