@@ -449,7 +449,8 @@ if [ $? = 1 ]; then
         mkdir docs
         while read -r line; do
             has "docs" ": as it stands there" "$line"
-        done < <("$here/tries/docs.py" docs 2>&1)
+        done < <("$here/tries/docs.py" docs 2>docs.log)
+        cat docs.log
     else
         skip "docs: the packages of view aren't installed (Debian: python3-pyelftools python3-jinja2 llvm)"
     fi

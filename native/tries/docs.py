@@ -64,7 +64,7 @@ def main(words):
         wrong += not same
         print(f"{command}: {'as it stands there' if same else 'otherwise'}")
         if not same:
-            print(*made[:60], sep="\n    ")
+            print(command, *made[:60], sep="\n    ", file=sys.stderr)
     return 1 if wrong else 0
 
 
