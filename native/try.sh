@@ -36,7 +36,9 @@ if ! command -v gcc >/dev/null || ! command -v python3 >/dev/null || [ ! -x /usr
     echo "0 passed, 0 failed, 1 skipped"
     exit 0
 fi
-if [ ! -x "$here/out/predator-amd64-linux" ] && ! "$here/build" >build.log 2>&1; then
+# (built anew where a source was changed since)
+old=$(find "$here/build" "$here/lib" "$here/tool" -newer "$here/out/predator-amd64-linux" -print -quit 2>&1)
+if { [ ! -x "$here/out/predator-amd64-linux" ] || [ -n "$old" ]; } && ! "$here/build" >build.log 2>&1; then
     cat build.log
     echo "0 passed, 1 failed, 0 skipped"
     exit 1
@@ -62,6 +64,19 @@ same "a word's accesses" "10000 10000 1" "$("$judge" word t counters 4)"
 within "longest turn" 50 300 "$("$judge" turns t)"
 "$run" --trace t -- ./apart >/dev/null 2>&1
 same "apart: nothing is taken" 0 "$("$judge" taken t counters)"
+
+# The table back leads to where the program has its variable: its file's address, and where the file was mapped.
+back() { # NAME TRACE PROGRAM
+    local place was bias in_file
+    place=$("$judge" place "$2" counters)
+    was=$("$here/../tools/to_trace.py" --back "$2.table" "$place")
+    bias=$(awk -v file="/$3" '$1 == "map" && substr($0, length($0) - length(file) + 1) == file { print $4 }' "$2.table")
+    in_file=$(nm "$3" | awk '$3 == "counters" { print $1 }')
+    same "$1" "$(printf '%s was 0x%x' "$place" $((bias + 0x$in_file)))" "$was"
+}
+"$run" --quantum 1000 --trace t -- ./counters >/dev/null 2>&1
+back "the table back" t counters
+has "the table back: no such page" "is no address of the trace" "$("$here/../tools/to_trace.py" --back t.table 0x00000010)"
 
 # The same bytes on every run.
 for name in counters kinds; do
@@ -148,6 +163,7 @@ odd abort 134 part "" 2>/dev/null
 odd catch 6 "exit 6" caught
 odd fork 6 "exit 6" "child
 parent 0"
+odd vfork 6 "exit 6" "vfork 3"
 odd system 6 "exit 6" "system 3"
 odd childless 6 "exit 6" "no child"
 odd exec 0 part "another program"
@@ -393,76 +409,8 @@ wait $pid 2>/dev/null
 same "pipe: killed" "137 part" "$? $("$judge" end from-pipe)"
 within "pipe: killed: accesses" 300000 1000000000 "$("$judge" accesses from-pipe)"
 
-# The second way: programs that are compiled with -fsanitize=thread and linked with the runtime.
-for name in counters kinds odd locks heap; do
-    gcc -O1 -g -fsanitize=thread -pthread "$here/tries/$name.c" -o $name.tsan -L"$here/out/lib" 2>gcc.log || cat gcc.log
-done
-for row in "1 79900 80000" "10 15900 16100" "100 1590 1620" "1000 155 170"; do
-    set -- $row
-    same "built: counters at $1" "sum 80000" "$("$run" --built --quantum "$1" --trace t -- ./counters.tsan 2>&1)"
-    within "built: takings at $1" "$2" "$3" "$("$judge" taken t counters)"
-done
-same "built: a word's accesses" "10000 10000 1" "$("$judge" word t counters 4)"
-for it in 1 2 3; do said=$("$run" --built --trace same$it -- ./kinds.tsan 2>&1; echo $?); done
-same "built: kinds" "$right" "$said"
-if setarch -R true 2>/dev/null; then
-    same "built: the same trace" "same same" "$(cmp -s same1 same2 && echo same) $(cmp -s same1 same3 && echo same)"
-else
-    skip "built: the same trace: the system doesn't let memory lie where it lay"
-fi
-for quantum in 1 100; do
-    same "built: locks at $quantum" "$sums" "$("$run" --built --quantum $quantum --trace t -- ./locks.tsan 2>&1)"
-done
-same "built: an atomic is one write" "0 4000 4" "$("$judge" word same1 added 0)"
-rm -f same*
-built() { # MODE STATUS END OUTPUT
-    local said status
-    said=$(echo hello | "$run" --built --trace o -- ./odd.tsan $1 2>o.log)
-    status=$?
-    same "built: $1: status" "$2" "$status"
-    same "built: $1: end" "$3" "$("$judge" end o)"
-    same "built: $1: output" "$4" "$said"
-}
-built kill 137 part "" 2>/dev/null
-built fault 139 part "" 2>/dev/null
-built abort 134 part "" 2>/dev/null
-built catch 6 "exit 6" caught
-built system 6 "exit 6" "system 3"
-built childless 6 "exit 6" "no child"
-built exec 0 part "another program"
-built close 6 part closed
-has "built: close says so" "the program closed the trace" "$(cat o.log)"
-built closeall 6 "exit 6" ""
-built large 6 part large
-built block 6 "exit 6" block
-built detached 9 "exit 9" ""
-built main-ends 0 "exit 0" ""
-built churn 6 "exit 6" churned
-built signals 6 "exit 6" ""
-built limit 6 "exit 6" limited
-built input 6 "exit 6" hello
-built "many 300" 6 part "many 300"
-built "many 255" 6 "exit 6" "many 255"
-same "built: fork" "6 child parent 0" "$("$run" --built --trace o -- ./odd.tsan fork >o.out 2>&1; echo $? $(sort o.out))"
-said=$(ulimit -f 3000; "$run" --built --trace t -- ./odd.tsan close 2>&1)
-same "built: a limit" 6 "$?"
-refused "built: not linked so" 126 "wasn't linked with" --built --trace t -- ./counters
-refused "built: marks" 125 "has no marks" --built --marked -- ./counters.tsan
-refused "built: the trace can't be written" 125 "No such file or directory" --built --trace no/where -- ./counters.tsan
-
-built_pipe() {
-    rm -f from-pipe
-    said=$(pass keeps --built --table back -- ./$1.tsan ${2:-} 2>o.log; echo $?)
-}
-built_pipe kinds
-same "built: pipe: output and status" "$right" "$said"
-same "built: pipe: end" "exit 7" "$("$judge" end from-pipe)"
-same "built: pipe: the table's program" "program $PWD/kinds.tsan" "$(head -n 1 back)"
-built_pipe odd kill 2>/dev/null
-same "built: pipe: killed" "137 part" "$said $("$judge" end from-pipe)"
-built_pipe odd childless
-same "built: pipe: childless" "no child 6" "${said//
-/ }"
+# The second way.
+. "$here/tries/built.sh"
 
 # The report, where the proved program is built.
 PREDATOR_BUILD=no "$here/../bin/predator" >/dev/null 2>&1
@@ -496,8 +444,18 @@ if [ $? = 1 ]; then
     else
         skip "guest's examples: the system doesn't let memory lie where it lay"
     fi
+    # The commands of docs/NATIVE.md.
+    if /usr/bin/python3 -c 'import elftools, jinja2' 2>/dev/null && command -v llvm-symbolizer llvm-dwarfdump >/dev/null; then
+        mkdir docs
+        while read -r line; do
+            has "docs" ": as it stands there" "$line"
+        done < <("$here/tries/docs.py" docs 2>docs.log)
+        cat docs.log
+    else
+        skip "docs: the packages of view aren't installed (Debian: python3-pyelftools python3-jinja2 llvm)"
+    fi
 else
-    skip "reports, and guest's examples: the program isn't built (bin/predator builds it)"
+    skip "reports, docs, and guest's examples: the program isn't built (bin/predator builds it)"
     export PREDATOR_PROGRAM=$here/../view/tests/stand_in.py STAND_IN_LACKS=place
 fi
 

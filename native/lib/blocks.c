@@ -8,12 +8,24 @@ static __thread Addr call_of_new LOCAL;
 
 static void *made(void *block, size_t size, Addr caller)
 {
-    if (block && self >= 0) {
+    if (block && self >= 0 && !inside) {
+        hold();
+        inside = recording = 1;
         call_of_block = (call_of_new ? call_of_new : caller) - 1;
         trace_block(self + 1, (Addr)block, size);
+        inside = recording = 0;
     }
     call_of_new = 0;
     return block;
+}
+static void ends_block(void *block)
+{
+    if (!block || self < 0 || inside)
+        return;
+    hold();
+    inside = recording = 1;
+    trace_free(self + 1, (Addr)block);
+    inside = recording = 0;
 }
 SHOWN void *malloc(size_t size) { return made(__libc_malloc(size), size, CALLER); }
 SHOWN void *calloc(size_t count, size_t each) { return made(__libc_calloc(count, each), count * each, CALLER); }
@@ -31,17 +43,15 @@ SHOWN int posix_memalign(void **out, size_t align, size_t size)
 }
 SHOWN void *realloc(void *old, size_t size)
 {
-    if (old && self >= 0)
-        trace_free(self + 1, (Addr)old);
+    ends_block(old);
     void *block = __libc_realloc(old, size);
-    if (!block && old && size > 0 && self >= 0)
+    if (!block && old && size > 0 && self >= 0 && !inside)
         trace_revive(self + 1, (Addr)old);
     return made(block, size, CALLER);
 }
 SHOWN void free(void *block)
 {
-    if (block && self >= 0)
-        trace_free(self + 1, (Addr)block);
+    ends_block(block);
     __libc_free(block);
 }
 

@@ -8,10 +8,16 @@
 #include <sys/mman.h>
 #include <sys/stat.h>
 
+volatile int calls_of_trace;
+
 SysRes predator_do_syscall(UWord number, UWord a, UWord b, UWord c, UWord d, UWord e, UWord f, UWord g, UWord h)
 {
-    int before = errno;
-    SysRes result = {syscall(number, a, b, c, d, e, f)};
+    int before = errno, writes = number == SYS_write || number == SYS_lseek || number == SYS_ftruncate;
+    if (writes)
+        __sync_fetch_and_add(&calls_of_trace, 1);
+    SysRes result = {own_syscall(number, a, b, c, d, e, f)};
+    if (writes)
+        __sync_fetch_and_sub(&calls_of_trace, 1);
     if (result.value == -1)
         result.value = -errno;
     errno = before;
@@ -70,6 +76,18 @@ Bool predator_is_kept(Int fd)
     errno = before;
     return is;
 }
+
+static vki_sigset_t signals_before;
+
+void predator_hold_signals(void)
+{
+    vki_sigset_t set = 0;
+    predator_sigaddset(&set, SIGPIPE);
+    predator_sigaddset(&set, SIGXFSZ);
+    CALL(SYS_rt_sigprocmask, SIG_BLOCK, &set, &signals_before, sizeof set);
+}
+
+void predator_let_signals(void) { CALL(SYS_rt_sigprocmask, SIG_SETMASK, &signals_before, 0, sizeof signals_before); }
 
 /* ---- Memory: powers of two, from pages of the system ---- */
 
@@ -272,7 +290,7 @@ static DebugInfo *infos;
 static void read_symbols(DebugInfo *it)
 {
     struct stat about;
-    int fd = CALL(SYS_open, it->path, O_RDONLY | O_CLOEXEC, 0, 0).value;
+    int fd = predator_open(it->path, O_RDONLY, 0).value;
     if (fd < 0)
         return;
     const UChar *file = fstat(fd, &about) == 0 && about.st_size >= (long)sizeof(ElfW(Ehdr))

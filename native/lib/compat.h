@@ -38,6 +38,9 @@ typedef struct {
 #define sr_isError(it) ((it).value < 0)
 #define sr_Err(it) ((UWord) - (it).value)
 #define sr_Res(it) ((UWord)(it).value)
+/* The C library's `syscall`: the program's calls of that name are looked at (waits.c). */
+extern __typeof__(syscall) *own_syscall;
+extern volatile int calls_of_trace; /* so many threads are in a call of the system by which a trace or table is written */
 SysRes predator_do_syscall(UWord number, UWord, UWord, UWord, UWord, UWord, UWord, UWord, UWord);
 #define CALL(number, a, b, c, d) predator_do_syscall(number, (UWord)(a), (UWord)(b), (UWord)(c), (UWord)(d), 0, 0, 0, 0)
 
@@ -57,7 +60,7 @@ typedef siginfo_t vki_siginfo_t;
 #define predator_sigemptyset(set) (*(set) = 0)
 #define predator_sigaddset(set, number) (*(set) |= 1UL << ((number)-1))
 
-#define predator_open(path, flags, mode) CALL(SYS_open, path, (flags) | O_CLOEXEC, mode, 0)
+#define predator_open(path, flags, mode) CALL(SYS_openat, AT_FDCWD, path, (flags) | O_CLOEXEC, mode)
 const HChar *predator_program(void);
 #define PROGRAM_PATH predator_program()
 #define predator_get_startup_wd() ""
@@ -67,6 +70,10 @@ void predator_keep(Int fd);
 Bool predator_is_kept(Int fd);
 #define KEEP_FILE(fd) predator_keep(fd)
 #define FILE_IS_KEPT(fd) predator_is_kept(fd)
+void predator_hold_signals(void); /* those that a write sends which can't be done */
+void predator_let_signals(void);
+#define HOLD_SIGNALS() predator_hold_signals()
+#define LET_SIGNALS() predator_let_signals()
 #define predator_close(fd) ((void)CALL(SYS_close, fd, 0, 0, 0))
 static inline Off64T predator_lseek(Int fd, Off64T to, Int how) { return CALL(SYS_lseek, fd, to, how, 0).value; }
 #define predator_strerror(error) strerrordesc_np(error)

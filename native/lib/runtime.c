@@ -11,24 +11,31 @@ Hart harts[MOST_PLACES];
 int top = 1, live = 1;
 unsigned long waits;
 long left = 100;
-__thread int self LOCAL = -1;
+__thread int self LOCAL = -1, inside LOCAL;
 __thread Addr calls[DEPTH] LOCAL, call_of_block LOCAL;
 __thread unsigned depth LOCAL;
-static int holder, records_all, stopped;
+volatile int holder, recording;
+static int records_all, stopped;
 static volatile int busy;
-static long quantum = 100;
-#define OWN(name) __typeof__(name) *own_##name;
-#define FIND(name) own_##name = (__typeof__(name) *)dlsym(RTLD_NEXT, #name);
-ALL(OWN)
+static unsigned long turns; /* were given so far */
+static long quantum = 100, own_process;
+#define DEFINED(name) __typeof__(name) *own_##name;
+#define FIND(name) OWN(name);
+ALL(DEFINED)
 
 /* ---- Turns ---- */
 
 void enter(void)
 {
+    inside++;
     while (__sync_lock_test_and_set(&busy, 1))
         CALL(SYS_sched_yield, 0, 0, 0, 0);
 }
-void leave(void) { __sync_lock_release(&busy); }
+void leave(void)
+{
+    __sync_lock_release(&busy);
+    inside--;
+}
 
 int next_of(int me)
 {
@@ -44,33 +51,105 @@ int next_of(int me)
 
 void give(int hart)
 {
-    holder = hart;
-    if (hart < 0)
-        return;
-    harts[hart].turn = 1;
-    CALL(SYS_futex, &harts[hart].turn, FUTEX_WAKE_PRIVATE, 1, 0);
+    turns++;
+    if (hart >= 0)
+        harts[hart].turn = 1;
+    __atomic_store_n(&holder, hart, __ATOMIC_RELEASE);
+    if (hart >= 0)
+        CALL(SYS_futex, &harts[hart].turn, FUTEX_WAKE_PRIVATE, 1, 0);
+}
+
+/* What a thread that waits for its turn saw of the holder, when it looked. */
+typedef struct {
+    unsigned long turns; /* so many were given */
+    long long ran;       /* for so many ns the holder has had the processor, or -1 where it didn't sleep */
+} Look;
+
+/* For how long a thread has had the processor, if it waits in a call of the system, and not to write a trace; or -1. */
+static long long asleep(int tid)
+{
+    char path[60], text[300];
+    const char *end;
+    struct timespec ran;
+    snprintf(path, sizeof path, "/proc/self/task/%d/stat", tid);
+    SysRes file = tid > 0 && !recording && calls_of_trace == 0 ? predator_open(path, O_RDONLY, 0) : (SysRes){-ENOENT};
+    if (sr_isError(file))
+        return -1;
+    SysRes count = CALL(SYS_read, sr_Res(file), text, sizeof text - 1, 0);
+    predator_close(sr_Res(file));
+    text[sr_isError(count) ? 0 : sr_Res(count)] = 0;
+    end = strrchr(text, ')');
+    /* (the clock of a thread's time is named by its number) */
+    if (!end || end[1] != ' ' || end[2] != 'S' || calls_of_trace || sr_isError(CALL(SYS_clock_gettime, ~(UWord)tid << 3 | 6, &ran, 0, 0)))
+        return -1;
+    return ran.tv_sec * 1000000000LL + ran.tv_nsec;
+}
+
+/* For a thread that has waited for its turn for some time. Where the holder has slept since the last look, in a call of the system that isn't
+   known here, it loses the turn: what it waits for may be another thread. */
+static void look_at_holder(int me, Look *last)
+{
+    enter();
+    Look now = {turns, -1};
+    int it = holder;
+    if (harts[me].state == AWAY) /* its turn was taken in a signal's handler */
+        harts[me].state = WANTS;
+    if (it >= 0 && it != me && harts[it].turn == 0 && next_of(it) == me)
+        now.ran = asleep(harts[it].tid);
+    if (it < 0 && harts[me].state == WANTS) {
+        give(me);
+    } else if (now.ran >= 0 && now.turns == last->turns && now.ran == last->ran) {
+        holder = -1;
+        __sync_synchronize();
+        /* (still: from here on it can't go on without being seen) */
+        if (asleep(harts[it].tid) == now.ran) {
+            harts[it].state = AWAY;
+            give(me);
+        } else {
+            holder = it;
+        }
+    }
+    *last = now;
+    leave();
 }
 
 void rest(int me)
 {
-    while (__atomic_load_n(&harts[me].turn, __ATOMIC_ACQUIRE) == 0)
-        CALL(SYS_futex, &harts[me].turn, FUTEX_WAIT_PRIVATE, 0, 0);
+    static const struct timespec each = {0, 50000000};
+    Look last = {0, -1};
+    while (__atomic_load_n(&harts[me].turn, __ATOMIC_ACQUIRE) == 0 && __atomic_load_n(&holder, __ATOMIC_ACQUIRE) != me) {
+        SysRes waited = CALL(SYS_futex, &harts[me].turn, FUTEX_WAIT_PRIVATE, 0, &each);
+        if (sr_isError(waited) && sr_Err(waited) == ETIMEDOUT)
+            look_at_holder(me, &last);
+    }
     harts[me].turn = 0;
     left = quantum;
 }
 
 void pass(void)
 {
-    int me = self, next;
+    int me = self, next, has_turn;
     enter();
+    harts[me].state = WANTS;
     next = next_of(me);
-    if (next != me)
+    if (holder < 0 || (holder == me && next != me))
         give(next);
+    has_turn = holder == me;
     leave();
-    if (next != me)
-        rest(me);
-    else
+    if (has_turn) {
+        harts[me].turn = 0;
         left = quantum;
+    } else {
+        rest(me);
+    }
+}
+
+void regain(void)
+{
+    if (holder == self)
+        pass();
+    else
+        come_back();
 }
 
 void wait_for(const void *at)
@@ -81,7 +160,8 @@ void wait_for(const void *at)
     harts[me].at = at;
     harts[me].since = ++waits;
     next = next_of(me);
-    give(next);
+    if (holder == me)
+        give(next);
     if (next < 0) {
         int it;
         for (it = 0; it < top && harts[it].state != AWAY; it++)
@@ -96,10 +176,11 @@ void wait_for(const void *at)
     rest(me);
 }
 
-void wake(const void *at, int most)
+int wake(const void *at, int most)
 {
+    int count;
     enter();
-    while (most-- > 0) {
+    for (count = 0; count < most; count++) {
         Hart *first = 0;
         int it;
         for (it = 0; it < top; it++)
@@ -112,14 +193,18 @@ void wake(const void *at, int most)
         first->timed = 0;
         first->at = 0;
     }
+    if (count > 0 && holder < 0) /* no thread of those that are known has woken them */
+        give(next_of(0));
     leave();
+    return count;
 }
 
 void go_away(void)
 {
     enter();
     harts[self].state = AWAY;
-    give(next_of(self));
+    if (holder == self)
+        give(next_of(self));
     leave();
 }
 void come_back(void)
@@ -128,12 +213,14 @@ void come_back(void)
     enter();
     harts[me].state = WANTS;
     is_free = holder < 0;
-    if (is_free)
+    if (is_free) {
+        turns++;
         holder = me;
-    leave();
-    if (is_free)
         left = quantum;
-    else
+    }
+    is_free = holder == me;
+    leave();
+    if (!is_free)
         rest(me);
     errno = before;
 }
@@ -166,6 +253,9 @@ UInt predator_get_StackTrace(ThreadId tid, Addr *own, UInt most, Addr *sps, Addr
 
 void at_end(int status, void *none)
 {
+    if (CALL(SYS_getpid, 0, 0, 0, 0).value != own_process) /* a child of vfork, which has this program's memory */
+        return;
+    hold();
     if (self >= 0 || live == 0)
         trace_end(True, status & 0xff);
 }
@@ -178,19 +268,24 @@ static void at_fault(int number)
     raise(number);
 }
 
+static void first_thread(void)
+{
+    self = holder = 0;
+    top = live = 1;
+    own_process = CALL(SYS_getpid, 0, 0, 0, 0).value;
+    harts[0].state = WANTS;
+    harts[0].thread = pthread_self();
+    harts[0].tid = CALL(SYS_gettid, 0, 0, 0, 0).value;
+}
+
 static void in_child(void)
 {
     int me = self;
     trace_leave();
     memset(harts, 0, sizeof harts);
-    if (me < 0)
-        return;
-    self = 0;
-    harts[0].state = WANTS;
-    harts[0].thread = pthread_self();
-    holder = 0;
-    top = live = 1;
-    busy = 0;
+    busy = calls_of_trace = recording = 0;
+    if (me >= 0)
+        first_thread();
 }
 
 static long number_of(const char *name, long least, long most, long usual)
@@ -208,17 +303,18 @@ static long number_of(const char *name, long least, long most, long usual)
     return value;
 }
 
-static void __attribute__((constructor)) begin(void)
+void __attribute__((constructor)) begin(void)
 {
+    static int begun;
     const char *path = getenv("PREDATOR_TRACE"), *table = getenv("PREDATOR_TABLE");
     int fault;
+    if (begun++)
+        return;
     ALL(FIND)
     quantum = left = number_of("PREDATOR_QUANTUM", 1, 100000, 100);
     trace_most = number_of("PREDATOR_MOST", 1, 1L << 40, 0);
     records_all = number_of("PREDATOR_ALL", 0, 1, 0);
-    harts[0].state = WANTS;
-    harts[0].thread = pthread_self();
-    self = 0;
+    first_thread();
     if (path && *path && !trace_begin(path, table && *table ? table : 0))
         _Exit(125);
     /* (what the program starts runs without a trace) */

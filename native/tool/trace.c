@@ -12,6 +12,10 @@
 #define FILE_IS_KEPT(fd) True
 #define KEEP_FILE(fd)
 #endif
+#ifndef HOLD_SIGNALS /* nor do the program's signals come while the tool runs */
+#define HOLD_SIGNALS()
+#define LET_SIGNALS()
+#endif
 #ifndef PROGRAM_PATH
 #define PROGRAM_PATH VG_(args_the_exename)
 #endif
@@ -96,6 +100,7 @@ static UInt all_written(Int fd, const UChar *bytes, UInt count, UWord *error)
 {
     UInt done = 0;
     *error = FILE_IS_KEPT(fd) ? 0 : 9 /* EBADF */;
+    HOLD_SIGNALS();
     while (done < count && *error == 0) {
         SysRes wrote = CALL(__NR_write, fd, bytes + done, count - done, 0);
         if (sr_isError(wrote) && sr_Err(wrote) == VKI_EINTR)
@@ -108,6 +113,7 @@ static UInt all_written(Int fd, const UChar *bytes, UInt count, UWord *error)
         }
         done += sr_Res(wrote);
     }
+    LET_SIGNALS();
     return done;
 }
 

@@ -194,16 +194,54 @@ void __wrap_vgModuleLocal_acquire_sched_lock(void *lock)
     leave();
 }
 
-/* Waits until all threads that were woken stand in the ring, but not for ever. Called and left with the places entered. */
+/* Whether a thread has the processor or wants it, by what the system says of it. */
+static Bool is_running(const HChar *name)
+{
+    HChar path[64], text[256];
+    const HChar *end;
+    Int count = 0;
+    VG_(sprintf)(path, "/proc/self/task/%.20s/stat", name);
+    SysRes file = VG_(open)(path, VKI_O_RDONLY, 0);
+    if (!sr_isError(file)) {
+        count = VG_(read)(sr_Res(file), text, sizeof text - 1);
+        VG_(close)(sr_Res(file));
+    }
+    text[count > 0 ? count : 0] = 0;
+    end = VG_(strrchr)(text, ')');
+    return end && end[1] == ' ' && (end[2] == 'R' || end[2] == 'D');
+}
+
+/* The same of any other thread of the program. */
+static Bool others_run(void)
+{
+    UChar names[4096];
+    Int own = VG_(gettid)(), count, at;
+    Bool is = False;
+    SysRes folder = VG_(open)("/proc/self/task", VKI_O_RDONLY, 0);
+    if (sr_isError(folder))
+        return False;
+    while (!is && (count = sr_Res(CALL(__NR_getdents64, sr_Res(folder), names, sizeof names, 0))) > 0)
+        for (at = 0; at < count && !is; at += names[at + 16] | names[at + 17] << 8) {
+            const HChar *name = (const HChar *)names + at + 19;
+            is = name[0] != '.' && VG_(strtoll10)(name, NULL) != own && is_running(name);
+        }
+    VG_(close)(sr_Res(folder));
+    return is;
+}
+
+/* Waits until all threads that were woken stand in the ring. Where none comes and every one sleeps, none was woken; but not for ever. Called
+   and left with the places entered. */
 static void await_due(void)
 {
-    struct vki_timespec most = {0, 500000000};
+    struct vki_timespec each = {0, 50000000};
+    UInt times = 0;
     while (due > 0) {
         UInt seen = due;
         leave();
-        SysRes waited = CALL(__NR_futex, &due, VKI_FUTEX_WAIT | VKI_FUTEX_PRIVATE_FLAG, seen, &most);
+        SysRes waited = CALL(__NR_futex, &due, VKI_FUTEX_WAIT | VKI_FUTEX_PRIVATE_FLAG, seen, &each);
+        Bool is_over = sr_isError(waited) && sr_Err(waited) == 110 /* ETIMEDOUT */ && ((!others_run() && !others_run()) || ++times == 1200);
         enter();
-        if (sr_isError(waited) && sr_Err(waited) == 110 /* ETIMEDOUT */)
+        if (is_over && due == seen)
             due = 0;
     }
 }

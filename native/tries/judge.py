@@ -5,6 +5,7 @@
     judge.py accesses TRACE       the number of accesses
     judge.py taken TRACE NAME     how many writes to the line of 64 bytes at a symbol found it in the cache of another hart
     judge.py word TRACE NAME AT   `READS WRITES HARTS` of the word of 4 bytes, AT bytes behind a symbol; an access counts once
+    judge.py place TRACE NAME     where a symbol lies in the trace
     judge.py blocks TRACE NAME    the sizes of the blocks that were made by a call that a function of this name made, each with
                                   `live` or `freed`
     judge.py turns TRACE          the longest turn of a hart while another one has accesses before and after
@@ -111,7 +112,10 @@ def main(words):
         *_, (_, outcome, value, accesses) = records(words[1], False)
         print(accesses if what == "accesses" else {0: f"exit {value}", 4: "part"}[outcome])
     else:
-        all_records = list(records(words[1], what != "blocks"))
+        all_records = list(records(words[1], what not in ("blocks", "place")))
+        if what == "place":
+            print(f"{place_of(all_records, *names):#010x}")
+            return
         print({"taken": taken, "word": word, "blocks": blocks, "turns": turns}[what](all_records, *names))
 
 

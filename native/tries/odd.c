@@ -99,6 +99,15 @@ int main(int argc, char **argv)
         }
         wait(&status);
         printf("parent %d\n", status);
+    } else if (!strcmp(mode, "vfork")) { /* a child that has its parent's memory */
+        int status;
+        pid_t child = vfork();
+        if (child == 0) {
+            execl("/nowhere", "nowhere", (char *)0);
+            _exit(3);
+        }
+        waitpid(child, &status, 0);
+        printf("vfork %d\n", status >> 8);
     } else if (!strcmp(mode, "system")) {
         printf("system %d\n", system("exit 3") >> 8);
     } else if (!strcmp(mode, "childless")) { /* the launcher left it no child */
