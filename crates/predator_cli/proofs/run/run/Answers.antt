@@ -1,7 +1,31 @@
+use Rattle.std.proofs.Common.{◌≡◌, ◌∙◌, ap}
 use Rattle.command_line.specs.Run.{run_meaning}
 use Rattle.command_line.specs.Words.{run}
+use Rattle.guest.specs.Runs.{rest_of}
+use Rattle.run_recorder.specs.Recorded.{trace_for}
+use Rattle.shelf.specs.Laws.Told.{told_both}
+use Rattle.shelf.specs.Shelf.{Told, content}
+use Rattle.predator_cli.specs.Run.{symbol_records, trace_for_demand}
 use Rattle.predator_cli.proofs.run.run.Goals as goal
 
 pub returns-in-Err : goal.returns-in-Err
 returns-in-Err g c = c.stop.ensures (run (run_meaning c.args.options.now))
     (g.S.Shelf.outside c.args.shelf.now) c.in-Err.ensures.stopped
+
+pub returns-in-Ok : goal.returns-in-Ok
+returns-in-Ok g c =
+    let d = run_meaning c.args.options.now in
+    let a = g.S.Shelf.outside c.args.shelf.now in
+    let s = c.in-Ok.loaded.settings in
+    let r = rest_of c.in-Ok.loaded.guest in
+    let symbols = c.in-Ok.loaded.symbols.items in
+    let traced : Told a.held (λ files. trace_for s.harts symbols r ≡ trace_for_demand d s files) =
+    told_both a.held (λ files runs named. ap (λ x. trace_for s.harts x r) named
+    ∙ ap (trace_for s.harts (symbol_records (content files d.program))) runs)
+    c.in-Ok.ensures.run c.in-Ok.ensures.symbols in
+    c.run_loaded.ensures a (record {
+      read = c.in-Ok.ensures.settings;
+      runs = c.in-Ok.ensures.run;
+      traced = traced;
+      accepted = c.in-Ok.ensures.accepted;
+    })
