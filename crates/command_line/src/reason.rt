@@ -150,7 +150,9 @@ fn said_by(alloc: Global, error: &Error) -> Result<String, AllocError> {
 // The same, with more of a word that `clap` takes for an option, and that is a negative number.
 fn words_text(alloc: Global, error: &Error) -> Result<String, AllocError> {
     let mut said = said_by(alloc, error)?;
-    let digit = said.strip_prefix("unexpected argument '-").and_then(|rest| rest.bytes().next());
+    let digit = said
+        .strip_prefix("unexpected argument '-")
+        .and_then(|rest| rest.bytes().next());
     if digit.is_some_and(|byte| byte.is_ascii_digit()) {
         said.push_str(": no number is negative")?;
     }
