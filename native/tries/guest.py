@@ -72,7 +72,7 @@ def listed(report, without=()):
 
 def reports(name, folder):
     predator = os.environ.get("PREDATOR") or os.path.join(TOP, "bin", "predator")
-    ran = subprocess.run([predator, "run", os.path.join(GUEST, "built", f"{name}.elf")], stdout=subprocess.PIPE, text=True)
+    ran = subprocess.run([predator, "run", os.path.join(GUEST, "built", f"{name}.elf")], stdout=subprocess.PIPE, stderr=subprocess.DEVNULL, text=True)
     path = os.path.join(folder, f"{name}.report")
     recorder = os.path.join(TOP, "native", "predator-native")
     subprocess.run([recorder, "--built", "--all", "--quantum", "40", "--report", path, "--", build(name, folder)], stdout=subprocess.DEVNULL, check=True)
