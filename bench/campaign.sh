@@ -18,7 +18,7 @@ export PREDATOR_PROGRAM=$program PREDATOR_BUILD=no GLIBC_TUNABLES=glibc.malloc.h
 TIMEFORMAT='%R %U %S'
 for ((seed = 1; seed <= runs; seed++)); do printf 'seed = %s\n' "$seed" >"$work/$seed.toml"; done
 alone=$({ time for ((seed = 1; seed <= runs; seed++)); do
-    "$program" run "$guest" --settings "$work/$seed.toml" >"$work/report"
+    "$program" run "$guest" --settings "$work/$seed.toml" --output /dev/null >"$work/report"
 done; } 2>&1)
 together=$({ time "$top/bin/predator" campaign "$work/plan.yaml" --to "$work/campaign" >"$work/said" 2>&1; } 2>&1)
 cat "$work/said"
