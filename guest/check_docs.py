@@ -2,12 +2,13 @@
 """Runs the commands of the documents and compares what they print with what stands there: check_docs.py [--renew] [FILE ..].
 
 Without a FILE it also compares the lines of usage in the page of help, the manual page, the completion and docs/FORMATS.md with those
-of the crates, which needs no built program; --usage does that alone.
+of the crates, and the exit statuses there with those of the crates and the launcher, which needs no built program; --usage does that alone.
 
 A command is an indented line that begins with `$ `, and what it is to print are the lines of the same block behind it. All commands
 of a document run in one folder, which has what stands at the top of the repository. A command that lacks a tool of this machine
-(named in brackets behind `#`, as `# [valgrind]`; `# [view]` wants the packages of view/) is left out. In the manual page commands stand between .nf and .fi. --renew puts what was printed into the documents, to be read through
-before it is committed. It ends with 1 if anything differs."""
+(named in brackets behind `#`, as `# [valgrind]`; `# [view]` wants the packages of view/) is left out. In the manual page commands stand
+between .nf and .fi. --renew puts what was printed into the documents, to be read through before it is committed. It ends with 1 if
+anything differs."""
 
 import os
 import re
@@ -22,6 +23,8 @@ BLOCK = "    "
 MANUAL = "docs/predator.1"
 # What the cases print of usage.
 USAGE = "crates/worked_runs/data/usage.txt"
+# The exit status of each way to end.
+NUMBERS = "crates/command_files/specs/Numbers.antt"
 # What the launcher answers, and no crate.
 LAUNCHED = ("predator --", "predator view", "predator campaign", "predator native")
 # Crates whose texts are copies: tests, and cases that are written by hand.
@@ -146,12 +149,37 @@ def check_usage():
     return wrong + (not wanted)
 
 
+def numbers_in(name, first, last, form):
+    """The numbers that fit a form, in the part of a file between two texts, each of which begins a line."""
+    part = re.search(rf"^{first}\n(.*?)^{last}", read(name), re.MULTILINE | re.DOTALL)[1]
+    return re.findall(r"\d+", " ".join(re.findall(form, part, re.MULTILINE)))
+
+
+def check_statuses():
+    """Whether each place that lists the exit statuses has those of the program and of its launcher, once each."""
+    wanted = re.findall(r"^number_of .* = (\d+)$", read(NUMBERS), re.MULTILINE)
+    wanted += {*re.findall(r"\bexit (12[67])\b", read("bin/predator"))}
+    places = {
+        "bin/help.txt": ("Exit status:", "$", r"^  (\d+) "),
+        MANUAL: (r"\.SH EXIT STATUS", r"\.SH", r"^\.TP\n\.BR? (.*)$"),
+        "docs/FORMATS.md": (r"\| Exit status [^\n]*", "$", r"^\| ([\d, ]+) \|"),
+    }
+    wrong = 0
+    for name, part in places.items():
+        found = numbers_in(name, *part)
+        if sorted(found) != sorted(wanted):
+            wrong += 1
+            print(f"{name}: it lists the exit statuses", *found, "and not", *sorted(wanted, key=int))
+    print(f"statuses: {len(wanted)}, {wrong} places wrong")
+    return wrong
+
+
 def main(words):
     if "--help" in words or "-h" in words:
         print(__doc__)
         return 0
     names = [it for it in words if not it.startswith("--")]
-    wrong, renew = 0 if names else check_usage(), "--renew" in words
+    wrong, renew = 0 if names else check_usage() + check_statuses(), "--renew" in words
     if "--usage" not in words:
         wrong += 0 if names else check_manual(renew)
         wrong += sum(check(it, renew) for it in names or [it for it in FILES if os.path.exists(os.path.join(TOP, it))])
