@@ -99,6 +99,9 @@ try_launcher() {
         try "$it" 0 "$predator" $it
         prints "$it" "usage: predator run PROGRAM [--settings F] [--schedule F] [--trace F] [--output F]"
     done
+    try "help of two lines" 0 "$predator" caches --help
+    prints "help of two lines" "and how often it was evicted."
+    prints "help of two lines" "  --ways W       how many lines a set has room for, from 1 to 64; sets times ways is at most 4096"
     try "help of no command" 1 "$predator" help reply
     says "help of no command" "'reply' is no command; see predator --help"
     try "version" 0 "$predator" --version

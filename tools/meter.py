@@ -1,0 +1,105 @@
+#!/usr/bin/env python3
+"""Tries what a terminal is shown of long work: that each line has the right numbers in the right places.
+
+usage: tools/meter.py PROGRAM [SECONDS]
+
+lets PROGRAM make a trace, replay it, and run a guest that never ends, each of a size that lasts some SECONDS (3) here, with a pseudo
+terminal as standard error. A line is wanted about once a second: its second number is the whole, and its first one grows towards it as
+time goes by. Into a file nothing may be shown. It ends with 1 where a line is wrong, or none came."""
+
+import os
+import pty
+import re
+import struct
+import subprocess
+import sys
+import tempfile
+import threading
+import time
+
+READ = re.compile(r"predator: (\d+) of (\d+) MiB read")
+WRITTEN = re.compile(r"predator: (\d+) MiB written")
+STEPS = re.compile(r"predator: (\d+) of at most (\d+) million steps")
+# `j 0`, in a segment of its own.
+LOOP = struct.pack("<4sBBB9xHHIIIIIHHHHHH", b"\x7fELF", 1, 1, 1, 2, 243, 1, 0x10000, 52, 0, 0, 52, 32, 1, 40, 0, 0)
+LOOP += struct.pack("<IIIIIIII", 1, 84, 0x10000, 0, 4, 4, 5, 4) + struct.pack("<I", 0x6F)
+
+
+def shown_by(words):
+    """What the program shows on a terminal, the seconds that it took, and its status."""
+    ours, theirs = pty.openpty()
+    said = []
+
+    def listen():
+        try:
+            while part := os.read(ours, 4096):
+                said.append(part)
+        except OSError:
+            pass
+
+    began = time.monotonic()
+    ran = subprocess.Popen(words, stdin=subprocess.DEVNULL, stdout=subprocess.DEVNULL, stderr=theirs)
+    os.close(theirs)
+    listener = threading.Thread(target=listen)
+    listener.start()
+    status = ran.wait()
+    took = time.monotonic() - began
+    listener.join()
+    os.close(ours)
+    return b"".join(said).decode(errors="replace"), took, status
+
+
+def faults_of(what, shown, took, form, whole, told):
+    """What is wrong with the lines of a form. `whole` is what the work comes to, and `told` whether a line tells that too."""
+    lines = [list(map(int, it.groups())) for it in form.finditer(shown)]
+    if not lines:
+        return [f"{what}: no line in {took:.1f} s, but {shown[:200]!r}"]
+    done = [it[0] for it in lines]
+    found = []
+    if told and any(it[1] != whole for it in lines):
+        found.append(f"{what}: {lines} don't tell the whole, {whole}")
+    if done != sorted(set(done)) or done[-1] > whole:
+        found.append(f"{what}: {done} don't grow towards {whole}")
+    # The last line came at most a second and a piece of the work before the end.
+    if done[-1] < whole * max(0, took - 1.5) / took / 2:
+        found.append(f"{what}: {done[-1]} of {whole} is too little for the last line in {took:.1f} s")
+    return found
+
+
+def enough(seconds, few, words):
+    """How much work lasts so many seconds here, by the time that little of it takes."""
+    began = time.monotonic()
+    subprocess.run(words(few), stdin=subprocess.DEVNULL, stdout=subprocess.DEVNULL, stderr=subprocess.DEVNULL, check=False)
+    return int(few * seconds / (time.monotonic() - began))
+
+
+def tries(program, seconds, folder):
+    trace, guest = (os.path.join(folder, it) for it in ("trace", "guest"))
+    with open(guest, "wb") as file:
+        file.write(LOOP)
+    accesses = enough(seconds, 4_000_000, lambda n: [program, "gen", str(n), trace])
+    yield "gen", ["gen", str(accesses), trace], 0, WRITTEN, lambda: os.path.getsize(trace) // 2**20, False
+    yield "replay", ["replay", trace], 0, READ, lambda: os.path.getsize(trace) // 2**20, True
+    steps = enough(seconds, 64_000_000, lambda n: [program, "run", guest, "--set", f"budget={n}"])
+    yield "run", ["run", guest, "--set", f"budget={steps}"], 10, STEPS, lambda: steps // 1_000_000, True
+
+
+def main(program, seconds=3.0):
+    found = []
+    with tempfile.TemporaryDirectory() as folder:
+        for what, words, wanted, form, whole, told in tries(program, float(seconds), folder):
+            shown, took, status = shown_by([program, *words])
+            if status != wanted:
+                found.append(f"{what}: it ended with {status}")
+            faults = faults_of(what, shown, took, form, whole(), told)
+            found += faults
+            print(f"{what}: {len(form.findall(shown))} lines in {took:.1f} s{', wrong' if faults else ''}")
+            quiet = subprocess.run([program, *words], stdin=subprocess.DEVNULL, stdout=subprocess.DEVNULL, stderr=subprocess.PIPE, check=False)
+            if form.search(quiet.stderr.decode(errors="replace")):
+                found.append(f"{what}: a line is shown where no terminal is")
+    print(*found, sep="\n", end="\n" if found else "")
+    return 1 if found else 0
+
+
+if __name__ == "__main__":
+    sys.exit(main(*sys.argv[1:]))
