@@ -52,8 +52,8 @@ FailsInOrder (r ∷ later) files before now =
     RoseOf r.name before now ⊎ ((r.refusal files ≡ None)
     × FailsInOrder later files before now)
 
--- why a command stopped while it read its files: the first refusal, at which no number of faults of
--- reading has risen, or a fault of reading before any
+-- why a command stopped while it read its files: the first refusal or want of memory, at which no
+-- number of faults of reading has risen, or a fault of reading before any refusal
 abbrev pub StopsBy : List Reading → Outside → Outside → Kind → Status → Type 0
 StopsBy readings old now done s = ⊥
 StopsBy readings old now refusal s =
@@ -63,7 +63,7 @@ StopsBy readings old now read_fault s =
     RoseAt (names_of readings) old.read_faults now.read_faults
     × Told old.held (λ files. FailsInOrder readings files old.read_faults now.read_faults)
 StopsBy readings old now write_fault s = ⊥
-StopsBy readings old now no_memory s = Unit {0}
+StopsBy readings old now no_memory s = now.read_faults ≡ old.read_faults
 
 -- it stopped with this status, and did nothing but read
 pub record IsStopped (readings : List Reading) (old now : Outside) (s : Status) : Type 0 where

@@ -14,7 +14,13 @@ use crate::trace_faults::trace_name;
 use command_line::USAGE;
 use std::alloc::{AllocError, Global};
 
-/// The line of want of memory, which takes none to be had.
+/// The line of a fault of reading.
+pub const READ_FAULT_LINE: &str = "predator: read fault\n";
+
+/// The line of a fault of writing.
+pub const WRITE_FAULT_LINE: &str = "predator: write fault\n";
+
+/// The line of want of memory.
 pub const NO_MEMORY_LINE: &str = "predator: no memory\n";
 
 // The line of a fault: of what, and what it is called.
@@ -53,8 +59,8 @@ pub fn fault_line(alloc: Global, status: &Status) -> Result<String, AllocError>
             line_of(alloc, "state", name.as_str())
         }
         Status::Place(refusal) => line_of(alloc, "place", place_name(*refusal)),
-        Status::ReadFault => String::from_str(alloc, "predator: read fault\n"),
-        Status::WriteFault => String::from_str(alloc, "predator: write fault\n"),
+        Status::ReadFault => String::from_str(alloc, READ_FAULT_LINE),
+        Status::WriteFault => String::from_str(alloc, WRITE_FAULT_LINE),
         Status::NoMemory => String::from_str(alloc, NO_MEMORY_LINE),
     }
 }

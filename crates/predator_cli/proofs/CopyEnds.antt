@@ -34,14 +34,15 @@ use Rattle.predator_cli.specs.Answer.{answer_of}
 use Rattle.predator_cli.specs.Commands.{RepeatsReport, is_copy, readings_of, work_of}
 use Rattle.predator_cli.specs.Convert.{convert_text}
 use Rattle.predator_cli.specs.Copies.{copied_reading, copy_of, copy_with}
-use Rattle.predator_cli.specs.Meets.{EndsAs, IsCaused, IsFaulty, IsPrintable, IsWorked}
-use Rattle.predator_cli.specs.Meets.{ReadsInPeace}
+use Rattle.predator_cli.specs.Meets.{EndsAs, HasFailed as HasFailedBy, IsFaulty, IsPrintable}
+use Rattle.predator_cli.specs.Meets.{IsQuiet, IsWorked}
 use Rattle.predator_cli.specs.Parts.{SplitRepeats}
 use Rattle.predator_cli.specs.Replay.{refuses_trace}
 use Rattle.predator_cli.specs.Split.{split_text}
 use Rattle.predator_cli.specs.TraceFaults.{status_of_copy, status_of_refusal}
 use Rattle.predator_cli.specs.Written.{AreSame, OnlyAt, StaysAtReadFault, StaysAtRefusal, Writes}
-use Rattle.predator_cli.proofs.Ends.{own_outputs, starved, stopped_faulty}
+use Rattle.predator_cli.proofs.Ends.{own_outputs, stopped_faulty}
+use Rattle.predator_cli.proofs.FaultEnds.{starved}
 use Rattle.predator_cli.proofs.Standing.{same_stands}
 use Rattle.predator_cli.proofs.TraceFiles.{refusal_cases}
 use Rattle.predator_cli.proofs.WriteEnds.{IsToWrite, names_in, or_false, written_worked}
@@ -196,12 +197,17 @@ module _ (d : Demand) (name : List ℕ) (text : Trace → List ℕ) (outputs : T
       only : OnlyAt (outputs_of d) a b
       only = others_only (outputs_of d) a b failed.stopped.others
 
+      quiet : fault ≢ ReadFault → fault ≢ WriteFault → IsQuiet a b
+      quiet unread unwritten = record {
+        reads = failed.stopped.cause.read_quiet unread;
+        writes = failed.stopped.cause.write_quiet unwritten;
+      }
+
       -- or it was refused once the copies were begun, and nothing is told
       changed_faulty : (s : Status) → IsRefusal s → a.held ≡ None → fault ≢ ReadFault
-          → IsFaulty (Some d) a b s
-      changed_faulty s judged none other =
-          let caused : IsCaused (Some d) a b refusal = tt in
-          let peace : ReadsInPeace a b refusal = failed.stopped.cause.read_quiet other in
+          → fault ≢ WriteFault → IsFaulty (Some d) a b s
+      changed_faulty s judged none other unwritten =
+          let none_failed : HasFailedBy (Some d) a b refusal = quiet other unwritten in
           let writes : Writes (Some d) a b refusal =
           subst (λ copies. StaysAtRefusal copies a.held a.written b.written) (sym copying.copies)
           (untold (λ files. Goes a.written b.written AreSame) a.held none) in
@@ -211,8 +217,7 @@ module _ (d : Demand) (name : List ℕ) (text : Trace → List ℕ) (outputs : T
             usage = λ u. absurd (judged.words u);
             refuses = λ u. cc;
             memory = judged.memory;
-            caused = rw judged.kind caused;
-            peace = rw judged.kind peace;
+            failed = rw judged.kind none_failed;
             printable = untold (λ files. IsPrintable (Some d) files a b (fault_text s)) a.held none;
             writes = rw judged.kind writes;
             only = only;
@@ -234,9 +239,13 @@ module _ (d : Demand) (name : List ℕ) (text : Trace → List ℕ) (outputs : T
             usage = λ u. cc;
             refuses = λ u. cc;
             memory = refl;
-            caused = subst (λ (l : List Reading). RoseAt (names_of l) a.read_faults b.read_faults)
-                (sym copying.reads) (inl rose);
-            peace = tt;
+            failed = record {
+              reads = subst
+                  (λ (l : List Reading). RoseAt (names_of l) a.read_faults b.read_faults)
+                  (sym copying.reads) (inl rose);
+              writes = failed.stopped.cause.write_quiet
+                  (λ e. let no : ReadFault ≡ WriteFault = sym is ∙ e in cc);
+            };
             printable = told a.held (λ files. inr (inr (inl (refl, fails files))));
             writes = subst (λ copies. StaysAtReadFault copies (Some d) a.held a.written b.written)
                 (sym copying.copies) part;
@@ -256,21 +265,24 @@ module _ (d : Demand) (name : List ℕ) (text : Trace → List ℕ) (outputs : T
             usage = λ u. cc;
             refuses = λ u. cc;
             memory = refl;
-            caused = inl rose;
-            peace = failed.stopped.cause.read_quiet (λ e. let no : WriteFault ≡ ReadFault = sym is
-                ∙ e in cc);
+            failed = record {
+              reads = failed.stopped.cause.read_quiet
+                  (λ e. let no : WriteFault ≡ ReadFault = sym is ∙ e in cc);
+              writes = rose;
+            };
             printable = told a.held (λ files. inr (inr (inr (refl, rose))));
-            writes = part;
+            writes = inl (rose, part);
             only = only;
             held = failed.stopped.held_stay;
             printed = failed.stopped.printed;
             print_faults = failed.stopped.print_faults;
           }
 
-      no_memory_faulty : IsFaulty (Some d) a b status.NoMemory
-      no_memory_faulty =
-          starved (Some d) a b part only failed.stopped.held_stay failed.stopped.printed
-          failed.stopped.print_faults
+      no_memory_faulty : fault ≢ ReadFault → fault ≢ WriteFault
+          → IsFaulty (Some d) a b status.NoMemory
+      no_memory_faulty unread unwritten =
+          starved (Some d) a b (quiet unread unwritten) part only failed.stopped.held_stay
+          failed.stopped.printed failed.stopped.print_faults
 
     pub copy_faulty : (fault : CopyFault) → HasFailed name (outputs_of d) outputs a b fault
         → IsFaulty (Some d) a b (status_of_copy fault)
@@ -282,10 +294,10 @@ module _ (d : Demand) (name : List ℕ) (text : Trace → List ℕ) (outputs : T
     copy_faulty (Changed r) failed =
         elim (refusal_cases r) [
           | inl is ↦ subst (λ (x : Refusal). IsFaulty (Some d) a b (status_of_refusal x)) (sym is)
-              (no_memory_faulty (Changed r) failed)
+              (no_memory_faulty (Changed r) failed (λ e. cc) (λ e. cc))
           | inr judged ↦ changed_faulty (Changed r) failed (status_of_refusal r) judged
-              (failed.changed r refl) (λ e. cc)
+              (failed.changed r refl) (λ e. cc) (λ e. cc)
         ]
     copy_faulty ReadFault failed = read_faulty ReadFault failed refl
     copy_faulty WriteFault failed = write_faulty WriteFault failed refl
-    copy_faulty NoMemory failed = no_memory_faulty NoMemory failed
+    copy_faulty NoMemory failed = no_memory_faulty NoMemory failed (λ e. cc) (λ e. cc)

@@ -1,199 +1,27 @@
--- What a command has done stands after a text is printed.
-use Rattle.std.proofs.Common.{◌≡◌, ◌≢◌, ℕ, ◌≤◌, Bool, true, false, List, [], Option, Some, None}
+-- How a command ends that did its work, and one whose words or files were not read.
+use Rattle.std.proofs.Common.{◌≡◌, ◌≢◌, ℕ, Bool, true, false, List, [], Option, Some, None}
 use Rattle.std.proofs.Common.{sym, ◌∙◌, ap, refl, inl, inr}
 use Rattle.shelf.specs.Shelf.{Files, Outside, Told, Goes, Rose, OnlyPrints, OnlyReads, Adds}
 use Rattle.shelf.specs.Shelf.{AddsFront}
 use Rattle.command_line.specs.Words.{Demand, outputs as outputs_of}
 use Rattle.command_files.specs.Readings.{IsAccepted, IsStopped, first_refusal}
 use Rattle.command_files.specs.Works.{Work, done_with, refused_with}
-use Rattle.command_files.specs.Statuses.{Kind, kind_of, done, refusal, read_fault, write_fault}
-use Rattle.command_files.specs.Statuses.{no_memory, hides_no_memory}
-use Rattle.shelf.specs.Files.{AllMayStand, AreWhole, Output, bytes_for}
-use Rattle.command_files.specs.Faults.{fault_text}
+use Rattle.command_files.specs.Statuses.{Kind, kind_of, done, refusal}
+use Rattle.command_files.specs.Statuses.{hides_no_memory}
+use Rattle.shelf.specs.Files.{AreWhole, Output, bytes_for}
 use Rattle.command_files.specs.declared.status.Status.{Status}
 use Rattle.command_files.specs.declared.status.Status.TheVariants as status
-use Rattle.shelf.specs.Laws.Told.{goes_map, goes_same, rose_later, told, told_both, told_map}
-use Rattle.shelf.specs.Laws.Told.{whole_prefix}
+use Rattle.shelf.specs.Laws.Told.{goes_same, told, told_both, told_map}
 use Rattle.predator_cli.specs.Commands.{RepeatsReport, readings_of, work_of}
-use Rattle.predator_cli.specs.Written.{AreSame, OnlyAt, StandsInPart, StaysAtReadFault}
-use Rattle.predator_cli.specs.Written.{StaysAtRefusal, Writes}
+use Rattle.predator_cli.specs.Written.{AreSame, StandsInPart}
+use Rattle.predator_cli.specs.Written.{StaysAtReadFault, StaysAtRefusal, Writes}
 use Rattle.predator_cli.specs.Again.{WhereDone}
 use Rattle.predator_cli.specs.Answer.{answer_of, are_copies, outputs}
-use Rattle.predator_cli.specs.Meets.{EndsAs, IsAnswered, IsCaused, IsFaulty}
-use Rattle.predator_cli.specs.Meets.{IsPrintable, IsWorked, Meets, Printed}
+use Rattle.predator_cli.specs.Meets.{EndsAs, HasFailed, IsAnswered, IsCaused, IsFaulty}
+use Rattle.predator_cli.specs.Meets.{IsQuiet, IsWorked, Meets}
 use Rattle.predator_cli.specs.Meets.{Prints, ReadsInPeace}
-use Rattle.predator_cli.proofs.Standing.{may_stay, only_same_names, same_stands, whole_stands}
-
--- ---- the line of a fault
-
-caused_after : (asked : Option Demand) (a b d : Outside) (k : Kind) → OnlyPrints b d
-    → b.print_faults ≤ d.print_faults
-    → IsCaused asked a b k → IsCaused asked a d k
-caused_after asked a b d done only later caused = tt
-caused_after asked a b d refusal only later caused = tt
-caused_after asked a b d no_memory only later caused = tt
-caused_after asked a b d read_fault only later caused = rw only.read_faults caused
-caused_after asked a b d write_fault only later (inl rose) = inl (rw only.write_faults rose)
-caused_after asked a b d write_fault only later (inr rose) =
-    inr (rose_later a.print_faults b.print_faults d.print_faults rose later)
-
-ends_after : (asked : Option Demand) (files : Files) (a b d : Outside) (k : Kind) (s : Status)
-    → OnlyPrints b d → EndsAs asked files a b k s
-    → EndsAs asked files a d k s
-ends_after asked files a b d done s only ends = ends
-ends_after asked files a b d refusal s only ends = ends
-ends_after asked files a b d no_memory s only ends = tt
-ends_after asked files a b d read_fault s only ends = rw only.read_faults ends
-ends_after asked files a b d write_fault s only ends = ends
-
-printed_prefix : (a d : Outside) (text : List ℕ) → Printed a d text
-    → AddsFront a.printed d.printed text
-printed_prefix a d text (inl whole) = whole_prefix a.printed d.printed text whole
-printed_prefix a d text (inr (rose, part)) = part
-
-printable_after : (asked : Option Demand) (files : Files) (a b d : Outside) (text : List ℕ)
-    → OnlyPrints b d
-    → IsPrintable asked files a b text → IsPrintable asked files a d text
-printable_after asked files a b d text only p = rw (only.read_faults, only.write_faults) p
-
--- a fault's line was printed, whole or in part
-prints_fault : (asked : Option Demand) (a d : Outside) (k : Kind) (s : Status) → (k ≡ done → ⊥)
-    → Told a.held (λ files. IsPrintable asked files a d (fault_text s)) → Printed a d (fault_text s)
-    → Prints asked a d k s
-prints_fault asked a d done s n p printed = absurd (n refl)
-prints_fault asked a d refusal s n p printed = printed
-prints_fault asked a d read_fault s n p printed = printed
-prints_fault asked a d write_fault s n p printed = told a.held (λ files. inl printed)
-prints_fault asked a d no_memory s n p printed = told_map a.held
-    (λ files is. (fault_text s, is, printed_prefix a d (fault_text s) printed))
-    p
-
--- printing writes no file, and reads none
-writes_after : (asked : Option Demand) (a b d : Outside) (k : Kind) → OnlyPrints b d
-    → Writes asked a b k → Writes asked a d k
-writes_after asked a b d done only writes = rw only.written writes
-writes_after asked a b d refusal only writes = rw only.written writes
-writes_after asked a b d read_fault only writes = rw only.written writes
-writes_after asked a b d write_fault only writes = rw only.written writes
-writes_after asked a b d no_memory only writes = rw only.written writes
-
-peace_after : (a b d : Outside) (k : Kind) → OnlyPrints b d → ReadsInPeace a b k
-    → ReadsInPeace a d k
-peace_after a b d done only peace = only.read_faults ∙ peace
-peace_after a b d refusal only peace = only.read_faults ∙ peace
-peace_after a b d read_fault only peace = tt
-peace_after a b d write_fault only peace = only.read_faults ∙ peace
-peace_after a b d no_memory only peace = tt
-
--- what stands at a fault may stand where memory runs out after it
-same_later : (asked : Option Demand) (a b : Outside) → Goes a.written b.written AreSame
-    → Writes asked a b no_memory
-same_later asked a b goes = told a.held (λ files. same_stands (answer_of asked files).outputs
-    a.written b.written goes)
-
-refused_later : (copies : Bool) (asked : Option Demand) (a b : Outside)
-    → StaysAtRefusal copies a.held a.written b.written
-    → Writes asked a b no_memory
-refused_later false asked a b writes = same_later asked a b writes
-refused_later true asked a b writes =
-    told_map a.held (λ files goes. same_stands (answer_of asked files).outputs a.written b.written
-    goes) writes
-
-unread_later : (copies : Bool) (asked : Option Demand) (a b : Outside)
-    → StaysAtReadFault copies asked a.held a.written b.written
-    → Writes asked a b no_memory
-unread_later false asked a b writes = same_later asked a b writes
-unread_later true asked a b writes = writes
-
-writes_later : (asked : Option Demand) (a b : Outside) (k : Kind) → (k ≡ done → ⊥)
-    → Writes asked a b k → Writes asked a b no_memory
-writes_later asked a b done n writes = absurd (n refl)
-writes_later asked a b refusal n writes = refused_later (are_copies asked) asked a b writes
-writes_later asked a b read_fault n writes = unread_later (are_copies asked) asked a b writes
-writes_later asked a b write_fault n writes = writes
-writes_later asked a b no_memory n writes = writes
-
-not_done : (P : Demand → Files → Type 0) (asked : Option Demand) (files : Files) (k : Kind)
-    → (k ≡ done → ⊥) → WhereDone P asked files k
-not_done P None files k n = tt
-not_done P (Some demand) files done n = absurd (n refl)
-not_done P (Some demand) files refusal n = tt
-not_done P (Some demand) files read_fault n = tt
-not_done P (Some demand) files write_fault n = tt
-not_done P (Some demand) files no_memory n = tt
-
-pub refuse_meets : (asked : Option Demand) (a b d : Outside) (s : Status) → IsFaulty asked a b s
-    → OnlyPrints b d
-    → b.print_faults ≤ d.print_faults → Printed b d (fault_text s) → Meets asked a d s
-refuse_meets asked a b d s faulty only later printed =
-    let same : Printed a d (fault_text s) = rw (← faulty.printed, ← faulty.print_faults) printed in
-    record {
-      ends = told_map a.held (λ files ends. ends_after asked files a b d (kind_of s) s only ends)
-          faulty.ends;
-      usage = faulty.usage;
-      refuses = faulty.refuses;
-      caused = caused_after asked a b d (kind_of s) only later faulty.caused;
-      memory = faulty.memory;
-      peace = peace_after a b d (kind_of s) only faulty.peace;
-      prints = prints_fault asked a d (kind_of s) s faulty.fault
-          (told_map a.held (λ files p. printable_after asked files a b d (fault_text s) only p)
-          faulty.printable) same;
-      writes = writes_after asked a b d (kind_of s) only faulty.writes;
-      only = rw only.written faulty.only;
-      held = only.held ∙ faulty.held;
-      again = told a.held (λ files. not_done RepeatsReport asked files (kind_of s) faulty.fault);
-    }
-
--- memory ran out while a fault's line was printed
-pub refuse_out_of_memory : (asked : Option Demand) (a b d : Outside) (s : Status)
-    → IsFaulty asked a b s → OnlyPrints b d
-    → AddsFront b.printed d.printed (fault_text s) → Meets asked a d status.NoMemory
-refuse_out_of_memory asked a b d s faulty only printed =
-    let part : AddsFront a.printed d.printed (fault_text s) = rw (← faulty.printed) printed in
-    record {
-      ends = told a.held (λ files. tt);
-      usage = λ u. cc;
-      refuses = λ r. inr refl;
-      caused = tt;
-      prints = told_map a.held (λ files p.
-          (fault_text s, printable_after asked files a b d (fault_text s) only p, part))
-          faulty.printable;
-      memory = refl;
-      peace = tt;
-      writes = writes_after asked a b d no_memory only
-          (writes_later asked a b (kind_of s) faulty.fault faulty.writes);
-      only = rw only.written faulty.only;
-      held = only.held ∙ faulty.held;
-      again = told a.held (λ files. not_done RepeatsReport asked files no_memory (λ e. cc));
-    }
-
--- memory ran out
-pub starved : (asked : Option Demand) (a b : Outside) → Writes asked a b no_memory
-    → OnlyAt (outputs asked) a b → b.held ≡ a.held
-    → b.printed ≡ a.printed → b.print_faults ≡ a.print_faults → IsFaulty asked a b status.NoMemory
-starved asked a b writes only held printed print_faults = record {
-  fault = λ e. cc;
-  ends = told a.held (λ files. tt);
-  usage = λ u. cc;
-  refuses = λ u. inr refl;
-  memory = refl;
-  caused = tt;
-  peace = tt;
-  printable = told a.held (λ files. inr (inl refl));
-  writes = writes;
-  only = only;
-  held = held;
-  printed = printed;
-  print_faults = print_faults;
-}
-
--- memory ran out before it was
-pub faulty_for_memory : (asked : Option Demand) (a b : Outside) (s : Status) → IsFaulty asked a b s
-    → IsFaulty asked a b status.NoMemory
-faulty_for_memory asked a b s faulty =
-    starved asked a b (writes_later asked a b (kind_of s) faulty.fault faulty.writes) faulty.only
-    faulty.held faulty.printed
-    faulty.print_faults
+use Rattle.predator_cli.proofs.Standing.{may_stay, only_same_names}
+use Rattle.predator_cli.proofs.FaultEnds.{quiet_after, starved, whole_later}
 
 -- ---- the command's own text
 
@@ -239,12 +67,8 @@ whole_after demand a b s text worked =
 
 part_after : (demand : Demand) (a b : Outside) (s : Status) (text : List ℕ)
     → IsWorked demand a b s text
-    → Told a.held (λ files. Goes a.written b.written
-    (AllMayStand (answer_of (Some demand) files).outputs))
-part_after demand a b s text worked =
-    told_map a.held
-    (λ files goes. goes_map a.written b.written
-    (λ before now is. whole_stands (answer_of (Some demand) files).outputs before now is) goes)
+    → StandsInPart (Some demand) a.held a.written b.written
+part_after demand a b s text worked = whole_later (Some demand) a b
     (whole_after demand a b s text worked)
 
 whole_writes : (k : Kind) (asked : Option Demand) (a b : Outside) → k ≡ done
@@ -282,8 +106,9 @@ no_memory_hidden (status.Place refused) kind = refl
 no_usage : (s : Status) → kind_of s ≡ done → s ≡ status.Usage → ⊥
 no_usage s kind u = let k : kind_of status.Usage ≡ done = ap kind_of (sym u) ∙ kind in cc
 
-no_cause : (asked : Option Demand) (a d : Outside) (k : Kind) → k ≡ done → IsCaused asked a d k
-no_cause asked a d k is = rw is tt
+no_cause : (asked : Option Demand) (a d : Outside) (k : Kind) → k ≡ done → IsQuiet a d
+    → d.print_faults ≡ a.print_faults → IsCaused asked a d k
+no_cause asked a d k is quiet same = rw is (quiet, same)
 
 at_done : (P : Demand → Files → Type 0) (k : Kind) (demand : Demand) (files : Files) → k ≡ done
     → P demand files
@@ -292,20 +117,22 @@ at_done P k demand files is holds = rw is holds
 
 pub finish_meets : (demand : Demand) (a b d : Outside) (s : Status) (text : List ℕ) → kind_of s
     ≡ done → IsWorked demand a b s text
-    → OnlyPrints b d → Adds b.printed d.printed text → Meets (Some demand) a d s
-finish_meets demand a b d s text kind worked only printed =
+    → OnlyPrints b d → d.print_faults ≡ b.print_faults → Adds b.printed d.printed text
+    → Meets (Some demand) a d s
+finish_meets demand a b d s text kind worked only same printed =
     let whole : Adds a.printed d.printed text = rw (← worked.printed) printed in
+    let quiet = quiet_after a b d only worked.quiet in
     record {
       ends = told_both a.held (λ files none is. finished_ends demand files a d s kind none is)
           worked.accepts worked.ends;
       usage = λ u. absurd (no_usage s kind u);
       refuses = λ r. cc;
-      caused = no_cause (Some demand) a d (kind_of s) kind;
+      caused = no_cause (Some demand) a d (kind_of s) kind quiet (same ∙ worked.print_faults);
       memory = no_memory_hidden s kind;
-      peace = peace_kept a d (kind_of s) kind (only.read_faults ∙ worked.reads);
+      peace = peace_kept a d (kind_of s) kind quiet.reads;
       prints = whole_printed demand a d s text kind (own_texts demand a b s text worked) whole;
-      writes = writes_after (Some demand) a b d (kind_of s) only
-          (whole_writes (kind_of s) (Some demand) a b kind (whole_after demand a b s text worked));
+      writes = whole_writes (kind_of s) (Some demand) a d kind
+          (rw only.written (whole_after demand a b s text worked));
       only = rw only.written worked.only;
       held = only.held ∙ worked.held;
       again = told_map a.held (λ files is. at_done RepeatsReport (kind_of s) demand files kind is)
@@ -320,16 +147,18 @@ pub finish_failed : (demand : Demand) (a b d : Outside) (s : Status) (text : Lis
 finish_failed demand a b d s text worked only rose printed =
     let rose_a : Rose a.print_faults d.print_faults = rw (← worked.print_faults) rose in
     let part : AddsFront a.printed d.printed text = rw (← worked.printed) printed in
+    let quiet = quiet_after a b d only worked.quiet in
     record {
       ends = worked.accepts;
       usage = λ u. cc;
       refuses = λ r. cc;
       memory = refl;
-      caused = inr rose_a;
-      peace = only.read_faults ∙ worked.reads;
+      caused = inr (quiet, rose_a);
+      peace = quiet.reads;
       prints = told_map a.held (λ files is. inr (rose_a, rw is part))
           (own_texts demand a b s text worked);
-      writes = rw only.written (part_after demand a b s text worked);
+      writes = inr
+          (rose_a, quiet.writes, rw only.written (whole_after demand a b s text worked));
       only = rw only.written worked.only;
       held = only.held ∙ worked.held;
       again = told a.held (λ files. tt);
@@ -337,16 +166,19 @@ finish_failed demand a b d s text worked only rose printed =
 
 -- memory ran out while it was printed
 pub finish_out_of_memory : (demand : Demand) (a b d : Outside) (s : Status) (text : List ℕ)
-    → IsWorked demand a b s text → OnlyPrints b d
+    → IsWorked demand a b s text → OnlyPrints b d → d.print_faults ≡ b.print_faults
     → AddsFront b.printed d.printed text → Meets (Some demand) a d status.NoMemory
-finish_out_of_memory demand a b d s text worked only printed =
+finish_out_of_memory demand a b d s text worked only same printed =
     let part : AddsFront a.printed d.printed text = rw (← worked.printed) printed in
     record {
       ends = told a.held (λ files. tt);
       usage = λ u. cc;
       refuses = λ r. inr refl;
       memory = refl;
-      caused = tt;
+      caused = inl (record {
+        quiet = quiet_after a b d only worked.quiet;
+        prints = inl (same ∙ worked.print_faults);
+      });
       peace = tt;
       prints = told_map a.held (λ files is. (text, inl (sym is), part))
           (own_texts demand a b s text worked);
@@ -361,8 +193,8 @@ pub finish_untold : (demand : Demand) (a b : Outside) (s : Status) (text : List 
     → IsWorked demand a b s text
     → IsFaulty (Some demand) a b status.NoMemory
 finish_untold demand a b s text worked =
-    starved (Some demand) a b (part_after demand a b s text worked) worked.only worked.held
-    worked.printed worked.print_faults
+    starved (Some demand) a b worked.quiet (part_after demand a b s text worked) worked.only
+    worked.held worked.printed worked.print_faults
 
 -- a command that writes nothing
 module _ (o : Option Files) (work : Files → Work) (w : Work)
@@ -398,7 +230,10 @@ told_worked demand a b w none accepted works again =
       whole = rw written (none_written a.held (work_of demand) w works none a.written);
       only = only_same_names (outputs_of demand) a b written;
       again = told a.held again;
-      reads = ap (λ (o : Outside). o.read_faults) same;
+      quiet = record {
+        reads = ap (λ (o : Outside). o.read_faults) same;
+        writes = ap (λ (o : Outside). o.write_faults) same;
+      };
       held = ap (λ (o : Outside). o.held) same;
       printed = ap (λ (o : Outside). o.printed) same;
       print_faults = ap (λ (o : Outside). o.print_faults) same;
@@ -419,8 +254,7 @@ words_refused a = record {
   usage = λ u. refl;
   refuses = λ r. inl refl;
   memory = refl;
-  caused = tt;
-  peace = refl;
+  failed = record { reads = refl; writes = refl };
   printable = told a.held (λ files. inl refl);
   writes = goes_same AreSame a.written (λ before name. refl);
   only = only_same_names [] a a refl;
@@ -444,24 +278,16 @@ unread_same false asked held o = goes_same AreSame o (λ before name. refl)
 unread_same true asked held o = part_same asked held o
 
 -- memory ran out
-same_written : (asked : Option Demand) (a b : Outside) (k : Kind) → (k ≡ done → ⊥) → b.written
-    ≡ a.written → Writes asked a b k
-same_written asked a b done n same = absurd (n refl)
-same_written asked a b refusal n same = rw same (refused_same (are_copies asked) a.held a.written)
-same_written asked a b read_fault n same = rw same
-    (unread_same (are_copies asked) asked a.held a.written)
-same_written asked a b write_fault n same = rw same (part_same asked a.held a.written)
-same_written asked a b no_memory n same = rw same (part_same asked a.held a.written)
-
-pub memory_faulty : (asked : Option Demand) (a b : Outside) → OnlyReads a b
-    → IsFaulty asked a b status.NoMemory
-memory_faulty asked a b only =
-    starved asked a b (same_written asked a b no_memory (λ e. cc) only.written)
+pub memory_faulty : (asked : Option Demand) (a b : Outside) → b.read_faults ≡ a.read_faults
+    → OnlyReads a b → IsFaulty asked a b status.NoMemory
+memory_faulty asked a b peace only =
+    starved asked a b (record { reads = peace; writes = only.write_faults })
+    (rw only.written (part_same asked a.held a.written))
     (only_same_names (outputs asked) a b only.written) only.held
     only.printed only.print_faults
 
 pub words_unread : (asked : Option Demand) (a : Outside) → IsFaulty asked a a status.NoMemory
-words_unread asked a = memory_faulty asked a a
+words_unread asked a = memory_faulty asked a a refl
     (record {
       held = refl;
       written = refl;
@@ -487,10 +313,9 @@ refusal_faulty demand a b s kind words memory refused peace only = record {
   usage = λ u. absurd (words u);
   refuses = λ r. cc;
   memory = memory;
-  caused = caused_so;
-  peace = peace_so;
+  failed = failed_so;
   printable = told_map a.held (λ files is. inl (sym (ap (λ (w : Work). w.text) is))) refused;
-  writes = same_written (Some demand) a b (kind_of s) not_done_so only.written;
+  writes = writes_so;
   only = only_same_names (outputs (Some demand)) a b only.written;
   held = only.held;
   printed = only.printed;
@@ -504,11 +329,17 @@ refusal_faulty demand a b s kind words memory refused peace only = record {
         → EndsAs (Some demand) files a b (kind_of s) s
     ends_so files is = rw kind (ap (λ (w : Work). w.status) is)
 
-    caused_so : IsCaused (Some demand) a b (kind_of s)
-    caused_so = rw kind tt
+    quiet : IsQuiet a b
+    quiet = record { reads = peace; writes = only.write_faults }
 
-    peace_so : ReadsInPeace a b (kind_of s)
-    peace_so = rw kind peace
+    failed_so : HasFailed (Some demand) a b (kind_of s)
+    failed_so = rw kind quiet
+
+    stays : Writes (Some demand) a b refusal
+    stays = rw only.written (refused_same (are_copies (Some demand)) a.held a.written)
+
+    writes_so : Writes (Some demand) a b (kind_of s)
+    writes_so = rw kind stays
 
 -- a file is refused
 file_faulty : (demand : Demand) (a b : Outside) (s : Status) → kind_of s ≡ refusal
@@ -529,10 +360,10 @@ reading_faulty demand a b stopped = record {
   usage = λ u. cc;
   refuses = λ r. cc;
   memory = refl;
-  caused = stopped.why.0;
-  peace = tt;
+  failed = record { reads = stopped.why.0; writes = stopped.only.write_faults };
   printable = told_map a.held (λ files fails. inr (inr (inl (refl, fails)))) stopped.why.1;
-  writes = same_written (Some demand) a b read_fault (λ e. cc) stopped.only.written;
+  writes = rw stopped.only.written
+      (unread_same (are_copies (Some demand)) (Some demand) a.held a.written);
   only = only_same_names (outputs (Some demand)) a b stopped.only.written;
   held = stopped.only.held;
   printed = stopped.only.printed;
@@ -560,7 +391,8 @@ stopped_faulty demand a b (status.State fault) stopped = file_faulty demand a b
     stopped.why.0 stopped.why.1 stopped.only
 stopped_faulty demand a b status.ReadFault stopped = reading_faulty demand a b stopped
 stopped_faulty demand a b status.WriteFault stopped = absurd stopped.why
-stopped_faulty demand a b status.NoMemory stopped = memory_faulty (Some demand) a b stopped.only
+stopped_faulty demand a b status.NoMemory stopped = memory_faulty (Some demand) a b stopped.why
+    stopped.only
 stopped_faulty demand a b status.Budget stopped = absurd stopped.why
 stopped_faulty demand a b status.Deadlock stopped = absurd stopped.why
 stopped_faulty demand a b status.Trapped stopped = absurd stopped.why

@@ -4,6 +4,7 @@ pub mod CountingEnds
 pub mod CutLaws
 pub mod Ends
 pub mod ExplainEnds
+pub mod FaultEnds
 pub mod GenEnds
 pub mod GoOnAnswers
 pub mod GoOnLaws

@@ -7,7 +7,7 @@ use Rattle.command_files.specs.Statuses.{kind_of, write_fault}
 use Rattle.command_files.specs.declared.status.Status.{Status}
 use Rattle.command_files.specs.declared.status.Status.TheVariants as status
 use Rattle.predator_cli.specs.Answer.{inputs, outputs}
-use Rattle.predator_cli.specs.Meets.{IsCaused, NoFaults}
+use Rattle.predator_cli.specs.Meets.{IsCaused, NoFaults, ReadingFailed}
 
 none_rose : (names : List (List ℕ)) (before now : List ℕ → ℕ) → ((n : List ℕ) → now n ≡ 0)
     → RoseAt names before now → ⊥
@@ -26,13 +26,15 @@ no_faults asked old new reads writes prints = record {
 pub no_read_fault : (asked : Option Demand) (old new : Outside) (s : Status)
     → NoFaults asked old new → IsCaused asked old new (kind_of s)
     → s ≢ status.ReadFault
-no_read_fault asked old new s none caused e = none.reads
-    (subst (λ (x : Status). IsCaused asked old new (kind_of x)) e caused)
+no_read_fault asked old new s none caused e =
+    let failed : ReadingFailed asked old new =
+    subst (λ (x : Status). IsCaused asked old new (kind_of x)) e caused in
+    none.reads failed.reads
 
 write_cause : (asked : Option Demand) (old new : Outside) → NoFaults asked old new
     → IsCaused asked old new write_fault → ⊥
-write_cause asked old new none (inl rose) = none.writes rose
-write_cause asked old new none (inr rose) = none.prints rose
+write_cause asked old new none (inl failed) = none.writes failed.writes
+write_cause asked old new none (inr failed) = none.prints failed.1
 
 pub no_write_fault : (asked : Option Demand) (old new : Outside) (s : Status)
     → NoFaults asked old new → IsCaused asked old new (kind_of s)

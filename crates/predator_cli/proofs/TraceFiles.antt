@@ -65,4 +65,4 @@ pass_stopped {T} w name a b (Refused r) told memory cause only =
 pass_stopped {T} w name a b ReadFault told memory cause only =
     fault_stopped name (refuses_trace w name) a b (cause.failed refl) only
 pass_stopped {T} w name a b NoMemory told memory cause only = memory_stopped
-    (trace_reading (λ _. w) name ∷ []) a b only
+    (trace_reading (λ _. w) name ∷ []) a b (cause.quiet (λ e. cc)) only

@@ -21,7 +21,8 @@ use Rattle.predator_cli.specs.Written.{OnlyAt}
 use Rattle.predator_cli.specs.Answer.{answer_of}
 use Rattle.predator_cli.specs.Commands.{RepeatsReport, readings_of, work_of}
 use Rattle.predator_cli.specs.Meets.{IsFaulty, IsWorked}
-use Rattle.predator_cli.proofs.Ends.{own_outputs, starved}
+use Rattle.predator_cli.proofs.Ends.{own_outputs}
+use Rattle.predator_cli.proofs.FaultEnds.{starved}
 use Rattle.predator_cli.proofs.Standing.{whole_stands}
 
 -- ---- names
@@ -112,7 +113,7 @@ written_worked d w a b st text ready ends told_text again written = record {
   only = subst (λ names. OnlyAt names a b) ready.names (whole_only w.outputs a b written.whole);
   again = again;
   held = written.only.held;
-  reads = written.only.read_faults;
+  quiet = record { reads = written.only.read_faults; writes = written.faults };
   printed = written.only.printed;
   print_faults = written.only.print_faults;
 }
@@ -141,16 +142,17 @@ writing_cut d w a b Failed ready cut =
       usage = λ u. cc;
       refuses = λ u. cc;
       memory = refl;
-      caused = inl rose_at;
-      peace = cut.only.read_faults;
+      failed = record { reads = cut.only.read_faults; writes = rose_at };
       printable = told a.held (λ files. inr (inr (inr (refl, rose_at))));
-      writes = cut_stands d w a b ready cut.may;
+      writes = inl (rose_at, cut_stands d w a b ready cut.may);
       only = subst (λ names. OnlyAt names a b) ready.names (cut_only w.outputs a b cut.may);
       held = cut.only.held;
       printed = cut.only.printed;
       print_faults = cut.only.print_faults;
     }
 writing_cut d w a b NoMemory ready cut =
-    starved (Some d) a b (cut_stands d w a b ready cut.may)
+    starved (Some d) a b
+    (record { reads = cut.only.read_faults; writes = cut.cause.quiet (λ e. cc) })
+    (cut_stands d w a b ready cut.may)
     (subst (λ names. OnlyAt names a b) ready.names (cut_only w.outputs a b cut.may)) cut.only.held
     cut.only.printed cut.only.print_faults

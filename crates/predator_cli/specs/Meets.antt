@@ -25,19 +25,64 @@ EndsAs asked files old new read_fault s = FailsInOrder (files_of asked) files ol
 EndsAs asked files old new write_fault s = first_refusal (files_of asked) files ≡ None
 EndsAs asked files old new no_memory s = Unit {0}
 
--- A fault of the outside is answered only where its number rose.
-abbrev pub IsCaused : Option Demand → Outside → Outside → Kind → Type 0
-IsCaused asked old new done = Unit {0}
-IsCaused asked old new refusal = Unit {0}
-IsCaused asked old new read_fault = RoseAt (inputs asked) old.read_faults new.read_faults
-IsCaused asked old new write_fault = RoseAt (outputs asked) old.write_faults new.write_faults ⊎ Rose
-    old.print_faults new.print_faults
-IsCaused asked old new no_memory = Unit {0}
+-- no number of faults of reading or of writing rose
+pub record IsQuiet (old new : Outside) : Type 0 where
+  pub reads : new.read_faults ≡ old.read_faults
+  pub writes : new.write_faults ≡ old.write_faults
 
--- the whole text was printed, or printing failed and a front of it was
+-- reading an input failed, and no writing did
+pub record ReadingFailed (asked : Option Demand) (old new : Outside) : Type 0 where
+  pub reads : RoseAt (inputs asked) old.read_faults new.read_faults
+  pub writes : new.write_faults ≡ old.write_faults
+
+-- writing an output failed, and no reading did
+pub record WritingFailed (asked : Option Demand) (old new : Outside) : Type 0 where
+  pub reads : new.read_faults ≡ old.read_faults
+  pub writes : RoseAt (outputs asked) old.write_faults new.write_faults
+
+-- what failed of reading and writing, by how the call ends
+abbrev pub HasFailed : Option Demand → Outside → Outside → Kind → Type 0
+HasFailed asked old new done = IsQuiet old new
+HasFailed asked old new refusal = IsQuiet old new
+HasFailed asked old new read_fault = ReadingFailed asked old new
+HasFailed asked old new write_fault = WritingFailed asked old new
+HasFailed asked old new no_memory = IsQuiet old new
+
+-- printing failed, and a front of this text was printed
+abbrev pub PrintingFailed : Outside → Outside → List ℕ → Type 0
+PrintingFailed old new text = Rose old.print_faults new.print_faults
+    × AddsFront old.printed new.printed text
+
+-- memory ran out where nothing else failed, but perhaps the printing of the line that says so
+pub record RanOutAlone (old new : Outside) : Type 0 where
+  pub quiet : IsQuiet old new
+  pub prints : (new.print_faults ≡ old.print_faults)
+      ⊎ PrintingFailed old new (fault_text status.NoMemory)
+
+-- memory ran out as the line of a fault was printed: reading or writing failed, printing did not,
+-- and a front of that line was printed
+pub record RanOutAtLine (asked : Option Demand) (old new : Outside) : Type 0 where
+  pub line : (ReadingFailed asked old new
+      × AddsFront old.printed new.printed (fault_text status.ReadFault))
+      ⊎ (WritingFailed asked old new
+      × AddsFront old.printed new.printed (fault_text status.WriteFault))
+  pub prints : new.print_faults ≡ old.print_faults
+
+-- Why it ends so: the work is done where nothing failed, a fault of the outside is answered only
+-- where its number rose, and want of memory hides none.
+abbrev pub IsCaused : Option Demand → Outside → Outside → Kind → Type 0
+IsCaused asked old new done = IsQuiet old new × (new.print_faults ≡ old.print_faults)
+IsCaused asked old new refusal = IsQuiet old new
+IsCaused asked old new read_fault = ReadingFailed asked old new
+IsCaused asked old new write_fault = WritingFailed asked old new
+    ⊎ (IsQuiet old new × Rose old.print_faults new.print_faults)
+IsCaused asked old new no_memory = RanOutAlone old new ⊎ RanOutAtLine asked old new
+
+-- the whole text was printed and no printing failed, or one did and a front of it was
 abbrev pub Printed : Outside → Outside → List ℕ → Type 0
-Printed old new text = Adds old.printed new.printed text ⊎ (Rose old.print_faults new.print_faults
-    × AddsFront old.printed new.printed text)
+Printed old new text =
+    (Adds old.printed new.printed text × (new.print_faults ≡ old.print_faults))
+    ⊎ PrintingFailed old new text
 
 -- the texts of which a front may stand where memory ran out: the answer's, or that of a fault of
 -- the outside that came
@@ -58,13 +103,12 @@ Prints asked old new done s =
 Prints asked old new refusal s = Printed old new (fault_text s)
 Prints asked old new read_fault s = Printed old new (fault_text s)
 Prints asked old new write_fault s = Told old.held (λ files.
-    Printed old new (fault_text s) ⊎ (Rose old.print_faults new.print_faults
-    × AddsFront old.printed new.printed (answer_of asked files).text))
+    Printed old new (fault_text s) ⊎ PrintingFailed old new (answer_of asked files).text)
 Prints asked old new no_memory s = Told old.held (λ files.
     (text : List ℕ) × IsPrintable asked files old new text × AddsFront old.printed new.printed text)
 
--- no number of faults of reading rose, but at a fault of reading, after whose line memory may run
--- out
+-- no number of faults of reading rose, but at a fault of reading and, as `IsCaused` says, where
+-- memory ran out as its line was printed
 abbrev pub ReadsInPeace : Outside → Outside → Kind → Type 0
 ReadsInPeace old new done = new.read_faults ≡ old.read_faults
 ReadsInPeace old new refusal = new.read_faults ≡ old.read_faults
@@ -104,8 +148,7 @@ pub record IsFaulty (asked : Option Demand) (old now : Outside) (s : Status) : T
   pub usage : s ≡ status.Usage → asked ≡ None
   pub refuses : asked ≡ None → (s ≡ status.Usage) ⊎ (s ≡ status.NoMemory)
   pub memory : hides_no_memory s ≡ false
-  pub caused : IsCaused asked old now (kind_of s)
-  pub peace : ReadsInPeace old now (kind_of s)
+  pub failed : HasFailed asked old now (kind_of s)
   pub printable : Told old.held (λ files. IsPrintable asked files old now (fault_text s))
   pub writes : Writes asked old now (kind_of s)
   pub only : OnlyAt (outputs asked) old now
@@ -125,7 +168,7 @@ pub record IsWorked (demand : Demand) (old now : Outside) (s : Status) (text : L
     pub only : OnlyAt (outputs_of demand) old now
     pub again : Told old.held (RepeatsReport demand)
     pub held : now.held ≡ old.held
-    pub reads : now.read_faults ≡ old.read_faults
+    pub quiet : IsQuiet old now
     pub printed : now.printed ≡ old.printed
     pub print_faults : now.print_faults ≡ old.print_faults
 

@@ -1,12 +1,13 @@
 -- What stands in the files that a command writes, at each end.
-use Rattle.std.specs.Prelude.{◌≡◌, ℕ, List, Option, Bool, true, false}
+use Rattle.std.specs.Prelude.{◌≡◌, ◌⊎◌, ℕ, List, Option, Bool, true, false}
 use Rattle.std.specs.List.{list_any}
 use Rattle.std.specs.Str.{bytes_eq}
-use Rattle.shelf.specs.Shelf.{Files, Goes, Outside, Told}
+use Rattle.shelf.specs.Shelf.{Files, Goes, Outside, Rose, Told}
 use Rattle.command_line.specs.Words.{Demand}
 use Rattle.shelf.specs.Files.{AllMayStand, AreWhole}
+use Rattle.command_files.specs.Readings.{RoseAt}
 use Rattle.command_files.specs.Statuses.{Kind, done, refusal, read_fault, write_fault, no_memory}
-use Rattle.predator_cli.specs.Answer.{answer_of, are_copies}
+use Rattle.predator_cli.specs.Answer.{answer_of, are_copies, outputs}
 
 -- each file is as it was
 abbrev pub AreSame : Files → Files → Type 0
@@ -16,6 +17,11 @@ AreSame before now = (name : List ℕ) → now name ≡ before name
 abbrev pub StandsInPart : Option Demand → Option Files → Option Files → Option Files → Type 0
 StandsInPart asked held before now =
     Told held (λ files. Goes before now (AllMayStand (answer_of asked files).outputs))
+
+-- every output is whole, where that is told
+abbrev pub StandsWhole : Option Demand → Option Files → Option Files → Option Files → Type 0
+StandsWhole asked held before now =
+    Told held (λ files. Goes before now (AreWhole (answer_of asked files).outputs))
 
 -- At a refusal each file is as it was. Copies whose trace is refused only as it is read again may
 -- stand in part; where it is told what is held no trace is.
@@ -29,17 +35,25 @@ abbrev pub StaysAtReadFault : Bool → Option Demand → Option Files → Option
 StaysAtReadFault false asked held before now = Goes before now AreSame
 StaysAtReadFault true asked held before now = StandsInPart asked held before now
 
--- Every output is whole where the work is done, every file is as it was at a refusal and at a fault
--- of reading but of copies, and each output may stand in part at a fault of writing and at want of
--- memory.
+-- At a fault of writing the writing of an output failed, and each may stand in part; or printing
+-- failed and no writing did, and every output is whole.
+abbrev pub StandsAtWriteFault : Option Demand → Outside → Outside → Type 0
+StandsAtWriteFault asked old new =
+    (RoseAt (outputs asked) old.write_faults new.write_faults
+    × StandsInPart asked old.held old.written new.written)
+    ⊎ (Rose old.print_faults new.print_faults × (new.write_faults ≡ old.write_faults)
+    × StandsWhole asked old.held old.written new.written)
+
+-- Every output is whole where the work is done and where its text isn't printed, every file is as
+-- it was at a refusal and at a fault of reading but of copies, and each output may stand in part
+-- where writing one failed and at want of memory.
 abbrev pub Writes : Option Demand → Outside → Outside → Kind → Type 0
-Writes asked old new done =
-    Told old.held (λ files. Goes old.written new.written (AreWhole (answer_of asked files).outputs))
+Writes asked old new done = StandsWhole asked old.held old.written new.written
 Writes asked old new refusal =
     StaysAtRefusal (are_copies asked) old.held old.written new.written
 Writes asked old new read_fault =
     StaysAtReadFault (are_copies asked) asked old.held old.written new.written
-Writes asked old new write_fault = StandsInPart asked old.held old.written new.written
+Writes asked old new write_fault = StandsAtWriteFault asked old new
 Writes asked old new no_memory = StandsInPart asked old.held old.written new.written
 
 -- no file changed but those of these names

@@ -55,12 +55,13 @@ fn obey<S: Shelf>(alloc: Global, words: &[String], shelf: &mut S) -> Status
 
 /// All that the program does, by the words after its name.
 ///
-/// The words are judged first, and then the files in the order in which the command reads them: the
-/// settings, the saved state, the trace or the program, the schedule. The status is `Usage` exactly where
-/// the words are refused, and else the first refusal of a file, if there is one. `ReadFault` comes
-/// only where reading a named file failed in this call and no file before it is refused,
-/// `WriteFault` only where printing or writing a named file failed and none is refused, and
-/// `NoMemory` where memory ran out. The settings are those of the file that is named, or the
+/// The words are judged first, and then the files in the order in which the command reads them:
+/// the settings, the saved state, the trace or the program, the schedule. The status is `Usage`
+/// exactly where the words are refused, and else the first refusal of a file, if there is one.
+/// `ReadFault` comes only where reading a named file failed in this call and no file before it is
+/// refused, `WriteFault` only where printing or writing a named file failed and none is refused,
+/// and `NoMemory` where memory ran out, before such a fault or as the line of one was printed.
+/// Where the work is done nothing failed. The settings are those of the file that is named, or the
 /// usual ones, with the numbers of `--set` in the place of theirs; they are judged by themselves
 /// first, and then with these numbers.
 ///
@@ -91,23 +92,30 @@ pub fn predator<S: Shelf>(alloc: Global, words: &[String], shelf: &mut S) -> Sta
     ensures usage { result ≡ Status.Usage → demand_of (texts words.now) ≡ None }
     ensures refuses { demand_of (texts words.now) ≡ None →
         (result ≡ Status.Usage) ⊎ (result ≡ Status.NoMemory) }
-    // A fault of the outside has its cause.
+    // A fault of the outside has its cause, and none is passed over: where the work is done no
+    // number of faults has risen, and at a refusal none of reading or of writing. At want of memory
+    // none has but that of printing the line that says so, unless memory ran out as the line of a
+    // fault was printed: then reading or writing failed, and a front of that line stands.
     ensures caused { IsCaused (demand_of (texts words.now))
         (S.outside shelf.old) (S.outside shelf.new) (kind_of result) }
     // Want of memory is a status of its own, whoever wanted it: no file's fault is said to be want
     // of memory.
     ensures memory { hides_no_memory result ≡ false }
-    // No number of faults of reading has risen, but at a fault of reading.
+    // No number of faults of reading has risen, but at a fault of reading and where memory ran out
+    // as its line was printed.
     ensures peace { ReadsInPeace (S.outside shelf.old) (S.outside shelf.new) (kind_of result) }
-    // What is printed: the whole text of the answer, or what is left of it at a fault.
+    // What is printed: the whole text where no printing failed, and a front of it where printing
+    // failed or memory ran out.
     ensures prints { Prints (demand_of (texts words.now))
         (S.outside shelf.old) (S.outside shelf.new) (kind_of result) result }
     // No file that is read changes.
     ensures held { (S.outside shelf.new).held ≡ (S.outside shelf.old).held }
-    // What stands in the files that are written: every output is whole where the work is done, each
-    // is as it was or a front of its bytes at a fault of writing and at want of memory, and all are
-    // as they were at each other end. Copies may stand so at a fault of reading too, for their
-    // trace is read twice; and where it isn't told what is held, also at a refusal.
+    // What stands in the files that are written: every output is whole where the work is done, and
+    // where printing the command's own text failed, at which no number of faults of writing has
+    // risen. Each is as it was or a front of its bytes where writing one failed and at want of
+    // memory, and all are as they were at each other end. Copies may stand so at a fault of
+    // reading too, for their trace is read twice; and where it isn't told what is held, also at a
+    // refusal.
     ensures writes { Writes (demand_of (texts words.now))
         (S.outside shelf.old) (S.outside shelf.new) (kind_of result) }
     // Where a run is done, the replay of the trace that it wrote, under the same settings and with

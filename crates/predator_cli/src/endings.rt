@@ -8,7 +8,7 @@ ghost use Rattle.command_files.specs.Readings.{IsStopped};
 ghost use Rattle.predator_cli.specs.Meets.{IsAnswered, IsFaulty, IsWorked, Meets};
 ghost use Rattle.predator_cli.specs.Commands.{readings_of};
 
-use command_files::{NO_MEMORY_LINE, Status, fault_line};
+use command_files::{NO_MEMORY_LINE, READ_FAULT_LINE, Status, WRITE_FAULT_LINE, fault_line};
 use command_line::USAGE;
 use shelf::{Shelf, ShelfError};
 use std::alloc::Global;
@@ -27,15 +27,20 @@ fn print_fault<S: Shelf>(shelf: &mut S, status: Status, text: &str) -> Status
     }
 }
 
-/// Ends with a refusal or with a fault of the outside.
+/// Ends with a refusal or with a fault of the outside. The line of a fault of reading or writing
+/// takes no memory but the shelf's, so that no such fault is told as want of it.
 pub fn refuse<S: Shelf>(alloc: Global, shelf: &mut S, status: Status) -> Status
     ensures { (asked : Option Demand) (old : Outside)
         → IsFaulty asked old (S.outside shelf.old) status
         → Meets asked old (S.outside shelf.new) result }
 {
-    match fault_line(alloc, &status) {
-        Ok(text) => print_fault(shelf, status, text.as_str()),
-        Err(_) => print_fault(shelf, Status::NoMemory, NO_MEMORY_LINE),
+    match status {
+        Status::ReadFault => print_fault(shelf, Status::ReadFault, READ_FAULT_LINE),
+        Status::WriteFault => print_fault(shelf, Status::WriteFault, WRITE_FAULT_LINE),
+        status => match fault_line(alloc, &status) {
+            Ok(text) => print_fault(shelf, status, text.as_str()),
+            Err(_) => print_fault(shelf, Status::NoMemory, NO_MEMORY_LINE),
+        },
     }
 }
 

@@ -99,7 +99,7 @@ why_first s1 s2 a b read_fault s why = (
       (λ files fails. fails_first s1 s2 files a.read_faults b.read_faults fails) why.1,
 )
 why_first s1 s2 a b write_fault s why = why
-why_first s1 s2 a b no_memory s why = tt
+why_first s1 s2 a b no_memory s why = why
 
 why_later : (s1 s2 : List Reading) (a b : Outside) (k : Kind) (s : Status)
     → Told a.held (λ files. first_refusal s1 files ≡ None)
@@ -114,7 +114,7 @@ why_later s1 s2 a b read_fault s accepts why = (
       why.1,
 )
 why_later s1 s2 a b write_fault s accepts why = why
-why_later s1 s2 a b no_memory s accepts why = tt
+why_later s1 s2 a b no_memory s accepts why = why
 
 -- what stops the first files stops them with others behind them
 pub stopped_first : (s1 s2 : List Reading) (a b : Outside) (s : Status) → IsStopped s1 a b s
@@ -169,9 +169,10 @@ only_same a b same = record {
 }
 
 -- memory ran out
-pub memory_stopped : (readings : List Reading) (a b : Outside) → OnlyReads a b
-    → IsStopped readings a b status.NoMemory
-memory_stopped readings a b only = record { why = tt; words = λ e. cc; memory = refl; only = only }
+pub memory_stopped : (readings : List Reading) (a b : Outside) → b.read_faults ≡ a.read_faults
+    → OnlyReads a b → IsStopped readings a b status.NoMemory
+memory_stopped readings a b peace only =
+    record { why = peace; words = λ e. cc; memory = refl; only = only }
 
 -- reading a file failed
 pub fault_stopped : (name : List ℕ) (refuses : Files → Option Status) (a b : Outside)
@@ -241,7 +242,7 @@ alike_why name r1 r2 a b read_fault s alike why = (
       (λ files fails. alone_fails name r1 r2 files a.read_faults b.read_faults fails) why.1,
 )
 alike_why name r1 r2 a b write_fault s alike why = why
-alike_why name r1 r2 a b no_memory s alike why = tt
+alike_why name r1 r2 a b no_memory s alike why = why
 
 pub alike_stopped : (name : List ℕ) (r1 r2 : Files → Option Status) (a b : Outside) (s : Status)
     → Told a.held (λ files. r2 files ≡ r1 files) → IsStopped (reading name r1 ∷ []) a b s

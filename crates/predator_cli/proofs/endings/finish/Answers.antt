@@ -6,7 +6,8 @@ pub returns-in-Ok : goal.returns-in-Ok
 returns-in-Ok g c = λ demand old worked.
     finish_meets demand old (g.S.Shelf.outside c.args.shelf.now)
     (g.S.Shelf.outside c.print.new.self) c.args.status c.args.text.now
-    c.requires worked c.in-Ok.ensures.only c.in-Ok.ensures.prints
+    c.requires worked c.in-Ok.ensures.only (c.in-Ok.ensures.cause.quiet (search rules))
+    c.in-Ok.ensures.prints
 
 pub returns-in-Err-Failed : goal.returns-in-Err-Failed
 returns-in-Err-Failed g c = λ demand old worked.
@@ -20,4 +21,5 @@ returns g c = λ demand old worked.
     finish_out_of_memory demand old (g.S.Shelf.outside c.args.shelf.now)
     (g.S.Shelf.outside c.print.new.self) c.args.status c.args.text.now
     worked c.in-Err-NoMemory.ensures.only
+    (c.in-Err-NoMemory.ensures.cause.quiet (search rules))
     c.in-Err-NoMemory.ensures.prints

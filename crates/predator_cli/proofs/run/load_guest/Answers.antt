@@ -1,6 +1,6 @@
-use Rattle.std.proofs.Common.{◌≡◌, [], ◌∷◌, Ok}
+use Rattle.std.proofs.Common.{◌≡◌, [], ◌∷◌, Ok, ap}
 use Rattle.command_line.specs.Run.{run_meaning}
-use Rattle.shelf.specs.Shelf.{Told, content}
+use Rattle.shelf.specs.Shelf.{Outside, Told, content}
 use Rattle.command_files.specs.ProgramFiles.{program_reading, program_refusal}
 use Rattle.command_files.specs.Readings.{IsAccepted, IsStopped}
 use Rattle.command_files.specs.SettingsFiles.{chosen_settings, settings_in, settings_readings}
@@ -100,4 +100,5 @@ returns-in-Err-make_guest-clause-stopped g c =
     in
     let a = g.S.Shelf.outside c.args.shelf.now in
     let b = g.S.Shelf.outside c.read_schedule.new.shelf in
-    memory_stopped (run_readings (run_meaning c.args.options.now)) a b (only_same a b all.same)
+    memory_stopped (run_readings (run_meaning c.args.options.now)) a b
+    (ap (λ (o : Outside). o.read_faults) all.same) (only_same a b all.same)
