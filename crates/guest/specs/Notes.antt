@@ -1,4 +1,5 @@
--- The blocks that a guest notes, beside those of its heap: how many were noted, and where they live.
+-- The blocks that a guest notes beside those of its heap: how many were noted, and where they
+-- live.
 use Rattle.std.specs.Prelude.{ℕ, ◌+◌, ◌^◌, Bool, List, []}
 use Rattle.std.specs.Ordering.{nat_cmp}
 use Rattle.std.specs.List.{list_any}

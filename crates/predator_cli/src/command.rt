@@ -65,23 +65,26 @@ fn obey<S: Shelf>(alloc: Global, words: &[String], shelf: &mut S) -> Status
 /// usual ones, with the numbers of `--set` in the place of theirs; they are judged by themselves
 /// first, and then with these numbers.
 ///
-/// `replay` reads a trace of at most 2^44 bytes, counts its accesses in one pass under the settings
-/// and the layout, and prints the report. `check` loads and places a program file of at most
-/// 16 MiB under the settings, and prints its summary. `run` runs a program file under the settings
-/// and a schedule of at most 1 MiB, counts its accesses as they are made, writes its trace and its
-/// output where they are named, and prints the report; its status is `Done`, `Budget`,
-/// `Deadlock` or `Trapped`, as the run ended. `gen` makes a trace of so many accesses under a name,
-/// counts them as they are made under the usual settings, and prints what their lines come to.
-/// `split` cuts a trace in two before one of its accesses, and prints how many accesses each half
-/// has; `convert` writes a trace in the other version, and prints which version that is and how
-/// many accesses there are. Both read a trace of at most 2^44 bytes to its end and judge it, and
-/// write under their names as they read it again. `sweep`, `caches` and `misses` pass over a whole
-/// trace: `sweep` prints what every shift of a line size counts, `caches` how many of each line's
-/// invalidations are left in private caches of a shape, and `misses` what the sharing of each of its
-/// lines costs. `place` reads such a trace three times: for the object that it is asked about, for
-/// who touches its words, and for what the accesses come to with each word at a new place. It prints
-/// these places; its status is `Place` where there is no such object, where it is too large, or
-/// where the addresses have no room for the new places.
+/// `replay` reads a trace of at most 2^44 bytes, counts its accesses in one pass under the
+/// settings and the layout, and prints the report. `check` loads and places a program file of
+/// at most 16 MiB under the settings, and prints its summary. `run` runs a program file under
+/// the settings and a schedule of at most 1 MiB, counts its accesses as they are made, writes
+/// its trace and its output where they are named, and prints the report; its status is `Done`,
+/// `Budget`, `Deadlock` or `Trapped`, as the run ended. `gen` makes a trace of so many accesses
+/// under a name, counts them as they are made under the usual settings, and prints what their
+/// lines come to. `split` cuts a trace in two before one of its accesses, and prints how many
+/// accesses each half has; `convert` writes a trace in the other version, and prints which
+/// version that is and how many accesses there are. Both read a trace of at most 2^44 bytes to
+/// its end and judge it, and write under their names as they read it again. `sweep`, `caches`
+/// and `misses` pass over a whole trace: `sweep` prints what every shift of a line size counts,
+/// `caches` how many of each line's invalidations are left in private caches of a shape, and
+/// `misses` what the sharing of each of its lines costs. `place` reads such a trace three
+/// times: for the object that it is asked about, for who touches its words, and for what the
+/// accesses come to with each word at a new place. It prints these places; its status is
+/// `Place` where there is no such object, where it is too large, or where the addresses have no
+/// room for the new places. `explain` makes the run that `run` makes of the same files, with an
+/// eye on one line, and ends as it does; it writes no file and prints which instructions and
+/// which harts took the line from each other.
 pub fn predator<S: Shelf>(alloc: Global, words: &[String], shelf: &mut S) -> Status
     // Where the held files are told, it ends as the words and the files ask, or by a fault of the
     // outside before which nothing is refused.
@@ -118,12 +121,12 @@ pub fn predator<S: Shelf>(alloc: Global, words: &[String], shelf: &mut S) -> Sta
     // refusal.
     ensures writes { Writes (demand_of (texts words.now))
         (S.outside shelf.old) (S.outside shelf.new) (kind_of result) }
-    // Where a run is done, the replay of the trace that it wrote, under the same settings and with
-    // no layout named, is done and prints the same text. Where a split is done, the replays of its
-    // halves, one behind the other, give what the replay of the whole gives, and so do those of
-    // more parts. Where `explain` is done, and a run of the same program under the same settings and
-    // schedule lists a line with the base, the size and the start that it was asked about, the
-    // count that it prints is the one that is listed.
+    // Where a run is done, the replay of the trace that it wrote, under the same settings and
+    // with no layout named, is done and prints the same text. Where a split is done, the
+    // replays of its halves, one behind the other, give what the replay of the whole gives, and
+    // so do those of more parts. Where `explain` is done, and a run of the same program under
+    // the same settings and schedule lists a line with the base, the size and the start that it
+    // was asked about, the count that it prints is the one that is listed.
     ensures again { Told (S.outside shelf.old).held
         (λ files. WhereDone RepeatsReport (demand_of (texts words.now)) files (kind_of result)) }
     // The run that is asked for makes at most as many steps as its budget has.

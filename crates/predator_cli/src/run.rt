@@ -125,7 +125,8 @@ impl Judge for ScheduleUnder {
 
     ghost refusal = { λ j bytes. schedule_refusal (schedule_under j.settings bytes) };
 
-    ghost gives = { λ j bytes plan. (schedule_under j.settings bytes ≡ Ok plan) × (plan.harts ≡ j.settings.harts) × (plan.quantum ≡ j.settings.quantum) };
+    ghost gives = { λ j bytes plan. (schedule_under j.settings bytes ≡ Ok plan)
+        × (plan.harts ≡ j.settings.harts) × (plan.quantum ≡ j.settings.quantum) };
 
     fn limit(&self) -> u64 {
         1 << 20
