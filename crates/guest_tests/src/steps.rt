@@ -197,6 +197,37 @@ fn a_call_is_no_trap(rt: HostRuntime) -> Result<(), Fail> {
     Ok(())
 }
 
+// addi x3, x0, 1 at BASE, behind it a store by x1 of what x2 holds and a jump back, and the first
+// instruction once more: what x3 is then.
+fn x3_made_again(rt: &impl Abort, alloc: Global, store: u32, x2: u32) -> Result<u32, NoMemory> {
+    let mut memory = memory_of(rt, alloc, &[0x0010_0193, store, 0xff9f_f06f])?;
+    let mut state = HartState::new(BASE, 0, 0, 0);
+    state.set_reg(reg(rt, 1), BASE);
+    state.set_reg(reg(rt, 2), x2);
+    for _ in 0..4 {
+        let end = step_alone(rt, alloc, &mut state, &mut memory)?;
+        assert!(rt; matches!(end, StepEnd::Next(_, _)));
+    }
+    Ok(state.reg(reg(rt, 3)))
+}
+
+const STORES_OVER: [(u32, u32, u32); 5] = [
+    (0x0020_a023, 0x0070_0193, 7), // sw x2, 0(x1), of addi x3, x0, 7
+    (0x0020_9123, 0x0050, 5), // sh x2, 2(x1), of its upper half
+    (0x0020_8123, 0x0020, 2), // sb x2, 2(x1), of its third byte
+    (0x0820_a02f, 0x0060_0193, 6), // amoswap.w x0, x2, (x1)
+    (0x0020_a623, 0x0070_0193, 1), // sw x2, 12(x1), of another word
+];
+
+#[test]
+fn an_instruction_that_is_stored_over_is_the_new_one(rt: HostRuntime) -> Result<(), Fail> {
+    for (store, x2, x3) in &STORES_OVER {
+        let found = x3_made_again(&rt, rt.alloc(), *store, *x2)?;
+        assert!(rt; found == *x3, "{store:08x}");
+    }
+    Ok(())
+}
+
 // Hart 0 does LR at x1, hart 1 the store behind it, and hart 0 the SC behind that: its x3, whether
 // it wrote four bytes, and whether a reservation is left.
 fn reserve_and_store(

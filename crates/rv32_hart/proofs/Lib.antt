@@ -1,5 +1,6 @@
 pub mod Fillings
 pub mod Freshness
+pub mod KeptInstrs
 pub mod LoadedNumbers
 pub mod Mappings
 pub mod Products

@@ -3,6 +3,8 @@ use Rattle.std.proofs.Common.{◌≡◌, ℕ, zero, suc, ◌+◌, ◌-◌, ◌�
 use Rattle.std.proofs.lemmas.Bool.{le-ltb}
 use Rattle.rv32_hart.specs.Bytes.{number_in}
 use Rattle.rv32_hart.specs.Space.{Space, number_at}
+use Rattle.rv32_hart.proofs.Rights.{rightful_at}
+use Rattle.rv32_hart.proofs.Within.{inside, page_by_place}
 
 moved_place : (m : Space) (a : ℕ) → m.base ≤ a → a + 1 - m.base ≡ a - m.base + 1
 moved_place m a above = omega arith
@@ -13,3 +15,6 @@ number_at_place m a zero above = refl
 number_at_place m a (suc n) above =
     rw (le-ltb a m.base above, number_at_place m (a + 1) n (omega arith), moved_place m a above)
     refl
+
+-- what the fetch of a word rests on
+pub ruleset fetching = (number_at_place, inside, page_by_place, rightful_at)

@@ -1,11 +1,10 @@
 -- What a step keeps: all, unless it is to the next instruction, and always the number of harts and
 -- the memory's pages.
-use Rattle.std.specs.Prelude.{◌≡◌, ℕ, zero, suc, ◌+◌, ◌-◌, ◌/◌, ◌%◌, Bool, false, List, Option}
+use Rattle.std.specs.Prelude.{◌≡◌, ℕ, ◌-◌, ◌%◌, Bool, false, List, Option}
 use Rattle.std.specs.Prelude.{Some, None, Result, Ok, Err, length, nat_eq}
 use Rattle.std.specs.Prelude.{if◌then◌else◌, map}
-use Rattle.std.proofs.Common.{refl, subst, sym, true, set, ◌∙◌}
+use Rattle.std.proofs.Common.{refl, subst, sym, true, ◌∙◌}
 use Rattle.std.proofs.lemmas.List.{length-set, length-map}
-use Rattle.rv32_hart.specs.Bytes.{with_number}
 use Rattle.rv32_hart.specs.Space.{Space}
 use Rattle.rv32_hart.specs.Faults.{fetched}
 use Rattle.rv32_hart.specs.Changes.{stored}
@@ -23,6 +22,7 @@ use Rattle.rv32_hart.specs.Effect.{Machine, Outcome, outcome, jumps, branches, h
 use Rattle.rv32_hart.specs.Effect.{after_store, after_lr, after_sc}
 use Rattle.rv32_hart.specs.Effect.{effect, after_decode, after_fetch, stepped, extended}
 use Rattle.rv32_hart.specs.Effect.{LeavesUnlessNext, KeepsPages}
+use Rattle.rv32_hart.proofs.Stores.{length-with_number}
 
 pub record Kept (x : Machine) (o : Outcome) : Type 0 where
   pub left : LeavesUnlessNext x o.end o.machine
@@ -31,13 +31,6 @@ pub record Kept (x : Machine) (o : Outcome) : Type 0 where
 
 same_pages : (m : Space) → KeepsPages m m
 same_pages m = record { base = refl; size = refl; pages = refl }
-
-length-with_number : (bytes : List ℕ) (at n value : ℕ) → length (with_number bytes at n value)
-    ≡ length bytes
-length-with_number bytes at zero value = refl
-length-with_number bytes at (suc n) value = length-with_number (set bytes at (value % 256)) (at + 1)
-    n (value / 256)
-    ∙ length-set bytes at (value % 256)
 
 stored_pages : (m : Space) (a size value : ℕ) → KeepsPages m (stored m a size value)
 stored_pages m a size value =

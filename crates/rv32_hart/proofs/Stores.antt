@@ -27,6 +27,24 @@ put_other bytes at (suc n) value i h =
     put_other (set bytes at (value % 256)) (at + 1) n (value / 256) i later
     ∙ get_or-set_other bytes at i (value % 256) 0 differs
 
+pub length-with_number : (bytes : List ℕ) (at n value : ℕ) → length (with_number bytes at n value)
+    ≡ length bytes
+length-with_number bytes at zero value = refl
+length-with_number bytes at (suc n) value = length-with_number (set bytes at (value % 256)) (at + 1)
+    n (value / 256)
+    ∙ length-set bytes at (value % 256)
+
+-- a memory after a store is one
+pub stored_space : (m : Space) (a size value : ℕ) → IsSpace m → IsSpace (stored m a size value)
+stored_space m a size value space =
+    let long = length-with_number m.bytes (a - m.base) size value in
+    record {
+      aligned = space.aligned;
+      whole = long ∙ space.whole;
+      room = omega (arith, space.room, long);
+      rights = space.rights;
+    }
+
 put_again : (bytes : List ℕ) (at n value : ℕ) → at + n ≤ length bytes
     → number_in (with_number bytes at n value) at n ≡ value % 256 ^ n
 put_again bytes at zero value h = omega arith
@@ -75,6 +93,13 @@ gives_stored m a size value k s e =
     let here = inside m a size k s aligned (not-false _ p.1) in
     rw (p.0, p.1) (ap (λ n. Ok n) (number_at_place (stored m a size value) a size here.0
     ∙ put_again m.bytes (a - m.base) size value here.1))
+
+-- a store is at a multiple of its size
+pub aligned_store : (m : Space) (a size : ℕ) → store_fault m a size ≡ None → a % size ≡ 0
+aligned_store m a size e =
+    let p = passed (not (nat_eq (a % size) 0)) (not (page_at m a).mapped)
+    (not (page_at m a).writable) Misaligned Outside ReadOnly e in
+    eqb-true _ _ (not-false _ p.0)
 
 -- nothing is stored below the base
 pub above_base : (m : Space) (a size : ℕ) → IsSpace m → IsSize size → store_fault m a size ≡ None

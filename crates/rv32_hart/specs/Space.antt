@@ -11,6 +11,9 @@ pub record Space : Type 0 where
   pub bytes : List ℕ
   pub pages : List Page
 
+abbrev pub space : ℕ → List ℕ → List Page → Space
+space base bytes pages = record { base = base; bytes = bytes; pages = pages }
+
 -- a page that is not mapped
 abbrev pub no_page : Page
 no_page = record { mapped = false; writable = false; executable = false }

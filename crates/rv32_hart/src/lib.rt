@@ -13,6 +13,7 @@ mod arithmetic;
 mod bytes;
 mod effects;
 mod hart_state;
+mod kept;
 mod memory;
 mod one_step;
 mod page;

@@ -5,40 +5,46 @@ ghost use Rattle.std.specs.Prelude.{IfSome, IfNone, IfOk, OnOk, OnErr, OnSome, I
 ghost use Rattle.std.specs.Prelude.{Ok, false};
 ghost use Rattle.std.specs.Bool.{OnTrue, OnFalse};
 ghost use Rattle.rv32_hart.specs.Bytes.{IsSize};
-ghost use Rattle.rv32_hart.specs.Space.{IsSpace, IsRange, AllMapped, SomeUnmapped};
+ghost use Rattle.rv32_hart.specs.Space.{IsSpace, IsRange, AllMapped, SomeUnmapped, space};
 ghost use Rattle.rv32_hart.specs.Space.{IsFresh, size_of, page_at, byte_at, bytes_at, no_page};
-ghost use Rattle.rv32_hart.specs.Faults.{load_fault, store_fault, fetch_fault, loaded, fetched};
+ghost use Rattle.rv32_hart.specs.Faults.{load_fault, store_fault, loaded, fetched};
 ghost use Rattle.rv32_hart.specs.Changes.{stored, granted, Maps, Fills};
+ghost use Rattle.rv32_hart.specs.Kept.{instr_at, trap_of};
 
 use crate::bytes::{number_of, put_number};
+use crate::kept::{KeptInstr, PLACES, empty_places, forget_all, forget_word, keeps, place_of};
 use crate::page::{MemFault, Page};
-use base::NoMemory;
+use base::{Cause, NoMemory};
+use rv32_decode::Instr;
 use std::alloc::Global;
 use std::marker::Model;
 
 /// Memory of whole pages of 4096 bytes, from a base on.
 ///
 /// Contracts see its base, its bytes and its pages' rights, mostly as the byte and the rights at
-/// an address.
+/// an address. Decoded instructions are kept, and never told stale: whoever stores to the bytes of
+/// one, the next step there has the new one.
 #[derive(Drop)]
 pub struct Memory {
     base: u32,
     bytes: Vec<u8>,
     pages: Vec<Page>,
+    kept: Vec<KeptInstr>,
 }
 
 impl Model for Memory {
-    ghost use Rattle.rv32_hart.specs.Space.{Space, IsSpace};
+    ghost use Rattle.rv32_hart.specs.Space.{Space};
+    ghost use Rattle.rv32_hart.specs.Kept.{IsKeeping};
 
     ghost Value = { Space };
 
     ghost view = { λ m. record { base = m.base; bytes = m.bytes.items; pages = m.pages.items } };
 
-    ghost invariant = { λ m. IsSpace (record {
+    ghost invariant = { λ m. IsKeeping (record {
       base = m.base;
       bytes = m.bytes.items;
       pages = m.pages.items;
-    }) };
+    }) m.kept.items };
 }
 
 // Making it, and its place.
@@ -55,7 +61,13 @@ impl Memory {
     {
         let bytes = vec![in alloc; 0; size as usize]?;
         let pages = vec![in alloc; Page::NONE; (size / 4096) as usize]?;
-        Ok(Memory { base, bytes, pages })
+        let kept = empty_places(alloc, PLACES)?;
+        Ok(Memory {
+            base,
+            bytes,
+            pages,
+            kept,
+        })
     }
 
     /// The first address, a multiple of 4096.
@@ -100,6 +112,7 @@ impl Memory {
     {
         let from = (at - self.base) as usize;
         self.bytes[from..from + content.len()].copy_from_slice(content);
+        forget_all(&mut self.kept);
     }
 }
 
@@ -128,6 +141,23 @@ fn page_in(pages: &[Page], number: usize) -> Page
     match pages.get(number) {
         Some(page) => *page,
         None => Page::NONE,
+    }
+}
+
+/// The word at `pc`, a multiple of 4, or why it is not fetched.
+#[tactic(auto, using(crate::proofs::LoadedNumbers::fetching))]
+pub(crate) fn word_in(base: u32, bytes: &[u8], pages: &[Page], pc: u32) -> Result<u32, MemFault>
+    requires space { IsSpace (space base bytes.now pages.now) }
+    requires aligned { pc % 4 ≡ 0 }
+    ensures { result ≡ fetched (space base bytes.now pages.now) pc }
+{
+    let page = page_in(pages, (pc.wrapping_sub(base) / 4096) as usize);
+    if page.executable {
+        Ok(number_of(bytes, (pc - base) as usize, 4))
+    } else if page.mapped {
+        Err(MemFault::NotExecutable)
+    } else {
+        Err(MemFault::Outside)
     }
 }
 
@@ -195,20 +225,6 @@ impl Memory {
             None
         } else if page.mapped {
             Some(MemFault::ReadOnly)
-        } else {
-            Some(MemFault::Outside)
-        }
-    }
-
-    fn fetch_fault(&self, addr: u32) -> Option<MemFault>
-        requires { addr % 4 ≡ 0 }
-        ensures { result ≡ fetch_fault self.now addr }
-    {
-        let page = self.page_of(addr);
-        if page.executable {
-            None
-        } else if page.mapped {
-            Some(MemFault::NotExecutable)
         } else {
             Some(MemFault::Outside)
         }
@@ -289,20 +305,34 @@ impl Memory {
         if pc % 4 != 0 {
             return Err(MemFault::Misaligned);
         }
-        self.fetch_word(pc)
+        word_in(self.base, &self.bytes, &self.pages, pc)
     }
 
-    /// What `fetch` answers, for a `pc` that is known to be a multiple of 4.
-    #[tactic(auto, using(crate::proofs::LoadedNumbers::number_at_place))]
-    pub(crate) fn fetch_word(&self, pc: u32) -> Result<u32, MemFault>
+    /// The instruction at `pc`, or the trap of a step there. It is decoded once, until its word is
+    /// stored to, memory is filled, or another instruction takes its place.
+    #[inline(always)]
+    pub(crate) fn instr_at(&mut self, pc: u32) -> Result<Instr, Cause>
         requires { pc % 4 ≡ 0 }
-        ensures { result ≡ fetched self.now pc }
+        ensures instr { result ≡ instr_at self.old pc }
+        ensures unchanged { self.new ≡ self.old }
     {
-        if let Some(fault) = self.fetch_fault(pc) {
-            return Err(fault);
+        if !keeps(self.base, &self.bytes, &self.pages, &mut self.kept, pc) {
+            return Err(self.trap_at(pc));
         }
-        let at = self.place_of(pc, 4);
-        Ok(number_of(&self.bytes, at, 4))
+        let found = self.kept[place_of(pc)];
+        Ok(found.instr)
+    }
+
+    // The trap at a `pc` where no instruction is.
+    #[cold]
+    fn trap_at(&self, pc: u32) -> Cause
+        requires { pc % 4 ≡ 0 }
+        ensures { result ≡ trap_of (fetched self.now pc) }
+    {
+        match self.fetch(pc) {
+            Ok(_) => Cause::Illegal,
+            Err(_) => Cause::FetchOutside,
+        }
     }
 
     /// Stores the low `size` bytes of the value at `addr`, the lowest first; `size` is 1, 2 or 4.
@@ -339,6 +369,8 @@ impl Memory {
         ensures stored { self.new ≡ stored self.old addr size value }
     {
         let at = self.place_of(addr, size);
+        let executable = self.page_of(addr).executable;
+        forget_word(&mut self.kept, addr, executable);
         put_number(&mut self.bytes, at, size, value);
     }
 }

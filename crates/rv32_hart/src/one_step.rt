@@ -12,7 +12,7 @@ use crate::hart_state::HartState;
 use crate::reservations::Reservations;
 use crate::step_end::StepEnd;
 use base::{Cause, Hart};
-use rv32_decode::{Instr, decode};
+use rv32_decode::Instr;
 
 /// One step of a hart: the instruction at its pc is fetched, decoded and has its effect.
 ///
@@ -56,13 +56,9 @@ fn run_step(
     ensures { outcome result (machine state.new memory.new held.new) ≡ stepped hart
         (machine state.old memory.old held.old) }
 {
-    let word = match memory.fetch_word(state.pc()) {
-        Ok(word) => word,
-        Err(_) => return StepEnd::Trap(Cause::FetchOutside),
-    };
-    match decode(word) {
-        Some(instr) => act(hart, instr, state, memory, held),
-        None => StepEnd::Trap(Cause::Illegal),
+    match memory.instr_at(state.pc()) {
+        Ok(instr) => act(hart, instr, state, memory, held),
+        Err(cause) => StepEnd::Trap(cause),
     }
 }
 
