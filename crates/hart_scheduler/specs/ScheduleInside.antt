@@ -27,7 +27,7 @@ plan_in a = record {
   draws = draws_in a.turns;
 }
 
--- before the first turn after the list no hart has turns left, and then the list is used up
+-- before the first turn after the list no hart has turns left; from it on the list is used up
 abbrev pub IsInOrder : Turns → List ℕ → AStreak → Type 0
 IsInOrder (First draws) listed latest = latest.left ≡ 0
 IsInOrder Round listed latest = listed ≡ []

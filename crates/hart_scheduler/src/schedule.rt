@@ -178,7 +178,7 @@ impl Schedule {
         ensures quantum { self.new.quantum ≡ self.old.quantum }
     {
         if self.latest.is_of(hart) {
-            self.latest = self.latest.shorter();
+            self.latest.shorten();
             return;
         }
         // A copy, since a match on the field whose arms call with what it holds isn't proved.

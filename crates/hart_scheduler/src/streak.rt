@@ -73,15 +73,12 @@ impl Streak {
         }
     }
 
-    // The same with one turn less.
+    // Takes one of the turns that are left, in place.
     #[inline(always)]
-    pub(crate) fn shorter(self) -> Streak
-        ensures { result ≡ record { hart = self.hart; left = self.left - 1 } }
+    pub(crate) fn shorten(&mut self)
+        ensures { self.new ≡ record { hart = self.old.hart; left = self.old.left - 1 } }
     {
-        Streak {
-            hart: self.hart,
-            left: self.left.saturating_sub(1),
-        }
+        self.left = self.left.saturating_sub(1);
     }
 
     // A turn of the hart that was chosen. Another one than the last begins with its whole quantum.

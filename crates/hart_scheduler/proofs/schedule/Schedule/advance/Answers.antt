@@ -11,7 +11,7 @@ returns-then-is_of-clause-after c =
     let i = c.self.inside in
     let runnable = c.args.runnable.now in
     let hart = c.args.hart in
-    rw c.shorter-self-inside.ensures
+    rw c.shorten.ensures
     (went_on runnable i.turns i.listed i.latest i.harts i.quantum hart c.self.invariant.order
     (ap (λ (plan : Plan). choice runnable plan) c.self.view_is ∙ c.requires.chosen)
     (sym c.is_of.ensures ∙ c.if-is_of.true)
@@ -21,7 +21,7 @@ returns-then-is_of-clause-after c =
 pub invariant_of-self : goal.invariant_of-self
 invariant_of-self c =
     let i = c.self.inside in
-    rw c.shorter-self-inside.ensures
+    rw c.shorten.ensures
     (record {
       harts = c.self.invariant.harts;
       latest = c.self.invariant.latest;
