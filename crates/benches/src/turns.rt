@@ -1,13 +1,14 @@
 // What a turn of a run costs: `benches turns STEPS HARTS RUNNING QUANTUM SEED` makes so many steps
 // of a guest with so many harts, of which so many run, with so many turns in a row for each, or as
-// numbers say that the seed draws. They do nothing but jump to themselves. It prints how many steps
-// were made. Without words it makes 1,000 steps of 8 harts in turn; the seed 0 draws nothing.
+// numbers say that the seed draws. They do nothing but jump to themselves, so that nothing is seen
+// of a step, and one call makes them all, as it does in a run. It prints how many steps were made.
+// Without words it makes 1,000 steps of 8 harts in turn; the seed 0 draws nothing.
 ghost use Rattle.std.specs.Prelude.{◌≡◌, ◌+◌, ◌*◌, ◌≤◌};
 
 use crate::turn_program::{CODE, program};
 use crate::{Words, number_or};
 use base::NoMemory;
-use guest::{Guest, RunSettings, Turn};
+use guest::{Guest, RunSettings};
 use hart_scheduler::Schedule;
 use program_files::Image;
 use rv32_decode::encode;
@@ -18,15 +19,10 @@ use std::io;
 // Bytes of each stack.
 const STACK: u32 = 4096;
 
-// Makes turns until there are so many, or the run has ended, or memory ran out, and says how many
-// it made.
+// Makes turns until there are so many, or something is seen of one, or the run has ended, or memory
+// ran out, and says how many it made.
 fn run(steps: u64, guest: &mut Guest) -> u64 {
-    for _step in 0..steps {
-        match guest.step() {
-            Ok(Turn::Ran(_)) => {}
-            Ok(Turn::Ended(_)) | Err(NoMemory) => break,
-        }
-    }
+    let _turn = guest.run_on(steps);
     guest.steps()
 }
 

@@ -3,11 +3,12 @@ use Rattle.std.proofs.Common.{◌≡◌, ℕ, zero, suc, ◌+◌, ◌-◌, ◌�
 use Rattle.std.proofs.Common.{arith}
 use Rattle.std.proofs.lemmas.List.{length-append}
 use Rattle.base.specs.declared.ending.Ending.{Ending}
+use Rattle.base.specs.declared.ending.Outcome.{Outcome}
 use Rattle.guest.specs.declared.setup.Setup.{Setup}
 use Rattle.guest.specs.Configs.{Config}
 use Rattle.guest.specs.GuestCalls.{RunEvent, RunTurn, ran, over}
 use Rattle.guest.specs.Turns.{turn_of}
-use Rattle.guest.specs.Runs.{Run, led_by, last_turn, followed, run_for}
+use Rattle.guest.specs.Runs.{Run, ended_run, ending_with, led_by, last_turn, followed, run_for}
 use Rattle.guest.specs.Runs.{run_of, touch_in, touches_of, rest_with}
 use Rattle.guest.specs.Runs.{IsShort}
 use Rattle.guest.proofs.TurnsCounted.{Step, Counted, turn_one}
@@ -23,6 +24,15 @@ run_ran s c e d h within =
     let one : Step s c e d = rw h at (turn_one s c within) in
     let left : s.budget - c.steps ≡ suc (s.budget - d.steps) = omega arith in
     rw left (for-ran s (s.budget - d.steps) c e d h)
+
+for-over : (s : Setup) (n : ℕ) (c : Config) (o : Outcome) (d : Config) → turn_of s c ≡ over o d
+    → run_for s n c ≡ ended_run (ending_with o d)
+for-over s zero c o d h = rw h refl
+for-over s (suc n) c o d h = rw h refl
+
+pub run_over : (s : Setup) (c : Config) (o : Outcome) (d : Config) → turn_of s c ≡ over o d
+    → run_of s c ≡ ended_run (ending_with o d)
+run_over s c o d h = for-over s (s.budget - c.steps) c o d h
 
 -- what is left of a run, which goes on or has ended, begins with the turn that it makes
 pub rest_ran : (s : Setup) (c : Config) (o : Option Ending) (e : RunEvent) (d : Config) → o ≡ None

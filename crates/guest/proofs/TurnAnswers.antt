@@ -13,6 +13,10 @@ pub on_ok-if : {A E : Type 0} (r : Result A E) (P : A → Type 0) (Q : Type 0) �
 on_ok-if (Ok a) P Q go h = go a h
 on_ok-if (Err e) P Q go h = tt
 
+pub on_err-map : {A E : Type 0} (r : Result A E) (P Q : Type 0) → (P → Q) → OnErr r P → OnErr r Q
+on_err-map (Ok a) P Q go h = tt
+on_err-map (Err e) P Q go h = go h
+
 -- it fits after a step that was made, and after one that was refused
 pub fits-either : {A E : Type 0} (r : Result A E) (h : ℕ) (c d : Config)
     → OnOk r ((n : ℕ) → Fits n c → Fits n d) → OnErr r (d ≡ c)

@@ -17,14 +17,14 @@ pub record Made (s : Setup) (c : Config) (t : Turn) (d : Config) : Type 0 where
   pub accesses : d.accesses ≤ d.steps
   pub steps : d.steps ≤ s.budget
 
-touches-seen : (m : Space) (e : Event) → length (touch_in (seen m e)) ≡ accesses_in e
+pub touches-seen : (m : Space) (e : Event) → length (touch_in (seen m e)) ≡ accesses_in e
 touches-seen m Quiet = refl
 touches-seen m (Touch a pc) = refl
 touches-seen m (Alloc addr size sites) = refl
 touches-seen m (Free addr) = refl
 touches-seen m (Output addr len) = refl
 
-at-most-one : (e : Event) → accesses_in e ≤ 1
+pub at-most-one : (e : Event) → accesses_in e ≤ 1
 at-most-one Quiet = omega arith
 at-most-one (Touch a pc) = omega arith
 at-most-one (Alloc addr size sites) = omega arith

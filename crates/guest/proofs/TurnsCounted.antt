@@ -44,6 +44,7 @@ pub record End (s : Setup) (c d : Config) : Type 0 where
   pub accesses : d.accesses ≡ c.accesses
   pub memory : d.memory ≡ c.memory
   pub least : c.steps ≤ d.steps
+  pub most : d.steps ≤ c.steps + 1
 
 abbrev pub Counted : Setup → Config → RunTurn → Type 0
 Counted s c (ran e d) = Step s c e d
@@ -199,7 +200,13 @@ call_one hart s c room =
     either (nat_eq number 64) s c _ _ (write_one hart s c room)
     (either (nat_eq number 93) s c _ _ (exit_one hart s c room)
     (either (nat_eq number 94) s c _ _
-    (record { steps = omega arith; accesses = refl; memory = refl; least = omega arith })
+    (record {
+      steps = omega arith;
+      accesses = refl;
+      memory = refl;
+      least = omega arith;
+      most = omega arith;
+    })
     (either (nat_eq number 1024) s c _ _ (alloc_one hart s c room)
     (either (nat_eq number 1025) s c _ _ (free_one hart s c room)
     (either (nat_eq number 1026) s c _ _ (spawn_one hart s c room)
@@ -230,6 +237,7 @@ moved_to s c (over o x) h = record {
   memory =
       h.memory;
   least = h.least;
+  most = h.most;
 }
 
 step_one : (hart : ℕ) (s : Setup) (c : Config) (e : StepEnd) (x : Machine) → c.steps < s.budget
@@ -238,7 +246,13 @@ step_one hart s c (Next i a) x room = made_one (state_of c hart).pc a s c
     (noted hart i (state_of c hart).pc (with_machine hart x c)) room refl refl
 step_one hart s c Call x room = call_one hart s c room
 step_one hart s c (Trap cause) x room =
-    record { steps = omega arith; accesses = refl; memory = refl; least = omega arith }
+    record {
+      steps = omega arith;
+      accesses = refl;
+      memory = refl;
+      least = omega arith;
+      most = omega arith;
+    }
 
 with_one : (s : Setup) (c : Config) (o : Option ℕ) → c.steps ≤ s.budget
     → Counted s c (turn_with s c o)
@@ -248,6 +262,7 @@ with_one s c None within = record {
   memory = refl;
   least =
       omega arith;
+  most = omega arith;
 }
 with_one s c (Some hart) within =
     let x = stepped hart (machine_of hart (chosen c)) in
@@ -261,6 +276,7 @@ with_one s c (Some hart) within =
         memory = refl;
         least =
             omega arith;
+        most = omega arith;
       })
     ]
 
@@ -272,6 +288,7 @@ unless_one s c (Some code) within = record {
   memory = refl;
   least =
       omega arith;
+  most = omega arith;
 }
 unless_one s c None within = with_one s c (choice (runnable_in c) c.plan) within
 

@@ -1,6 +1,6 @@
 -- Whole runs.
 use Rattle.std.specs.Prelude.{◌≡◌, ℕ, zero, suc, ◌-◌, ◌≤◌, List, [], ◌∷◌, ◌++◌, length, Option}
-use Rattle.std.specs.Prelude.{None, Some}
+use Rattle.std.specs.Prelude.{None, Some, replicate}
 use Rattle.base.specs.Touch.{Touch}
 use Rattle.base.specs.declared.ending.Ending.{Ending}
 use Rattle.base.specs.declared.ending.Outcome.{Outcome}
@@ -18,6 +18,10 @@ pub record Run : Type 0 where
 -- a run with a step in front
 abbrev pub led_by : RunEvent → Run → Run
 led_by e r = record r { events = e ∷ r.events }
+
+-- a run with so many steps in front of which nothing is seen
+abbrev pub led_quietly : ℕ → Run → Run
+led_quietly n r = record r { events = replicate n quiet ++ r.events }
 
 -- the end at a configuration, with what was counted so far
 abbrev pub ending_with : Outcome → Config → Ending

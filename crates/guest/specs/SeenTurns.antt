@@ -9,8 +9,10 @@ use Rattle.guest.specs.declared.turn.Event.{Event}
 use Rattle.guest.specs.declared.turn.Event.TheVariants.{Quiet, Touch, Alloc, Free, Output}
 use Rattle.guest.specs.declared.turn.Turn.{Turn}
 use Rattle.guest.specs.declared.turn.Turn.TheVariants.{Ran, Ended}
+use Rattle.guest.specs.declared.setup.Setup.{Setup}
 use Rattle.guest.specs.Configs.{Config}
 use Rattle.guest.specs.GuestCalls.{RunEvent, quiet, touch, alloc, free, output, RunTurn, ran, over}
+use Rattle.guest.specs.Turns.{AreQuiet, turn_of}
 use Rattle.guest.specs.Runs.{Run, ending_with, led_by, ended_run, Progress, rest_of}
 
 -- what is seen of a step that leaves this memory
@@ -47,6 +49,24 @@ accesses_in (Output addr len) = 0
 abbrev pub Counts : Config → Turn → Config → Type 0
 Counts old (Ran e) new = (new.steps ≡ old.steps + 1) × (new.accesses ≡ old.accesses + accesses_in e)
 Counts old (Ended o) new = new.memory ≡ old.memory
+
+-- some steps of which nothing is seen, none of them at so many steps or more
+pub record HasPassed (s : Setup) (until : ℕ) (c d : Config) : Type 0 where
+  pub quiet : ℕ
+  pub passed : AreQuiet s quiet c d
+  pub early : c.steps < until → d.steps < until
+
+-- some steps of which nothing is seen, and then a turn with this answer
+pub record ComesTo (s : Setup) (c : Config) (turn : Turn) (d : Config) : Type 0 where
+  pub quiet : ℕ
+  pub before : Config
+  pub passed : AreQuiet s quiet c before
+  pub made : turn_seen turn d ≡ turn_of s before
+
+-- the steps are counted, and the access of the last
+abbrev pub CountsOn : Config → Turn → Config → Type 0
+CountsOn old (Ran e) new = (old.steps < new.steps) × (new.accesses ≡ old.accesses + accesses_in e)
+CountsOn old (Ended o) new = (old.steps ≤ new.steps) × (new.accesses ≡ old.accesses)
 
 -- there are never more accesses than steps, nor more steps than the run may take
 pub record IsWithin (p : Progress) : Type 0 where

@@ -1,13 +1,15 @@
 // One turn of a configuration.
-ghost use Rattle.std.specs.Prelude.{◌≡◌, ℕ, ◌+◌, ◌<◌, ◌^◌, ◌≤◌, length};
-ghost use Rattle.std.specs.Prelude.{IfOk, IsOk, OnOk, OnErr, IsFalse};
+ghost use Rattle.std.specs.Prelude.{◌≡◌, ◌↔◌, ℕ, ◌+◌, ◌<◌, ◌^◌, ◌≤◌, length};
+ghost use Rattle.std.specs.Prelude.{IfOk, IfErr, IsOk, OnOk, OnErr, IsFalse, IsTrue, Ok, None};
 ghost use Rattle.std.specs.Option.{option_map_or};
 ghost use Rattle.guest.specs.ThreadCalls.{finished_code};
-ghost use Rattle.guest.specs.Configs.{CanStep, Fits, counted, noted};
+ghost use Rattle.guest.specs.Configs.{CanStep, Config, Fits, counted, noted};
+ghost use Rattle.guest.specs.GuestCalls.{over, quiet, ran};
 ghost use Rattle.guest.specs.Runs.{ending_with};
-ghost use Rattle.guest.specs.Turns.{IsNext, chosen, hart_turn, made, makes_block, turn_of};
+ghost use Rattle.guest.specs.Turns.{IsNext, chosen, hart_turn, made, makes_block};
+ghost use Rattle.guest.specs.Turns.{turn_of};
 ghost use Rattle.guest.specs.ConfigInside.{config_of};
-ghost use Rattle.guest.specs.SeenTurns.{IsEndOf, IsSeen, turn_seen};
+ghost use Rattle.guest.specs.SeenTurns.{HasPassed, IsEndOf, IsSeen, turn_seen};
 
 use crate::configuration::Configuration;
 use crate::setup::Setup;
@@ -15,6 +17,14 @@ use crate::turn::{Event, Turn};
 use base::{Access, Ending, Hart, NoMemory, Outcome};
 use rv32_decode::Instr;
 use rv32_hart::{StepEnd, step};
+
+// Whether nothing is seen of a turn.
+#[inline(always)]
+fn is_quiet(answer: &Result<Turn, NoMemory>) -> bool
+    ensures { IsTrue result ↔ (answer.now ≡ Ok (Turn.Ran Event.Quiet)) }
+{
+    matches!(answer, Ok(Turn::Ran(Event::Quiet)))
+}
 
 impl Configuration {
     /// The end of the run, with what was counted so far.
@@ -38,6 +48,21 @@ impl Configuration {
     {
         self.take_turn(hart);
         self.steps += 1;
+    }
+
+    // A step that made an instruction without an access.
+    #[inline(always)]
+    fn pass_over(&mut self, hart: Hart, instr: Instr, pc: u32)
+        requires ready { CanStep hart (config_of self.old) }
+        requires plan { self.old.schedule.harts ≡ length self.old.threads }
+        requires next { IsNext hart (config_of self.old) }
+        ensures turn { ran quiet (config_of self.new) ≡ made pc None
+            (noted hart instr pc (chosen (config_of self.old))) }
+        ensures fits { (harts : ℕ) → Fits harts (config_of self.old)
+            → Fits harts (config_of self.new) }
+    {
+        self.note_call(hart, instr, pc);
+        self.count_step(hart);
     }
 
     // A step that made an instruction, with its access. A step without one has code of its own, in
@@ -112,6 +137,32 @@ impl Configuration {
         }
     }
 
+    // The hart whose step the turn is, or the end of the run.
+    #[inline(always)]
+    fn judged(&self, setup: &Setup) -> Result<Hart, Outcome>
+        requires fits { Fits setup.now.harts (config_of self.now) }
+        ensures ready { IfOk result (λ hart. CanStep hart (config_of self.now)) }
+        ensures next { IfOk result (λ hart. IsNext hart (config_of self.now)) }
+        ensures turn { IfOk result
+            (λ hart. hart_turn setup.now hart (chosen (config_of self.now)) ≡ turn_of setup.now
+            (config_of self.now)) }
+        ensures over { IfErr result
+            (λ outcome. over outcome (config_of self.now) ≡ turn_of setup.now
+            (config_of self.now)) }
+        ensures end { IfErr result (IsEndOf setup.now.harts) }
+    {
+        match self.next_hart() {
+            None => Err(self.rest()),
+            Some(hart) => {
+                if self.steps < setup.budget {
+                    Ok(hart)
+                } else {
+                    Err(Outcome::Budget)
+                }
+            }
+        }
+    }
+
     /// One turn: the end of the run, or the step of the hart that the schedule chooses.
     #[inline]
     pub fn turn(&mut self, setup: &Setup) -> Result<Turn, NoMemory>
@@ -125,13 +176,57 @@ impl Configuration {
         ensures settled { IsFalse (makes_block (turn_of setup.now (config_of self.old)))
             → IsOk result }
     {
-        match self.next_hart() {
-            None => Ok(Turn::Ended(self.rest())),
-            Some(hart) => {
-                if self.steps < setup.budget {
-                    self.run(setup, hart)
-                } else {
-                    Ok(Turn::Ended(Outcome::Budget))
+        match self.judged(setup) {
+            Ok(hart) => self.run(setup, hart),
+            Err(outcome) => Ok(Turn::Ended(outcome)),
+        }
+    }
+
+    /// Turns until something is seen of one, or a step of which nothing is seen is the last of so
+    /// many.
+    ///
+    /// Such a step makes no answer: it has a way of its own through the loop.
+    pub fn run_on(&mut self, setup: &Setup, until: u64) -> Result<Turn, NoMemory>
+        requires fits { Fits setup.now.harts (config_of self.old) }
+        requires steps { self.old.steps ≤ setup.now.budget }
+        requires accesses { self.old.accesses ≤ self.old.steps }
+        ensures turn { IfOk result (λ turn. (x : Config)
+            × HasPassed setup.now until (config_of self.old) x
+            × (turn_seen turn (config_of self.new) ≡ turn_of setup.now x)) }
+        ensures fits { Fits setup.now.harts (config_of self.new) }
+        ensures seen { IfOk result (λ turn. IsSeen setup.now.harts turn (config_of self.new)) }
+        ensures passed { OnErr result
+            (HasPassed setup.now until (config_of self.old) (config_of self.new)) }
+        ensures settled { OnErr result
+            (IsTrue (makes_block (turn_of setup.now (config_of self.new)))) }
+        ensures paused { result ≡ Ok (Turn.Ran Event.Quiet) → until ≤ self.new.steps }
+    {
+        'turns: loop {
+            let hart = match self.judged(setup) {
+                Ok(hart) => hart,
+                Err(outcome) => return Ok(Turn::Ended(outcome)),
+            };
+            let pc = self.pc(hart);
+            let state = &mut self.states[usize::from(hart.number())];
+            match step(hart, state, &mut self.memory, &mut self.held) {
+                StepEnd::Next(instr, None) => {
+                    self.pass_over(hart, instr, pc);
+                    if self.steps >= until {
+                        return Ok(Turn::Ran(Event::Quiet));
+                    }
+                }
+                StepEnd::Next(instr, Some(access)) => {
+                    return Ok(self.go_on(hart, instr, pc, Some(access)));
+                }
+                StepEnd::Call => {
+                    let answer = self.call(setup, hart);
+                    if !is_quiet(&answer) || self.steps >= until {
+                        return answer;
+                    }
+                }
+                StepEnd::Trap(cause) => {
+                    self.take_turn(hart);
+                    return Ok(Turn::Ended(Outcome::Trap(hart, pc, cause)));
                 }
             }
         }

@@ -1,6 +1,6 @@
 -- A run, as far as it is recorded.
 use Rattle.std.proofs.Common.{◌≡◌, ℕ, ◌≤◌, ◌<◌, ◌+◌, ◌^◌, List, [], ◌∷◌, ◌++◌, length, refl, sym}
-use Rattle.std.proofs.Common.{ap, ◌∙◌, subst, append_assoc, arith}
+use Rattle.std.proofs.Common.{ap, ◌∙◌, subst, append_assoc, replicate, arith}
 use Rattle.std.specs.List.{All}
 use Rattle.std.proofs.lemmas.List.{append-nil, length-append}
 use Rattle.std.proofs.lemmas.List.Elements.{All-append, All-nil}
@@ -19,7 +19,7 @@ use Rattle.guest.specs.GuestCalls.{RunEvent, quiet, touch, alloc, free, output}
 use Rattle.guest.specs.Configs.{Config}
 use Rattle.guest.specs.SeenTurns.{accesses_in, seen}
 use Rattle.guest.specs.Runs.{Run, Progress, rest_of, led_by, ended_run, touch_in, touches_in}
-use Rattle.guest.specs.Runs.{bytes_in, output_in}
+use Rattle.guest.specs.Runs.{bytes_in, led_quietly, output_in}
 use Rattle.guest.specs.declared.turn.Event.{Event}
 use Rattle.guest.specs.declared.turn.Event.TheVariants.{Quiet, Touch as Touched, Alloc, Free}
 use Rattle.guest.specs.declared.turn.Event.TheVariants.{Output}
@@ -29,6 +29,7 @@ use Rattle.run_recorder.specs.Recording.{AreCutAfter, AreNoted, HasStarted, led_
 use Rattle.run_recorder.proofs.Events.{cut_whole}
 use Rattle.run_recorder.proofs.Records.{output-append, output-more, records-append, records-more}
 use Rattle.run_recorder.proofs.Records.{touches-append, touches-among, touches-in}
+use Rattle.run_recorder.proofs.Records.{output-silent, records-silent, touches-silent}
 
 -- an observer that was given some records was given these too
 abbrev pub IsGivenOn : {A : Type 0} → (A → A → List TraceRecord → Type 0) → A → A → List TraceRecord
@@ -39,7 +40,7 @@ IsGivenOn {A} given first now more = (begun : A) (earlier : List TraceRecord)
 
 -- the run from the start is what was seen, all of which is noted, and then the rest
 pub record Follows {A : Type 0} (given : A → A → List TraceRecord → Type 0) (start guest : Progress)
-    (first now : A)
+    (rest : Run) (first now : A)
     (files : List RunFile) (one two : List Waiting) (old new : Outside) : Type 0 where
   pub events : List RunEvent
   pub given_on : IsGivenOn given first now (records_in events)
@@ -48,7 +49,7 @@ pub record Follows {A : Type 0} (given : A → A → List TraceRecord → Type 0
       → AreNoted start.setup.harts earlier [] files one before old
       → AreNoted start.setup.harts (earlier ++ records_in events)
       (output_in events) files two before new
-  pub goes : rest_of start ≡ led_with events (rest_of guest)
+  pub goes : rest_of start ≡ led_with events rest
   pub setup : guest.setup ≡ start.setup
   pub early : length (touches_in events) ≤ guest.config.accesses
   pub count : length two ≡ length one
@@ -56,17 +57,17 @@ pub record Follows {A : Type 0} (given : A → A → List TraceRecord → Type 0
 
 -- what a shelf hears changes nothing outside
 pub shown : {A : Type 0} {given : A → A → List TraceRecord → Type 0} {start guest : Progress}
-    {first now : A} {files : List RunFile}
+    {rest : Run} {first now : A} {files : List RunFile}
     {one two : List Waiting} {old new later : Outside}
-    → Follows given start guest first now files one two old new → later ≡ new
-    → Follows given start guest first now files one two old later
-shown {A} {given} {start} {guest} {first} {now} {files} {one} {two} {old} on same =
-    subst (Follows given start guest first now files one two old) (sym same) on
+    → Follows given start guest rest first now files one two old new → later ≡ new
+    → Follows given start guest rest first now files one two old later
+shown {A} {given} {start} {guest} {rest} {first} {now} {files} {one} {two} {old} on same =
+    subst (Follows given start guest rest first now files one two old) (sym same) on
 
 pub follows_start : {A : Type 0} (given : A → A → List TraceRecord → Type 0) (start : Progress)
     (first : A) (files : List RunFile)
     (one : List Waiting) (outside : Outside) → AreBegun (waiting_names one) outside
-    → Follows given start start first first files one one outside outside
+    → Follows given start start (rest_of start) first first files one one outside outside
 follows_start given start first files one outside begun = record {
   events = [];
   given_on = λ b earlier so. subst (given b first) (sym (append-nil earlier)) so;
@@ -80,6 +81,39 @@ follows_start given start first files one outside begun = record {
   count = refl;
   begun = begun;
 }
+
+-- steps of which nothing is seen leave all that is noted
+pub follows_quietly : {A : Type 0} {given : A → A → List TraceRecord → Type 0}
+    {start guest : Progress} {whole : Run} (rest : Run) {first now : A} {files : List RunFile}
+    {one two : List Waiting} {old new : Outside}
+    → Follows given start guest whole first now files one two old new
+    → (n : ℕ) × (whole ≡ led_quietly n rest)
+    → Follows given start guest rest first now files one two old new
+follows_quietly {A} {given} {start} {guest} {whole} rest {first} {now} {files} {one} {two} {old}
+    {new} x (n, silent) =
+    let events : List RunEvent = x.events ++ replicate n quiet in
+    let records : records_in events ≡ records_in x.events = records-silent x.events n in
+    let puts : output_in events ≡ output_in x.events = output-silent x.events n in
+    record {
+      events = events;
+      given_on = subst (IsGivenOn given first now) (sym records) x.given_on;
+      good = subst (All (IsGoodRecord start.setup.harts)) (sym records) x.good;
+      noted = λ earlier before on.
+          subst (λ (l : List TraceRecord). AreNoted start.setup.harts (earlier ++ l)
+          (output_in events) files two before new)
+          (sym records)
+          (subst (λ (l : List ℕ). AreNoted start.setup.harts (earlier ++ records_in x.events) l
+          files two before new)
+          (sym puts) (x.noted earlier before on));
+      goes = x.goes ∙ ap (led_with x.events) silent
+          ∙ ap (λ (l : List RunEvent).
+          let r : Run = record { events = l; ending = rest.ending } in r)
+          (sym (append_assoc x.events (replicate n quiet) rest.events));
+      setup = x.setup;
+      early = rw (touches-silent x.events n) x.early;
+      count = x.count;
+      begun = x.begun;
+    }
 
 touches-seen : (d : Config) (e : Event) → length (touch_in (seen d.memory e)) ≡ accesses_in e
 touches-seen d Quiet = refl

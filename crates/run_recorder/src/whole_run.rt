@@ -1,6 +1,6 @@
 // A whole run, recorded.
-ghost use Rattle.std.specs.Prelude.{◌≡◌, ◌≤◌, ◌^◌, ◌++◌, ◌∷◌, [], List, ℕ, IfOk, IfErr, OnOk};
-ghost use Rattle.std.specs.Prelude.{length};
+ghost use Rattle.std.specs.Prelude.{◌≡◌, ◌+◌, ◌*◌, ◌/◌, ◌≤◌, ◌^◌, ◌++◌, ◌∷◌, [], List, ℕ, IfOk, IfErr};
+ghost use Rattle.std.specs.Prelude.{OnOk, length};
 ghost use Rattle.std.specs.List.{All};
 ghost use Rattle.shelf.specs.Shelf.{Outside};
 ghost use Rattle.shelf.specs.Files.{AreCut, AreWritten};
@@ -62,6 +62,14 @@ fn note_symbols<S: Shelf, O: Observer>(
 
 // After how many steps the shelf hears of them again.
 const STRIDE: u64 = 1 << 20;
+
+// The number of steps at which the shelf hears of them next.
+fn next_shown(made: u64) -> u64
+    requires { made ≤ 2 ^ 36 }
+    ensures { result ≡ (made / 2 ^ 20 + 1) * 2 ^ 20 }
+{
+    (made / STRIDE + 1) * STRIDE
+}
 
 // Lets the shelf hear now and then how many steps are made.
 #[inline(always)]
@@ -128,7 +136,7 @@ fn follow<S: Shelf, O: Observer>(
 {
     show_steps(shelf, guest);
     'turns: loop {
-        match guest.step() {
+        match guest.run_on(next_shown(guest.steps())) {
             Ok(Turn::Ran(event)) => match note_event(
                 shelf, files, outputs, observer, guest, event,
             ) {

@@ -1,18 +1,18 @@
 use Rattle.std.proofs.Common.{◌≡◌, ◌<◌, ◌+◌, ◌^◌, ◌∙◌, ◌++◌, ◌∷◌, [], ℕ, List, length, ap, sym}
-use Rattle.std.proofs.Common.{subst, arith}
+use Rattle.std.proofs.Common.{refl, subst, arith}
 use Rattle.std.specs.List.{All}
 use Rattle.base.specs.declared.ending.Ending.{Ending}
 use Rattle.guest.specs.GuestCalls.{RunEvent}
 use Rattle.guest.specs.SeenTurns.{IsWithin, accesses_in, seen}
-use Rattle.guest.specs.Runs.{ended_run, ending_with, output_in, rest_of, touches_in}
+use Rattle.guest.specs.Runs.{ended_run, ending_with, led_by, output_in, rest_of, touches_in}
 use Rattle.guest.specs.declared.setup.Setup.{Setup}
 use Rattle.shelf.specs.declared.shelf.ShelfError.TheVariants.{NoMemory}
 use Rattle.shelf.specs.Laws.Files.{IsOutputs-cut}
 use Rattle.trace_format.specs.Rules.{IsGoodRecord}
 use Rattle.run_recorder.specs.Recorded.{outputs_of, record_in, records_in}
 use Rattle.run_recorder.specs.Recording.{AreNoted, bytes_so_far, bytes_told, records_told}
-use Rattle.run_recorder.proofs.Following.{IsGivenOn, all_seen, cut_event, cut_seen, follows_start}
-use Rattle.run_recorder.proofs.Following.{given_more, good_more, more_early}
+use Rattle.run_recorder.proofs.Following.{IsGivenOn, all_seen, cut_event, cut_seen, follows_quietly}
+use Rattle.run_recorder.proofs.Following.{follows_start, given_more, good_more, more_early}
 use Rattle.run_recorder.proofs.Following.{noted_event, room_for_event, seen_longer, shown}
 use Rattle.run_recorder.proofs.Records.{records-more}
 use Rattle.run_recorder.proofs.whole_run.follow.Goals as goal
@@ -26,13 +26,14 @@ turns-init g c =
 pub note_event-requires-clause-room : goal.note_event-requires-clause-room
 unfolding records_told bytes_told
 note_event-requires-clause-room g c =
-    let x = c.turns.invariant in
-    let after = c.step.new.self in
+    let after = c.run_on.new.self in
     let e : RunEvent = seen after.config.memory c.in-Ok-Ran.event in
+    let x = follows_quietly (led_by e (rest_of after)) c.turns.invariant
+    (rw c.in-Ok-Ran.field-0-is at c.in-Ok-Ran.ensures.run) in
     let counts : after.config.accesses ≡ c.turns.guest.config.accesses + accesses_in
     c.in-Ok-Ran.event =
     (rw c.in-Ok-Ran.field-0-is at c.in-Ok-Ran.ensures.counts).1 in
-    let within : IsWithin after = c.step.ensures.within in
+    let within : IsWithin after = c.run_on.ensures.within in
     let budget : after.setup.budget ≡ c.args.guest.now.setup.budget = ap (λ (s : Setup). s.budget)
     (c.in-Ok-Ran.ensures.setup ∙ x.setup) in
     let few : length (touches_in x.events) < 2 ^ 40 =
@@ -43,10 +44,11 @@ note_event-requires-clause-room g c =
 pub turns-preserved : goal.turns-preserved
 unfolding records_told bytes_told
 turns-preserved g c =
-    let x = c.turns.invariant in
-    let after = c.step.new.self in
+    let after = c.run_on.new.self in
     let given = g.O.Observer.given in
     let e : RunEvent = seen after.config.memory c.in-Ok-Ran.event in
+    let x = follows_quietly (led_by e (rest_of after)) c.turns.invariant
+    (rw c.in-Ok-Ran.field-0-is at c.in-Ok-Ran.ensures.run) in
     let setup : after.setup ≡ c.args.guest.now.setup = c.in-Ok-Ran.ensures.setup ∙ x.setup in
     let harts : after.setup.harts ≡ c.args.guest.now.setup.harts =
     ap (λ (s : Setup). s.harts) setup in
@@ -66,9 +68,8 @@ turns-preserved g c =
           (c.in-Ok.ensures.noted c.args.guest.now.setup.harts (earlier ++ records_in x.events)
           (output_in x.events) before
           (x.noted earlier before on));
-      goes = seen_longer x.events e (rest_of c.args.guest.now) (rest_of c.turns.guest)
-          (rest_of after) x.goes
-          (rw c.in-Ok-Ran.field-0-is at c.in-Ok-Ran.ensures.run);
+      goes = seen_longer x.events e (rest_of c.args.guest.now) (led_by e (rest_of after)) (rest_of after)
+          x.goes refl;
       setup = setup;
       early = more_early x.events after.config c.in-Ok-Ran.event c.turns.guest.config.accesses
           after.config.accesses x.early
@@ -81,17 +82,17 @@ turns-preserved g c =
 pub returns-in-Err-note_event-clause-cut : goal.returns-in-Err-note_event-clause-cut
 unfolding records_told bytes_told
 returns-in-Err-note_event-clause-cut g c = λ earlier before on.
-    let x = c.turns.invariant in
-    let after = c.step.new.self in
+    let after = c.run_on.new.self in
     let harts = c.args.guest.now.setup.harts in
     let new = g.S.Shelf.outside c.note_event.new.shelf in
     let e : RunEvent = seen after.config.memory c.in-Ok-Ran.event in
+    let x = follows_quietly (led_by e (rest_of after)) c.turns.invariant
+    (rw c.in-Ok-Ran.field-0-is at c.in-Ok-Ran.ensures.run) in
     cut_seen harts earlier c.args.files.now (x.events ++ e ∷ []) (rest_of c.args.guest.now)
     (rest_of after) before new
     c.in-Err-note_event.error
-    (seen_longer x.events e (rest_of c.args.guest.now) (rest_of c.turns.guest)
-    (rest_of after) x.goes
-    (rw c.in-Ok-Ran.field-0-is at c.in-Ok-Ran.ensures.run))
+    (seen_longer x.events e (rest_of c.args.guest.now) (led_by e (rest_of after)) (rest_of after)
+    x.goes refl)
     (cut_event harts c.args.files.now before new c.in-Err-note_event.error earlier x.events e
     (c.in-Err-note_event.ensures.cut harts (earlier ++ records_in x.events)
     (output_in x.events) before
@@ -99,13 +100,12 @@ returns-in-Err-note_event-clause-cut g c = λ earlier before on.
 
 pub returns-in-Ok-Ended-clause-noted : goal.returns-in-Ok-Ended-clause-noted
 returns-in-Ok-Ended-clause-noted g c = λ earlier before on.
-    let x = c.turns.invariant in
-    let end : Ending = ending_with c.in-Ok-Ended.outcome c.step.new.self.config in
-    let ends : rest_of c.turns.guest ≡ ended_run end =
-    rw c.in-Ok-Ended.field-0-is at c.in-Ok-Ended.ensures.run in
+    let end : Ending = ending_with c.in-Ok-Ended.outcome c.run_on.new.self.config in
+    let x = follows_quietly (ended_run end) c.turns.invariant
+    (rw c.in-Ok-Ended.field-0-is at c.in-Ok-Ended.ensures.run) in
     let same : (rest_of c.args.guest.now).events ≡ x.events = all_seen x.events
-    (rest_of c.args.guest.now) (rest_of c.turns.guest) end
-    x.goes ends in
+    (rest_of c.args.guest.now) (ended_run end) end
+    x.goes refl in
     subst (λ (l : List RunEvent). AreNoted c.args.guest.now.setup.harts (earlier ++ records_in l)
     (output_in l) c.args.files.now
     c.turns.outputs before
@@ -124,3 +124,25 @@ returns-in-Err-clause-cut g c = λ earlier before on.
     (IsOutputs-cut c.turns.outputs (outputs_of files
     (bytes_so_far harts (earlier ++ records_in x.events) (output_in x.events))) before
     now NoMemory (λ same. cc) (x.noted earlier before (rw c.show_steps.ensures on)))
+
+pub returns-in-Ok-Ended-clause-given : goal.returns-in-Ok-Ended-clause-given
+returns-in-Ok-Ended-clause-given g c =
+    let end : Ending = ending_with c.in-Ok-Ended.outcome c.run_on.new.self.config in
+    let x = follows_quietly (ended_run end) c.turns.invariant
+    (rw c.in-Ok-Ended.field-0-is at c.in-Ok-Ended.ensures.run) in
+    let same : (rest_of c.args.guest.now).events ≡ x.events = all_seen x.events
+    (rest_of c.args.guest.now) (ended_run end) end
+    x.goes refl in
+    subst (λ (l : List RunEvent). IsGivenOn g.O.Observer.given c.args.observer.now
+    c.turns.observer (records_in l)) (sym same) x.given_on
+
+pub returns-in-Ok-Ended-clause-good : goal.returns-in-Ok-Ended-clause-good
+returns-in-Ok-Ended-clause-good g c =
+    let end : Ending = ending_with c.in-Ok-Ended.outcome c.run_on.new.self.config in
+    let x = follows_quietly (ended_run end) c.turns.invariant
+    (rw c.in-Ok-Ended.field-0-is at c.in-Ok-Ended.ensures.run) in
+    let same : (rest_of c.args.guest.now).events ≡ x.events = all_seen x.events
+    (rest_of c.args.guest.now) (ended_run end) end
+    x.goes refl in
+    subst (λ (l : List RunEvent). All (IsGoodRecord c.args.guest.now.setup.harts) (records_in l))
+    (sym same) x.good

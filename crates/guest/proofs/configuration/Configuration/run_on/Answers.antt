@@ -1,0 +1,223 @@
+use Rattle.std.proofs.Common.{◌≡◌, ◌∙◌, None, Some, ap, arith, refl}
+use Rattle.std.proofs.lemmas.List.{length-set}
+use Rattle.std.specs.Prelude.{IsFalse, IsOk}
+use Rattle.guest.specs.GuestCalls.{RunTurn, quiet, ran}
+use Rattle.guest.specs.ConfigInside.{config_of}
+use Rattle.guest.specs.Turns.{chosen, makes_block, turn_of}
+use Rattle.guest.proofs.AtCall.{called, next_made, whole_left}
+use Rattle.guest.proofs.CallFits.{fits_called, fits_chosen}
+use Rattle.guest.proofs.OwnAccesses.{own_seen}
+use Rattle.guest.proofs.QuietSteps.{passing_on, passing_start, quiet_answer, quiet_one, taken}
+use Rattle.guest.proofs.TurnAnswers.{fits-either, if_ok-map, on_err-map, on_ok-if}
+use Rattle.guest.proofs.configuration.Configuration.run_on.Goals as goal
+
+pub turns-init : goal.turns-init
+turns-init c =
+    passing_start c.args.setup.now c.args.until (config_of c.args.self.now) c.requires.fits
+    c.requires.steps c.requires.accesses
+
+pub turns-smaller-else-self-until : goal.turns-smaller-else-self-until
+turns-smaller-else-self-until c =
+    let s = c.args.setup.now in
+    let x = config_of c.turns.self in
+    let d = config_of c.pass_over.new.self in
+    let made : ran quiet d ≡ turn_of s x = c.pass_over.ensures.turn
+    ∙ next_made s c.in-Ok.hart c.from.result c.pc-pc.result (chosen x)
+    c.index_mut-state.result.now c.step.new.state c.step.new.memory c.step.new.held
+    c.in-Next-default-None.instr None (c.from.ensures ∙ c.number.ensures.value)
+    (omega (arith, c.in-Ok.ensures.ready.inside, c.in-Ok.ensures.ready.states))
+    c.index_mut-state.ensures.value
+    (rw c.in-Next-default-None.field-1-is at c.in-Next-default-None.ensures.effect)
+    c.pc-pc.ensures.value
+    ∙ c.in-Ok.ensures.turn in
+    let one = quiet_one s x d c.turns.invariant.counts.room made in
+    omega (arith, one.steps, one.room)
+
+pub turns-preserved-else-self-until : goal.turns-preserved-else-self-until
+turns-preserved-else-self-until c =
+    let s = c.args.setup.now in
+    let x = config_of c.turns.self in
+    let d = config_of c.pass_over.new.self in
+    let made : ran quiet d ≡ turn_of s x = c.pass_over.ensures.turn
+    ∙ next_made s c.in-Ok.hart c.from.result c.pc-pc.result (chosen x)
+    c.index_mut-state.result.now c.step.new.state c.step.new.memory c.step.new.held
+    c.in-Next-default-None.instr None (c.from.ensures ∙ c.number.ensures.value)
+    (omega (arith, c.in-Ok.ensures.ready.inside, c.in-Ok.ensures.ready.states))
+    c.index_mut-state.ensures.value
+    (rw c.in-Next-default-None.field-1-is at c.in-Next-default-None.ensures.effect)
+    c.pc-pc.ensures.value
+    ∙ c.in-Ok.ensures.turn in
+    let fits = c.turns.invariant.fits in
+    passing_on s c.args.until (config_of c.args.self.now) x d c.turns.invariant made
+    (c.pass_over.ensures.fits s.harts (record {
+      states = length-set x.states c.from.result c.step.new.state ∙ fits.states;
+      held = c.step.ensures.harts ∙ fits.held;
+      phases = fits.phases;
+      calls = fits.calls;
+      plan = fits.plan;
+    })) c.if-self-until.false
+
+pub returns-in-Next-default-Some-clause-seen : goal.returns-in-Next-default-Some-clause-seen
+returns-in-Next-default-Some-clause-seen c =
+    rw c.go_on.ensures.seen
+    (own_seen c.in-Ok.hart c.args.setup.now.harts c.pc-pc.result _ _ c.in-Next-default-Some.instr
+    (Some c.in-Next-default-Some.access) (config_of c.go_on.new.self)
+    (rw c.in-Next-default-Some.field-1-is at c.in-Next-default-Some.ensures.effect)
+    (omega (arith, c.in-Ok.ensures.ready.inside, c.turns.invariant.fits.phases)))
+
+pub returns-then-not-is_quiet-clause-turn : goal.returns-then-not-is_quiet-clause-turn
+returns-then-not-is_quiet-clause-turn c =
+    let s = c.args.setup.now in
+    let x = config_of c.turns.self in
+    let d = config_of c.call-answer.new.self in
+    let turn = if_ok-map c.call-answer.result _ _
+    (λ turn h. called s c.in-Ok.hart c.from.result (chosen x) c.index_mut-state.result.now
+    c.step.new.state c.step.new.memory c.step.new.held _
+    (c.from.ensures ∙ c.number.ensures.value) (omega (arith, c.in-Ok.ensures.ready.inside, c.in-Ok.ensures.ready.states))
+    c.index_mut-state.ensures.value c.in-Call.ensures.effect c.in-Call.ensures.left h
+    ∙ c.in-Ok.ensures.turn)
+    c.call-answer.ensures.turn in
+    let same = on_err-map c.call-answer.result _ _
+    (λ h. h ∙ whole_left c.in-Ok.hart c.from.result x c.index_mut-state.result.now
+    c.step.new.state c.step.new.memory c.step.new.held
+    (c.from.ensures ∙ c.number.ensures.value) (omega (arith, c.in-Ok.ensures.ready.inside, c.in-Ok.ensures.ready.states))
+    c.index_mut-state.ensures.value c.in-Call.ensures.left)
+    c.call-answer.ensures.refused in
+    let settled : IsFalse (makes_block (turn_of s x)) → IsOk c.call-answer.result = λ no_block. c.call-answer.ensures.settled
+    (ap (λ (t : RunTurn). makes_block t)
+    (called s c.in-Ok.hart c.from.result (chosen x) c.index_mut-state.result.now
+    c.step.new.state c.step.new.memory c.step.new.held _
+    (c.from.ensures ∙ c.number.ensures.value) (omega (arith, c.in-Ok.ensures.ready.inside, c.in-Ok.ensures.ready.states))
+    c.index_mut-state.ensures.value c.in-Call.ensures.effect c.in-Call.ensures.left refl
+    ∙ c.in-Ok.ensures.turn)
+    ∙ no_block) in
+    (taken s c.args.until (config_of c.args.self.now) x d c.call-answer.result c.turns.invariant
+    turn same settled).turn
+
+pub returns-then-not-is_quiet-clause-passed : goal.returns-then-not-is_quiet-clause-passed
+returns-then-not-is_quiet-clause-passed c =
+    let s = c.args.setup.now in
+    let x = config_of c.turns.self in
+    let d = config_of c.call-answer.new.self in
+    let turn = if_ok-map c.call-answer.result _ _
+    (λ turn h. called s c.in-Ok.hart c.from.result (chosen x) c.index_mut-state.result.now
+    c.step.new.state c.step.new.memory c.step.new.held _
+    (c.from.ensures ∙ c.number.ensures.value) (omega (arith, c.in-Ok.ensures.ready.inside, c.in-Ok.ensures.ready.states))
+    c.index_mut-state.ensures.value c.in-Call.ensures.effect c.in-Call.ensures.left h
+    ∙ c.in-Ok.ensures.turn)
+    c.call-answer.ensures.turn in
+    let same = on_err-map c.call-answer.result _ _
+    (λ h. h ∙ whole_left c.in-Ok.hart c.from.result x c.index_mut-state.result.now
+    c.step.new.state c.step.new.memory c.step.new.held
+    (c.from.ensures ∙ c.number.ensures.value) (omega (arith, c.in-Ok.ensures.ready.inside, c.in-Ok.ensures.ready.states))
+    c.index_mut-state.ensures.value c.in-Call.ensures.left)
+    c.call-answer.ensures.refused in
+    let settled : IsFalse (makes_block (turn_of s x)) → IsOk c.call-answer.result = λ no_block. c.call-answer.ensures.settled
+    (ap (λ (t : RunTurn). makes_block t)
+    (called s c.in-Ok.hart c.from.result (chosen x) c.index_mut-state.result.now
+    c.step.new.state c.step.new.memory c.step.new.held _
+    (c.from.ensures ∙ c.number.ensures.value) (omega (arith, c.in-Ok.ensures.ready.inside, c.in-Ok.ensures.ready.states))
+    c.index_mut-state.ensures.value c.in-Call.ensures.effect c.in-Call.ensures.left refl
+    ∙ c.in-Ok.ensures.turn)
+    ∙ no_block) in
+    (taken s c.args.until (config_of c.args.self.now) x d c.call-answer.result c.turns.invariant
+    turn same settled).passed
+
+pub returns-then-not-is_quiet-clause-settled : goal.returns-then-not-is_quiet-clause-settled
+returns-then-not-is_quiet-clause-settled c =
+    let s = c.args.setup.now in
+    let x = config_of c.turns.self in
+    let d = config_of c.call-answer.new.self in
+    let turn = if_ok-map c.call-answer.result _ _
+    (λ turn h. called s c.in-Ok.hart c.from.result (chosen x) c.index_mut-state.result.now
+    c.step.new.state c.step.new.memory c.step.new.held _
+    (c.from.ensures ∙ c.number.ensures.value) (omega (arith, c.in-Ok.ensures.ready.inside, c.in-Ok.ensures.ready.states))
+    c.index_mut-state.ensures.value c.in-Call.ensures.effect c.in-Call.ensures.left h
+    ∙ c.in-Ok.ensures.turn)
+    c.call-answer.ensures.turn in
+    let same = on_err-map c.call-answer.result _ _
+    (λ h. h ∙ whole_left c.in-Ok.hart c.from.result x c.index_mut-state.result.now
+    c.step.new.state c.step.new.memory c.step.new.held
+    (c.from.ensures ∙ c.number.ensures.value) (omega (arith, c.in-Ok.ensures.ready.inside, c.in-Ok.ensures.ready.states))
+    c.index_mut-state.ensures.value c.in-Call.ensures.left)
+    c.call-answer.ensures.refused in
+    let settled : IsFalse (makes_block (turn_of s x)) → IsOk c.call-answer.result = λ no_block. c.call-answer.ensures.settled
+    (ap (λ (t : RunTurn). makes_block t)
+    (called s c.in-Ok.hart c.from.result (chosen x) c.index_mut-state.result.now
+    c.step.new.state c.step.new.memory c.step.new.held _
+    (c.from.ensures ∙ c.number.ensures.value) (omega (arith, c.in-Ok.ensures.ready.inside, c.in-Ok.ensures.ready.states))
+    c.index_mut-state.ensures.value c.in-Call.ensures.effect c.in-Call.ensures.left refl
+    ∙ c.in-Ok.ensures.turn)
+    ∙ no_block) in
+    (taken s c.args.until (config_of c.args.self.now) x d c.call-answer.result c.turns.invariant
+    turn same settled).settled
+
+pub returns-then-not-is_quiet-clause-fits : goal.returns-then-not-is_quiet-clause-fits
+returns-then-not-is_quiet-clause-fits c =
+    let s = c.args.setup.now in
+    let x = config_of c.turns.self in
+    let d = config_of c.call-answer.new.self in
+    let same = on_err-map c.call-answer.result _ _
+    (λ h. h ∙ whole_left c.in-Ok.hart c.from.result x c.index_mut-state.result.now
+    c.step.new.state c.step.new.memory c.step.new.held
+    (c.from.ensures ∙ c.number.ensures.value) (omega (arith, c.in-Ok.ensures.ready.inside, c.in-Ok.ensures.ready.states))
+    c.index_mut-state.ensures.value c.in-Call.ensures.left)
+    c.call-answer.ensures.refused in
+    let go = on_ok-if c.call-answer.result _ _
+    (λ turn h harts fits. fits_called harts c.in-Ok.hart c.from.result s (chosen x)
+    c.step.new.state c.step.new.memory c.step.new.held turn d h c.step.ensures.harts
+    (fits_chosen harts x fits))
+    c.call-answer.ensures.turn in
+    let fits = fits-either c.call-answer.result s.harts x d go same c.turns.invariant.fits in
+    fits
+
+pub returns-then-not-is_quiet-clause-seen : goal.returns-then-not-is_quiet-clause-seen
+returns-then-not-is_quiet-clause-seen c =
+    if_ok-map c.call-answer.result _ _ (λ turn h. h c.args.setup.now.harts)
+    c.call-answer.ensures.seen
+
+pub turns-smaller : goal.turns-smaller
+turns-smaller c =
+    let s = c.args.setup.now in
+    let x = config_of c.turns.self in
+    let d = config_of c.call-answer.new.self in
+    let turn = if_ok-map c.call-answer.result _ _
+    (λ turn h. called s c.in-Ok.hart c.from.result (chosen x) c.index_mut-state.result.now
+    c.step.new.state c.step.new.memory c.step.new.held _
+    (c.from.ensures ∙ c.number.ensures.value) (omega (arith, c.in-Ok.ensures.ready.inside, c.in-Ok.ensures.ready.states))
+    c.index_mut-state.ensures.value c.in-Call.ensures.effect c.in-Call.ensures.left h
+    ∙ c.in-Ok.ensures.turn)
+    c.call-answer.ensures.turn in
+    let silent = quiet_answer s x d c.call-answer.result turn
+    (c.is_quiet.ensures.0 c.if-not-is_quiet.false) in
+    let one = quiet_one s x d c.turns.invariant.counts.room silent in
+    omega (arith, one.steps, one.room)
+
+pub turns-preserved : goal.turns-preserved
+turns-preserved c =
+    let s = c.args.setup.now in
+    let x = config_of c.turns.self in
+    let d = config_of c.call-answer.new.self in
+    let turn = if_ok-map c.call-answer.result _ _
+    (λ turn h. called s c.in-Ok.hart c.from.result (chosen x) c.index_mut-state.result.now
+    c.step.new.state c.step.new.memory c.step.new.held _
+    (c.from.ensures ∙ c.number.ensures.value) (omega (arith, c.in-Ok.ensures.ready.inside, c.in-Ok.ensures.ready.states))
+    c.index_mut-state.ensures.value c.in-Call.ensures.effect c.in-Call.ensures.left h
+    ∙ c.in-Ok.ensures.turn)
+    c.call-answer.ensures.turn in
+    let same = on_err-map c.call-answer.result _ _
+    (λ h. h ∙ whole_left c.in-Ok.hart c.from.result x c.index_mut-state.result.now
+    c.step.new.state c.step.new.memory c.step.new.held
+    (c.from.ensures ∙ c.number.ensures.value) (omega (arith, c.in-Ok.ensures.ready.inside, c.in-Ok.ensures.ready.states))
+    c.index_mut-state.ensures.value c.in-Call.ensures.left)
+    c.call-answer.ensures.refused in
+    let go = on_ok-if c.call-answer.result _ _
+    (λ turn h harts fits. fits_called harts c.in-Ok.hart c.from.result s (chosen x)
+    c.step.new.state c.step.new.memory c.step.new.held turn d h c.step.ensures.harts
+    (fits_chosen harts x fits))
+    c.call-answer.ensures.turn in
+    let fits = fits-either c.call-answer.result s.harts x d go same c.turns.invariant.fits in
+    let silent = quiet_answer s x d c.call-answer.result turn
+    (c.is_quiet.ensures.0 c.if-not-is_quiet.false) in
+    passing_on s c.args.until (config_of c.args.self.now) x d c.turns.invariant silent fits
+    c.if-self-until-2.false
