@@ -1,7 +1,7 @@
 #!/usr/bin/python3
 """Sets what the usual schedule lists beside what the seeds list.
 
-usage: campaign/usual.py [--lines] FOLDER       the folder of a campaign whose seeds have 0, the usual schedule, among them
+usage: campaign/usual.py [--lines | --renew] FOLDER     the folder of a campaign whose seeds have 0, the usual schedule, among them
 
 Prints, for each program and settings, how many objects the usual schedule lists, by the lines that it observes, and of these how many are
 listed in every seed and in fewer than a half; then how many objects it doesn't list and some seed does, and of these how many are listed in
@@ -9,7 +9,7 @@ a half of the seeds or more, and in one of ten or fewer. Then it names the objec
 with the greatest count in most seeds, and the objects that set the two apart: those of the usual schedule that
 fewer than a half of the seeds list, and those that seeds alone list; each with its count there, in how many seeds it is listed, its counts in
 them, and the seed of the greatest. --lines takes each line by itself, and not all of an
-object as one."""
+object as one. --renew puts the numbers of lines, and the objects, into the tables of docs/STUDIES.md."""
 
 import os
 import sys
@@ -59,30 +59,55 @@ def apart(objects, drawn):
     return [name for name, counts in sorted(objects.items()) if 0 not in counts or 2 * (len(counts) - 1) < drawn]
 
 
+def found_in(campaign, part, by_lines):
+    """The rows of the numbers, of the worst objects, and of those that set the schedules apart, each behind its program and settings."""
+    runs, numbers, first, rows = Counter(it[0] for it in part.runs), [], [], []
+    for at, objects in listed(part, range(len(campaign["groups"])), by_lines).items():
+        group = campaign["groups"][at]
+        head, drawn = (group["program"], settings_of(group)), runs[at] - 1
+        usual = [len(counts) - 1 for counts in objects.values() if 0 in counts]
+        others = [len(counts) for counts in objects.values() if 0 not in counts]
+        row = [len(usual), sum(it == drawn for it in usual), sum(2 * it < drawn for it in usual)]
+        row += [len(others), sum(2 * it >= drawn for it in others), sum(10 * it <= drawn for it in others)]
+        numbers.append((*head, drawn, *row))
+        first += [(*head, *told(it, objects[it])) for it in ([worst(objects)] if objects else [])]
+        rows += [(*head, *told(it, objects[it])) for it in apart(objects, drawn)]
+    return numbers, first, rows
+
+
+def renew_page(campaign, part):
+    sys.path.append(os.path.join(HERE, "..", "guest", "studies"))
+    import report  # (only here, since a campaign elsewhere has no page of studies)
+
+    def of_quantum(row):
+        return row[0], dict(it.split("=") for it in row[1].split(","))["quantum"], *row[2:]
+
+    numbers = found_in(campaign, part, True)[0]
+    _, first, rows = found_in(campaign, part, False)
+    heads = ["Program", "`quantum`", "Seeds", "Usual", "in every seed", "in fewer than half", "Others", "in half or more", "in a tenth or fewer"]
+    parts = {"usual": report.table(heads, map(of_quantum, numbers))}
+    heads = ["Program", "`quantum`", "Object", "Usual count", "Seeds", "least", "middle", "greatest", "Seed of the greatest"]
+    for name, found in (("worst", first), ("apart", rows)):
+        named = [(*it[:2], f"`{it[2]}`", *it[3:]) for it in map(of_quantum, found)]
+        parts[name] = report.table(heads, named)
+    report.renew(parts)
+
+
 def main(words):
-    by_lines, names = "--lines" in words, [it for it in words if it != "--lines"]
+    by_lines, is_page, names = "--lines" in words, "--renew" in words, [it for it in words if it not in ("--lines", "--renew")]
     if len(names) != 1 or names[0].startswith("-"):
         print(__doc__)
         return 0 if names in (["-h"], ["--help"]) else 1
     os.chdir(names[0])
     campaign = campaign_of(".")
     part, _ = read(campaign)
-    runs, first, rows = Counter(it[0] for it in part.runs), [], []
-    print(*HEADS, sep="\t")
-    for at, objects in listed(part, range(len(campaign["groups"])), by_lines).items():
-        group = campaign["groups"][at]
-        head, drawn = (group["program"], settings_of(group)), runs[at] - 1
-        usual = [len(counts) - 1 for counts in objects.values() if 0 in counts]
-        others = [len(counts) for counts in objects.values() if 0 not in counts]
-        numbers = [len(usual), sum(it == drawn for it in usual), sum(2 * it < drawn for it in usual)]
-        numbers += [len(others), sum(2 * it >= drawn for it in others), sum(10 * it <= drawn for it in others)]
-        print(*head, drawn, *numbers, sep="\t")
-        first += [(*head, *told(it, objects[it])) for it in ([worst(objects)] if objects else [])]
-        rows += [(*head, *told(it, objects[it])) for it in apart(objects, drawn)]
-    for part in (first, rows):
-        print()
-        print(*APART, sep="\t")
-        for it in part:
+    if is_page:
+        renew_page(campaign, part)
+        return 0
+    for heads, rows in zip((HEADS, APART, APART), found_in(campaign, part, by_lines)):
+        if heads is APART:
+            print()
+        for it in (heads, *rows):
             print(*it, sep="\t")
     return 0
 
