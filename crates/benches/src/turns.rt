@@ -1,6 +1,6 @@
 // What a turn of a run costs: `benches turns STEPS HARTS RUNNING QUANTUM` makes so many steps of a
 // guest with so many harts, of which so many run, with so many turns in a row for each. They
-// do nothing but jump to themselves, so that nothing is seen of a step, and one call makes them all,
+// do nothing but jump to themselves, so that nothing is seen of a step and one call makes them all,
 // as it does in a run. It prints how many steps were made. Without words it makes 1,000 steps of 8
 // harts in turn.
 ghost use Rattle.std.specs.Prelude.{◌≡◌, ◌+◌, ◌*◌, ◌≤◌};
