@@ -1,5 +1,5 @@
--- The turn of a hart, by what its step was: at an ECALL the step leaves all, and the turn is that of
--- the call.
+-- The turn of a hart, by what its step was: at an ECALL the step leaves all, and the turn is that
+-- of the call.
 use Rattle.std.proofs.Common.{◌≡◌, ◌∙◌, ℕ, ◌<◌, List, length, Option, refl, sym, ap, set, get_or}
 use Rattle.std.proofs.lemmas.List.{set-get_or}
 use Rattle.std.proofs.lemmas.Option.{slice_get_read, get_or_from_slice_get}

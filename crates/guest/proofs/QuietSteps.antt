@@ -64,7 +64,8 @@ quiet_run s (suc n) c d passed room =
     let so_far : Passed s n c x = quiet_counts s n c x passed.1 room in
     quiet_run s n c x passed.1 room
     ∙ ap (led_quietly n) (run_ran s x quiet d passed.2 so_far.room)
-    ∙ ap (λ (l : List RunEvent). let r : Run = record { events = l; ending = (run_of s d).ending } in r)
+    ∙ ap (λ (l : List RunEvent).
+    let r : Run = record { events = l; ending = (run_of s d).ending } in r)
     (quiet-behind n (run_of s d).events)
 
 -- some were made, and it may go on

@@ -1,5 +1,6 @@
 -- One turn of a guest: it is judged whether the run is over, and else a hart makes one step.
-use Rattle.std.specs.Prelude.{◌≡◌, ℕ, zero, suc, ◌+◌, Bool, true, false, if◌then◌else◌, nat_lt, List, map}
+use Rattle.std.specs.Prelude.{◌≡◌, ℕ, zero, suc, ◌+◌, Bool, true, false, if◌then◌else◌, nat_lt}
+use Rattle.std.specs.Prelude.{List, map}
 use Rattle.std.specs.Prelude.{Option, None, Some, slice_set}
 use Rattle.base.specs.Touch.{Touch}
 use Rattle.base.specs.declared.ending.Outcome.TheVariants.{Exit, Budget, Deadlock}

@@ -76,7 +76,7 @@ impl CallList {
     }
 
     /// An instruction that was made at `pc`. It takes no memory.
-    #[inline]
+    #[inline(always)]
     pub fn note(&mut self, instr: Instr, pc: u32)
         ensures { self.new ≡ calls_after instr pc self.old }
     {

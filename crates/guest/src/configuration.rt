@@ -171,7 +171,7 @@ impl Configuration {
     }
 
     /// A hart made an instruction at an address.
-    #[inline]
+    #[inline(always)]
     pub fn note_call(&mut self, hart: Hart, instr: Instr, pc: u32)
         requires { hart < length self.old.calls.items }
         ensures { config_of self.new ≡ noted hart instr pc (config_of self.old) }

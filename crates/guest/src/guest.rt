@@ -231,7 +231,7 @@ impl Guest {
         self.config.lacks_hart
     }
 
-    /// How the run has ended: None exactly before `step` answers `Ended`.
+    /// How the run has ended: None exactly before `step` or `run_on` answers `Ended`.
     pub fn ending(&self) -> Option<Ending>
         ensures { result ≡ self.now.ending }
     {

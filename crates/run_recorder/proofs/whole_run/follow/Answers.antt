@@ -68,8 +68,8 @@ turns-preserved g c =
           (c.in-Ok.ensures.noted c.args.guest.now.setup.harts (earlier ++ records_in x.events)
           (output_in x.events) before
           (x.noted earlier before on));
-      goes = seen_longer x.events e (rest_of c.args.guest.now) (led_by e (rest_of after)) (rest_of after)
-          x.goes refl;
+      goes = seen_longer x.events e (rest_of c.args.guest.now) (led_by e (rest_of after))
+          (rest_of after) x.goes refl;
       setup = setup;
       early = more_early x.events after.config c.in-Ok-Ran.event c.turns.guest.config.accesses
           after.config.accesses x.early

@@ -73,21 +73,25 @@ returns-then-not-is_quiet-clause-turn c =
     let turn = if_ok-map c.call-answer.result _ _
     (λ turn h. called s c.in-Ok.hart c.from.result (chosen x) c.index_mut-state.result.now
     c.step.new.state c.step.new.memory c.step.new.held _
-    (c.from.ensures ∙ c.number.ensures.value) (omega (arith, c.in-Ok.ensures.ready.inside, c.in-Ok.ensures.ready.states))
+    (c.from.ensures ∙ c.number.ensures.value)
+    (omega (arith, c.in-Ok.ensures.ready.inside, c.in-Ok.ensures.ready.states))
     c.index_mut-state.ensures.value c.in-Call.ensures.effect c.in-Call.ensures.left h
     ∙ c.in-Ok.ensures.turn)
     c.call-answer.ensures.turn in
     let same = on_err-map c.call-answer.result _ _
     (λ h. h ∙ whole_left c.in-Ok.hart c.from.result x c.index_mut-state.result.now
     c.step.new.state c.step.new.memory c.step.new.held
-    (c.from.ensures ∙ c.number.ensures.value) (omega (arith, c.in-Ok.ensures.ready.inside, c.in-Ok.ensures.ready.states))
+    (c.from.ensures ∙ c.number.ensures.value)
+    (omega (arith, c.in-Ok.ensures.ready.inside, c.in-Ok.ensures.ready.states))
     c.index_mut-state.ensures.value c.in-Call.ensures.left)
     c.call-answer.ensures.refused in
-    let settled : IsFalse (makes_block (turn_of s x)) → IsOk c.call-answer.result = λ no_block. c.call-answer.ensures.settled
+    let settled : IsFalse (makes_block (turn_of s x)) → IsOk c.call-answer.result = λ no_block.
+    c.call-answer.ensures.settled
     (ap (λ (t : RunTurn). makes_block t)
     (called s c.in-Ok.hart c.from.result (chosen x) c.index_mut-state.result.now
     c.step.new.state c.step.new.memory c.step.new.held _
-    (c.from.ensures ∙ c.number.ensures.value) (omega (arith, c.in-Ok.ensures.ready.inside, c.in-Ok.ensures.ready.states))
+    (c.from.ensures ∙ c.number.ensures.value)
+    (omega (arith, c.in-Ok.ensures.ready.inside, c.in-Ok.ensures.ready.states))
     c.index_mut-state.ensures.value c.in-Call.ensures.effect c.in-Call.ensures.left refl
     ∙ c.in-Ok.ensures.turn)
     ∙ no_block) in
@@ -102,21 +106,25 @@ returns-then-not-is_quiet-clause-passed c =
     let turn = if_ok-map c.call-answer.result _ _
     (λ turn h. called s c.in-Ok.hart c.from.result (chosen x) c.index_mut-state.result.now
     c.step.new.state c.step.new.memory c.step.new.held _
-    (c.from.ensures ∙ c.number.ensures.value) (omega (arith, c.in-Ok.ensures.ready.inside, c.in-Ok.ensures.ready.states))
+    (c.from.ensures ∙ c.number.ensures.value)
+    (omega (arith, c.in-Ok.ensures.ready.inside, c.in-Ok.ensures.ready.states))
     c.index_mut-state.ensures.value c.in-Call.ensures.effect c.in-Call.ensures.left h
     ∙ c.in-Ok.ensures.turn)
     c.call-answer.ensures.turn in
     let same = on_err-map c.call-answer.result _ _
     (λ h. h ∙ whole_left c.in-Ok.hart c.from.result x c.index_mut-state.result.now
     c.step.new.state c.step.new.memory c.step.new.held
-    (c.from.ensures ∙ c.number.ensures.value) (omega (arith, c.in-Ok.ensures.ready.inside, c.in-Ok.ensures.ready.states))
+    (c.from.ensures ∙ c.number.ensures.value)
+    (omega (arith, c.in-Ok.ensures.ready.inside, c.in-Ok.ensures.ready.states))
     c.index_mut-state.ensures.value c.in-Call.ensures.left)
     c.call-answer.ensures.refused in
-    let settled : IsFalse (makes_block (turn_of s x)) → IsOk c.call-answer.result = λ no_block. c.call-answer.ensures.settled
+    let settled : IsFalse (makes_block (turn_of s x)) → IsOk c.call-answer.result = λ no_block.
+    c.call-answer.ensures.settled
     (ap (λ (t : RunTurn). makes_block t)
     (called s c.in-Ok.hart c.from.result (chosen x) c.index_mut-state.result.now
     c.step.new.state c.step.new.memory c.step.new.held _
-    (c.from.ensures ∙ c.number.ensures.value) (omega (arith, c.in-Ok.ensures.ready.inside, c.in-Ok.ensures.ready.states))
+    (c.from.ensures ∙ c.number.ensures.value)
+    (omega (arith, c.in-Ok.ensures.ready.inside, c.in-Ok.ensures.ready.states))
     c.index_mut-state.ensures.value c.in-Call.ensures.effect c.in-Call.ensures.left refl
     ∙ c.in-Ok.ensures.turn)
     ∙ no_block) in
@@ -131,21 +139,25 @@ returns-then-not-is_quiet-clause-settled c =
     let turn = if_ok-map c.call-answer.result _ _
     (λ turn h. called s c.in-Ok.hart c.from.result (chosen x) c.index_mut-state.result.now
     c.step.new.state c.step.new.memory c.step.new.held _
-    (c.from.ensures ∙ c.number.ensures.value) (omega (arith, c.in-Ok.ensures.ready.inside, c.in-Ok.ensures.ready.states))
+    (c.from.ensures ∙ c.number.ensures.value)
+    (omega (arith, c.in-Ok.ensures.ready.inside, c.in-Ok.ensures.ready.states))
     c.index_mut-state.ensures.value c.in-Call.ensures.effect c.in-Call.ensures.left h
     ∙ c.in-Ok.ensures.turn)
     c.call-answer.ensures.turn in
     let same = on_err-map c.call-answer.result _ _
     (λ h. h ∙ whole_left c.in-Ok.hart c.from.result x c.index_mut-state.result.now
     c.step.new.state c.step.new.memory c.step.new.held
-    (c.from.ensures ∙ c.number.ensures.value) (omega (arith, c.in-Ok.ensures.ready.inside, c.in-Ok.ensures.ready.states))
+    (c.from.ensures ∙ c.number.ensures.value)
+    (omega (arith, c.in-Ok.ensures.ready.inside, c.in-Ok.ensures.ready.states))
     c.index_mut-state.ensures.value c.in-Call.ensures.left)
     c.call-answer.ensures.refused in
-    let settled : IsFalse (makes_block (turn_of s x)) → IsOk c.call-answer.result = λ no_block. c.call-answer.ensures.settled
+    let settled : IsFalse (makes_block (turn_of s x)) → IsOk c.call-answer.result = λ no_block.
+    c.call-answer.ensures.settled
     (ap (λ (t : RunTurn). makes_block t)
     (called s c.in-Ok.hart c.from.result (chosen x) c.index_mut-state.result.now
     c.step.new.state c.step.new.memory c.step.new.held _
-    (c.from.ensures ∙ c.number.ensures.value) (omega (arith, c.in-Ok.ensures.ready.inside, c.in-Ok.ensures.ready.states))
+    (c.from.ensures ∙ c.number.ensures.value)
+    (omega (arith, c.in-Ok.ensures.ready.inside, c.in-Ok.ensures.ready.states))
     c.index_mut-state.ensures.value c.in-Call.ensures.effect c.in-Call.ensures.left refl
     ∙ c.in-Ok.ensures.turn)
     ∙ no_block) in
@@ -160,7 +172,8 @@ returns-then-not-is_quiet-clause-fits c =
     let same = on_err-map c.call-answer.result _ _
     (λ h. h ∙ whole_left c.in-Ok.hart c.from.result x c.index_mut-state.result.now
     c.step.new.state c.step.new.memory c.step.new.held
-    (c.from.ensures ∙ c.number.ensures.value) (omega (arith, c.in-Ok.ensures.ready.inside, c.in-Ok.ensures.ready.states))
+    (c.from.ensures ∙ c.number.ensures.value)
+    (omega (arith, c.in-Ok.ensures.ready.inside, c.in-Ok.ensures.ready.states))
     c.index_mut-state.ensures.value c.in-Call.ensures.left)
     c.call-answer.ensures.refused in
     let go = on_ok-if c.call-answer.result _ _
@@ -184,7 +197,8 @@ turns-smaller c =
     let turn = if_ok-map c.call-answer.result _ _
     (λ turn h. called s c.in-Ok.hart c.from.result (chosen x) c.index_mut-state.result.now
     c.step.new.state c.step.new.memory c.step.new.held _
-    (c.from.ensures ∙ c.number.ensures.value) (omega (arith, c.in-Ok.ensures.ready.inside, c.in-Ok.ensures.ready.states))
+    (c.from.ensures ∙ c.number.ensures.value)
+    (omega (arith, c.in-Ok.ensures.ready.inside, c.in-Ok.ensures.ready.states))
     c.index_mut-state.ensures.value c.in-Call.ensures.effect c.in-Call.ensures.left h
     ∙ c.in-Ok.ensures.turn)
     c.call-answer.ensures.turn in
@@ -201,14 +215,16 @@ turns-preserved c =
     let turn = if_ok-map c.call-answer.result _ _
     (λ turn h. called s c.in-Ok.hart c.from.result (chosen x) c.index_mut-state.result.now
     c.step.new.state c.step.new.memory c.step.new.held _
-    (c.from.ensures ∙ c.number.ensures.value) (omega (arith, c.in-Ok.ensures.ready.inside, c.in-Ok.ensures.ready.states))
+    (c.from.ensures ∙ c.number.ensures.value)
+    (omega (arith, c.in-Ok.ensures.ready.inside, c.in-Ok.ensures.ready.states))
     c.index_mut-state.ensures.value c.in-Call.ensures.effect c.in-Call.ensures.left h
     ∙ c.in-Ok.ensures.turn)
     c.call-answer.ensures.turn in
     let same = on_err-map c.call-answer.result _ _
     (λ h. h ∙ whole_left c.in-Ok.hart c.from.result x c.index_mut-state.result.now
     c.step.new.state c.step.new.memory c.step.new.held
-    (c.from.ensures ∙ c.number.ensures.value) (omega (arith, c.in-Ok.ensures.ready.inside, c.in-Ok.ensures.ready.states))
+    (c.from.ensures ∙ c.number.ensures.value)
+    (omega (arith, c.in-Ok.ensures.ready.inside, c.in-Ok.ensures.ready.states))
     c.index_mut-state.ensures.value c.in-Call.ensures.left)
     c.call-answer.ensures.refused in
     let go = on_ok-if c.call-answer.result _ _

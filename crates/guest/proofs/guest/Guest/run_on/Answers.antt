@@ -12,7 +12,8 @@ invariant_of-self c =
     let old = config_of c.self.inside.config in
     let new = config_of c.run_on.new.self in
     let t = rw c.in-Ok-Ran.field-0-is at c.in-Ok-Ran.ensures.turn in
-    let b = behind s c.args.until old t.0 (Ran c.in-Ok-Ran.event) new t.1 c.self.invariant.steps t.2 in
+    let b = behind s c.args.until old t.0 (Ran c.in-Ok-Ran.event) new t.1
+    c.self.invariant.steps t.2 in
     record {
       fits = c.in-Ok-Ran.ensures.fits;
       accesses = b.0.within c.self.invariant.accesses;
@@ -27,7 +28,8 @@ invariant_of-self-in-Ok-Ended c =
     let old = config_of c.self.inside.config in
     let new = config_of c.run_on.new.self in
     let t = rw c.in-Ok-Ended.field-0-is at c.in-Ok-Ended.ensures.turn in
-    let b = behind s c.args.until old t.0 (Ended c.in-Ok-Ended.outcome) new t.1 c.self.invariant.steps t.2 in
+    let b = behind s c.args.until old t.0 (Ended c.in-Ok-Ended.outcome) new t.1
+    c.self.invariant.steps t.2 in
     record {
       fits = c.in-Ok-Ended.ensures.fits;
       accesses = b.0.within c.self.invariant.accesses;
@@ -61,8 +63,10 @@ returns-in-Ok-Ran-clause-exact c =
     let old = config_of c.self.inside.config in
     let new = config_of c.run_on.new.self in
     let t = rw c.in-Ok-Ran.field-0-is at c.in-Ok-Ran.ensures.turn in
-    let b = behind s c.args.until old t.0 (Ran c.in-Ok-Ran.event) new t.1 c.self.invariant.steps t.2 in
-    rw (← c.self.view_is) (λ _. record { quiet = t.1.quiet; before = t.0; passed = t.1.passed; made = t.2 })
+    let b = behind s c.args.until old t.0 (Ran c.in-Ok-Ran.event) new t.1
+    c.self.invariant.steps t.2 in
+    rw (← c.self.view_is)
+    (λ _. record { quiet = t.1.quiet; before = t.0; passed = t.1.passed; made = t.2 })
 
 pub returns-in-Ok-Ran-clause-run : goal.returns-in-Ok-Ran-clause-run
 returns-in-Ok-Ran-clause-run c =
@@ -70,8 +74,10 @@ returns-in-Ok-Ran-clause-run c =
     let old = config_of c.self.inside.config in
     let new = config_of c.run_on.new.self in
     let t = rw c.in-Ok-Ran.field-0-is at c.in-Ok-Ran.ensures.turn in
-    let b = behind s c.args.until old t.0 (Ran c.in-Ok-Ran.event) new t.1 c.self.invariant.steps t.2 in
-    rw (← c.self.view_is) (rest_came s c.args.until old t.0 c.self.inside.ending c.in-Ok-Ran.event new
+    let b = behind s c.args.until old t.0 (Ran c.in-Ok-Ran.event) new t.1
+    c.self.invariant.steps t.2 in
+    rw (← c.self.view_is)
+    (rest_came s c.args.until old t.0 c.self.inside.ending c.in-Ok-Ran.event new
     c.in-None.is t.1 t.2 c.self.invariant.steps)
 
 pub returns-in-Ok-Ran-clause-counts : goal.returns-in-Ok-Ran-clause-counts
@@ -80,7 +86,8 @@ returns-in-Ok-Ran-clause-counts c =
     let old = config_of c.self.inside.config in
     let new = config_of c.run_on.new.self in
     let t = rw c.in-Ok-Ran.field-0-is at c.in-Ok-Ran.ensures.turn in
-    let b = behind s c.args.until old t.0 (Ran c.in-Ok-Ran.event) new t.1 c.self.invariant.steps t.2 in
+    let b = behind s c.args.until old t.0 (Ran c.in-Ok-Ran.event) new t.1
+    c.self.invariant.steps t.2 in
     rw (← c.self.view_is) b.1
 
 pub returns-in-Ok-Ran-clause-within : goal.returns-in-Ok-Ran-clause-within
@@ -89,7 +96,8 @@ returns-in-Ok-Ran-clause-within c =
     let old = config_of c.self.inside.config in
     let new = config_of c.run_on.new.self in
     let t = rw c.in-Ok-Ran.field-0-is at c.in-Ok-Ran.ensures.turn in
-    let b = behind s c.args.until old t.0 (Ran c.in-Ok-Ran.event) new t.1 c.self.invariant.steps t.2 in
+    let b = behind s c.args.until old t.0 (Ran c.in-Ok-Ran.event) new t.1
+    c.self.invariant.steps t.2 in
     record { accesses = b.0.within c.self.invariant.accesses; steps = b.0.room }
 
 pub returns-in-Ok-Ran-clause-until : goal.returns-in-Ok-Ran-clause-until
@@ -98,7 +106,8 @@ returns-in-Ok-Ran-clause-until c =
     let old = config_of c.self.inside.config in
     let new = config_of c.run_on.new.self in
     let t = rw c.in-Ok-Ran.field-0-is at c.in-Ok-Ran.ensures.turn in
-    let b = behind s c.args.until old t.0 (Ran c.in-Ok-Ran.event) new t.1 c.self.invariant.steps t.2 in
+    let b = behind s c.args.until old t.0 (Ran c.in-Ok-Ran.event) new t.1
+    c.self.invariant.steps t.2 in
     rw (← c.self.view_is) b.0.bound
 
 pub returns-in-Ok-Ended-clause-exact : goal.returns-in-Ok-Ended-clause-exact
@@ -107,8 +116,10 @@ returns-in-Ok-Ended-clause-exact c =
     let old = config_of c.self.inside.config in
     let new = config_of c.run_on.new.self in
     let t = rw c.in-Ok-Ended.field-0-is at c.in-Ok-Ended.ensures.turn in
-    let b = behind s c.args.until old t.0 (Ended c.in-Ok-Ended.outcome) new t.1 c.self.invariant.steps t.2 in
-    rw (← c.self.view_is) (λ _. record { quiet = t.1.quiet; before = t.0; passed = t.1.passed; made = t.2 })
+    let b = behind s c.args.until old t.0 (Ended c.in-Ok-Ended.outcome) new t.1
+    c.self.invariant.steps t.2 in
+    rw (← c.self.view_is)
+    (λ _. record { quiet = t.1.quiet; before = t.0; passed = t.1.passed; made = t.2 })
 
 pub returns-in-Ok-Ended-clause-run : goal.returns-in-Ok-Ended-clause-run
 returns-in-Ok-Ended-clause-run c =
@@ -116,8 +127,10 @@ returns-in-Ok-Ended-clause-run c =
     let old = config_of c.self.inside.config in
     let new = config_of c.run_on.new.self in
     let t = rw c.in-Ok-Ended.field-0-is at c.in-Ok-Ended.ensures.turn in
-    let b = behind s c.args.until old t.0 (Ended c.in-Ok-Ended.outcome) new t.1 c.self.invariant.steps t.2 in
-    rw (← c.self.view_is) (rest_ended s c.args.until old t.0 c.self.inside.ending c.in-Ok-Ended.outcome new
+    let b = behind s c.args.until old t.0 (Ended c.in-Ok-Ended.outcome) new t.1
+    c.self.invariant.steps t.2 in
+    rw (← c.self.view_is)
+    (rest_ended s c.args.until old t.0 c.self.inside.ending c.in-Ok-Ended.outcome new
     c.in-None.is t.1 t.2 c.self.invariant.steps)
 
 pub returns-in-Ok-Ended-clause-counts : goal.returns-in-Ok-Ended-clause-counts
@@ -126,7 +139,8 @@ returns-in-Ok-Ended-clause-counts c =
     let old = config_of c.self.inside.config in
     let new = config_of c.run_on.new.self in
     let t = rw c.in-Ok-Ended.field-0-is at c.in-Ok-Ended.ensures.turn in
-    let b = behind s c.args.until old t.0 (Ended c.in-Ok-Ended.outcome) new t.1 c.self.invariant.steps t.2 in
+    let b = behind s c.args.until old t.0 (Ended c.in-Ok-Ended.outcome) new t.1
+    c.self.invariant.steps t.2 in
     rw (← c.self.view_is) b.1
 
 pub returns-in-Ok-Ended-clause-within : goal.returns-in-Ok-Ended-clause-within
@@ -135,7 +149,8 @@ returns-in-Ok-Ended-clause-within c =
     let old = config_of c.self.inside.config in
     let new = config_of c.run_on.new.self in
     let t = rw c.in-Ok-Ended.field-0-is at c.in-Ok-Ended.ensures.turn in
-    let b = behind s c.args.until old t.0 (Ended c.in-Ok-Ended.outcome) new t.1 c.self.invariant.steps t.2 in
+    let b = behind s c.args.until old t.0 (Ended c.in-Ok-Ended.outcome) new t.1
+    c.self.invariant.steps t.2 in
     record { accesses = b.0.within c.self.invariant.accesses; steps = b.0.room }
 
 pub returns-in-Ok-Ended-clause-until : goal.returns-in-Ok-Ended-clause-until
@@ -144,7 +159,8 @@ returns-in-Ok-Ended-clause-until c =
     let old = config_of c.self.inside.config in
     let new = config_of c.run_on.new.self in
     let t = rw c.in-Ok-Ended.field-0-is at c.in-Ok-Ended.ensures.turn in
-    let b = behind s c.args.until old t.0 (Ended c.in-Ok-Ended.outcome) new t.1 c.self.invariant.steps t.2 in
+    let b = behind s c.args.until old t.0 (Ended c.in-Ok-Ended.outcome) new t.1
+    c.self.invariant.steps t.2 in
     rw (← c.self.view_is) b.0.bound
 
 pub returns-in-Err-clause-within : goal.returns-in-Err-clause-within
