@@ -1,7 +1,7 @@
-// What a turn of a run costs: `benches turns STEPS HARTS RUNNING QUANTUM` makes so many steps of a
-// guest with so many harts, of which so many run, with so many turns in a row for each. They
-// do nothing but jump to themselves. It prints how many steps were made. Without words it makes
-// 1,000 steps of 8 harts in turn.
+// What a turn of a run costs: `benches turns STEPS HARTS RUNNING QUANTUM SEED` makes so many steps
+// of a guest with so many harts, of which so many run, with so many turns in a row for each, or as
+// numbers say that the seed draws. They do nothing but jump to themselves. It prints how many steps
+// were made. Without words it makes 1,000 steps of 8 harts in turn; the seed 0 draws nothing.
 ghost use Rattle.std.specs.Prelude.{◌≡◌, ◌+◌, ◌*◌, ◌≤◌};
 
 use crate::turn_program::{CODE, program};
@@ -86,13 +86,13 @@ fn guest_of(
 }
 
 // Makes so many turns of a guest with so many harts, and says how many steps it made.
-fn steps_of(alloc: Global, settings: RunSettings, running: u16) -> Result<u64, NoMemory>
+fn steps_of(alloc: Global, settings: RunSettings, running: u16, seed: u32) -> Result<u64, NoMemory>
     requires some { 1 ≤ settings.harts }
     requires most { settings.harts ≤ 256 }
     requires running { 1 ≤ running }
     requires few { running ≤ 256 }
 {
-    let Ok(schedule) = Schedule::read(alloc, b"", settings.harts, settings.quantum, 0) else {
+    let Ok(schedule) = Schedule::read(alloc, b"", settings.harts, settings.quantum, seed) else {
         return Err(NoMemory);
     };
     let memory = memory_of(alloc, settings.harts, running)?;
@@ -109,7 +109,8 @@ pub(crate) fn bench<R: Print + AllocGlobal>(rt: &R, words: &mut Words) -> io::Re
         quantum: number_or(words, 1).min(1 << 20) as u32,
         budget: steps,
     };
-    match steps_of(rt.alloc(), settings, running) {
+    let seed = number_or(words, 0).min(0xffff_ffff) as u32;
+    match steps_of(rt.alloc(), settings, running, seed) {
         Ok(made) => println!(rt; "steps {made}"),
         Err(NoMemory) => println!(rt; "no memory"),
     }

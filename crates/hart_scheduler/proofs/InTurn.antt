@@ -1,13 +1,14 @@
 -- Choices after the list: where there is none, no hart is runnable, and the one that is made is
 -- runnable.
 use Rattle.std.proofs.Common.{◌≡◌, ℕ, zero, suc, ◌+◌, ◌-◌, ◌<◌, ◌≤◌, Bool, true, false, List, []}
-use Rattle.std.proofs.Common.{◌∷◌, length, Option, Some, None, refl}
+use Rattle.std.proofs.Common.{◌∷◌, ◌++◌, length, Option, Some, None, refl}
 use Rattle.std.proofs.Common.{sym, ap, subst, ◌∙◌, inl, inr, arith}
 use Rattle.std.proofs.lemmas.Bool.{both_ways, cases_Bool, cases_eq, cases_lt, and_left, and_parts}
+use Rattle.std.proofs.lemmas.Bool.{or_parts}
 use Rattle.std.proofs.lemmas.List.{get_or_past}
 use Rattle.std.proofs.lemmas.List.Folds.{find-append}
 use Rattle.std.proofs.lemmas.Option.{none-some}
-use Rattle.std.specs.Prelude.{◌↔◌, IsTrue}
+use Rattle.std.specs.Prelude.{◌↔◌, ◌||◌, IsTrue}
 use Rattle.std.specs.List.{find, range_with_len}
 use Rattle.std.specs.Option.{option_or, option_map_or, IfSome}
 use Rattle.hart_scheduler.specs.ScheduleParts.{AStreak}
@@ -56,19 +57,47 @@ pub range_past : (runnable : List Bool) (a end : ℕ) → a < end → is_runnabl
     (range_with_len (a + 1) (end - (a + 1)))
 range_past runnable a end below miss = range-past (is_runnable runnable) a end below miss
 
-pub successor_is : (runnable : List Bool) (harts : ℕ) (streak : AStreak) (first second : Option ℕ)
-    (n : ℕ) → n ≡ streak.hart
-    → goes_on runnable streak ≡ false
-    → first ≡ find (is_runnable runnable) (range_with_len (n + 1) (harts - (n + 1))) → second
-    ≡ find (is_runnable runnable)
-    (range_with_len 0 (n + 1 - 0))
-    → option_or first second ≡ choice_after runnable harts streak
-successor_is runnable harts streak first second n same off is_first is_second =
-    let z : n + 1 - 0 ≡ n + 1 = omega arith in
-    rw (is_first, is_second, z, same, off)
-    (sym (find-append (is_runnable runnable)
-    (range_with_len (streak.hart + 1) (harts - (streak.hart + 1)))
-    (range_with_len 0 (streak.hart + 1))))
+-- four harts that aren't runnable make no difference
+pub four_past : (runnable : List Bool) (a end : ℕ) → a + 4 ≤ end
+    → (is_runnable runnable a || is_runnable runnable (a + 1) || is_runnable runnable (a + 2)
+    || is_runnable runnable (a + 3)) ≡ false
+    → find (is_runnable runnable) (range_with_len a (end - a)) ≡ find (is_runnable runnable)
+    (range_with_len (a + 4) (end - (a + 4)))
+four_past runnable a end below idle =
+    let p = is_runnable runnable in
+    let three : ((p a || p (a + 1) || p (a + 2)) ≡ false) × (p (a + 3) ≡ false) = or_parts _ _ idle
+    in
+    let two : ((p a || p (a + 1)) ≡ false) × (p (a + 2) ≡ false) = or_parts _ _ three.0 in
+    let one : (p a ≡ false) × (p (a + 1) ≡ false) = or_parts _ _ two.0 in
+    let e1 : a + 1 + 1 ≡ a + 2 = omega arith in
+    let e2 : a + 2 + 1 ≡ a + 3 = omega arith in
+    let e3 : a + 3 + 1 ≡ a + 4 = omega arith in
+    range-past p a end (omega arith) one.0 ∙ range-past p (a + 1) end (omega arith) one.1
+    ∙ ap (λ n. find p (range_with_len n (end - n))) e1
+    ∙ range-past p (a + 2) end (omega arith) two.1
+    ∙ ap (λ n. find p (range_with_len n (end - n))) e2
+    ∙ range-past p (a + 3) end (omega arith) three.1
+    ∙ ap (λ n. find p (range_with_len n (end - n))) e3
+
+-- the first of a range and then of another
+pub first_of : (runnable : List Bool) (from harts : ℕ) (first second : Option ℕ)
+    → first ≡ find (is_runnable runnable) (range_with_len from (harts - from))
+    → second ≡ find (is_runnable runnable) (range_with_len 0 (from - 0))
+    → option_or first second
+    ≡ find (is_runnable runnable) (range_with_len from (harts - from) ++ range_with_len 0 from)
+first_of runnable from harts first second is_first is_second =
+    let z : from - 0 ≡ from = omega arith in
+    rw (is_first, is_second, z)
+    (sym (find-append (is_runnable runnable) (range_with_len from (harts - from))
+    (range_with_len 0 from)))
+
+-- the one after a hart is found at once where it is runnable
+pub next_found : (runnable : List Bool) (harts hart : ℕ) → hart + 1 < harts
+    → is_runnable runnable (hart + 1) ≡ true
+    → Some (hart + 1) ≡ find (is_runnable runnable) (harts_after harts hart)
+next_found runnable harts hart below able =
+    let e : harts - (hart + 1) ≡ suc (harts - (hart + 1) - 1) = omega arith in
+    rw e (rw able refl)
 
 -- no hart is runnable where there is no choice in turn
 none-in-order : (runnable : List Bool) (harts : ℕ) → length runnable ≡ harts

@@ -2,6 +2,7 @@ pub mod Digits
 pub mod Drawn
 pub mod InTurn
 pub mod ListedLaws
+pub mod Ordered
 pub mod Reading
 pub mod WorkedDraws
 pub mod WorkedTexts

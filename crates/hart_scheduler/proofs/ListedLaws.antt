@@ -13,7 +13,7 @@ use Rattle.hart_scheduler.specs.Texts.{harts_of}
 use Rattle.std.proofs.lemmas.List.{drop-set, drop_all}
 
 module _ (p : ℕ → Bool) where
-  after_first-miss : (x : ℕ) (xs : List ℕ) → p x ≡ false → after_first p (x ∷ xs) ≡ after_first p xs
+  pub after_first-miss : (x : ℕ) (xs : List ℕ) → p x ≡ false → after_first p (x ∷ xs) ≡ after_first p xs
   after_first-miss x xs miss =
       let e : 1 + position_or_len p xs + 1 ≡ suc (position_or_len p xs + 1) = omega arith in
       rw miss (ap (λ n. drop n (x ∷ xs)) e)

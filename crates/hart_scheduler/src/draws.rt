@@ -56,6 +56,7 @@ impl Draws {
     }
 
     // The hart that the next number draws.
+    #[inline(never)]
     pub(crate) fn hart(self, runnable: &[bool], harts: u16) -> Option<Hart>
         requires bound { harts ≤ 256 }
         requires inside { harts ≤ length runnable.now }

@@ -1,9 +1,9 @@
 // A schedule, and the choices that it makes.
-ghost use Rattle.std.specs.Prelude.{◌≡◌, ◌≤◌, ◌<◌, ◌↔◌, length, None, Some, IfSome, IsTrue};
-ghost use Rattle.std.specs.Option.{option_map};
+ghost use Rattle.std.specs.Prelude.{◌≡◌, ◌≤◌, ◌<◌, ◌-◌, ◌↔◌, [], length, None, Some, IfSome};
+ghost use Rattle.std.specs.Prelude.{IsTrue};
 ghost use Rattle.hart_scheduler.specs.Choices.{is_runnable, NoneRunnable, choice, plan_after};
-ghost use Rattle.hart_scheduler.specs.Choices.{choice_after_list, streak_drawn, state_drawn};
-ghost use Rattle.hart_scheduler.specs.Choices.{streak_after_list};
+ghost use Rattle.hart_scheduler.specs.Choices.{drawn_turns, going_on, plan_with};
+ghost use Rattle.hart_scheduler.specs.Draws.{next_state, number_in};
 ghost use Rattle.hart_scheduler.specs.Texts.{plan_of};
 
 use crate::draws::Draws;
@@ -11,7 +11,7 @@ use crate::entry::Entry;
 use crate::listed::Listed;
 use crate::runnable::lowest_runnable;
 use crate::streak::Streak;
-use crate::turns::{Turns, going_on};
+use crate::turns::Turns;
 use base::Hart;
 use std::marker::Model;
 
@@ -20,10 +20,12 @@ use std::marker::Model;
 /// of the drawn numbers.
 #[derive(Drop)]
 pub struct Schedule {
-    listed: Listed,
+    // No turns are left to it before the list is used up, so that one test says that it goes on.
+    latest: Streak,
     turns: Turns,
     harts: u16,
     quantum: u32,
+    listed: Listed,
 }
 
 impl Model for Schedule {
@@ -40,87 +42,109 @@ impl Model for Schedule {
 
 impl Schedule {
     pub(crate) fn of_entries(entries: Vec<Entry>, harts: u16, quantum: u32, seed: u32) -> Schedule
-        requires { harts ≤ 256 }
+        requires some { 1 ≤ harts }
+        requires bound { harts ≤ 256 }
         ensures { result ≡ plan_of harts quantum seed entries.items }
     {
         Schedule {
-            listed: Listed::of_entries(entries),
-            turns: Turns::of_seed(seed),
+            latest: Streak::new(Hart::of_byte(0), 0),
+            turns: Turns::First(Draws::of_seed(seed)),
             harts,
             quantum,
+            listed: Listed::of_entries(entries),
         }
     }
 
-    // The hart that is chosen after the list.
-    fn choice_after_list(&self, runnable: &[bool]) -> Option<Hart>
-        requires { length runnable.now ≡ self.now.harts }
-        ensures { result ≡ choice_after_list runnable.now self.now }
-    {
-        match self.turns {
-            Turns::InTurn(streak) => streak.successor(runnable, self.harts),
-            Turns::First => lowest_runnable(runnable, 0, self.harts),
-            Turns::Drawn(streak, draws) => match going_on(streak, runnable) {
-                Some(streak) => Some(streak.hart()),
-                None => draws.hart(runnable, self.harts),
-            },
-        }
-    }
-
-    // A hart that was chosen by drawn numbers has its turn.
-    fn take_drawn(&mut self, runnable: &[bool], hart: Hart, streak: Option<Streak>, draws: Draws)
-        requires inside { hart < self.old.harts }
-        requires streak { self.old.streak ≡ streak }
-        requires draws { self.old.draws ≡ Some draws }
-        ensures { self.new ≡ record self.old {
-          streak = Some (streak_drawn runnable.now self.old hart draws);
-          draws = Some (state_drawn runnable.now self.old draws);
-        } }
-    {
-        match going_on(streak, runnable) {
-            Some(streak) => self.turns = Turns::Drawn(Some(streak.shorter()), draws),
-            None => {
-                let drawn = draws.next().next();
-                let streak = Streak::new(hart, drawn.further_turns(self.quantum));
-                self.turns = Turns::Drawn(Some(streak), drawn);
-            }
-        }
-    }
-
-    // A hart that was chosen after the list has its turn.
-    fn take_after_list(&mut self, runnable: &[bool], hart: Hart)
-        requires { hart < self.old.harts }
-        ensures { self.new ≡ record self.old {
-          streak = Some (streak_after_list runnable.now self.old hart);
-          draws = option_map (state_drawn runnable.now self.old) self.old.draws;
-        } }
-    {
-        match &mut self.turns {
-            Turns::InTurn(streak) => streak.take_turn(hart, self.quantum),
-            Turns::First => {
-                let streak = Streak::new(hart, self.quantum.saturating_sub(1));
-                self.turns = Turns::InTurn(streak);
-            }
-            Turns::Drawn(streak, draws) => {
-                let (streak, draws) = (*streak, *draws);
-                self.take_drawn(runnable, hart, streak, draws);
-            }
-        }
-    }
-
-    // The hart that is chosen: from the list, or else after it.
-    fn choice(&self, runnable: &[bool]) -> Option<Hart>
-        requires { length runnable.now ≡ self.now.harts }
+    // The hart that is chosen before the first turn after the list is taken.
+    #[inline(never)]
+    fn first_choice(&self, runnable: &[bool], draws: Option<Draws>) -> Option<Hart>
+        requires all { length runnable.now ≡ self.now.harts }
+        requires first { self.now.streak ≡ None }
+        requires draws { self.now.draws ≡ draws }
         ensures { result ≡ choice runnable.now self.now }
     {
         match self.listed.first(runnable) {
             Some(hart) => Some(hart),
-            None => self.choice_after_list(runnable),
+            None => match draws {
+                None => lowest_runnable(runnable, 0, usize::from(self.harts)),
+                Some(draws) => draws.hart(runnable, self.harts),
+            },
+        }
+    }
+
+    // The hart that is chosen.
+    #[inline(always)]
+    fn choice(&self, runnable: &[bool]) -> Option<Hart>
+        requires { length runnable.now ≡ self.now.harts }
+        ensures { result ≡ choice runnable.now self.now }
+    {
+        if self.latest.goes_on(runnable) {
+            return Some(self.latest.hart());
+        }
+        match self.turns {
+            Turns::Round => self.latest.successor(runnable, self.harts),
+            Turns::Drawn(draws) => draws.hart(runnable, self.harts),
+            Turns::First(draws) => self.first_choice(runnable, draws),
+        }
+    }
+
+    // A hart that the next number drew has the first of the turns that the number after it draws.
+    #[inline(never)]
+    fn draw_turns(&mut self, hart: Hart, draws: Draws)
+        requires inside { hart < self.old.harts }
+        requires over { self.old.listed ≡ [] }
+        ensures { self.new ≡ record self.old {
+          streak = Some (record {
+            hart = hart;
+            left = drawn_turns self.old.quantum (number_in (next_state (next_state draws))) - 1;
+          });
+          draws = Some (next_state (next_state draws));
+        } }
+    {
+        let drawn = draws.next().next();
+        self.latest = Streak::new(hart, drawn.further_turns(self.quantum));
+        self.turns = Turns::Drawn(drawn);
+    }
+
+    // A turn of the list, or the first one after it.
+    #[cold]
+    fn take_listed(&mut self, runnable: &[bool], hart: Hart, draws: Option<Draws>)
+        requires inside { hart < self.old.harts }
+        requires first { self.old.streak ≡ None }
+        requires draws { self.old.draws ≡ draws }
+        ensures { self.new ≡ plan_with runnable.now self.old hart }
+    {
+        if !self.listed.take(runnable) {
+            match draws {
+                None => {
+                    self.latest = Streak::new(hart, self.quantum.saturating_sub(1));
+                    self.turns = Turns::Round;
+                }
+                Some(draws) => self.draw_turns(hart, draws),
+            }
+        }
+    }
+
+    // A turn where none goes on.
+    #[inline(always)]
+    fn take_anew(&mut self, runnable: &[bool], hart: Hart)
+        requires all { length runnable.now ≡ self.old.harts }
+        requires chosen { choice runnable.now self.old ≡ Some hart }
+        requires anew { going_on runnable.now self.old.streak ≡ None }
+        ensures { self.new ≡ plan_after runnable.now self.old }
+    {
+        // A copy, since a match on the field whose arms call with what it holds isn't proved.
+        let turns = self.turns;
+        match turns {
+            Turns::Round => self.latest.take_turn(hart, self.quantum),
+            Turns::Drawn(draws) => self.draw_turns(hart, draws),
+            Turns::First(draws) => self.take_listed(runnable, hart, draws),
         }
     }
 
     /// The hart that `next` would answer now. `runnable` has one entry for each hart. None exactly
     /// where no hart is runnable.
-    #[inline]
+    #[inline(always)]
     pub fn peek(&self, runnable: &[bool]) -> Option<Hart>
         requires { length runnable.now ≡ self.now.harts }
         ensures value { result ≡ choice runnable.now self.now }
@@ -162,7 +186,7 @@ impl Schedule {
 
     /// Chooses the hart that `peek` answers now, as `next` does, for a caller that knows which one
     /// that is. `runnable` has one entry for each hart.
-    #[inline]
+    #[inline(always)]
     pub fn advance(&mut self, runnable: &[bool], hart: Hart)
         requires all { length runnable.now ≡ self.old.harts }
         requires chosen { choice runnable.now self.old ≡ Some hart }
@@ -170,8 +194,13 @@ impl Schedule {
         ensures harts { self.new.harts ≡ self.old.harts }
         ensures quantum { self.new.quantum ≡ self.old.quantum }
     {
-        if !self.listed.take(runnable) {
-            self.take_after_list(runnable, hart);
+        // Two tests and a way from each, since both in one take more instructions.
+        if !self.latest.is_of(hart) {
+            self.take_anew(runnable, hart);
+        } else if self.latest.has_left() {
+            self.latest.shorten();
+        } else {
+            self.take_anew(runnable, hart);
         }
     }
 }

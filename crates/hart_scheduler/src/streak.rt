@@ -1,12 +1,13 @@
 // Whose turn it is after the list.
-ghost use Rattle.std.specs.Prelude.{◌≡◌, ◌≤◌, ◌<◌, ◌-◌, length};
-ghost use Rattle.hart_scheduler.specs.Choices.{goes_on, choice_after, left_with};
+ghost use Rattle.std.specs.Prelude.{◌≡◌, ◌≤◌, ◌<◌, ◌-◌, length, nat_eq, nat_lt};
+ghost use Rattle.std.specs.List.{find};
+ghost use Rattle.hart_scheduler.specs.Choices.{goes_on, harts_after, is_runnable, left_with};
 
-use crate::runnable::{is_runnable, lowest_runnable};
+use crate::runnable::{first_from, hart_at};
 use base::Hart;
 use std::marker::Model;
 
-/// The hart that was last chosen in turn, and how many turns in a row it has left of its quantum.
+/// The hart that was last chosen after the list, and how many turns in a row it has left.
 #[derive(Clone, Copy, Debug)]
 pub struct Streak {
     hart: Hart,
@@ -25,53 +26,69 @@ impl Model for Streak {
 
 impl Streak {
     // A hart with so many turns left.
+    #[inline(always)]
     pub(crate) fn new(hart: Hart, left: u32) -> Streak
         ensures { result ≡ record { hart = hart; left = left } }
     {
         Streak { hart, left }
     }
 
+    #[inline(always)]
     pub(crate) fn hart(self) -> Hart
         ensures { result ≡ self.hart }
     {
         self.hart
     }
 
+    #[inline(always)]
     pub(crate) fn goes_on(self, runnable: &[bool]) -> bool
+        requires { self.hart < length runnable.now }
         ensures { result ≡ goes_on runnable.now self }
     {
-        self.left > 0 && is_runnable(runnable, self.hart)
+        self.left > 0 && runnable[usize::from(self.hart.number())]
     }
 
-    // The hart whose turn comes after it.
+    #[inline(always)]
+    pub(crate) fn is_of(self, hart: Hart) -> bool
+        ensures { result ≡ nat_eq self.hart hart }
+    {
+        self.hart == hart
+    }
+
+    #[inline(always)]
+    pub(crate) fn has_left(self) -> bool
+        ensures { result ≡ nat_lt 0 self.left }
+    {
+        self.left > 0
+    }
+
+    // The first runnable hart after it in cyclic order, itself last.
+    #[inline(always)]
     pub(crate) fn successor(self, runnable: &[bool], harts: u16) -> Option<Hart>
         requires bound { harts ≤ 256 }
         requires inside { harts ≤ length runnable.now }
         requires own { self.hart < harts }
-        ensures { result ≡ choice_after runnable.now harts self }
+        ensures { result ≡ find (is_runnable runnable.now) (harts_after harts self.hart) }
     {
-        let hart = self.hart;
-        if self.goes_on(runnable) {
-            return Some(hart);
-        }
-        let next = hart.number() + 1;
-        match lowest_runnable(runnable, next, harts) {
-            Some(after) => Some(after),
-            None => lowest_runnable(runnable, 0, next),
+        let next = usize::from(self.hart.number()) + 1;
+        let harts = usize::from(harts);
+        if next < harts && runnable[next] {
+            Some(hart_at(next))
+        } else {
+            first_from(runnable, next, harts)
         }
     }
 
-    // The same with one turn less.
-    pub(crate) fn shorter(self) -> Streak
-        ensures { result ≡ record { hart = self.hart; left = self.left - 1 } }
+    // Takes one of the turns that are left, in place.
+    #[inline(always)]
+    pub(crate) fn shorten(&mut self)
+        ensures { self.new ≡ record { hart = self.old.hart; left = self.old.left - 1 } }
     {
-        Streak {
-            hart: self.hart,
-            left: self.left.saturating_sub(1),
-        }
+        self.left = self.left.saturating_sub(1);
     }
 
     // A turn of the hart that was chosen. Another one than the last begins with its whole quantum.
+    #[inline(always)]
     pub(crate) fn take_turn(&mut self, hart: Hart, quantum: u32)
         ensures { self.new ≡ record { hart = hart; left = left_with quantum hart self.old } }
     {

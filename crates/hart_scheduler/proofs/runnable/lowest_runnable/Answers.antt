@@ -7,5 +7,5 @@ loop-number-preserved c = record {
   bound = omega arith;
   same = c.loop-number.invariant.same ∙ range_past c.args.runnable.now c.loop-number.number
       c.args.end c.loop-number-test.true
-      (rw c.from.ensures at c.if-runnable-from.false);
+      c.if-runnable-number.false;
 }
