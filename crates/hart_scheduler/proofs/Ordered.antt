@@ -3,7 +3,7 @@ use Rattle.std.proofs.Common.{◌≡◌, ℕ, ◌-◌, Bool, true, false, List, 
 use Rattle.std.proofs.Common.{None, ap, refl, sym, subst, true≢false, ◌∙◌, inl, inr, arith}
 use Rattle.std.proofs.lemmas.Bool.{cases_Bool, and_parts}
 use Rattle.std.proofs.lemmas.Bool.Decides.{nat_tests}
-use Rattle.std.proofs.lemmas.Option.{none-some, same_Some}
+use Rattle.std.proofs.lemmas.Option.{none-some}
 use Rattle.std.specs.Prelude.{◌&&◌, nat_eq, nat_lt, IsTrue}
 use Rattle.std.specs.List.{find, after_first}
 use Rattle.std.specs.Option.{IfSome, option_map_or}
@@ -11,7 +11,7 @@ use Rattle.hart_scheduler.specs.ScheduleParts.{AStreak}
 use Rattle.hart_scheduler.specs.declared.turns.Turns.{Turns}
 use Rattle.hart_scheduler.specs.declared.turns.Turns.TheVariants.{First, Round, Drawn}
 use Rattle.hart_scheduler.specs.Choices.{Plan, is_runnable, choice, goes_on, plan_with, plan_after}
-use Rattle.hart_scheduler.specs.Choices.{drawn_turns}
+use Rattle.hart_scheduler.specs.Choices.{drawn_turns, going_on}
 use Rattle.hart_scheduler.specs.Draws.{next_state, number_in}
 use Rattle.hart_scheduler.specs.ScheduleInside.{streak_in, draws_in, IsInOrder}
 use Rattle.hart_scheduler.proofs.InTurn.{choice_able}
@@ -82,37 +82,20 @@ went_on runnable Round listed latest harts quantum hart order chosen left =
     let same : hart ≡ latest.hart = grind (arith, nat_tests) in
     rw (order, own, same) refl
 went_on runnable (Drawn draws) listed latest harts quantum hart order chosen left =
-    let on : goes_on runnable latest ≡ true =
-    chosen_on runnable (plan_by (Drawn draws) listed latest harts quantum) hart latest chosen left in
+    let plan = plan_by (Drawn draws) listed latest harts quantum in
+    let on : goes_on runnable latest ≡ true = chosen_on runnable plan hart latest chosen left in
     rw (order, on) refl
 
 -- where none goes on, the hart that was drawn has as many turns as the next number draws
 pub drawn_anew : (runnable : List Bool) (listed : List ℕ) (latest : AStreak)
     (harts quantum hart state : ℕ) → listed ≡ []
-    → choice runnable (plan_by (Drawn state) listed latest harts quantum) ≡ Some hart
-    → (nat_eq latest.hart hart && nat_lt 0 latest.left) ≡ false
+    → going_on runnable (Some latest) ≡ None
     → plan_with runnable (plan_by (Drawn state) listed latest harts quantum) hart
     ≡ plan_drawn (plan_by (Drawn state) listed latest harts quantum) hart state
-drawn_anew runnable listed latest harts quantum hart state over chosen none =
-    elim (cases_Bool (goes_on runnable latest)) [
-      | inl on ↦
-          let same : latest.hart ≡ hart = same_Some _ _ (rw (over, on) at chosen) in
-          let own : nat_eq latest.hart hart ≡ true = grind (arith, nat_tests) in
-          let left : nat_lt 0 latest.left ≡ true = (and_parts _ _ on).1 in
-          absurd (true≢false (rw (own, left) at none))
-      | inr off ↦ rw (over, off) refl
-    ]
+drawn_anew runnable listed latest harts quantum hart state over none = rw (over, none) refl
 
 -- the plan after the hart that was chosen
 pub after_chosen : (runnable : List Bool) (plan : Plan) (hart : ℕ)
     → choice runnable plan ≡ Some hart → plan_with runnable plan hart ≡ plan_after runnable plan
 after_chosen runnable plan hart chosen =
     sym (ap (λ (o : Option ℕ). option_map_or (plan_with runnable plan) o plan) chosen)
-
--- the list stays used up
-pub order_kept : (turns : Turns) (listed : List ℕ) (latest : AStreak)
-    → IsInOrder turns listed latest
-    → IsInOrder turns listed (record { hart = latest.hart; left = latest.left - 1 })
-order_kept (First draws) listed latest order = omega (arith, order)
-order_kept Round listed latest order = order
-order_kept (Drawn draws) listed latest order = order

@@ -2,7 +2,7 @@
 ghost use Rattle.std.specs.Prelude.{◌≡◌, ◌≤◌, ◌<◌, ◌-◌, ◌↔◌, [], length, None, Some, IfSome};
 ghost use Rattle.std.specs.Prelude.{IsTrue};
 ghost use Rattle.hart_scheduler.specs.Choices.{is_runnable, NoneRunnable, choice, plan_after};
-ghost use Rattle.hart_scheduler.specs.Choices.{drawn_turns, plan_with};
+ghost use Rattle.hart_scheduler.specs.Choices.{drawn_turns, going_on, plan_with};
 ghost use Rattle.hart_scheduler.specs.Draws.{next_state, number_in};
 ghost use Rattle.hart_scheduler.specs.Texts.{plan_of};
 
@@ -125,6 +125,23 @@ impl Schedule {
         }
     }
 
+    // A turn where none goes on.
+    #[inline(always)]
+    fn take_anew(&mut self, runnable: &[bool], hart: Hart)
+        requires all { length runnable.now ≡ self.old.harts }
+        requires chosen { choice runnable.now self.old ≡ Some hart }
+        requires anew { going_on runnable.now self.old.streak ≡ None }
+        ensures { self.new ≡ plan_after runnable.now self.old }
+    {
+        // A copy, since a match on the field whose arms call with what it holds isn't proved.
+        let turns = self.turns;
+        match turns {
+            Turns::Round => self.latest.take_turn(hart, self.quantum),
+            Turns::Drawn(draws) => self.draw_turns(hart, draws),
+            Turns::First(draws) => self.take_listed(runnable, hart, draws),
+        }
+    }
+
     /// The hart that `next` would answer now. `runnable` has one entry for each hart. None exactly
     /// where no hart is runnable.
     #[inline(always)]
@@ -177,16 +194,13 @@ impl Schedule {
         ensures harts { self.new.harts ≡ self.old.harts }
         ensures quantum { self.new.quantum ≡ self.old.quantum }
     {
-        if self.latest.is_of(hart) {
+        // Two tests and a way from each, since both in one take more instructions.
+        if !self.latest.is_of(hart) {
+            self.take_anew(runnable, hart);
+        } else if self.latest.has_left() {
             self.latest.shorten();
-            return;
-        }
-        // A copy, since a match on the field whose arms call with what it holds isn't proved.
-        let turns = self.turns;
-        match turns {
-            Turns::Round => self.latest.take_turn(hart, self.quantum),
-            Turns::Drawn(draws) => self.draw_turns(hart, draws),
-            Turns::First(draws) => self.take_listed(runnable, hart, draws),
+        } else {
+            self.take_anew(runnable, hart);
         }
     }
 }

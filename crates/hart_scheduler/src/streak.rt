@@ -1,5 +1,5 @@
 // Whose turn it is after the list.
-ghost use Rattle.std.specs.Prelude.{◌≡◌, ◌≤◌, ◌<◌, ◌-◌, ◌&&◌, length, nat_eq, nat_lt};
+ghost use Rattle.std.specs.Prelude.{◌≡◌, ◌≤◌, ◌<◌, ◌-◌, length, nat_eq, nat_lt};
 ghost use Rattle.std.specs.List.{find};
 ghost use Rattle.hart_scheduler.specs.Choices.{goes_on, harts_after, is_runnable, left_with};
 
@@ -48,12 +48,18 @@ impl Streak {
         self.left > 0 && runnable[usize::from(self.hart.number())]
     }
 
-    // Whether a hart is this one, with turns left.
     #[inline(always)]
     pub(crate) fn is_of(self, hart: Hart) -> bool
-        ensures { result ≡ (nat_eq self.hart hart && nat_lt 0 self.left) }
+        ensures { result ≡ nat_eq self.hart hart }
     {
-        self.hart == hart && self.left > 0
+        self.hart == hart
+    }
+
+    #[inline(always)]
+    pub(crate) fn has_left(self) -> bool
+        ensures { result ≡ nat_lt 0 self.left }
+    {
+        self.left > 0
     }
 
     // The first runnable hart after it in cyclic order, itself last.
