@@ -1,7 +1,8 @@
 // What a turn of a run costs: `benches turns STEPS HARTS RUNNING QUANTUM SEED` makes so many steps
 // of a guest with so many harts, of which so many run, with so many turns in a row for each, or as
-// numbers say that the seed draws. They do nothing but jump to themselves. It prints how many steps
-// were made. Without words it makes 1,000 steps of 8 harts in turn; the seed 0 draws nothing.
+// numbers say that the seed draws. They do nothing but jump to themselves, so that nothing is seen
+// of a step, and one call makes them all, as it does in a run. It prints how many steps were made.
+// Without words it makes 1,000 steps of 8 harts in turn; the seed 0 draws nothing.
 ghost use Rattle.std.specs.Prelude.{◌≡◌, ◌+◌, ◌*◌, ◌≤◌};
 
 use crate::turn_program::{CODE, program};
