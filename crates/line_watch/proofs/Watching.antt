@@ -1,5 +1,5 @@
 -- A run, as far as it is watched.
-use Rattle.std.proofs.Common.{◌≡◌, ℕ, ◌+◌, ◌≤◌, List, [], ◌∷◌, ◌++◌, Result, Ok, Err}
+use Rattle.std.proofs.Common.{◌≡◌, ℕ, zero, suc, ◌+◌, ◌≤◌, List, [], ◌∷◌, ◌++◌, Result, Ok, Err}
 use Rattle.std.proofs.Common.{append-nil, append_assoc, ap, arith, inl, inr, refl, subst, sym}
 use Rattle.std.proofs.Common.{◌∙◌}
 use Rattle.std.proofs.lemmas.Bool.{cases_Bool}
@@ -7,7 +7,8 @@ use Rattle.std.proofs.lemmas.List.{map-append}
 use Rattle.std.specs.Prelude.{OnOk}
 use Rattle.base.specs.declared.ending.Ending.{Ending}
 use Rattle.guest.specs.GuestCalls.{RunEvent}
-use Rattle.guest.specs.Runs.{Progress, Run, ended_run, led_by, rest_of, sited_in, sited_of}
+use Rattle.guest.specs.Runs.{Progress, Run, ended_run, led_by, led_quietly, rest_of}
+use Rattle.guest.specs.Runs.{sited_in, sited_of}
 use Rattle.rv32_hart.specs.Space.{Space}
 use Rattle.sharing_rules.specs.Lines.{Line}
 use Rattle.objects.specs.Symbols.{Symbol}
@@ -41,21 +42,28 @@ watches_start start first fresh = record {
 sited-led : (e : RunEvent) (r : Run) → sited_run (led_by e r) ≡ sited_at e ++ sited_run r
 sited-led e r = map-append sited (sited_in e) (sited_of r)
 
--- one step more
+-- steps of which nothing is seen have no access
+sited-quietly : (n : ℕ) (r : Run) → sited_run (led_quietly n r) ≡ sited_run r
+sited-quietly zero r = refl
+sited-quietly (suc n) r = sited-quietly n r
+
+-- some such steps, and one more
 pub watches_more : (start guest later : Progress) (first now new : Kept) (e : RunEvent) (n : ℕ)
-    → Watches start guest first now → rest_of guest ≡ led_by e (rest_of later)
+    → Watches start guest first now
+    → (quiets : ℕ) × (rest_of guest ≡ led_quietly quiets (led_by e (rest_of later)))
     → ((l : Line) (from : ℕ) (u : List Sited) → now ≡ kept_of l from u
     → new ≡ kept_of l from (u ++ sited_at e))
     → new.position ≡ now.position + n → later.config.accesses ≡ guest.config.accesses + n
     → later.setup.budget ≡ guest.setup.budget
     → Watches start later first new
-watches_more start guest later first now new e n on turn more position accesses same =
+watches_more start guest later first now new e n on (quiets, turn) more position accesses same =
     record {
       noted = on.noted ++ sited_at e;
       stands = λ l from is. more l from on.noted (on.stands l from is);
       goes = on.goes
           ∙ ap (λ (r : Run). on.noted ++ sited_run r) turn
-          ∙ ap (λ (s : List Sited). on.noted ++ s) (sited-led e (rest_of later))
+          ∙ ap (λ (s : List Sited). on.noted ++ s)
+          (sited-quietly quiets (led_by e (rest_of later)) ∙ sited-led e (rest_of later))
           ∙ sym (append_assoc on.noted (sited_at e) (sited_run (rest_of later)));
       ends = on.ends ∙ ap (λ (r : Run). r.ending) turn;
       budget = same ∙ on.budget;
@@ -64,12 +72,15 @@ watches_more start guest later first now new e n on turn more position accesses 
 
 -- the end: all of the run was noted
 pub watched_all : (start guest : Progress) (first now : Kept) (end : Ending)
-    → Watches start guest first now → rest_of guest ≡ ended_run end
+    → Watches start guest first now
+    → (quiets : ℕ) × (rest_of guest ≡ led_quietly quiets (ended_run end))
     → (l : Line) (from : ℕ) → first ≡ kept_of l from []
     → now ≡ kept_of l from (sited_run (rest_of start))
-watched_all start guest first now end on over l from is =
+watched_all start guest first now end on (quiets, over) l from is =
     let all : sited_run (rest_of start) ≡ on.noted =
-    on.goes ∙ ap (λ (r : Run). on.noted ++ sited_run r) over ∙ append-nil on.noted in
+    on.goes ∙ ap (λ (r : Run). on.noted ++ sited_run r) over
+    ∙ ap (λ (s : List Sited). on.noted ++ s) (sited-quietly quiets (ended_run end))
+    ∙ append-nil on.noted in
     on.stands l from is ∙ ap (kept_of l from) (sym all)
 
 -- a step without an access

@@ -43,7 +43,7 @@ fn note_event(explainer: &mut Explainer, event: Event) -> Result<(), NoMemory>
     }
 }
 
-// Runs a guest to its end, and notes each step.
+// Runs a guest to its end, and notes each step of which something is seen.
 fn follow(guest: &mut Guest, explainer: &mut Explainer) -> Result<Ending, NoMemory>
     requires budget { guest.old.setup.budget ≤ 2 ^ 36 }
     requires fresh { explainer.old.position ≡ 0 }
@@ -52,18 +52,13 @@ fn follow(guest: &mut Guest, explainer: &mut Explainer) -> Result<Ending, NoMemo
         → explainer.new ≡ kept_of l start (sited_run (rest_of guest.old))) }
 {
     'turns: loop {
-        match guest.step() {
+        // (no run makes so many steps)
+        match guest.run_on(u64::MAX) {
             Ok(Turn::Ran(event)) => match note_event(explainer, event) {
                 Ok(()) => {}
                 Err(fault) => return Err(fault),
             },
-            Ok(Turn::Ended(outcome)) => {
-                return Ok(Ending {
-                    outcome,
-                    steps: guest.steps(),
-                    accesses: guest.accesses(),
-                });
-            }
+            Ok(Turn::Ended(_)) => return Ok(guest.ending().unwrap()),
             Err(fault) => return Err(fault),
         }
     }
