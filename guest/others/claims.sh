@@ -178,7 +178,9 @@ claim_configure() {
     built "configure: xz" bash -c 'cd "$1" && "$2/xz/configure" -q CC="$3" CFLAGS="-O1 $4 -DPREDATOR_REFUSE_AT_RUN" --host=riscv32 \
         --disable-shared --disable-nls' all "$made" "$fetched" "$cc" $lines
     built "make: all of xz" make -s -C "$made" "${tools[@]}" LDFLAGS=
-    ran "make: xz tells its version" "$made/src/xz/xz" 0 "xz (XZ Utils)" -- --version
+    ran "make: xzdec tells its version" "$made/src/xzdec/xzdec" 0 "xzdec (XZ Utils)" -- --version
+    # (xz makes a pipe before it looks at its words)
+    ran "make: xz is refused as it runs" "$made/src/xz/xz" 134 "can't be had: there is one process, and no other" -- --version
 }
 
 claim_cmake() {
