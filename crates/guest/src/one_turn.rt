@@ -1,14 +1,18 @@
 // One turn of a configuration.
 ghost use Rattle.std.specs.Prelude.{◌≡◌, ◌↔◌, ℕ, ◌+◌, ◌<◌, ◌^◌, ◌≤◌, length};
-ghost use Rattle.std.specs.Prelude.{IfOk, IfErr, IsOk, OnOk, OnErr, IsFalse, IsTrue, Ok, None};
+ghost use Rattle.std.specs.Prelude.{IfOk, IsOk, OnOk, OnErr, IsFalse, IsTrue, Ok, None};
 ghost use Rattle.std.specs.Option.{option_map_or};
+ghost use Rattle.hart_scheduler.specs.Choices.{choice};
+ghost use Rattle.guest.specs.Phases.{phase_of};
+ghost use Rattle.guest.specs.declared.phase.HartPhase.TheVariants.{Runnable};
 ghost use Rattle.guest.specs.ThreadCalls.{finished_code};
 ghost use Rattle.guest.specs.Configs.{CanStep, Config, Fits, counted, noted};
 ghost use Rattle.guest.specs.GuestCalls.{over, quiet, ran};
 ghost use Rattle.guest.specs.Runs.{ending_with};
 ghost use Rattle.guest.specs.Turns.{IsNext, chosen, hart_turn, made, makes_block};
-ghost use Rattle.guest.specs.Turns.{turn_of};
+ghost use Rattle.guest.specs.Turns.{runnable_in, turn_of};
 ghost use Rattle.guest.specs.ConfigInside.{config_of};
+ghost use Rattle.guest.specs.declared.setup.Setup.{Setup};
 ghost use Rattle.guest.specs.SeenTurns.{HasPassed, IsEndOf, IsSeen, turn_seen};
 
 use crate::configuration::Configuration;
@@ -129,6 +133,9 @@ impl Configuration {
     fn rest(&self) -> Outcome
         ensures outcome { result ≡ option_map_or Outcome.Exit (finished_code self.now.threads)
             Outcome.Deadlock }
+        ensures over { (s : Setup)
+            → None ≡ choice (runnable_in (config_of self.now)) self.now.schedule
+            → over result (config_of self.now) ≡ turn_of s (config_of self.now) }
         ensures end { (harts : ℕ) → IsEndOf harts result }
     {
         match self.threads.finished() {
@@ -137,30 +144,20 @@ impl Configuration {
         }
     }
 
-    // The hart whose step the turn is, or the end of the run.
+    // Whether no step is left to the hart that is next. A test alone: an answer that held the hart
+    // or the end would be put together at each step before it is looked at.
     #[inline(always)]
-    fn judged(&self, setup: &Setup) -> Result<Hart, Outcome>
+    fn is_spent(&self, setup: &Setup, hart: Hart) -> bool
         requires fits { Fits setup.now.harts (config_of self.now) }
-        ensures ready { IfOk result (λ hart. CanStep hart (config_of self.now)) }
-        ensures next { IfOk result (λ hart. IsNext hart (config_of self.now)) }
-        ensures turn { IfOk result
-            (λ hart. hart_turn setup.now hart (chosen (config_of self.now)) ≡ turn_of setup.now
-            (config_of self.now)) }
-        ensures over { IfErr result
-            (λ outcome. over outcome (config_of self.now) ≡ turn_of setup.now
-            (config_of self.now)) }
-        ensures end { IfErr result (IsEndOf setup.now.harts) }
+        requires next { IsNext hart (config_of self.now) }
+        requires runs { phase_of self.now.threads hart ≡ Runnable }
+        ensures over { IsTrue result
+            → over Outcome.Budget (config_of self.now) ≡ turn_of setup.now (config_of self.now) }
+        ensures ready { IsFalse result → CanStep hart (config_of self.now) }
+        ensures turn { IsFalse result → hart_turn setup.now hart (chosen (config_of self.now))
+            ≡ turn_of setup.now (config_of self.now) }
     {
-        match self.next_hart() {
-            None => Err(self.rest()),
-            Some(hart) => {
-                if self.steps < setup.budget {
-                    Ok(hart)
-                } else {
-                    Err(Outcome::Budget)
-                }
-            }
-        }
+        self.steps >= setup.budget
     }
 
     /// One turn: the end of the run, or the step of the hart that the schedule chooses.
@@ -176,10 +173,14 @@ impl Configuration {
         ensures settled { IsFalse (makes_block (turn_of setup.now (config_of self.old)))
             → IsOk result }
     {
-        match self.judged(setup) {
-            Ok(hart) => self.run(setup, hart),
-            Err(outcome) => Ok(Turn::Ended(outcome)),
+        let hart = match self.next_hart() {
+            Some(hart) => hart,
+            None => return Ok(Turn::Ended(self.rest())),
+        };
+        if self.is_spent(setup, hart) {
+            return Ok(Turn::Ended(Outcome::Budget));
         }
+        self.run(setup, hart)
     }
 
     /// Turns until something is seen of one, or a step of which nothing is seen is the last of so
@@ -202,10 +203,13 @@ impl Configuration {
         ensures paused { result ≡ Ok (Turn.Ran Event.Quiet) → until ≤ self.new.steps }
     {
         'turns: loop {
-            let hart = match self.judged(setup) {
-                Ok(hart) => hart,
-                Err(outcome) => return Ok(Turn::Ended(outcome)),
+            let hart = match self.next_hart() {
+                Some(hart) => hart,
+                None => return Ok(Turn::Ended(self.rest())),
             };
+            if self.is_spent(setup, hart) {
+                return Ok(Turn::Ended(Outcome::Budget));
+            }
             let pc = self.pc(hart);
             let state = &mut self.states[usize::from(hart.number())];
             match step(hart, state, &mut self.memory, &mut self.held) {

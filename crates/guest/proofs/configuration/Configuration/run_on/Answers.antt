@@ -22,14 +22,18 @@ turns-smaller-else-self-until c =
     let x = config_of c.turns.self in
     let d = config_of c.pass_over.new.self in
     let made : ran quiet d ≡ turn_of s x = c.pass_over.ensures.turn
-    ∙ next_made s c.in-Ok.hart c.from.result c.pc-pc.result (chosen x)
+    ∙ next_made s c.in-Some.hart c.from.result c.pc-pc.result (chosen x)
     c.index_mut-state.result.now c.step.new.state c.step.new.memory c.step.new.held
     c.in-Next-default-None.instr None (c.from.ensures ∙ c.number.ensures.value)
-    (omega (arith, c.in-Ok.ensures.ready.inside, c.in-Ok.ensures.ready.states))
+    (omega (
+      arith,
+      (c.is_spent.ensures.ready c.if-is_spent.false).inside,
+      (c.is_spent.ensures.ready c.if-is_spent.false).states,
+    ))
     c.index_mut-state.ensures.value
     (rw c.in-Next-default-None.field-1-is at c.in-Next-default-None.ensures.effect)
     c.pc-pc.ensures.value
-    ∙ c.in-Ok.ensures.turn in
+    ∙ c.is_spent.ensures.turn c.if-is_spent.false in
     let one = quiet_one s x d c.turns.invariant.counts.room made in
     omega (arith, one.steps, one.room)
 
@@ -39,14 +43,18 @@ turns-preserved-else-self-until c =
     let x = config_of c.turns.self in
     let d = config_of c.pass_over.new.self in
     let made : ran quiet d ≡ turn_of s x = c.pass_over.ensures.turn
-    ∙ next_made s c.in-Ok.hart c.from.result c.pc-pc.result (chosen x)
+    ∙ next_made s c.in-Some.hart c.from.result c.pc-pc.result (chosen x)
     c.index_mut-state.result.now c.step.new.state c.step.new.memory c.step.new.held
     c.in-Next-default-None.instr None (c.from.ensures ∙ c.number.ensures.value)
-    (omega (arith, c.in-Ok.ensures.ready.inside, c.in-Ok.ensures.ready.states))
+    (omega (
+      arith,
+      (c.is_spent.ensures.ready c.if-is_spent.false).inside,
+      (c.is_spent.ensures.ready c.if-is_spent.false).states,
+    ))
     c.index_mut-state.ensures.value
     (rw c.in-Next-default-None.field-1-is at c.in-Next-default-None.ensures.effect)
     c.pc-pc.ensures.value
-    ∙ c.in-Ok.ensures.turn in
+    ∙ c.is_spent.ensures.turn c.if-is_spent.false in
     let fits = c.turns.invariant.fits in
     passing_on s c.args.until (config_of c.args.self.now) x d c.turns.invariant made
     (c.pass_over.ensures.fits s.harts (record {
@@ -60,10 +68,14 @@ turns-preserved-else-self-until c =
 pub returns-in-Next-default-Some-clause-seen : goal.returns-in-Next-default-Some-clause-seen
 returns-in-Next-default-Some-clause-seen c =
     rw c.go_on.ensures.seen
-    (own_seen c.in-Ok.hart c.args.setup.now.harts c.pc-pc.result _ _ c.in-Next-default-Some.instr
+    (own_seen c.in-Some.hart c.args.setup.now.harts c.pc-pc.result _ _ c.in-Next-default-Some.instr
     (Some c.in-Next-default-Some.access) (config_of c.go_on.new.self)
     (rw c.in-Next-default-Some.field-1-is at c.in-Next-default-Some.ensures.effect)
-    (omega (arith, c.in-Ok.ensures.ready.inside, c.turns.invariant.fits.phases)))
+    (omega (
+      arith,
+      (c.is_spent.ensures.ready c.if-is_spent.false).inside,
+      c.turns.invariant.fits.phases,
+    )))
 
 pub returns-then-not-is_quiet-clause-turn : goal.returns-then-not-is_quiet-clause-turn
 returns-then-not-is_quiet-clause-turn c =
@@ -71,29 +83,41 @@ returns-then-not-is_quiet-clause-turn c =
     let x = config_of c.turns.self in
     let d = config_of c.call-answer.new.self in
     let turn = if_ok-map c.call-answer.result _ _
-    (λ turn h. called s c.in-Ok.hart c.from.result (chosen x) c.index_mut-state.result.now
+    (λ turn h. called s c.in-Some.hart c.from.result (chosen x) c.index_mut-state.result.now
     c.step.new.state c.step.new.memory c.step.new.held _
     (c.from.ensures ∙ c.number.ensures.value)
-    (omega (arith, c.in-Ok.ensures.ready.inside, c.in-Ok.ensures.ready.states))
+    (omega (
+      arith,
+      (c.is_spent.ensures.ready c.if-is_spent.false).inside,
+      (c.is_spent.ensures.ready c.if-is_spent.false).states,
+    ))
     c.index_mut-state.ensures.value c.in-Call.ensures.effect c.in-Call.ensures.left h
-    ∙ c.in-Ok.ensures.turn)
+    ∙ c.is_spent.ensures.turn c.if-is_spent.false)
     c.call-answer.ensures.turn in
     let same = on_err-map c.call-answer.result _ _
-    (λ h. h ∙ whole_left c.in-Ok.hart c.from.result x c.index_mut-state.result.now
+    (λ h. h ∙ whole_left c.in-Some.hart c.from.result x c.index_mut-state.result.now
     c.step.new.state c.step.new.memory c.step.new.held
     (c.from.ensures ∙ c.number.ensures.value)
-    (omega (arith, c.in-Ok.ensures.ready.inside, c.in-Ok.ensures.ready.states))
+    (omega (
+      arith,
+      (c.is_spent.ensures.ready c.if-is_spent.false).inside,
+      (c.is_spent.ensures.ready c.if-is_spent.false).states,
+    ))
     c.index_mut-state.ensures.value c.in-Call.ensures.left)
     c.call-answer.ensures.refused in
     let settled : IsFalse (makes_block (turn_of s x)) → IsOk c.call-answer.result = λ no_block.
     c.call-answer.ensures.settled
     (ap (λ (t : RunTurn). makes_block t)
-    (called s c.in-Ok.hart c.from.result (chosen x) c.index_mut-state.result.now
+    (called s c.in-Some.hart c.from.result (chosen x) c.index_mut-state.result.now
     c.step.new.state c.step.new.memory c.step.new.held _
     (c.from.ensures ∙ c.number.ensures.value)
-    (omega (arith, c.in-Ok.ensures.ready.inside, c.in-Ok.ensures.ready.states))
+    (omega (
+      arith,
+      (c.is_spent.ensures.ready c.if-is_spent.false).inside,
+      (c.is_spent.ensures.ready c.if-is_spent.false).states,
+    ))
     c.index_mut-state.ensures.value c.in-Call.ensures.effect c.in-Call.ensures.left refl
-    ∙ c.in-Ok.ensures.turn)
+    ∙ c.is_spent.ensures.turn c.if-is_spent.false)
     ∙ no_block) in
     (taken s c.args.until (config_of c.args.self.now) x d c.call-answer.result c.turns.invariant
     turn same settled).turn
@@ -104,29 +128,41 @@ returns-then-not-is_quiet-clause-passed c =
     let x = config_of c.turns.self in
     let d = config_of c.call-answer.new.self in
     let turn = if_ok-map c.call-answer.result _ _
-    (λ turn h. called s c.in-Ok.hart c.from.result (chosen x) c.index_mut-state.result.now
+    (λ turn h. called s c.in-Some.hart c.from.result (chosen x) c.index_mut-state.result.now
     c.step.new.state c.step.new.memory c.step.new.held _
     (c.from.ensures ∙ c.number.ensures.value)
-    (omega (arith, c.in-Ok.ensures.ready.inside, c.in-Ok.ensures.ready.states))
+    (omega (
+      arith,
+      (c.is_spent.ensures.ready c.if-is_spent.false).inside,
+      (c.is_spent.ensures.ready c.if-is_spent.false).states,
+    ))
     c.index_mut-state.ensures.value c.in-Call.ensures.effect c.in-Call.ensures.left h
-    ∙ c.in-Ok.ensures.turn)
+    ∙ c.is_spent.ensures.turn c.if-is_spent.false)
     c.call-answer.ensures.turn in
     let same = on_err-map c.call-answer.result _ _
-    (λ h. h ∙ whole_left c.in-Ok.hart c.from.result x c.index_mut-state.result.now
+    (λ h. h ∙ whole_left c.in-Some.hart c.from.result x c.index_mut-state.result.now
     c.step.new.state c.step.new.memory c.step.new.held
     (c.from.ensures ∙ c.number.ensures.value)
-    (omega (arith, c.in-Ok.ensures.ready.inside, c.in-Ok.ensures.ready.states))
+    (omega (
+      arith,
+      (c.is_spent.ensures.ready c.if-is_spent.false).inside,
+      (c.is_spent.ensures.ready c.if-is_spent.false).states,
+    ))
     c.index_mut-state.ensures.value c.in-Call.ensures.left)
     c.call-answer.ensures.refused in
     let settled : IsFalse (makes_block (turn_of s x)) → IsOk c.call-answer.result = λ no_block.
     c.call-answer.ensures.settled
     (ap (λ (t : RunTurn). makes_block t)
-    (called s c.in-Ok.hart c.from.result (chosen x) c.index_mut-state.result.now
+    (called s c.in-Some.hart c.from.result (chosen x) c.index_mut-state.result.now
     c.step.new.state c.step.new.memory c.step.new.held _
     (c.from.ensures ∙ c.number.ensures.value)
-    (omega (arith, c.in-Ok.ensures.ready.inside, c.in-Ok.ensures.ready.states))
+    (omega (
+      arith,
+      (c.is_spent.ensures.ready c.if-is_spent.false).inside,
+      (c.is_spent.ensures.ready c.if-is_spent.false).states,
+    ))
     c.index_mut-state.ensures.value c.in-Call.ensures.effect c.in-Call.ensures.left refl
-    ∙ c.in-Ok.ensures.turn)
+    ∙ c.is_spent.ensures.turn c.if-is_spent.false)
     ∙ no_block) in
     (taken s c.args.until (config_of c.args.self.now) x d c.call-answer.result c.turns.invariant
     turn same settled).passed
@@ -137,29 +173,41 @@ returns-then-not-is_quiet-clause-settled c =
     let x = config_of c.turns.self in
     let d = config_of c.call-answer.new.self in
     let turn = if_ok-map c.call-answer.result _ _
-    (λ turn h. called s c.in-Ok.hart c.from.result (chosen x) c.index_mut-state.result.now
+    (λ turn h. called s c.in-Some.hart c.from.result (chosen x) c.index_mut-state.result.now
     c.step.new.state c.step.new.memory c.step.new.held _
     (c.from.ensures ∙ c.number.ensures.value)
-    (omega (arith, c.in-Ok.ensures.ready.inside, c.in-Ok.ensures.ready.states))
+    (omega (
+      arith,
+      (c.is_spent.ensures.ready c.if-is_spent.false).inside,
+      (c.is_spent.ensures.ready c.if-is_spent.false).states,
+    ))
     c.index_mut-state.ensures.value c.in-Call.ensures.effect c.in-Call.ensures.left h
-    ∙ c.in-Ok.ensures.turn)
+    ∙ c.is_spent.ensures.turn c.if-is_spent.false)
     c.call-answer.ensures.turn in
     let same = on_err-map c.call-answer.result _ _
-    (λ h. h ∙ whole_left c.in-Ok.hart c.from.result x c.index_mut-state.result.now
+    (λ h. h ∙ whole_left c.in-Some.hart c.from.result x c.index_mut-state.result.now
     c.step.new.state c.step.new.memory c.step.new.held
     (c.from.ensures ∙ c.number.ensures.value)
-    (omega (arith, c.in-Ok.ensures.ready.inside, c.in-Ok.ensures.ready.states))
+    (omega (
+      arith,
+      (c.is_spent.ensures.ready c.if-is_spent.false).inside,
+      (c.is_spent.ensures.ready c.if-is_spent.false).states,
+    ))
     c.index_mut-state.ensures.value c.in-Call.ensures.left)
     c.call-answer.ensures.refused in
     let settled : IsFalse (makes_block (turn_of s x)) → IsOk c.call-answer.result = λ no_block.
     c.call-answer.ensures.settled
     (ap (λ (t : RunTurn). makes_block t)
-    (called s c.in-Ok.hart c.from.result (chosen x) c.index_mut-state.result.now
+    (called s c.in-Some.hart c.from.result (chosen x) c.index_mut-state.result.now
     c.step.new.state c.step.new.memory c.step.new.held _
     (c.from.ensures ∙ c.number.ensures.value)
-    (omega (arith, c.in-Ok.ensures.ready.inside, c.in-Ok.ensures.ready.states))
+    (omega (
+      arith,
+      (c.is_spent.ensures.ready c.if-is_spent.false).inside,
+      (c.is_spent.ensures.ready c.if-is_spent.false).states,
+    ))
     c.index_mut-state.ensures.value c.in-Call.ensures.effect c.in-Call.ensures.left refl
-    ∙ c.in-Ok.ensures.turn)
+    ∙ c.is_spent.ensures.turn c.if-is_spent.false)
     ∙ no_block) in
     (taken s c.args.until (config_of c.args.self.now) x d c.call-answer.result c.turns.invariant
     turn same settled).settled
@@ -170,14 +218,18 @@ returns-then-not-is_quiet-clause-fits c =
     let x = config_of c.turns.self in
     let d = config_of c.call-answer.new.self in
     let same = on_err-map c.call-answer.result _ _
-    (λ h. h ∙ whole_left c.in-Ok.hart c.from.result x c.index_mut-state.result.now
+    (λ h. h ∙ whole_left c.in-Some.hart c.from.result x c.index_mut-state.result.now
     c.step.new.state c.step.new.memory c.step.new.held
     (c.from.ensures ∙ c.number.ensures.value)
-    (omega (arith, c.in-Ok.ensures.ready.inside, c.in-Ok.ensures.ready.states))
+    (omega (
+      arith,
+      (c.is_spent.ensures.ready c.if-is_spent.false).inside,
+      (c.is_spent.ensures.ready c.if-is_spent.false).states,
+    ))
     c.index_mut-state.ensures.value c.in-Call.ensures.left)
     c.call-answer.ensures.refused in
     let go = on_ok-if c.call-answer.result _ _
-    (λ turn h harts fits. fits_called harts c.in-Ok.hart c.from.result s (chosen x)
+    (λ turn h harts fits. fits_called harts c.in-Some.hart c.from.result s (chosen x)
     c.step.new.state c.step.new.memory c.step.new.held turn d h c.step.ensures.harts
     (fits_chosen harts x fits))
     c.call-answer.ensures.turn in
@@ -195,12 +247,16 @@ turns-smaller c =
     let x = config_of c.turns.self in
     let d = config_of c.call-answer.new.self in
     let turn = if_ok-map c.call-answer.result _ _
-    (λ turn h. called s c.in-Ok.hart c.from.result (chosen x) c.index_mut-state.result.now
+    (λ turn h. called s c.in-Some.hart c.from.result (chosen x) c.index_mut-state.result.now
     c.step.new.state c.step.new.memory c.step.new.held _
     (c.from.ensures ∙ c.number.ensures.value)
-    (omega (arith, c.in-Ok.ensures.ready.inside, c.in-Ok.ensures.ready.states))
+    (omega (
+      arith,
+      (c.is_spent.ensures.ready c.if-is_spent.false).inside,
+      (c.is_spent.ensures.ready c.if-is_spent.false).states,
+    ))
     c.index_mut-state.ensures.value c.in-Call.ensures.effect c.in-Call.ensures.left h
-    ∙ c.in-Ok.ensures.turn)
+    ∙ c.is_spent.ensures.turn c.if-is_spent.false)
     c.call-answer.ensures.turn in
     let silent = quiet_answer s x d c.call-answer.result turn
     (c.is_quiet.ensures.0 c.if-not-is_quiet.false) in
@@ -213,22 +269,30 @@ turns-preserved c =
     let x = config_of c.turns.self in
     let d = config_of c.call-answer.new.self in
     let turn = if_ok-map c.call-answer.result _ _
-    (λ turn h. called s c.in-Ok.hart c.from.result (chosen x) c.index_mut-state.result.now
+    (λ turn h. called s c.in-Some.hart c.from.result (chosen x) c.index_mut-state.result.now
     c.step.new.state c.step.new.memory c.step.new.held _
     (c.from.ensures ∙ c.number.ensures.value)
-    (omega (arith, c.in-Ok.ensures.ready.inside, c.in-Ok.ensures.ready.states))
+    (omega (
+      arith,
+      (c.is_spent.ensures.ready c.if-is_spent.false).inside,
+      (c.is_spent.ensures.ready c.if-is_spent.false).states,
+    ))
     c.index_mut-state.ensures.value c.in-Call.ensures.effect c.in-Call.ensures.left h
-    ∙ c.in-Ok.ensures.turn)
+    ∙ c.is_spent.ensures.turn c.if-is_spent.false)
     c.call-answer.ensures.turn in
     let same = on_err-map c.call-answer.result _ _
-    (λ h. h ∙ whole_left c.in-Ok.hart c.from.result x c.index_mut-state.result.now
+    (λ h. h ∙ whole_left c.in-Some.hart c.from.result x c.index_mut-state.result.now
     c.step.new.state c.step.new.memory c.step.new.held
     (c.from.ensures ∙ c.number.ensures.value)
-    (omega (arith, c.in-Ok.ensures.ready.inside, c.in-Ok.ensures.ready.states))
+    (omega (
+      arith,
+      (c.is_spent.ensures.ready c.if-is_spent.false).inside,
+      (c.is_spent.ensures.ready c.if-is_spent.false).states,
+    ))
     c.index_mut-state.ensures.value c.in-Call.ensures.left)
     c.call-answer.ensures.refused in
     let go = on_ok-if c.call-answer.result _ _
-    (λ turn h harts fits. fits_called harts c.in-Ok.hart c.from.result s (chosen x)
+    (λ turn h harts fits. fits_called harts c.in-Some.hart c.from.result s (chosen x)
     c.step.new.state c.step.new.memory c.step.new.held turn d h c.step.ensures.harts
     (fits_chosen harts x fits))
     c.call-answer.ensures.turn in

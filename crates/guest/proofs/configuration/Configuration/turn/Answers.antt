@@ -5,15 +5,17 @@ use Rattle.guest.specs.Turns.{makes_block}
 use Rattle.guest.proofs.TurnAnswers.{fits-either, if_ok-map}
 use Rattle.guest.proofs.configuration.Configuration.turn.Goals as goal
 
-pub returns-in-Ok-clause-turn : goal.returns-in-Ok-clause-turn
-returns-in-Ok-clause-turn c =
-    if_ok-map c.run.result _ _ (λ turn h. h ∙ c.in-Ok.ensures.turn) c.run.ensures.turn
+pub returns-clause-turn : goal.returns-clause-turn
+returns-clause-turn c =
+    if_ok-map c.run.result _ _
+    (λ turn h. h ∙ c.is_spent.ensures.turn c.if-is_spent.false) c.run.ensures.turn
 
-pub returns-in-Ok-clause-fits : goal.returns-in-Ok-clause-fits
-returns-in-Ok-clause-fits c =
+pub returns-clause-fits : goal.returns-clause-fits
+returns-clause-fits c =
     fits-either c.run.result c.args.setup.now.harts (config_of c.args.self.now)
     (config_of c.run.new.self) c.run.ensures.fits c.run.ensures.refused c.requires.fits
 
-pub returns-in-Ok-clause-settled : goal.returns-in-Ok-clause-settled
-returns-in-Ok-clause-settled c = λ h.
-    c.run.ensures.settled (ap (λ (t : RunTurn). makes_block t) c.in-Ok.ensures.turn ∙ h)
+pub returns-clause-settled : goal.returns-clause-settled
+returns-clause-settled c = λ h.
+    c.run.ensures.settled
+    (ap (λ (t : RunTurn). makes_block t) (c.is_spent.ensures.turn c.if-is_spent.false) ∙ h)
