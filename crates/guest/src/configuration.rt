@@ -198,7 +198,7 @@ impl Configuration {
     }
 
     /// The hart that is next has its turn, as the schedule says.
-    #[inline]
+    #[inline(always)]
     pub fn take_turn(&mut self, hart: Hart)
         requires plan { self.old.schedule.harts ≡ length self.old.threads }
         requires next { IsNext hart (config_of self.old) }
