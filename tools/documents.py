@@ -12,6 +12,7 @@ Prints `FILE:LINE: NAME` for each
   have words of other programs);
 - code that docs/PROMISES.md quotes and no source has; a line `..` stands for what is left out;
 - crate whose floor in docs/ARCHITECTURE.md isn't the length of its longest chain, and crate that has no row there;
+- word that stands twice in the glossary there;
 - link to a file or to a heading that isn't there.
 It ends with 1 where there are any."""
 
@@ -141,6 +142,13 @@ def of_promises(line, crates, before):
     return wrong, about
 
 
+def words_twice(page):
+    """The words of the glossary that stand there more than once, each in bold type in the first cell of a row."""
+    rows = re.findall(r"(?m)^\| (\*\*.*?) \|", page.split("\n## Words\n", 1)[1].split("\n## ", 1)[0])
+    words = [it for row in rows for it in re.findall(r"\*\*(.+?)\*\*", row)]
+    return sorted({it for it in words if words.count(it) > 1})
+
+
 def main(words):
     if "--help" in words or "-h" in words:
         print(__doc__)
@@ -148,7 +156,8 @@ def main(words):
     listed = [it.split(":")[0].split()[0] for it in read("crates.txt").split("\n") if re.match(r"[a-z]", it)]
     crates = {it: Crate(it) for it in listed}
     everywhere, wrong = words_of_sources(), 0
-    for it in [] if words else wrong_floors(read("docs/ARCHITECTURE.md")):
+    page = read("docs/ARCHITECTURE.md")
+    for it in [] if words else [*wrong_floors(page), *(f"{it}: twice in the glossary" for it in words_twice(page))]:
         wrong += 1
         print(f"docs/ARCHITECTURE.md:1: {it}")
     for name in words or sorted(documents()):
