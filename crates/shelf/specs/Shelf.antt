@@ -47,6 +47,10 @@ pub record ChangesAt (name : List ℕ) (P : Option (List ℕ) → Option (List �
   pub here : P (old name) (new name)
   pub others : (n : List ℕ) → n ≢ name → new n ≡ old n
 
+-- what is told is what was told before, or it is told no more
+abbrev pub Narrows : {A : Type 0} → Option A → Option A → Type 0
+Narrows old new = Told new (λ x. old ≡ Some x)
+
 -- a number of faults is greater than before, or it stands at its end
 abbrev pub Rose : ℕ → ℕ → Type 0
 Rose before now = min (before + 1) (2 ^ 64 - 1) ≤ now
@@ -64,13 +68,18 @@ pub record HasCauseAt {T : Type 0} (name : List ℕ) (before now : List ℕ → 
   pub failed : IsErrOf result Failed → Rose (before name) (now name)
   pub quiet : (IsErrOf result Failed → ⊥) → now ≡ before
 
--- nothing changes but the faults of reading
+-- nothing changes but the faults of reading, and the files that are held may be told no more
 pub record OnlyReads (old new : Outside) : Type 0 where
-  pub held : new.held ≡ old.held
+  pub held : Narrows old.held new.held
   pub written : new.written ≡ old.written
   pub printed : new.printed ≡ old.printed
   pub write_faults : new.write_faults ≡ old.write_faults
   pub print_faults : new.print_faults ≡ old.print_faults
+
+-- no reading failed either
+pub record HasRead (old new : Outside) : Type 0 where
+  pub only : OnlyReads old new
+  pub faults : new.read_faults ≡ old.read_faults
 
 -- nothing changes but what is written, and the faults of writing
 pub record OnlyWrites (old new : Outside) : Type 0 where

@@ -112,7 +112,7 @@ impl Shelf for MemoryShelf {
     /// Reads all bytes from `at` on for which there is room. Takes no memory.
     fn read_at(&mut self, name: &str, at: u64, into: &mut [u8]) -> Result<usize, ShelfError>
         ensures bound { ReadsAtMost result into.new }
-        ensures bytes { IfOk result (λ n. Told (memory_outside self.old).held
+        ensures bytes { IfOk result (λ n. Told (memory_outside self.new).held
             (λ files. Reads (content files name.now) at n into.new)) }
         ensures cause { HasCauseAt name.now
             (memory_outside self.old).read_faults (memory_outside self.new).read_faults result }

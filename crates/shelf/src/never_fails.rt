@@ -36,7 +36,7 @@ impl Shelf for NeverFails {
     /// empty file.
     fn read_at(&mut self, name: &str, at: u64, into: &mut [u8]) -> Result<usize, ShelfError>
         ensures bound { ReadsAtMost result into.new }
-        ensures bytes { IfOk result (λ n. Told (never_fails_outside self.old).held
+        ensures bytes { IfOk result (λ n. Told (never_fails_outside self.new).held
             (λ files. Reads (content files name.now) at n into.new)) }
         ensures cause { HasCauseAt name.now
             (never_fails_outside self.old).read_faults (never_fails_outside self.new).read_faults

@@ -52,8 +52,10 @@ pub enum RunShown<'a> {
 /// Files under names and a printed text, any of whose calls may fail.
 ///
 /// A file that is read and a file that is written under one name have nothing to do with each
-/// other. What is held never changes. A shelf need not tell what it holds, what was written or what
-/// was printed: what the clauses say of these holds where they are told.
+/// other. A shelf need not tell what it holds, what was written or what was printed: what the
+/// clauses say of these holds where they are told. What it holds stays the same as long as it is
+/// told: a shelf that can't keep others from changing its files, as one on a disk, tells them for
+/// as long as what is read is theirs, and no more once a read gave other bytes.
 pub trait Shelf {
     /// What is held, was written and was printed, where told, and how often calls have failed.
     ghost outside: { Self → Outside };
@@ -65,7 +67,7 @@ pub trait Shelf {
     /// `Failed` comes only where the faults of reading this name rose.
     fn read_at(&mut self, name: &str, at: u64, into: &mut [u8]) -> Result<usize, ShelfError>
         ensures bound { ReadsAtMost result into.new }
-        ensures bytes { IfOk result (λ n. Told (outside self.old).held
+        ensures bytes { IfOk result (λ n. Told (outside self.new).held
             (λ files. Reads (content files name.now) at n into.new)) }
         ensures cause { HasCauseAt name.now
             (outside self.old).read_faults (outside self.new).read_faults result }

@@ -65,9 +65,9 @@ fn read_piece<S: Shelf>(
     ensures more { IfOk result (λ more. more ≡ true
         → length bytes.old.items < length bytes.new.items) }
     ensures at_most { length bytes.new.items ≤ length bytes.old.items + length piece.old }
-    ensures front { OnOk result (Told (S.outside shelf.old).held
+    ensures front { OnOk result (Told (S.outside shelf.new).held
         (λ files. IsFront (content files name.now) bytes.new.items)) }
-    ensures all { IfOk result (λ more. more ≡ false → Told (S.outside shelf.old).held
+    ensures all { IfOk result (λ more. more ≡ false → Told (S.outside shelf.new).held
         (λ files. bytes.new.items ≡ content files name.now)) }
     ensures bytes_stay { IfOk result (λ more. more ≡ false → bytes.new.items ≡ bytes.old.items) }
     ensures cause { HasCauseAt name.now
@@ -94,10 +94,10 @@ fn read_pieces<S: Shelf>(
     requires limit { limit < 2 ^ 63 }
     requires room { 0 < length piece.old }
     requires empty { bytes.old.items ≡ [] }
-    ensures all { IfOk result (λ all. all ≡ true → Told (S.outside shelf.old).held
+    ensures all { IfOk result (λ all. all ≡ true → Told (S.outside shelf.new).held
         (λ files. bytes.new.items ≡ content files name.now)) }
     ensures within { IfOk result (λ all. all ≡ true → length bytes.new.items ≤ limit) }
-    ensures too_long { IfOk result (λ all. all ≡ false → Told (S.outside shelf.old).held
+    ensures too_long { IfOk result (λ all. all ≡ false → Told (S.outside shelf.new).held
         (λ files. limit < length (content files name.now))) }
     ensures cause { HasCauseAt name.now
         (S.outside shelf.old).read_faults (S.outside shelf.new).read_faults result }
@@ -117,8 +117,8 @@ fn read_pieces<S: Shelf>(
 /// condition is a limit below 2^63.
 ///
 /// `ReadFault` comes only where the shelf's faults of reading this name rose in this call;
-/// `TooLong` exactly where the shelf gave `limit + 1` bytes, which where the shelf tells its files
-/// are the bytes of a longer file; `NoMemory` for want of memory. Nothing of the shelf changes but
+/// `TooLong` exactly where the shelf gave `limit + 1` bytes, which where the shelf still tells its
+/// files are the bytes of a longer one; `NoMemory` for want of memory. Nothing of the shelf changes but
 /// its faults of reading, and they stay too at each other answer than `ReadFault`.
 pub fn fetch<S: Shelf>(
     alloc: Global,
@@ -128,10 +128,10 @@ pub fn fetch<S: Shelf>(
 ) -> Result<Vec<u8>, FetchError>
     requires { limit < 2 ^ 63 }
     // What is given are the held bytes, all of them.
-    ensures whole { IfOk result (λ bytes. Told (S.outside shelf.old).held
+    ensures whole { IfOk result (λ bytes. Told (S.outside shelf.new).held
         (λ files. bytes.items ≡ content files name.now)) }
     ensures within { IfOk result (λ bytes. length bytes.items ≤ limit) }
-    ensures too_long { IsErrOf result FetchError.TooLong → Told (S.outside shelf.old).held
+    ensures too_long { IsErrOf result FetchError.TooLong → Told (S.outside shelf.new).held
         (λ files. limit < length (content files name.now)) }
     // A fault of reading has its cause, and no number rises with another answer.
     ensures cause { HasFetchCause name.now (S.outside shelf.old) (S.outside shelf.new) result }

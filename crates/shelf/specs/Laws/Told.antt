@@ -1,7 +1,9 @@
 -- What holds of a told meaning, of one that goes over into another, and of faults that rose.
-use Rattle.std.proofs.Common.{ℕ, ◌≤◌, List, Option, Some, None, arith, length}
+use Rattle.std.proofs.Common.{◌≡◌, ℕ, ◌≤◌, List, Option, Some, None, arith, length, refl, subst}
+use Rattle.std.proofs.Common.{◌∙◌}
 use Rattle.std.proofs.Math.Seq.{take-length}
-use Rattle.shelf.specs.Shelf.{Told, Goes, Rose, Adds, AddsFront}
+use Rattle.shelf.specs.Shelf.{Told, Narrows, Goes, Rose, Adds, AddsFront, HasRead, OnlyReads}
+use Rattle.shelf.specs.Shelf.{Outside}
 
 -- what holds of each value holds where it is told
 pub told : {A : Type 0} {P : A → Type 0} (o : Option A) → ((x : A) → P x) → Told o P
@@ -17,6 +19,55 @@ pub told_both : {A : Type 0} {P Q R : A → Type 0} (o : Option A) → ((x : A) 
     → Told o P → Told o Q → Told o R
 told_both None f p q = tt
 told_both (Some x) f p q = f x p q
+
+-- ---- a meaning of which less is told
+
+pub narrows_same : {A : Type 0} (o : Option A) → Narrows o o
+narrows_same None = tt
+narrows_same (Some x) = refl
+
+-- what held where it was told holds where it is told still
+pub told_still : {A : Type 0} (P : A → Type 0) (o n : Option A) → Narrows o n → Told o P → Told n P
+told_still P o None narrow p = tt
+told_still {A = A} P o (Some x) narrow p = subst (λ (h : Option A). Told h P) narrow p
+
+pub narrows_then : {A : Type 0} (a b c : Option A) → Narrows a b → Narrows b c → Narrows a c
+narrows_then {A = A} a b c first then = told_still (λ (x : A). a ≡ Some x) b c then first
+
+pub narrows_by : {A : Type 0} (a b : Option A) → b ≡ a → Narrows a b
+narrows_by {A = A} a b same = subst (λ (o : Option A). Narrows o b) same (narrows_same b)
+
+-- ---- one reading after another
+
+pub only_both : (a b c : Outside) → OnlyReads a b → OnlyReads b c → OnlyReads a c
+only_both a b c first then = record {
+  held = narrows_then a.held b.held c.held first.held then.held;
+  written = then.written ∙ first.written;
+  printed = then.printed ∙ first.printed;
+  write_faults = then.write_faults ∙ first.write_faults;
+  print_faults = then.print_faults ∙ first.print_faults;
+}
+
+-- nothing was read
+pub only_none : (a : Outside) → OnlyReads a a
+only_none a = record {
+  held = narrows_same a.held;
+  written = refl;
+  printed = refl;
+  write_faults = refl;
+  print_faults = refl;
+}
+
+pub read_none : (a : Outside) → HasRead a a
+read_none a = record { only = only_none a; faults = refl }
+
+pub read_both : (a b c : Outside) → HasRead a b → HasRead b c → HasRead a c
+read_both a b c first then = record {
+  only = only_both a b c first.only then.only;
+  faults = then.faults ∙ first.faults;
+}
+
+-- ---- a meaning that goes over into another
 
 -- a meaning that did not change
 pub goes_same : {A : Type 0} (P : A → A → Type 0) (o : Option A) → ((x : A) → P x x) → Goes o o P

@@ -1,0 +1,16 @@
+use Rattle.std.proofs.Common.{rules, arith, ◌∙◌, length, ◌<◌, ◌≤◌, ◌+◌, ◌≡◌}
+use Rattle.std.proofs.lemmas.Grind.{common_steps}
+use Rattle.shelf.specs.Laws.Told.{only_both}
+use Rattle.shelf.proofs.whole_file.read_pieces.Goals as goal
+
+pub loop-bytes-preserved : goal.loop-bytes-preserved
+loop-bytes-preserved g c =
+    let x = c.loop-bytes.invariant in
+    let read = c.in_ok-read_piece.ensures in
+    record {
+      room = grind (arith, common_steps);
+      capped = grind (arith, common_steps);
+      front = read.front;
+      only = only_both _ _ _ x.only read.only;
+      quiet = read.cause.quiet (λ no. cc) ∙ x.quiet;
+    }
