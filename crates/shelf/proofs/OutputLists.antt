@@ -22,6 +22,7 @@ use Rattle.shelf.specs.OnTheirWay.{NothingWaits, changed_at, waiting_with}
 use Rattle.shelf.specs.Laws.Files.{Sunk-front, goes_then, Others, output_names, MayBe, AllMayBe}
 use Rattle.shelf.specs.Laws.Files.{AreHeld, all_may, held_whole, may_all}
 use Rattle.shelf.specs.Laws.Files.{front_may, sunk_names}
+use Rattle.shelf.specs.Laws.Told.{narrows_then}
 
 pub changed_not : (outputs : List Output) (place : ℕ) → changed_at outputs place (λ b. b) ≡ outputs
 changed_not [] place = refl
@@ -48,7 +49,7 @@ pub record Stops (f : Waiting) (g : List ℕ → List ℕ) (old new : Outside)
 
 pub only_then : (a b c : Outside) → OnlyWrites a b → OnlyWrites b c → OnlyWrites a c
 only_then a b c x y = record {
-  held = y.held ∙ x.held;
+  held = narrows_then a.held b.held c.held x.held y.held;
   printed = y.printed ∙ x.printed;
   read_faults = y.read_faults ∙ x.read_faults;
   print_faults = y.print_faults ∙ x.print_faults;

@@ -5,9 +5,9 @@ use Rattle.std.proofs.Common.{◌∙◌, arith}
 use Rattle.std.proofs.Math.Seq.{take-add}
 use Rattle.std.proofs.lemmas.List.{append-nil, drop_all, length-append, length-take-le}
 use Rattle.std.proofs.lemmas.List.{take-append-drop, take_all}
-use Rattle.shelf.specs.Shelf.{Files, OnlyReads, Outside, Reads, Told, content}
+use Rattle.shelf.specs.Shelf.{Files, Narrows, Reads, Told, content}
 use Rattle.shelf.specs.Fetch.{IsFront}
-use Rattle.shelf.specs.Laws.Told.{told, told_both, told_map}
+use Rattle.shelf.specs.Laws.Told.{told, told_both, told_map, told_still}
 use Rattle.trace_format.specs.declared.record.TraceRecord.{TraceRecord}
 use Rattle.trace_format.specs.Reading.{Reading, begin, read_on, reading_of}
 use Rattle.trace_format.specs.Rules.{longest_trace}
@@ -93,15 +93,16 @@ pub longer : (bytes buffer : List ℕ) (at n : ℕ) → length bytes ≡ at → 
 longer bytes buffer at n size fits =
     omega (arith, size, length-append bytes (take n buffer), length-take-le n buffer fits)
 
-pub only_both : (a b c : Outside) → OnlyReads a b → OnlyReads b c → OnlyReads a c
-only_both a b c first then =
-    record {
-      held = then.held ∙ first.held;
-      written = then.written ∙ first.written;
-      printed = then.printed ∙ first.printed;
-      write_faults = then.write_faults ∙ first.write_faults;
-      print_faults = then.print_faults ∙ first.print_faults;
-    }
+-- what was read stands as long as its file is told
+pub come_still : (o n : Option Files) (name : List ℕ) (w : Wanted) (bytes : List ℕ) (now : Reached)
+    → Narrows o n → HasCome o name w bytes now
+    → HasCome n name w bytes now
+come_still o n name w bytes now narrow come = record {
+  size = come.size;
+  room = come.room;
+  front = told_still (λ files. IsFront (content files name) bytes) o n narrow come.front;
+  read = come.read;
+}
 
 -- one piece more is read
 pub next_come : (held : Option Files) (name : List ℕ) (w : Wanted) (bytes buffer : List ℕ)

@@ -165,14 +165,14 @@ impl Cursor {
         // More bytes were read, and their records are there.
         ensures more { result ≡ Ok None → (bytes : List ℕ)
             → HasCome (S.outside shelf.old).held name.now wanted.now bytes self.old
-            → GoesOn (S.outside shelf.old).held name.now wanted.now bytes self.new }
+            → GoesOn (S.outside shelf.new).held name.now wanted.now bytes self.new }
         ensures fewer { result ≡ Ok None → bytes_left self.new < bytes_left self.old }
         // No more bytes are there, and those so far are a trace.
         ensures ended { (passed : Parts) → result ≡ Ok (Some passed) → (bytes : List ℕ)
             → HasCome (S.outside shelf.old).held name.now wanted.now bytes self.old
-            → HasEnded (S.outside shelf.old).held name.now wanted.now bytes passed }
+            → HasEnded (S.outside shelf.new).held name.now wanted.now bytes passed }
         ensures refused { (refusal : Refused) → result ≡ Err (PassFault.Refused refusal)
-            → Told (S.outside shelf.old).held
+            → Told (S.outside shelf.new).held
             (λ files. refusal_of wanted.now (content files name.now) ≡ Some refusal) }
         // It is that of some bytes, also where none are told.
         ensures found { (refusal : Refused) → result ≡ Err (PassFault.Refused refusal)

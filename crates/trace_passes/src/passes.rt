@@ -105,14 +105,14 @@ pub fn pass<S: Shelf, O: Observer>(
         → O.begins observer.old header.first }
     requires fresh { O.given observer.old observer.old [] }
     // The observer was given all records of the trace that the name's bytes are.
-    ensures passed { IfOk result (λ passed. HasPassed (S.outside shelf.old).held name.now passed
+    ensures passed { IfOk result (λ passed. HasPassed (S.outside shelf.new).held name.now passed
         (O.given observer.old observer.new)) }
     ensures head { IfOk result (λ passed. IsGoodHeader passed.header
         × IsWanted wanted.now passed.header) }
-    ensures accepted { OnOk result (Told (S.outside shelf.old).held
+    ensures accepted { OnOk result (Told (S.outside shelf.new).held
         (λ files. refusal_of wanted.now (content files name.now) ≡ None)) }
     ensures refused { (refusal : Refused) → result ≡ Err (PassFault.Refused refusal)
-        → Told (S.outside shelf.old).held
+        → Told (S.outside shelf.new).held
         (λ files. refusal_of wanted.now (content files name.now) ≡ Some refusal) }
     ensures memory { result ≢ Err (PassFault.Refused (refusals.Trace trace_faults.NoMemory)) }
     // A fault of reading has its cause, and no number rises with another answer.

@@ -9,13 +9,14 @@ use Rattle.std.proofs.Math.Seq.{take-append_seam}
 use Rattle.std.proofs.lemmas.Slice.Eq.{bytes_eq-Decides}
 use Rattle.std.specs.Option.{option_or}
 use Rattle.std.specs.Str.{bytes_eq}
-use Rattle.shelf.specs.Shelf.{Outside, Files, Told, Goes}
+use Rattle.shelf.specs.Shelf.{Outside, Files, Told, Goes, HasRead}
 use Rattle.shelf.specs.declared.shelf.ShelfError.{ShelfError}
 use Rattle.shelf.specs.declared.shelf.ShelfError.TheVariants.{Failed}
 use Rattle.shelf.specs.Files.{Output, bytes_for, MayStand, AllMayStand, AreWhole, GoOn, RoseAmong}
 use Rattle.shelf.specs.Files.{HasCauseAmong, AreCut}
 use Rattle.shelf.specs.OneFile.{Waiting, AddsUp, IsBegun, Sunk, Holds, HoldsFront}
 use Rattle.shelf.specs.OnTheirWay.{names_of, IsNew, AreBegun, AreSunk, IsOutputs, outputs_with}
+use Rattle.shelf.specs.Laws.Told.{narrows_then}
 
 -- ---- meanings that a shelf may leave untold
 
@@ -305,6 +306,38 @@ IsOutputs-cut files outputs before now e quiet on =
       };
       only = on.only;
     }
+
+-- ---- files on their way, while others are read
+
+sunk_still : (files : List Waiting) (outputs : List Output) (a b : Outside) → b.written ≡ a.written
+    → AreSunk files outputs a
+    → AreSunk files outputs b
+sunk_still [] [] a b same sunk = tt
+sunk_still [] (o ∷ outputs) a b same sunk = absurd sunk
+sunk_still (f ∷ files) [] a b same sunk = absurd sunk
+sunk_still (f ∷ files) (o ∷ outputs) a b same sunk = (
+  sunk.0,
+  subst (λ (w : Option Files). Told w (AddsUp f o.bytes)) (sym same) sunk.1,
+  sunk_still files outputs a b same sunk.2,
+)
+
+-- a call that reads leaves them on their way
+pub IsOutputs-read : (files : List Waiting) (outputs : List Output) (before mid now : Outside)
+    → HasRead mid now
+    → IsOutputs files outputs before mid → IsOutputs files outputs before now
+IsOutputs-read files outputs before mid now read on = record {
+  sunk = sunk_still files outputs mid now read.only.written on.sunk;
+  others = subst (λ (w : Option Files). Goes before.written w
+      (λ old new. (name : List ℕ) → IsNew name (names_of files) → new name ≡ old name))
+      (sym read.only.written) on.others;
+  faults = read.only.write_faults ∙ on.faults;
+  only = record {
+    held = narrows_then before.held mid.held now.held on.only.held read.only.held;
+    printed = read.only.printed ∙ on.only.printed;
+    read_faults = read.faults ∙ on.only.read_faults;
+    print_faults = read.only.print_faults ∙ on.only.print_faults;
+  };
+}
 
 -- ---- outputs that go on
 

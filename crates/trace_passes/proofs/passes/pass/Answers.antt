@@ -7,7 +7,8 @@ use Rattle.trace_format.specs.Rules.{IsWritable}
 use Rattle.trace_passes.specs.Cursors.{GoesOn, HasCome, HasEnded}
 use Rattle.trace_passes.specs.Passes.{refusal_of}
 use Rattle.trace_passes.specs.Rooms.{HasRoom}
-use Rattle.trace_passes.proofs.Fronts.{nothing_read, only_both}
+use Rattle.shelf.specs.Laws.Told.{only_both, only_none}
+use Rattle.trace_passes.proofs.Fronts.{nothing_read}
 use Rattle.trace_passes.proofs.Pieces.{all_writable, ok_is_no_err, room_for_all}
 use Rattle.trace_passes.proofs.Closings.{accepted_then, has_passed}
 use Rattle.trace_passes.proofs.passes.pass.Goals as goal
@@ -23,25 +24,13 @@ pieces-init g c = record {
     saw = subst (g.O.Observer.given c.args.observer.now c.args.observer.now)
         (sym (ap (λ (x : List TraceRecord × Reading). x.0) nothing_read)) c.requires.fresh;
   };
-  only = record {
-    held = refl;
-    written = refl;
-    printed = refl;
-    write_faults = refl;
-    print_faults =
-        refl;
-  };
+  only = only_none _;
   quiet = refl;
 }
 
 pub advance-requires : goal.advance-requires
 advance-requires g c =
-    let x = c.pieces.invariant in (
-      x.way.bytes,
-      subst (λ (h : Option Files). HasCome h c.args.name.now c.args.wanted.now x.way.bytes
-          c.pieces.cursor)
-          (sym x.only.held) x.way.come,
-    )
+    let x = c.pieces.invariant in (x.way.bytes, x.way.come)
 
 pub note_all-requires : goal.note_all-requires
 note_all-requires g c =
@@ -51,10 +40,8 @@ note_all-requires g c =
     let w = c.args.wanted.now in
     let next = c.advance.new.self in
     let none = c.in_default.is in
-    let come = subst (λ (h : Option Files). HasCome h name w bytes c.pieces.cursor)
-    (sym x.only.held) x.way.come in
-    let on : GoesOn (g.S.Shelf.outside c.pieces.shelf).held name w bytes next =
-    c.in_ok-passed.ensures.more (ap Ok none) bytes come in
+    let on : GoesOn (g.S.Shelf.outside c.advance.new.shelf).held name w bytes next =
+    c.in_ok-passed.ensures.more (ap Ok none) bytes x.way.come in
     let items = next.items in
     record {
       good = subst (All IsWritable) (sym c.items.ensures)
@@ -76,12 +63,8 @@ pieces-preserved g c =
     let next = c.advance.new.self in
     let none = c.in_default.is in
     let given = g.O.Observer.given c.args.observer.now c.note_all.new.observer in
-    let come = subst (λ (h : Option Files). HasCome h name w bytes c.pieces.cursor)
-    (sym x.only.held) x.way.come in
-    let later : GoesOn (g.S.Shelf.outside c.pieces.shelf).held name w bytes next =
-    c.in_ok-passed.ensures.more (ap Ok none) bytes come in
-    let on : GoesOn (g.S.Shelf.outside c.args.shelf.now).held name w bytes next =
-    subst (λ (h : Option Files). GoesOn h name w bytes next) x.only.held later in
+    let on : GoesOn (g.S.Shelf.outside c.advance.new.shelf).held name w bytes next =
+    c.in_ok-passed.ensures.more (ap Ok none) bytes x.way.come in
     record {
       way = record {
         bytes = bytes ++ on.more;
@@ -107,13 +90,9 @@ returns-in-Some g c =
     let w = c.args.wanted.now in
     let passed = c.in-Some.passed in
     let some = c.in-Some.is in
-    let held = (g.S.Shelf.outside c.args.shelf.now).held in
-    let come = subst (λ (h : Option Files). HasCome h name w bytes c.pieces.cursor)
-    (sym x.only.held) x.way.come in
-    let later : HasEnded (g.S.Shelf.outside c.pieces.shelf).held name w bytes passed =
-    c.in_ok-passed.ensures.ended passed (ap Ok some) bytes come in
+    let held = (g.S.Shelf.outside c.advance.new.shelf).held in
     let ended : HasEnded held name w bytes passed =
-    subst (λ (h : Option Files). HasEnded h name w bytes passed) x.only.held later in
+    c.in_ok-passed.ensures.ended passed (ap Ok some) bytes x.way.come in
     let quiet = c.in_ok-passed.ensures.cause.quiet (ok_is_no_err _ _) ∙ x.quiet in
     record {
       passed = has_passed held name w bytes passed
@@ -136,8 +115,4 @@ pub returns-in_err-passed-clause-refused : goal.returns-in_err-passed-clause-ref
 returns-in_err-passed-clause-refused g c = λ refusal same.
     let was_err = c.in_err-passed.was in
     let handed_on = rw same at c.from_residual-in_err-passed.ensures.1 in
-    let P : Files → Type 0 = λ files. refusal_of c.args.wanted.now (content files c.args.name.now)
-    ≡ Some refusal in
-    let told : Told (g.S.Shelf.outside c.pieces.shelf).held P = c.advance.ensures.refused refusal
-    (cc) in
-    subst (λ (h : Option Files). Told h P) c.pieces.invariant.only.held told
+    c.advance.ensures.refused refusal (cc)

@@ -7,21 +7,23 @@ use Rattle.trace_format.specs.Reading.{reading_of}
 use Rattle.trace_format.specs.Rules.{longest_trace}
 use Rattle.trace_passes.specs.Cursors.{HasCome, HasEnded, IsRead, Reached}
 use Rattle.trace_passes.specs.Passes.{refusal_of}
-use Rattle.trace_passes.proofs.Fronts.{at_most, falls, given_back, longer_front, next_come}
+use Rattle.trace_passes.proofs.Fronts.{at_most, come_still, falls, given_back, longer_front}
+use Rattle.trace_passes.proofs.Fronts.{next_come}
 use Rattle.trace_passes.proofs.Fronts.{refused_file, whole_front}
 use Rattle.trace_passes.proofs.Closings.{ended}
 use Rattle.trace_passes.proofs.cursor.Cursor.advance.Goals as goal
 
 pub returns-then-count-eq0-clause-ended : goal.returns-then-count-eq0-clause-ended
 returns-then-count-eq0-clause-ended g c = λ passed same bytes reached.
-    let come = subst (HasCome (g.S.Shelf.outside c.args.shelf.now).held c.args.name.now
+    let held = (g.S.Shelf.outside c.read_at.new.self).held in
+    let came = subst (HasCome (g.S.Shelf.outside c.args.shelf.now).held c.args.name.now
     c.args.wanted.now bytes) (sym c.self.view_is)
     reached in
+    let come = come_still _ held _ _ _ _ c.in_ok-count.ensures.only.held came in
     let into = c.read_at.new.into in
     let size : length c.self.inside.piece.items ≡ c.self.inside.piece.len = omega arith in
     let some : 0 < length into = omega (arith, c.deref_mut.ensures.len, size, come.room) in
     let none : c.in_ok-count.count ≡ 0 = c.if-count-eq0.true in
-    let held = (g.S.Shelf.outside c.args.shelf.now).held in
     let name = c.args.name.now in
     let w = c.args.wanted.now in
     let at = c.self.inside.at in
@@ -44,10 +46,11 @@ returns-in_err-take_piece-clause-refused g c = λ refusal same.
     let size : length was ≡ c.self.inside.piece.len = omega arith in
     let back = given_back c.self.inside.piece.len into was lent size in
     let bytes = c.requires.0 in
-    let held = (g.S.Shelf.outside c.args.shelf.now).held in
+    let held = (g.S.Shelf.outside c.read_at.new.self).held in
     let name = c.args.name.now in
-    let come = subst (HasCome held name c.args.wanted.now bytes) (sym c.self.view_is) c.requires.1
-    in
+    let came = subst (HasCome (g.S.Shelf.outside c.args.shelf.now).held name c.args.wanted.now
+    bytes) (sym c.self.view_is) c.requires.1 in
+    let come = come_still _ held _ _ _ _ c.in_ok-count.ensures.only.held came in
     let at = c.self.inside.at in
     let count = c.in_ok-count.count in
     let fits : count ≤ length into = omega (arith, c.in_ok-count.ensures.bound) in
@@ -75,15 +78,16 @@ returns-in_err-take_piece-clause-found g c = λ refusal same.
 
 pub returns-clause-more : goal.returns-clause-more
 returns-clause-more g c = λ same bytes reached.
-    let come = subst (HasCome (g.S.Shelf.outside c.args.shelf.now).held c.args.name.now
+    let held = (g.S.Shelf.outside c.read_at.new.self).held in
+    let came = subst (HasCome (g.S.Shelf.outside c.args.shelf.now).held c.args.name.now
     c.args.wanted.now bytes) (sym c.self.view_is)
     reached in
+    let come = come_still _ held _ _ _ _ c.in_ok-count.ensures.only.held came in
     let into = c.read_at.new.into in
     let was = c.self.inside.piece.items in
     let lent : length into ≡ c.self.inside.piece.len = omega (arith, c.deref_mut.ensures.len) in
     let size : length was ≡ c.self.inside.piece.len = omega arith in
     let back = given_back c.self.inside.piece.len into was lent size in
-    let held = (g.S.Shelf.outside c.args.shelf.now).held in
     let count = c.in_ok-count.count in
     let w = c.args.wanted.now in
     let new = c.take_piece.new.reader in
@@ -116,7 +120,7 @@ overflow_add-self g c =
 
 pub returns-clause-fewer : goal.returns-clause-fewer
 returns-clause-fewer g c = λ same.
-    let held = (g.S.Shelf.outside c.args.shelf.now).held in
+    let held = (g.S.Shelf.outside c.read_at.new.self).held in
     let on = returns-clause-more g c same c.requires.0 c.requires.1 in
     let low = at_most held c.args.name.now c.args.wanted.now _ _ on.come in
     subst (λ (n : ℕ). longest_trace - (c.self.inside.at + c.in_ok-count.count) < longest_trace - n)
