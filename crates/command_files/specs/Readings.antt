@@ -2,7 +2,7 @@
 -- that order decides an end.
 use Rattle.std.specs.Prelude.{◌≡◌, ◌≢◌, ◌⊎◌, ℕ, false, List, [], ◌∷◌, Option, Some, None}
 use Rattle.std.specs.Option.{option_or}
-use Rattle.shelf.specs.Shelf.{Files, Outside, Told, Rose, OnlyReads, content}
+use Rattle.shelf.specs.Shelf.{Files, Outside, Told, Rose, OnlyReads, HasRead, content}
 use Rattle.command_files.specs.Statuses.{Kind, kind_of, done, refusal, read_fault, write_fault}
 use Rattle.command_files.specs.Statuses.{no_memory, hides_no_memory}
 use Rattle.command_files.specs.declared.status.Status.{Status}
@@ -57,11 +57,11 @@ FailsInOrder (r ∷ later) files before now =
 abbrev pub StopsBy : List Reading → Outside → Outside → Kind → Status → Type 0
 StopsBy readings old now done s = ⊥
 StopsBy readings old now refusal s =
-    Told old.held (λ files. first_refusal readings files ≡ Some s)
+    Told now.held (λ files. first_refusal readings files ≡ Some s)
     × (now.read_faults ≡ old.read_faults)
 StopsBy readings old now read_fault s =
     RoseAt (names_of readings) old.read_faults now.read_faults
-    × Told old.held (λ files. FailsInOrder readings files old.read_faults now.read_faults)
+    × Told now.held (λ files. FailsInOrder readings files old.read_faults now.read_faults)
 StopsBy readings old now write_fault s = ⊥
 StopsBy readings old now no_memory s = now.read_faults ≡ old.read_faults
 
@@ -72,10 +72,10 @@ pub record IsStopped (readings : List Reading) (old now : Outside) (s : Status) 
   pub memory : hides_no_memory s ≡ false
   pub only : OnlyReads old now
 
--- its files are accepted, and it did nothing that shows
+-- its files are accepted, and it did nothing but read
 pub record IsAccepted (readings : List Reading) (old now : Outside) : Type 0 where
-  pub accepts : Told old.held (λ files. first_refusal readings files ≡ None)
-  pub same : now ≡ old
+  pub accepts : Told now.held (λ files. first_refusal readings files ≡ None)
+  pub read : HasRead old now
 
 -- ---- one file
 

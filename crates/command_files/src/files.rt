@@ -58,7 +58,7 @@ pub fn read_judged<S: Shelf, J: Judge>(
     judge: &J,
 ) -> Result<J::Given, Status>
     requires { J.ready judge.now }
-    ensures given { IfOk result (λ given. IsReadFrom (S.outside shelf.old).held name.now
+    ensures given { IfOk result (λ given. IsReadFrom (S.outside shelf.new).held name.now
         (λ bytes. J.gives judge.now bytes given)) }
     ensures accepted { OnOk result (IsAccepted (reading name.now
         (λ files. J.refusal judge.now (content files name.now)) ∷ [])

@@ -77,7 +77,7 @@ pub fn read_settings<S: Shelf>(
     name: Option<&str>,
     changes: &Changes,
 ) -> Result<Settings, Status>
-    ensures read { IfOk result (λ settings. Told (S.outside shelf.old).held
+    ensures read { IfOk result (λ settings. Told (S.outside shelf.new).held
         (λ files. settings_in (asked_under (text_of name.entry) changes.now) files
         ≡ Ok settings)) }
     ensures allowed { IfOk result IsAllowed }

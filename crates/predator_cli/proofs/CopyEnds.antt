@@ -10,7 +10,7 @@ use Rattle.command_line.specs.Split.{SplitDemand}
 use Rattle.command_line.specs.Words.{Demand, convert, split, outputs as outputs_of}
 use Rattle.shelf.specs.Files.{AllMayStand, Output}
 use Rattle.shelf.specs.OnTheirWay.{IsNew}
-use Rattle.shelf.specs.Shelf.{Files, Goes, Outside, Told, content}
+use Rattle.shelf.specs.Shelf.{Files, Goes, HasRead, Outside, Told, content}
 use Rattle.trace_files.specs.Laws.Copies.{trace_found, trace_unrefused}
 use Rattle.trace_files.specs.Copies.{HasCopied, HasStopped, RoseAt as RoseAtCopy, StaysWhereRefused}
 use Rattle.trace_files.specs.Copies.{any, conversion, halves}
@@ -28,7 +28,7 @@ use Rattle.command_files.specs.Statuses.{done, kind_of, refusal}
 use Rattle.command_files.specs.Works.{Work, done_with}
 use Rattle.command_files.specs.declared.status.Status.{Status}
 use Rattle.command_files.specs.declared.status.Status.TheVariants as status
-use Rattle.command_files.specs.Laws.Readings.{none_alone, only_same, refused_stopped}
+use Rattle.command_files.specs.Laws.Readings.{none_alone, refused_stopped}
 use Rattle.shelf.specs.Laws.Told.{goes_map, told, told_both, told_map}
 use Rattle.predator_cli.specs.Answer.{answer_of}
 use Rattle.predator_cli.specs.Commands.{RepeatsReport, is_copy, readings_of, work_of}
@@ -112,14 +112,14 @@ pub record HasFailed (name : List ℕ) (names : List (List ℕ)) (outputs : Trac
     (a b : Outside) (fault : CopyFault) : Type 0
   where
     pub refused : (r : Refusal) → fault ≡ Refused r
-        → Told a.held (λ files. refusal_of any (content files name) ≡ Some r)
-    pub stays : (r : Refusal) → fault ≡ Refused r → b ≡ a
+        → Told b.held (λ files. refusal_of any (content files name) ≡ Some r)
+    pub stays : (r : Refusal) → fault ≡ Refused r → HasRead a b
     pub memory : fault ≢ Refused (refusals.Trace trace.NoMemory)
-    pub changed : (r : Refusal) → fault ≡ Changed r → a.held ≡ None
-    pub accepted : fault ≡ WriteFault → Told a.held (λ files. refusal_of any (content files name)
+    pub changed : (r : Refusal) → fault ≡ Changed r → b.held ≡ None
+    pub accepted : fault ≡ WriteFault → Told b.held (λ files. refusal_of any (content files name)
         ≡ None)
-    pub begun : StaysWhereRefused a.held name a b
-    pub stopped : HasStopped a.held name names outputs a b fault
+    pub begun : StaysWhereRefused b.held name a b
+    pub stopped : HasStopped b.held name names outputs a b fault
 
 module _ (d : Demand) (name : List ℕ) (text : Trace → List ℕ) (outputs : Trace → List Output)
     (copying : IsCopying d name text outputs)
@@ -137,23 +137,23 @@ module _ (d : Demand) (name : List ℕ) (text : Trace → List ℕ) (outputs : T
 
     -- ---- the copies are made
 
-    to_write : (bytes : List ℕ) (t : Trace) → Told a.held (λ files. bytes ≡ content files name)
+    to_write : (bytes : List ℕ) (t : Trace) → Told b.held (λ files. bytes ≡ content files name)
         → trace_of bytes ≡ Some t
-        → IsToWrite d (copy_with text outputs t) a
+        → IsToWrite d (copy_with text outputs t) b.held
     to_write bytes t whole is = record {
-      accepts = told_map a.held (λ files same. accepts files
+      accepts = told_map b.held (λ files same. accepts files
           (ap (refusal_of any) (sym same) ∙ trace_unrefused bytes t is)) whole;
-      works = told_map a.held (λ files same. work_is files t (ap trace_of (sym same) ∙ is)) whole;
+      works = told_map b.held (λ files same. work_is files t (ap trace_of (sym same) ∙ is)) whole;
       names = copying.named t;
     }
 
     pub copy_worked : {says : Trace → Type 0} (shown : List ℕ)
-        (copied : HasCopied a.held name outputs says a b)
+        (copied : HasCopied b.held name outputs says a b)
         → shown ≡ text copied.trace → IsWorked d a b status.Done shown
     copy_worked shown copied is =
         written_worked d (copy_with text outputs copied.trace) a b status.Done shown
         (to_write copied.bytes copied.trace copied.whole copied.is) refl is
-        (told a.held copying.again) copied.written
+        (told b.held copying.again) copied.written
 
     -- ---- it gave up
 
@@ -178,19 +178,19 @@ module _ (d : Demand) (name : List ℕ) (text : Trace → List ℕ) (outputs : T
         → IsRefusal (status_of_refusal r)
         → IsFaulty (Some d) a b (status_of_refusal r)
     refused_faulty r failed judged =
-        let same = failed.stays r refl in
+        let read = failed.stays r refl in
         let stopped = refused_stopped name (refuses_trace any name) a b (status_of_refusal r) judged
-        (told_map a.held (λ files e. ap (option_map status_of_refusal) e) (failed.refused r refl))
-        (ap (λ (o : Outside). o.read_faults) same) (only_same a b same) in
+        (told_map b.held (λ files e. ap (option_map status_of_refusal) e) (failed.refused r refl))
+        read.faults read.only in
         stopped_faulty d a b (status_of_refusal r)
         (subst (λ (l : List Reading). IsStopped l a b (status_of_refusal r))
         (sym copying.reads) stopped)
 
     module _ (fault : CopyFault) (failed : HasFailed name (outputs_of d) outputs a b fault) where
-      part : Told a.held (λ files. Goes a.written b.written
+      part : Told b.held (λ files. Goes a.written b.written
           (AllMayStand (answer_of (Some d) files).outputs))
       part =
-          told_both a.held (λ files fronts stays. part_at files fronts stays
+          told_both b.held (λ files fronts stays. part_at files fronts stays
           (refusal_of any (content files name)) refl)
           failed.stopped.fronts failed.begun
 
@@ -203,22 +203,22 @@ module _ (d : Demand) (name : List ℕ) (text : Trace → List ℕ) (outputs : T
         writes = failed.stopped.cause.write_quiet unwritten;
       }
 
-      -- or it was refused once the copies were begun, and nothing is told
-      changed_faulty : (s : Status) → IsRefusal s → a.held ≡ None → fault ≢ ReadFault
+      -- or it was refused once the copies were begun, and nothing is told any more
+      changed_faulty : (s : Status) → IsRefusal s → b.held ≡ None → fault ≢ ReadFault
           → fault ≢ WriteFault → IsFaulty (Some d) a b s
       changed_faulty s judged none other unwritten =
           let none_failed : HasFailedBy (Some d) a b refusal = quiet other unwritten in
           let writes : Writes (Some d) a b refusal =
-          subst (λ copies. StaysAtRefusal copies a.held a.written b.written) (sym copying.copies)
-          (untold (λ files. Goes a.written b.written AreSame) a.held none) in
+          subst (λ copies. StaysAtRefusal copies b.held a.written b.written) (sym copying.copies)
+          (untold (λ files. Goes a.written b.written AreSame) b.held none) in
           record {
             fault = λ e. let k : refusal ≡ done = sym judged.kind ∙ e in cc;
-            ends = untold (λ files. EndsAs (Some d) files a b (kind_of s) s) a.held none;
+            ends = untold (λ files. EndsAs (Some d) files a b (kind_of s) s) b.held none;
             usage = λ u. absurd (judged.words u);
             refuses = λ u. cc;
             memory = judged.memory;
             failed = rw judged.kind none_failed;
-            printable = untold (λ files. IsPrintable (Some d) files a b (fault_text s)) a.held none;
+            printable = untold (λ files. IsPrintable (Some d) files a b (fault_text s)) b.held none;
             writes = rw judged.kind writes;
             only = only;
             held = failed.stopped.held_stay;
@@ -235,7 +235,7 @@ module _ (d : Demand) (name : List ℕ) (text : Trace → List ℕ) (outputs : T
           (sym copying.reads) (inl rose) in
           record {
             fault = λ e. cc;
-            ends = told a.held fails;
+            ends = told b.held fails;
             usage = λ u. cc;
             refuses = λ u. cc;
             memory = refl;
@@ -246,8 +246,8 @@ module _ (d : Demand) (name : List ℕ) (text : Trace → List ℕ) (outputs : T
               writes = failed.stopped.cause.write_quiet
                   (λ e. let no : ReadFault ≡ WriteFault = sym is ∙ e in cc);
             };
-            printable = told a.held (λ files. inr (inr (inl (refl, fails files))));
-            writes = subst (λ copies. StaysAtReadFault copies (Some d) a.held a.written b.written)
+            printable = told b.held (λ files. inr (inr (inl (refl, fails files))));
+            writes = subst (λ copies. StaysAtReadFault copies (Some d) b.held a.written b.written)
                 (sym copying.copies) part;
             only = only;
             held = failed.stopped.held_stay;
@@ -261,7 +261,7 @@ module _ (d : Demand) (name : List ℕ) (text : Trace → List ℕ) (outputs : T
           (failed.stopped.cause.write_failed is) in
           record {
             fault = λ e. cc;
-            ends = told_map a.held accepts (failed.accepted is);
+            ends = told_map b.held accepts (failed.accepted is);
             usage = λ u. cc;
             refuses = λ u. cc;
             memory = refl;
@@ -270,7 +270,7 @@ module _ (d : Demand) (name : List ℕ) (text : Trace → List ℕ) (outputs : T
                   (λ e. let no : WriteFault ≡ ReadFault = sym is ∙ e in cc);
               writes = rose;
             };
-            printable = told a.held (λ files. inr (inr (inr (refl, rose))));
+            printable = told b.held (λ files. inr (inr (inr (refl, rose))));
             writes = inl (rose, part);
             only = only;
             held = failed.stopped.held_stay;

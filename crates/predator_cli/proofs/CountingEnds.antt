@@ -28,7 +28,7 @@ pub counted_answered : (d : Demand) (says : Trace → List ℕ) (name : List ℕ
     → IsAnswered d a b text
 counted_answered d says name a b text readings works again ready = record {
   accepted = subst (λ (rs : List Reading). IsAccepted rs a b) (sym readings) ready.accepted;
-  work = told_map a.held (λ files whole. works files
+  work = told_map b.held (λ files whole. works files
       ∙ text_told says name files ready.read.bytes text whole ready.read.given) ready.read.whole;
   again = again;
 }

@@ -1,7 +1,8 @@
 -- How a command ends that did its work, and one whose words or files were not read.
 use Rattle.std.proofs.Common.{◌≡◌, ◌≢◌, ℕ, Bool, true, false, List, [], Option, Some, None}
 use Rattle.std.proofs.Common.{sym, ◌∙◌, ap, refl, inl, inr}
-use Rattle.shelf.specs.Shelf.{Files, Outside, Told, Goes, Rose, OnlyPrints, OnlyReads, Adds}
+use Rattle.shelf.specs.Shelf.{Files, Narrows, Outside, Told, Goes, Rose, OnlyPrints, OnlyReads}
+use Rattle.shelf.specs.Shelf.{Adds}
 use Rattle.shelf.specs.Shelf.{AddsFront}
 use Rattle.command_line.specs.Words.{Demand, outputs as outputs_of}
 use Rattle.command_files.specs.Readings.{IsAccepted, IsStopped, first_refusal}
@@ -11,7 +12,8 @@ use Rattle.command_files.specs.Statuses.{hides_no_memory}
 use Rattle.shelf.specs.Files.{AreWhole, Output, bytes_for}
 use Rattle.command_files.specs.declared.status.Status.{Status}
 use Rattle.command_files.specs.declared.status.Status.TheVariants as status
-use Rattle.shelf.specs.Laws.Told.{goes_same, told, told_both, told_map}
+use Rattle.shelf.specs.Laws.Told.{goes_same, narrows_by, narrows_same, narrows_then, only_none}
+use Rattle.shelf.specs.Laws.Told.{told, told_both, told_map, told_same}
 use Rattle.predator_cli.specs.Commands.{RepeatsReport, readings_of, work_of}
 use Rattle.predator_cli.specs.Written.{AreSame, StandsInPart}
 use Rattle.predator_cli.specs.Written.{StaysAtReadFault, StaysAtRefusal, Writes}
@@ -45,8 +47,8 @@ own_text demand files text none is = ap (λ (w : Work). w.text) (accepted_answer
 
 own_texts : (demand : Demand) (a b : Outside) (s : Status) (text : List ℕ)
     → IsWorked demand a b s text
-    → Told a.held (λ files. (answer_of (Some demand) files).text ≡ text)
-own_texts demand a b s text worked = told_both a.held
+    → Told b.held (λ files. (answer_of (Some demand) files).text ≡ text)
+own_texts demand a b s text worked = told_both b.held
     (λ files none is. own_text demand files text none is) worked.accepts worked.same_text
 
 -- the outputs of a command whose files are accepted
@@ -58,30 +60,30 @@ own_outputs demand files P none p = rw (ap (λ (w : Work). w.outputs)
 
 whole_after : (demand : Demand) (a b : Outside) (s : Status) (text : List ℕ)
     → IsWorked demand a b s text
-    → Told a.held (λ files. Goes a.written b.written
+    → Told b.held (λ files. Goes a.written b.written
     (AreWhole (answer_of (Some demand) files).outputs))
 whole_after demand a b s text worked =
-    told_both a.held (λ files none whole. own_outputs demand files
+    told_both b.held (λ files none whole. own_outputs demand files
     (λ outputs. Goes a.written b.written (AreWhole outputs)) none whole)
     worked.accepts worked.whole
 
 part_after : (demand : Demand) (a b : Outside) (s : Status) (text : List ℕ)
     → IsWorked demand a b s text
-    → StandsInPart (Some demand) a.held a.written b.written
+    → StandsInPart (Some demand) b.held a.written b.written
 part_after demand a b s text worked = whole_later (Some demand) a b
     (whole_after demand a b s text worked)
 
 whole_writes : (k : Kind) (asked : Option Demand) (a b : Outside) → k ≡ done
-    → Told a.held (λ files. Goes a.written b.written (AreWhole (answer_of asked files).outputs))
+    → Told b.held (λ files. Goes a.written b.written (AreWhole (answer_of asked files).outputs))
     → Writes asked a b k
 whole_writes k asked a b is whole = rw is whole
 
 whole_printed : (demand : Demand) (a d : Outside) (s : Status) (text : List ℕ) → kind_of s ≡ done
-    → Told a.held (λ files. (answer_of (Some demand) files).text ≡ text)
+    → Told d.held (λ files. (answer_of (Some demand) files).text ≡ text)
     → Adds a.printed d.printed text
     → Prints (Some demand) a d (kind_of s) s
 whole_printed demand a d s text kind texts printed = rw kind
-    (told_map a.held (λ files is. rw is printed) texts)
+    (told_map d.held (λ files is. rw is printed) texts)
 
 peace_kept : (a d : Outside) (k : Kind) → k ≡ done → d.read_faults ≡ a.read_faults
     → ReadsInPeace a d k
@@ -115,6 +117,19 @@ at_done : (P : Demand → Files → Type 0) (k : Kind) (demand : Demand) (files 
     → WhereDone P (Some demand) files k
 at_done P k demand files is holds = rw is holds
 
+-- what is told of what was done, once a text is printed behind it
+printed_texts : (demand : Demand) (a b d : Outside) (s : Status) (text : List ℕ)
+    → IsWorked demand a b s text
+    → OnlyPrints b d
+    → Told d.held (λ files. (answer_of (Some demand) files).text ≡ text)
+printed_texts demand a b d s text worked only =
+    told_same (λ files. (answer_of (Some demand) files).text ≡ text) b.held d.held only.held
+    (own_texts demand a b s text worked)
+
+held_after : (a b d : Outside) → Narrows a.held b.held → OnlyPrints b d → Narrows a.held d.held
+held_after a b d narrow only = narrows_then a.held b.held d.held narrow
+    (narrows_by b.held d.held only.held)
+
 pub finish_meets : (demand : Demand) (a b d : Outside) (s : Status) (text : List ℕ) → kind_of s
     ≡ done → IsWorked demand a b s text
     → OnlyPrints b d → d.print_faults ≡ b.print_faults → Adds b.printed d.printed text
@@ -123,20 +138,25 @@ finish_meets demand a b d s text kind worked only same printed =
     let whole : Adds a.printed d.printed text = rw (← worked.printed) printed in
     let quiet = quiet_after a b d only worked.quiet in
     record {
-      ends = told_both a.held (λ files none is. finished_ends demand files a d s kind none is)
-          worked.accepts worked.ends;
+      ends = told_same (λ files. EndsAs (Some demand) files a d (kind_of s) s) b.held d.held
+          only.held
+          (told_both b.held (λ files none is. finished_ends demand files a d s kind none is)
+          worked.accepts worked.ends);
       usage = λ u. absurd (no_usage s kind u);
       refuses = λ r. cc;
       caused = no_cause (Some demand) a d (kind_of s) kind quiet (same ∙ worked.print_faults);
       memory = no_memory_hidden s kind;
       peace = peace_kept a d (kind_of s) kind quiet.reads;
-      prints = whole_printed demand a d s text kind (own_texts demand a b s text worked) whole;
+      prints = whole_printed demand a d s text kind (printed_texts demand a b d s text worked only)
+          whole;
       writes = whole_writes (kind_of s) (Some demand) a d kind
-          (rw only.written (whole_after demand a b s text worked));
+          (rw (only.held, only.written) (whole_after demand a b s text worked));
       only = rw only.written worked.only;
-      held = only.held ∙ worked.held;
-      again = told_map a.held (λ files is. at_done RepeatsReport (kind_of s) demand files kind is)
-          worked.again;
+      held = held_after a b d worked.held only;
+      again = told_same (λ files. WhereDone RepeatsReport (Some demand) files (kind_of s)) b.held
+          d.held only.held
+          (told_map b.held (λ files is. at_done RepeatsReport (kind_of s) demand files kind is)
+          worked.again);
     }
 
 -- printing it failed
@@ -149,19 +169,23 @@ finish_failed demand a b d s text worked only rose printed =
     let part : AddsFront a.printed d.printed text = rw (← worked.printed) printed in
     let quiet = quiet_after a b d only worked.quiet in
     record {
-      ends = worked.accepts;
+      ends = told_same (λ files. first_refusal (readings_of demand) files ≡ None) b.held d.held
+          only.held worked.accepts;
       usage = λ u. cc;
       refuses = λ r. cc;
       memory = refl;
       caused = inr (quiet, rose_a);
       peace = quiet.reads;
-      prints = told_map a.held (λ files is. inr (rose_a, rw is part))
-          (own_texts demand a b s text worked);
-      writes = inr
-          (rose_a, quiet.writes, rw only.written (whole_after demand a b s text worked));
+      prints = told_map d.held (λ files is. inr (rose_a, rw is part))
+          (printed_texts demand a b d s text worked only);
+      writes = inr (
+        rose_a,
+        quiet.writes,
+        rw (only.held, only.written) (whole_after demand a b s text worked),
+      );
       only = rw only.written worked.only;
-      held = only.held ∙ worked.held;
-      again = told a.held (λ files. tt);
+      held = held_after a b d worked.held only;
+      again = told d.held (λ files. tt);
     }
 
 -- memory ran out while it was printed
@@ -171,7 +195,7 @@ pub finish_out_of_memory : (demand : Demand) (a b d : Outside) (s : Status) (tex
 finish_out_of_memory demand a b d s text worked only same printed =
     let part : AddsFront a.printed d.printed text = rw (← worked.printed) printed in
     record {
-      ends = told a.held (λ files. tt);
+      ends = told d.held (λ files. tt);
       usage = λ u. cc;
       refuses = λ r. inr refl;
       memory = refl;
@@ -180,12 +204,12 @@ finish_out_of_memory demand a b d s text worked only same printed =
         prints = inl (same ∙ worked.print_faults);
       });
       peace = tt;
-      prints = told_map a.held (λ files is. (text, inl (sym is), part))
-          (own_texts demand a b s text worked);
-      writes = rw only.written (part_after demand a b s text worked);
+      prints = told_map d.held (λ files is. (text, inl (sym is), part))
+          (printed_texts demand a b d s text worked only);
+      writes = rw (only.held, only.written) (part_after demand a b s text worked);
       only = rw only.written worked.only;
-      held = only.held ∙ worked.held;
-      again = told a.held (λ files. tt);
+      held = held_after a b d worked.held only;
+      again = told d.held (λ files. tt);
     }
 
 -- memory ran out before it was made
@@ -218,25 +242,21 @@ module _ (o : Option Files) (work : Files → Work) (w : Work)
 
 -- so a command that has a text alone, with whatever status
 pub told_worked : (demand : Demand) (a b : Outside) (w : Work) → w.outputs ≡ []
-    → IsAccepted (readings_of demand) a b → Told a.held (λ files. work_of demand files ≡ w)
+    → IsAccepted (readings_of demand) a b → Told b.held (λ files. work_of demand files ≡ w)
     → ((files : Files) → RepeatsReport demand files) → IsWorked demand a b w.status w.text
 told_worked demand a b w none accepted works again =
-    let same = accepted.same in
-    let written = ap (λ (o : Outside). o.written) same in
+    let only = accepted.read.only in
     record {
       accepts = accepted.accepts;
-      ends = told_status a.held (work_of demand) w works;
-      same_text = told_text a.held (work_of demand) w works;
-      whole = rw written (none_written a.held (work_of demand) w works none a.written);
-      only = only_same_names (outputs_of demand) a b written;
-      again = told a.held again;
-      quiet = record {
-        reads = ap (λ (o : Outside). o.read_faults) same;
-        writes = ap (λ (o : Outside). o.write_faults) same;
-      };
-      held = ap (λ (o : Outside). o.held) same;
-      printed = ap (λ (o : Outside). o.printed) same;
-      print_faults = ap (λ (o : Outside). o.print_faults) same;
+      ends = told_status b.held (work_of demand) w works;
+      same_text = told_text b.held (work_of demand) w works;
+      whole = rw only.written (none_written b.held (work_of demand) w works none a.written);
+      only = only_same_names (outputs_of demand) a b only.written;
+      again = told b.held again;
+      quiet = record { reads = accepted.read.faults; writes = only.write_faults };
+      held = only.held;
+      printed = only.printed;
+      print_faults = only.print_faults;
     }
 
 pub answered_worked : (demand : Demand) (a b : Outside) (text : List ℕ) → IsAnswered demand a b text
@@ -258,7 +278,7 @@ words_refused a = record {
   printable = told a.held (λ files. inl refl);
   writes = goes_same AreSame a.written (λ before name. refl);
   only = only_same_names [] a a refl;
-  held = refl;
+  held = narrows_same a.held;
   printed = refl;
   print_faults = refl;
 }
@@ -282,20 +302,12 @@ pub memory_faulty : (asked : Option Demand) (a b : Outside) → b.read_faults �
     → OnlyReads a b → IsFaulty asked a b status.NoMemory
 memory_faulty asked a b peace only =
     starved asked a b (record { reads = peace; writes = only.write_faults })
-    (rw only.written (part_same asked a.held a.written))
+    (rw only.written (part_same asked b.held a.written))
     (only_same_names (outputs asked) a b only.written) only.held
     only.printed only.print_faults
 
 pub words_unread : (asked : Option Demand) (a : Outside) → IsFaulty asked a a status.NoMemory
-words_unread asked a = memory_faulty asked a a refl
-    (record {
-      held = refl;
-      written = refl;
-      printed = refl;
-      write_faults = refl;
-      print_faults =
-          refl;
-    })
+words_unread asked a = memory_faulty asked a a refl (only_none a)
 
 refused_answer : (demand : Demand) (files : Files) (s : Status)
     → first_refusal (readings_of demand) files ≡ Some s
@@ -305,16 +317,16 @@ refused_answer demand files s is = rw is refl
 -- a refusal is the answer
 pub refusal_faulty : (demand : Demand) (a b : Outside) (s : Status) → kind_of s ≡ refusal
     → s ≢ status.Usage → hides_no_memory s ≡ false
-    → Told a.held (λ files. answer_of (Some demand) files ≡ refused_with s)
+    → Told b.held (λ files. answer_of (Some demand) files ≡ refused_with s)
     → b.read_faults ≡ a.read_faults → OnlyReads a b → IsFaulty (Some demand) a b s
 refusal_faulty demand a b s kind words memory refused peace only = record {
   fault = not_done_so;
-  ends = told_map a.held (λ files is. ends_so files is) refused;
+  ends = told_map b.held (λ files is. ends_so files is) refused;
   usage = λ u. absurd (words u);
   refuses = λ r. cc;
   memory = memory;
   failed = failed_so;
-  printable = told_map a.held (λ files is. inl (sym (ap (λ (w : Work). w.text) is))) refused;
+  printable = told_map b.held (λ files is. inl (sym (ap (λ (w : Work). w.text) is))) refused;
   writes = writes_so;
   only = only_same_names (outputs (Some demand)) a b only.written;
   held = only.held;
@@ -336,7 +348,7 @@ refusal_faulty demand a b s kind words memory refused peace only = record {
     failed_so = rw kind quiet
 
     stays : Writes (Some demand) a b refusal
-    stays = rw only.written (refused_same (are_copies (Some demand)) a.held a.written)
+    stays = rw only.written (refused_same (are_copies (Some demand)) b.held a.written)
 
     writes_so : Writes (Some demand) a b (kind_of s)
     writes_so = rw kind stays
@@ -344,11 +356,11 @@ refusal_faulty demand a b s kind words memory refused peace only = record {
 -- a file is refused
 file_faulty : (demand : Demand) (a b : Outside) (s : Status) → kind_of s ≡ refusal
     → s ≢ status.Usage → hides_no_memory s ≡ false
-    → Told a.held (λ files. first_refusal (readings_of demand) files ≡ Some s)
+    → Told b.held (λ files. first_refusal (readings_of demand) files ≡ Some s)
     → b.read_faults ≡ a.read_faults → OnlyReads a b → IsFaulty (Some demand) a b s
 file_faulty demand a b s kind words memory refused peace only =
     refusal_faulty demand a b s kind words memory
-    (told_map a.held (λ files is. refused_answer demand files s is) refused) peace only
+    (told_map b.held (λ files is. refused_answer demand files s is) refused) peace only
 
 -- reading a file failed
 reading_faulty : (demand : Demand) (a b : Outside)
@@ -361,9 +373,9 @@ reading_faulty demand a b stopped = record {
   refuses = λ r. cc;
   memory = refl;
   failed = record { reads = stopped.why.0; writes = stopped.only.write_faults };
-  printable = told_map a.held (λ files fails. inr (inr (inl (refl, fails)))) stopped.why.1;
+  printable = told_map b.held (λ files fails. inr (inr (inl (refl, fails)))) stopped.why.1;
   writes = rw stopped.only.written
-      (unread_same (are_copies (Some demand)) (Some demand) a.held a.written);
+      (unread_same (are_copies (Some demand)) (Some demand) b.held a.written);
   only = only_same_names (outputs (Some demand)) a b stopped.only.written;
   held = stopped.only.held;
   printed = stopped.only.printed;

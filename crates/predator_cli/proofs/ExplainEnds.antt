@@ -34,17 +34,17 @@ work_is d s files symbols r is runs named =
 
 pub to_explain : (d : ExplainDemand) (s : Settings) (symbols : List TraceRecord) (r : Run)
     (old now : Outside) → IsAccepted (explain_readings d) old now
-    → Told old.held (λ files. settings_in d.settings files ≡ Ok s)
-    → Told old.held (λ files. r ≡ run_for_demand (as_run d) s files)
-    → Told old.held (λ files. symbols ≡ symbol_records (content files d.program))
+    → Told now.held (λ files. settings_in d.settings files ≡ Ok s)
+    → Told now.held (λ files. r ≡ run_for_demand (as_run d) s files)
+    → Told now.held (λ files. symbols ≡ symbol_records (content files d.program))
     → IsToExplain d symbols r old now
 to_explain d s symbols r old now accepted read runs named =
-    let both : Told old.held (λ files. settings_in d.settings files ≡ Ok s
+    let both : Told now.held (λ files. settings_in d.settings files ≡ Ok s
     → explain_work d files ≡ explained d symbols r) =
-    told_both old.held (λ files x y e. work_is d s files symbols r e x y) runs named in
+    told_both now.held (λ files x y e. work_is d s files symbols r e x y) runs named in
     record {
       accepted = accepted;
-      works = told_both old.held (λ files e f. f e) read both;
+      works = told_both now.held (λ files e f. f e) read both;
     }
 
 -- what was done before the text is printed

@@ -1,7 +1,7 @@
 -- How a command ends by a fault: what it has done stands after the line of the fault is printed.
 use Rattle.std.proofs.Common.{◌≡◌, ◌≢◌, ℕ, ◌≤◌, Bool, true, false, List, Option, Some, None}
 use Rattle.std.proofs.Common.{◌∙◌, refl, inl, inr}
-use Rattle.shelf.specs.Shelf.{Files, Outside, Told, Goes, OnlyPrints}
+use Rattle.shelf.specs.Shelf.{Files, Narrows, Outside, Told, Goes, OnlyPrints}
 use Rattle.shelf.specs.Shelf.{AddsFront}
 use Rattle.command_line.specs.Words.{Demand}
 use Rattle.command_files.specs.Statuses.{Kind, kind_of, done, refusal, read_fault, write_fault}
@@ -9,7 +9,8 @@ use Rattle.command_files.specs.Statuses.{no_memory}
 use Rattle.command_files.specs.Faults.{fault_text}
 use Rattle.command_files.specs.declared.status.Status.{Status}
 use Rattle.command_files.specs.declared.status.Status.TheVariants as status
-use Rattle.shelf.specs.Laws.Told.{goes_map, rose_later, told, told_map}
+use Rattle.shelf.specs.Laws.Told.{goes_map, narrows_by, narrows_then, rose_later, told, told_map}
+use Rattle.shelf.specs.Laws.Told.{told_same}
 use Rattle.shelf.specs.Laws.Told.{whole_prefix}
 use Rattle.predator_cli.specs.Commands.{RepeatsReport}
 use Rattle.predator_cli.specs.Written.{AreSame, OnlyAt, StandsInPart, StandsWhole}
@@ -87,32 +88,39 @@ printable_after : (asked : Option Demand) (files : Files) (a b d : Outside) (tex
     → IsPrintable asked files a b text → IsPrintable asked files a d text
 printable_after asked files a b d text only p = rw (only.read_faults, only.write_faults) p
 
+printable_then : (asked : Option Demand) (a b d : Outside) (text : List ℕ) → OnlyPrints b d
+    → Told b.held (λ files. IsPrintable asked files a b text)
+    → Told d.held (λ files. IsPrintable asked files a d text)
+printable_then asked a b d text only p =
+    told_same (λ files. IsPrintable asked files a d text) b.held d.held only.held
+    (told_map b.held (λ files is. printable_after asked files a b d text only is) p)
+
 -- a fault's line was printed, whole or in part
 prints_fault : (asked : Option Demand) (a d : Outside) (k : Kind) (s : Status) → (k ≡ done → ⊥)
-    → Told a.held (λ files. IsPrintable asked files a d (fault_text s)) → Printed a d (fault_text s)
+    → Told d.held (λ files. IsPrintable asked files a d (fault_text s)) → Printed a d (fault_text s)
     → Prints asked a d k s
 prints_fault asked a d done s n p printed = absurd (n refl)
 prints_fault asked a d refusal s n p printed = printed
 prints_fault asked a d read_fault s n p printed = printed
-prints_fault asked a d write_fault s n p printed = told a.held (λ files. inl printed)
-prints_fault asked a d no_memory s n p printed = told_map a.held
+prints_fault asked a d write_fault s n p printed = told d.held (λ files. inl printed)
+prints_fault asked a d no_memory s n p printed = told_map d.held
     (λ files is. (fault_text s, is, printed_prefix a d (fault_text s) printed))
     p
 
 -- printing writes no file, and reads none
 writes_after : (asked : Option Demand) (a b d : Outside) (k : Kind) → OnlyPrints b d
     → b.print_faults ≤ d.print_faults → Writes asked a b k → Writes asked a d k
-writes_after asked a b d done only later writes = rw only.written writes
-writes_after asked a b d refusal only later writes = rw only.written writes
-writes_after asked a b d read_fault only later writes = rw only.written writes
+writes_after asked a b d done only later writes = rw (only.held, only.written) writes
+writes_after asked a b d refusal only later writes = rw (only.held, only.written) writes
+writes_after asked a b d read_fault only later writes = rw (only.held, only.written) writes
 writes_after asked a b d write_fault only later (inl cut) =
-    inl (rw only.write_faults cut.0, rw only.written cut.1)
+    inl (rw only.write_faults cut.0, rw (only.held, only.written) cut.1)
 writes_after asked a b d write_fault only later (inr whole) = inr (
   rose_later a.print_faults b.print_faults d.print_faults whole.0 later,
   only.write_faults ∙ whole.1,
-  rw only.written whole.2,
+  rw (only.held, only.written) whole.2,
 )
-writes_after asked a b d no_memory only later writes = rw only.written writes
+writes_after asked a b d no_memory only later writes = rw (only.held, only.written) writes
 
 in_peace : (asked : Option Demand) (a b : Outside) (k : Kind) → HasFailed asked a b k
     → ReadsInPeace a b k
@@ -125,28 +133,28 @@ in_peace asked a b no_memory failed = tt
 -- what stands at a fault may stand where memory runs out after it
 same_later : (asked : Option Demand) (a b : Outside) → Goes a.written b.written AreSame
     → Writes asked a b no_memory
-same_later asked a b goes = told a.held (λ files. same_stands (answer_of asked files).outputs
+same_later asked a b goes = told b.held (λ files. same_stands (answer_of asked files).outputs
     a.written b.written goes)
 
 refused_later : (copies : Bool) (asked : Option Demand) (a b : Outside)
-    → StaysAtRefusal copies a.held a.written b.written
+    → StaysAtRefusal copies b.held a.written b.written
     → Writes asked a b no_memory
 refused_later false asked a b writes = same_later asked a b writes
 refused_later true asked a b writes =
-    told_map a.held (λ files goes. same_stands (answer_of asked files).outputs a.written b.written
+    told_map b.held (λ files goes. same_stands (answer_of asked files).outputs a.written b.written
     goes) writes
 
 unread_later : (copies : Bool) (asked : Option Demand) (a b : Outside)
-    → StaysAtReadFault copies asked a.held a.written b.written
+    → StaysAtReadFault copies asked b.held a.written b.written
     → Writes asked a b no_memory
 unread_later false asked a b writes = same_later asked a b writes
 unread_later true asked a b writes = writes
 
 pub whole_later : (asked : Option Demand) (a b : Outside)
-    → StandsWhole asked a.held a.written b.written
-    → StandsInPart asked a.held a.written b.written
+    → StandsWhole asked b.held a.written b.written
+    → StandsInPart asked b.held a.written b.written
 whole_later asked a b whole =
-    told_map a.held
+    told_map b.held
     (λ files goes. goes_map a.written b.written
     (λ before now is. whole_stands (answer_of asked files).outputs before now is) goes)
     whole
@@ -176,20 +184,20 @@ refuse_meets asked a b d s faulty only later printed =
     let same : Printed a d (fault_text s) = rw (← faulty.printed, ← faulty.print_faults) printed in
     let failed = failed_after asked a b d (kind_of s) only faulty.failed in
     record {
-      ends = told_map a.held (λ files ends. ends_after asked files a b d (kind_of s) s only ends)
-          faulty.ends;
+      ends = told_same (λ files. EndsAs asked files a d (kind_of s) s) b.held d.held only.held
+          (told_map b.held (λ files ends. ends_after asked files a b d (kind_of s) s only ends)
+          faulty.ends);
       usage = faulty.usage;
       refuses = faulty.refuses;
       caused = caused_at_line asked a d s faulty.fault failed same;
       memory = faulty.memory;
       peace = in_peace asked a d (kind_of s) failed;
       prints = prints_fault asked a d (kind_of s) s faulty.fault
-          (told_map a.held (λ files p. printable_after asked files a b d (fault_text s) only p)
-          faulty.printable) same;
+          (printable_then asked a b d (fault_text s) only faulty.printable) same;
       writes = writes_after asked a b d (kind_of s) only later faulty.writes;
       only = rw only.written faulty.only;
-      held = only.held ∙ faulty.held;
-      again = told a.held (λ files. not_done RepeatsReport asked files (kind_of s) faulty.fault);
+      held = narrows_then a.held b.held d.held faulty.held (narrows_by b.held d.held only.held);
+      again = told d.held (λ files. not_done RepeatsReport asked files (kind_of s) faulty.fault);
     }
 
 -- memory ran out while a fault's line was printed
@@ -199,36 +207,35 @@ pub refuse_out_of_memory : (asked : Option Demand) (a b d : Outside) (s : Status
 refuse_out_of_memory asked a b d s faulty only quiet printed =
     let part : AddsFront a.printed d.printed (fault_text s) = rw (← faulty.printed) printed in
     record {
-      ends = told a.held (λ files. tt);
+      ends = told d.held (λ files. tt);
       usage = λ u. cc;
       refuses = λ r. inr refl;
       caused = ran_out_at_line asked a d s
           (failed_after asked a b d (kind_of s) only faulty.failed)
           (quiet ∙ faulty.print_faults) part;
-      prints = told_map a.held (λ files p.
-          (fault_text s, printable_after asked files a b d (fault_text s) only p, part))
-          faulty.printable;
+      prints = told_map d.held (λ files p. (fault_text s, p, part))
+          (printable_then asked a b d (fault_text s) only faulty.printable);
       memory = refl;
       peace = tt;
-      writes = rw only.written
+      writes = rw (only.held, only.written)
           (writes_later asked a b (kind_of s) faulty.fault faulty.writes);
       only = rw only.written faulty.only;
-      held = only.held ∙ faulty.held;
-      again = told a.held (λ files. not_done RepeatsReport asked files no_memory (λ e. cc));
+      held = narrows_then a.held b.held d.held faulty.held (narrows_by b.held d.held only.held);
+      again = told d.held (λ files. not_done RepeatsReport asked files no_memory (λ e. cc));
     }
 
 -- memory ran out
 pub starved : (asked : Option Demand) (a b : Outside) → IsQuiet a b → Writes asked a b no_memory
-    → OnlyAt (outputs asked) a b → b.held ≡ a.held
+    → OnlyAt (outputs asked) a b → Narrows a.held b.held
     → b.printed ≡ a.printed → b.print_faults ≡ a.print_faults → IsFaulty asked a b status.NoMemory
 starved asked a b quiet writes only held printed print_faults = record {
   fault = λ e. cc;
-  ends = told a.held (λ files. tt);
+  ends = told b.held (λ files. tt);
   usage = λ u. cc;
   refuses = λ u. inr refl;
   memory = refl;
   failed = quiet;
-  printable = told a.held (λ files. inr (inl refl));
+  printable = told b.held (λ files. inr (inl refl));
   writes = writes;
   only = only;
   held = held;

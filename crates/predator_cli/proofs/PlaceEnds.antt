@@ -26,15 +26,15 @@ passed_records d held passed P has = told_map held
 -- the object that a finder has found is the one that is meant
 pub object_sought : (d : PlaceDemand) (a b : Outside) (begun now : Finder) (passed : Passed)
     (object : Option Extent)
-    → IsAccepted (place_readings d) a b → HasPassed a.held d.trace passed (HasSought begun now)
+    → IsAccepted (place_readings d) a b → HasPassed b.held d.trace passed (HasSought begun now)
     → Seeks d.name d.at begun []
     → ((items : List TraceRecord) → Seeks d.name d.at now items
     → object ≡ object_of d.name d.at items)
     → HasRead d (Means d object) a b
 object_sought d a b begun now passed object accepted saw seeks found = record {
   accepted = accepted;
-  holds = told_map a.held
+  holds = told_map b.held
       (λ files. λ (sought : HasSought begun now (records_for d files)). sym
       (found (records_for d files) (sought.sought d.name d.at [] seeks)))
-      (passed_records d a.held passed (HasSought begun now) saw);
+      (passed_records d b.held passed (HasSought begun now) saw);
 }

@@ -9,7 +9,7 @@ use Rattle.shelf.specs.Files.{AreCut, AreWritten}
 use Rattle.base.specs.Levels.{Levels}
 use Rattle.base.specs.Lines.{Grid}
 use Rattle.settings.specs.declared.values.Settings.{Settings}
-use Rattle.shelf.specs.Shelf.{Files, Outside, Told, content}
+use Rattle.shelf.specs.Shelf.{Files, Narrows, Outside, Told, content}
 use Rattle.shelf.specs.declared.shelf.ShelfError.{ShelfError}
 use Rattle.trace_passes.specs.Passes.{Trace, trace_of}
 use Rattle.command_files.specs.Readings.{IsAccepted, IsReadFrom, IsStopped, Reading}
@@ -21,7 +21,8 @@ use Rattle.command_files.specs.declared.status.Status.TheVariants as status
 use Rattle.command_files.specs.Laws.Settings.{settings_chosen}
 use Rattle.command_files.specs.Laws.Readings.{accepted_behind, alike_accepted, alike_stopped}
 use Rattle.command_files.specs.Laws.Readings.{stopped_behind, stopped_first, told_again}
-use Rattle.shelf.specs.Laws.Told.{told, told_both, told_map}
+use Rattle.shelf.specs.Laws.Files.{AreCut-behind, AreWritten-behind}
+use Rattle.shelf.specs.Laws.Told.{told, told_both, told_map, told_still}
 use Rattle.predator_cli.specs.Meets.{IsFaulty, IsWorked}
 use Rattle.predator_cli.specs.Replay.{IsCounted, IsToShow, begun_in, begun_under, grid_in}
 use Rattle.predator_cli.specs.Replay.{levels_in, refuses_trace, replay_readings}
@@ -29,12 +30,10 @@ use Rattle.predator_cli.specs.Replay.{replay_work, shown, state_readings, trace_
 use Rattle.predator_cli.specs.Replay.{wanted_after, work_after}
 use Rattle.predator_cli.specs.declared.state_file.Begun.{Begun}
 use Rattle.predator_cli.proofs.StateFiles.{states_accepted, states_stopped}
-use Rattle.predator_cli.proofs.WriteEnds.{IsToWrite, names_in, writing_cut, written_worked}
+use Rattle.predator_cli.proofs.WriteEnds.{IsToWrite, names_in, still_to_write, writing_cut}
+use Rattle.predator_cli.proofs.WriteEnds.{written_worked}
 
 -- ---- what is read
-
-told_back : (P : Files → Type 0) (a b : Outside) → b ≡ a → Told b.held P → Told a.held P
-told_back P a b same is = subst (λ (o : Outside). Told o.held P) same is
 
 -- the settings are refused
 pub settings_stopped : (d : ReplayDemand) (a b : Outside) (s : Status)
@@ -83,33 +82,37 @@ module _ (d : ReplayDemand) (s : Settings) (g : Grid) (v : Levels)
 
     -- the state is refused, behind the settings
     pub state_stopped : (a m p : Outside) (st : Status)
-        → Told a.held (λ files. settings_in d.settings files ≡ Ok s)
+        → Told m.held (λ files. settings_in d.settings files ≡ Ok s)
         → IsAccepted (settings_readings d.settings) a m
         → IsStopped (state_readings (λ x. g) (λ x. v) d.resume) m p st
         → IsStopped (replay_readings d) a p st
     state_stopped a m p st read first stopped =
-        let at_m = told_again (λ files. settings_in d.settings files ≡ Ok s) a m first.same read in
+        let at_p = told_still (λ files. settings_in d.settings files ≡ Ok s) m.held p.held
+        stopped.only.held read in
         stopped_behind (settings_readings d.settings) (states ++ traces) a m p st first
         (stopped_first states traces m p st
-        (states_stopped (grid_in d) (levels_in d) g v d.resume m p st (chosen m at_m) stopped))
+        (states_stopped (grid_in d) (levels_in d) g v d.resume m p st (chosen p at_p) stopped))
 
     module _ (begun : Option Begun) (a m p b : Outside)
-        (read : Told a.held (λ files. settings_in d.settings files ≡ Ok s))
+        (read : Told m.held (λ files. settings_in d.settings files ≡ Ok s))
         (first : IsAccepted (settings_readings d.settings) a m)
         (then : IsAccepted (state_readings (λ x. g) (λ x. v) d.resume) m p)
-        (is : Told m.held (λ files. begun_under g v d.resume files ≡ begun))
+        (is : Told p.held (λ files. begun_under g v d.resume files ≡ begun))
       where
-        at_m : Told m.held (λ files. settings_in d.settings files ≡ Ok s)
-        at_m = told_again (λ files. settings_in d.settings files ≡ Ok s) a m first.same read
-
         at_p : Told p.held (λ files. settings_in d.settings files ≡ Ok s)
-        at_p = told_again (λ files. settings_in d.settings files ≡ Ok s) m p then.same at_m
-
-        begun_at_p : Told p.held (λ files. begun_under g v d.resume files ≡ begun)
-        begun_at_p = told_again (λ files. begun_under g v d.resume files ≡ begun) m p then.same is
+        at_p = told_again (λ files. settings_in d.settings files ≡ Ok s) m p then.read read
 
         behind : IsAccepted states m p
-        behind = states_accepted (grid_in d) (levels_in d) g v d.resume m p (chosen m at_m) then
+        behind = states_accepted (grid_in d) (levels_in d) g v d.resume m p (chosen p at_p) then
+
+        -- the same once the trace was read
+        module _ (narrow : Narrows p.held b.held) where
+          at_b : Told b.held (λ files. settings_in d.settings files ≡ Ok s)
+          at_b = told_still (λ files. settings_in d.settings files ≡ Ok s) p.held b.held narrow at_p
+
+          begun_at_b : Told b.held (λ files. begun_under g v d.resume files ≡ begun)
+          begun_at_b = told_still (λ files. begun_under g v d.resume files ≡ begun) p.held b.held
+              narrow is
 
         -- the trace is refused, behind both
         pub trace_stopped : (st : Status)
@@ -120,7 +123,8 @@ module _ (d : ReplayDemand) (s : Settings) (g : Grid) (v : Levels)
             (stopped_behind states traces m p b st behind
             (alike_stopped d.trace (λ files. refuses_trace (wanted_after begun) d.trace files)
             (λ files. refuses_trace (wanted_after (begun_in d files)) d.trace files) p b st
-            (wanted_alike begun p at_p begun_at_p) stopped))
+            (wanted_alike begun b (at_b stopped.only.held) (begun_at_b stopped.only.held))
+            stopped))
 
         all_accepted : IsAccepted (trace_reading (λ x. wanted_after begun) d.trace ∷ []) p b
             → IsAccepted (replay_readings d) a b
@@ -129,7 +133,8 @@ module _ (d : ReplayDemand) (s : Settings) (g : Grid) (v : Levels)
             (accepted_behind states traces m p b behind
             (alike_accepted d.trace (λ files. refuses_trace (wanted_after begun) d.trace files)
             (λ files. refuses_trace (wanted_after (begun_in d files)) d.trace files) p b
-            (wanted_alike begun p at_p begun_at_p) last))
+            (wanted_alike begun b (at_b last.read.only.held) (begun_at_b last.read.only.held))
+            last))
 
         work_is : (files : Files) (bytes text state : List ℕ) → (grid_in d files ≡ g)
             × (levels_in d files ≡ v)
@@ -156,20 +161,19 @@ module _ (d : ReplayDemand) (s : Settings) (g : Grid) (v : Levels)
         -- all three are read
         pub trace_counted : (text state : List ℕ)
             → IsAccepted (trace_reading (λ x. wanted_after begun) d.trace ∷ []) p b
-            → IsReadFrom p.held d.trace (λ bytes. IsCounted d.save g v begun bytes text state)
+            → IsReadFrom b.held d.trace (λ bytes. IsCounted d.save g v begun bytes text state)
             → IsToShow d a b text state
         trace_counted text state last counted =
-            let ready : Told p.held (λ files. counted.bytes ≡ content files d.trace
+            let narrow = last.read.only.held in
+            let ready : Told b.held (λ files. counted.bytes ≡ content files d.trace
             → replay_work d files ≡ shown d.save text state) =
-            told_both p.held (λ files same e whole. work_is files counted.bytes text state same e
+            told_both b.held (λ files same e whole. work_is files counted.bytes text state same e
             whole counted.given)
-            (chosen p at_p) begun_at_p
+            (chosen b (at_b narrow)) (begun_at_b narrow)
             in
             record {
               accepted = all_accepted last;
-              work = told_back (λ files. replay_work d files ≡ shown d.save text state) a p
-                  (then.same ∙ first.same)
-                  (told_both p.held (λ files f whole. f whole) ready counted.whole);
+              work = told_both b.held (λ files f whole. f whole) ready counted.whole;
             }
 
 -- ---- how the command ends
@@ -180,7 +184,7 @@ named (Some name) bytes = refl
 
 module _ (d : ReplayDemand) (text state : List ℕ) (old m b : Outside)
     (ready : IsToShow d old m text state) where
-  to_write : IsToWrite (replay d) (shown d.save text state) old
+  to_write : IsToWrite (replay d) (shown d.save text state) m.held
   to_write = record {
     accepts = ready.accepted.accepts;
     works = ready.work;
@@ -191,13 +195,14 @@ module _ (d : ReplayDemand) (text state : List ℕ) (old m b : Outside)
   pub saved_worked : AreWritten (output_for d.save state) m b
       → IsWorked (replay d) old b status.Done text
   saved_worked written =
-      written_worked (replay d) (shown d.save text state) old b status.Done text to_write refl refl
-      (told old.held (λ files. tt))
-      (subst (λ (o : Outside). AreWritten (output_for d.save state) o b) ready.accepted.same
-      written)
+      written_worked (replay d) (shown d.save text state) old b status.Done text
+      (still_to_write (replay d) (shown d.save text state) m.held b.held written.only.held to_write)
+      refl refl (told b.held (λ files. tt))
+      (AreWritten-behind (output_for d.save state) old m b ready.accepted.read written)
 
   pub saved_cut : (error : ShelfError) → AreCut (output_for d.save state) m b error
       → IsFaulty (Some (replay d)) old b (status_of_writing error)
   saved_cut error cut =
-      writing_cut (replay d) (shown d.save text state) old b error to_write
-      (subst (λ (o : Outside). AreCut (output_for d.save state) o b error) ready.accepted.same cut)
+      writing_cut (replay d) (shown d.save text state) old b error
+      (still_to_write (replay d) (shown d.save text state) m.held b.held cut.only.held to_write)
+      (AreCut-behind (output_for d.save state) old m b error ready.accepted.read cut)

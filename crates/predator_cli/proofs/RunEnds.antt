@@ -36,7 +36,8 @@ use Rattle.command_files.specs.Works.{Work, done_with, output_for}
 use Rattle.command_files.specs.declared.status.Status.{Status}
 use Rattle.command_files.specs.Laws.Settings.{settings_chosen, settings_pass}
 use Rattle.command_files.specs.Laws.Readings.{none_alone, passed}
-use Rattle.shelf.specs.Laws.Told.{told_both}
+use Rattle.shelf.specs.Laws.Files.{AreCut-behind, AreWritten-behind}
+use Rattle.shelf.specs.Laws.Told.{told_both, told_still}
 use Rattle.predator_cli.specs.Again.{RunRepeats, whole_replay}
 use Rattle.predator_cli.specs.Answer.{answer_of}
 use Rattle.predator_cli.specs.Commands.{RepeatsReport, work_of}
@@ -51,7 +52,8 @@ use Rattle.predator_cli.specs.Run.{trace_for_demand, work_of_run}
 use Rattle.predator_cli.specs.TraceFaults.{status_of_refusal}
 use Rattle.predator_cli.proofs.Ends.{accepted_answer}
 use Rattle.predator_cli.proofs.SpelledAgain.{spelled_again, spelled_wanted}
-use Rattle.predator_cli.proofs.WriteEnds.{IsToWrite, names_in, or_false, writing_cut}
+use Rattle.predator_cli.proofs.WriteEnds.{IsToWrite, names_in, or_false, still_to_write}
+use Rattle.predator_cli.proofs.WriteEnds.{writing_cut}
 use Rattle.predator_cli.proofs.WriteEnds.{written_worked}
 
 -- ---- names
@@ -253,42 +255,13 @@ run_repeats d s o t r good first read traced same accepts =
     (works d s o t r read traced same))
 
 -- what is to be written, before it is
-to_write : (d : RunDemand) (s : Settings) (t : Trace) (r : Run) (a : Outside) → IsReady d s t r a a
-    → IsToWrite (run d) (work_of_run d s t r) a
-to_write d s t r a ready = record {
+to_write : (d : RunDemand) (s : Settings) (t : Trace) (r : Run) (a m : Outside)
+    → IsReady d s t r a m
+    → IsToWrite (run d) (work_of_run d s t r) m.held
+to_write d s t r a m ready = record {
   accepts = ready.accepted.accepts;
-  works = works d s a.held t r ready.read ready.traced ready.runs;
+  works = works d s m.held t r ready.read ready.traced ready.runs;
   names = run_names d t r;
-}
-
-run_worked : (d : RunDemand) (s : Settings) (a b : Outside) (t : Trace) (r : Run) (st : Status)
-    (text : List ℕ) → IsReady d s t r a a
-    → st ≡ status_for r.ending.outcome → text ≡ report_of (levels_of None s) (native_of s) t
-    → IsKept t → t.header.first ≡ 0 → AreWritten (outputs_of_run d t r) a b
-    → IsWorked (run d) a b st text
-run_worked d s a b t r st text ready ends told_text good first written =
-    written_worked (run d) (work_of_run d s t r) a b st text (to_write d s t r a ready) ends
-    told_text
-    (run_repeats d s a.held t r good first ready.read ready.traced ready.runs
-    ready.accepted.accepts) written
-
--- the writing of the files stopped
-run_cut : (d : RunDemand) (s : Settings) (a b : Outside) (t : Trace) (r : Run) (error : ShelfError)
-    → IsReady d s t r a a
-    → AreCut (outputs_of_run d t r) a b error
-    → IsFaulty (Some (run d)) a b (status_of_writing error)
-run_cut d s a b t r error ready cut = writing_cut (run d) (work_of_run d s t r) a b error
-    (to_write d s t r a ready) cut
-
--- nothing was done after the reading
-ready_now : (d : RunDemand) (s : Settings) (t : Trace) (r : Run) (a m : Outside)
-    → IsReady d s t r a m → IsReady d s t r a a
-ready_now d s t r a m ready = record {
-  read = ready.read;
-  runs = ready.runs;
-  traced = ready.traced;
-  accepted =
-      record { accepts = ready.accepted.accepts; same = refl };
 }
 
 -- the same where the files are those that the options name
@@ -306,16 +279,25 @@ pub shown_worked : (d : RunDemand) (s : Settings) (t : Trace) (old m b : Outside
     (native_of s) t → IsKept t
     → t.header.first ≡ 0 → AreWritten (outputs_of_run d t r) m b → IsWorked (run d) old b st text
 shown_worked d s t old m b r st text ready ends told_text good first written =
-    run_worked d s old b t r st text (ready_now d s t r old m ready) ends told_text good first
-    (subst (λ (o : Outside). AreWritten (outputs_of_run d t r) o b) ready.accepted.same written)
+    let w = work_of_run d s t r in
+    written_worked (run d) w old b st text
+    (still_to_write (run d) w m.held b.held written.only.held (to_write d s t r old m ready)) ends
+    told_text
+    (told_still (RepeatsReport (run d)) m.held b.held written.only.held
+    (run_repeats d s m.held t r good first ready.read ready.traced ready.runs
+    ready.accepted.accepts))
+    (AreWritten-behind (outputs_of_run d t r) old m b ready.accepted.read written)
 
+-- the writing of the files stopped
 pub shown_cut : (d : RunDemand) (s : Settings) (t : Trace) (old m b : Outside) (r : Run)
     (error : ShelfError) → IsReady d s t r old m
     → AreCut (outputs_of_run d t r) m b error → IsFaulty (Some (run d)) old b
     (status_of_writing error)
 shown_cut d s t old m b r error ready cut =
-    run_cut d s old b t r error (ready_now d s t r old m ready)
-    (subst (λ (o : Outside). AreCut (outputs_of_run d t r) o b error) ready.accepted.same cut)
+    let w = work_of_run d s t r in
+    writing_cut (run d) w old b error
+    (still_to_write (run d) w m.held b.held cut.only.held (to_write d s t r old m ready))
+    (AreCut-behind (outputs_of_run d t r) old m b error ready.accepted.read cut)
 
 pub handed_apart : (options : RunOptions) (files : List RunFile) → files
     ≡ file_for options.trace Content.Trace ++ file_for options.output

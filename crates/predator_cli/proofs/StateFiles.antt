@@ -150,22 +150,22 @@ alike grid levels g v n files same =
 pub states_stopped : (grid : Files → Grid) (levels : Files → Levels) (g : Grid) (v : Levels)
     (name : Option (List ℕ)) (a b : Outside)
     (s : Status)
-    → Told a.held (λ files. (grid files ≡ g) × (levels files ≡ v))
+    → Told b.held (λ files. (grid files ≡ g) × (levels files ≡ v))
     → IsStopped (state_readings (λ x. g) (λ x. v) name) a b s
     → IsStopped (state_readings grid levels name) a b s
 states_stopped grid levels g v None a b s same stopped = stopped
 states_stopped grid levels g v (Some n) a b s same stopped =
     alike_stopped n (λ files. state_refusal (judged_state g v (content files n)))
     (λ files. state_refusal (judged_state (grid files) (levels files) (content files n))) a b s
-    (told_map a.held (alike grid levels g v n) same) stopped
+    (told_map b.held (alike grid levels g v n) same) stopped
 
 pub states_accepted : (grid : Files → Grid) (levels : Files → Levels) (g : Grid) (v : Levels)
     (name : Option (List ℕ)) (a b : Outside)
-    → Told a.held (λ files. (grid files ≡ g) × (levels files ≡ v))
+    → Told b.held (λ files. (grid files ≡ g) × (levels files ≡ v))
     → IsAccepted (state_readings (λ x. g) (λ x. v) name) a b
     → IsAccepted (state_readings grid levels name) a b
 states_accepted grid levels g v None a b same accepted = accepted
 states_accepted grid levels g v (Some n) a b same accepted =
     alike_accepted n (λ files. state_refusal (judged_state g v (content files n)))
     (λ files. state_refusal (judged_state (grid files) (levels files) (content files n))) a b
-    (told_map a.held (alike grid levels g v n) same) accepted
+    (told_map b.held (alike grid levels g v n) same) accepted

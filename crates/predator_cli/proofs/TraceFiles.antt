@@ -52,7 +52,7 @@ pass_accepted w name o none =
     (told_map o (λ files is. ap (option_map status_of_refusal) is) none)
 
 pub pass_stopped : {T : Type 0} (w : Wanted) (name : List ℕ) (a b : Outside) (fault : PassFault)
-    → ((r : Refusal) → fault ≡ Refused r → Told a.held (λ files. refusal_of w (content files name)
+    → ((r : Refusal) → fault ≡ Refused r → Told b.held (λ files. refusal_of w (content files name)
     ≡ Some r))
     → fault ≢ Refused (refusals.Trace trace.NoMemory) → HasPassCause {T = T} name a b (Err fault)
     → OnlyReads a b
@@ -60,7 +60,7 @@ pub pass_stopped : {T : Type 0} (w : Wanted) (name : List ℕ) (a b : Outside) (
 pass_stopped {T} w name a b (Refused r) told memory cause only =
     refused_stopped name (refuses_trace w name) a b (status_of_refusal r)
     (is_refusal r (λ e. memory (ap Refused e)))
-    (told_map a.held (λ files is. ap (option_map status_of_refusal) is) (told r refl))
+    (told_map b.held (λ files is. ap (option_map status_of_refusal) is) (told r refl))
     (cause.quiet (λ e. cc)) only
 pass_stopped {T} w name a b ReadFault told memory cause only =
     fault_stopped name (refuses_trace w name) a b (cause.failed refl) only

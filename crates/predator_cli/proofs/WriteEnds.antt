@@ -6,7 +6,7 @@ use Rattle.std.proofs.lemmas.Option.{none-some}
 use Rattle.std.specs.List.{list_any}
 use Rattle.std.specs.Option.{option_or}
 use Rattle.std.specs.Str.{bytes_eq}
-use Rattle.shelf.specs.Shelf.{Goes, Outside, Told}
+use Rattle.shelf.specs.Shelf.{Files, Goes, Narrows, Outside, Told}
 use Rattle.shelf.specs.declared.shelf.ShelfError.{ShelfError}
 use Rattle.shelf.specs.declared.shelf.ShelfError.TheVariants.{Failed, NoMemory}
 use Rattle.command_line.specs.Words.{Demand, outputs as outputs_of}
@@ -16,7 +16,7 @@ use Rattle.command_files.specs.Readings.{RoseAt, first_refusal}
 use Rattle.command_files.specs.Statuses.{status_of_writing}
 use Rattle.command_files.specs.Works.{Work}
 use Rattle.command_files.specs.declared.status.Status.{Status}
-use Rattle.shelf.specs.Laws.Told.{goes_map, told, told_both, told_map}
+use Rattle.shelf.specs.Laws.Told.{goes_map, told, told_both, told_map, told_still}
 use Rattle.predator_cli.specs.Written.{OnlyAt}
 use Rattle.predator_cli.specs.Answer.{answer_of}
 use Rattle.predator_cli.specs.Commands.{RepeatsReport, readings_of, work_of}
@@ -92,22 +92,33 @@ written_cut outputs a b written = record {
 
 -- ---- how the command ends
 
--- what is known before the files are written: all that is read is accepted, and so is the work
-pub record IsToWrite (d : Demand) (w : Work) (a : Outside) : Type 0 where
-  pub accepts : Told a.held (λ files. first_refusal (readings_of d) files ≡ None)
-  pub works : Told a.held (λ files. work_of d files ≡ w)
+-- what is known of what is told to be held, before the files are written and behind: all that is
+-- read is accepted, and so is the work
+pub record IsToWrite (d : Demand) (w : Work) (held : Option Files) : Type 0 where
+  pub accepts : Told held (λ files. first_refusal (readings_of d) files ≡ None)
+  pub works : Told held (λ files. work_of d files ≡ w)
   pub names : names_in w.outputs ≡ outputs_of d
 
+-- it is known still where less is told
+pub still_to_write : (d : Demand) (w : Work) (o n : Option Files) → Narrows o n → IsToWrite d w o
+    → IsToWrite d w n
+still_to_write d w o n narrow ready = record {
+  accepts = told_still (λ files. first_refusal (readings_of d) files ≡ None) o n narrow
+      ready.accepts;
+  works = told_still (λ files. work_of d files ≡ w) o n narrow ready.works;
+  names = ready.names;
+}
+
 pub written_worked : (d : Demand) (w : Work) (a b : Outside) (st : Status) (text : List ℕ)
-    → IsToWrite d w a
-    → st ≡ w.status → text ≡ w.text → Told a.held (RepeatsReport d) → AreWritten w.outputs a b
+    → IsToWrite d w b.held
+    → st ≡ w.status → text ≡ w.text → Told b.held (RepeatsReport d) → AreWritten w.outputs a b
     → IsWorked d a b st text
 written_worked d w a b st text ready ends told_text again written = record {
   accepts = ready.accepts;
-  ends = told_map a.held (λ files is. ap (λ (x : Work). x.status) is ∙ sym ends) ready.works;
-  same_text = told_map a.held (λ files is. ap (λ (x : Work). x.text) is ∙ sym told_text)
+  ends = told_map b.held (λ files is. ap (λ (x : Work). x.status) is ∙ sym ends) ready.works;
+  same_text = told_map b.held (λ files is. ap (λ (x : Work). x.text) is ∙ sym told_text)
       ready.works;
-  whole = told_map a.held
+  whole = told_map b.held
       (λ files is. subst (λ (x : Work). Goes a.written b.written (AreWhole x.outputs))
       (sym is) written.whole) ready.works;
   only = subst (λ names. OnlyAt names a b) ready.names (whole_only w.outputs a b written.whole);
@@ -119,17 +130,18 @@ written_worked d w a b st text ready ends told_text again written = record {
 }
 
 -- writing failed, or memory ran out
-cut_stands : (d : Demand) (w : Work) (a b : Outside) → IsToWrite d w a
+cut_stands : (d : Demand) (w : Work) (a b : Outside) → IsToWrite d w b.held
     → Goes a.written b.written (AllMayStand w.outputs)
-    → Told a.held (λ files. Goes a.written b.written
+    → Told b.held (λ files. Goes a.written b.written
     (AllMayStand (answer_of (Some d) files).outputs))
 cut_stands d w a b ready cut =
-    told_both a.held (λ files none is. own_outputs d files
+    told_both b.held (λ files none is. own_outputs d files
     (λ outputs. Goes a.written b.written (AllMayStand outputs)) none
     (subst (λ (x : Work). Goes a.written b.written (AllMayStand x.outputs)) (sym is) cut))
     ready.accepts ready.works
 
-pub writing_cut : (d : Demand) (w : Work) (a b : Outside) (error : ShelfError) → IsToWrite d w a
+pub writing_cut : (d : Demand) (w : Work) (a b : Outside) (error : ShelfError)
+    → IsToWrite d w b.held
     → AreCut w.outputs a b error
     → IsFaulty (Some d) a b (status_of_writing error)
 writing_cut d w a b Failed ready cut =
@@ -143,7 +155,7 @@ writing_cut d w a b Failed ready cut =
       refuses = λ u. cc;
       memory = refl;
       failed = record { reads = cut.only.read_faults; writes = rose_at };
-      printable = told a.held (λ files. inr (inr (inr (refl, rose_at))));
+      printable = told b.held (λ files. inr (inr (inr (refl, rose_at))));
       writes = inl (rose_at, cut_stands d w a b ready cut.may);
       only = subst (λ names. OnlyAt names a b) ready.names (cut_only w.outputs a b cut.may);
       held = cut.only.held;

@@ -26,4 +26,4 @@ pub record IsTextOf (text : Trace → List ℕ) (bytes told : List ℕ) : Type 0
 pub record IsToTell (text : Trace → List ℕ) (name : List ℕ) (old now : Outside) (told : List ℕ)
     : Type 0 where
   pub accepted : IsAccepted (counted_readings name) old now
-  pub read : IsReadFrom old.held name (λ bytes. IsTextOf text bytes told)
+  pub read : IsReadFrom now.held name (λ bytes. IsTextOf text bytes told)

@@ -48,4 +48,4 @@ explain_work demand files =
 pub record IsToExplain (demand : ExplainDemand) (symbols : List TraceRecord) (r : Run)
     (old now : Outside) : Type 0 where
   pub accepted : IsAccepted (explain_readings demand) old now
-  pub works : Told old.held (λ files. explain_work demand files ≡ explained demand symbols r)
+  pub works : Told now.held (λ files. explain_work demand files ≡ explained demand symbols r)

@@ -40,7 +40,7 @@ place_work demand files =
 pub record HasRead (demand : PlaceDemand) (P : List TraceRecord → Type 0) (old now : Outside)
     : Type 0 where
   pub accepted : IsAccepted (place_readings demand) old now
-  pub holds : Told old.held (λ files. P (records_for demand files))
+  pub holds : Told now.held (λ files. P (records_for demand files))
 
 -- records have an object for a demand, or none
 abbrev pub Means : PlaceDemand → Option Extent → List TraceRecord → Type 0

@@ -117,4 +117,4 @@ IsCounted save g v begun bytes text state = (t : Trace) × (trace_of bytes ≡ S
 -- what was read for a replay: all of it is accepted, nothing was changed, and this is to be shown
 pub record IsToShow (demand : ReplayDemand) (old now : Outside) (text state : List ℕ) : Type 0 where
   pub accepted : IsAccepted (replay_readings demand) old now
-  pub work : Told old.held (λ files. replay_work demand files ≡ shown demand.save text state)
+  pub work : Told now.held (λ files. replay_work demand files ≡ shown demand.save text state)

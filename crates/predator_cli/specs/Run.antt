@@ -178,7 +178,7 @@ RunStaysWithin demand files =
 -- files ask for, and nothing was changed
 pub record IsReady (demand : RunDemand) (settings : Settings) (t : Trace) (r : Run)
     (old now : Outside) : Type 0 where
-  pub read : Told old.held (λ files. settings_in demand.settings files ≡ Ok settings)
-  pub runs : Told old.held (λ files. r ≡ run_for_demand demand settings files)
-  pub traced : Told old.held (λ files. t ≡ trace_for_demand demand settings files)
+  pub read : Told now.held (λ files. settings_in demand.settings files ≡ Ok settings)
+  pub runs : Told now.held (λ files. r ≡ run_for_demand demand settings files)
+  pub traced : Told now.held (λ files. t ≡ trace_for_demand demand settings files)
   pub accepted : IsAccepted (run_readings demand) old now

@@ -24,7 +24,7 @@ StandsWhole asked held before now =
     Told held (λ files. Goes before now (AreWhole (answer_of asked files).outputs))
 
 -- At a refusal each file is as it was. Copies whose trace is refused only as it is read again may
--- stand in part; where it is told what is held no trace is.
+-- stand in part; where it is told what is held no trace is, for both readings gave its bytes.
 abbrev pub StaysAtRefusal : Bool → Option Files → Option Files → Option Files → Type 0
 StaysAtRefusal false held before now = Goes before now AreSame
 StaysAtRefusal true held before now = Told held (λ files. Goes before now AreSame)
@@ -40,21 +40,21 @@ StaysAtReadFault true asked held before now = StandsInPart asked held before now
 abbrev pub StandsAtWriteFault : Option Demand → Outside → Outside → Type 0
 StandsAtWriteFault asked old new =
     (RoseAt (outputs asked) old.write_faults new.write_faults
-    × StandsInPart asked old.held old.written new.written)
+    × StandsInPart asked new.held old.written new.written)
     ⊎ (Rose old.print_faults new.print_faults × (new.write_faults ≡ old.write_faults)
-    × StandsWhole asked old.held old.written new.written)
+    × StandsWhole asked new.held old.written new.written)
 
 -- Every output is whole where the work is done and where its text isn't printed, every file is as
 -- it was at a refusal and at a fault of reading but of copies, and each output may stand in part
 -- where writing one failed and at want of memory.
 abbrev pub Writes : Option Demand → Outside → Outside → Kind → Type 0
-Writes asked old new done = StandsWhole asked old.held old.written new.written
+Writes asked old new done = StandsWhole asked new.held old.written new.written
 Writes asked old new refusal =
-    StaysAtRefusal (are_copies asked) old.held old.written new.written
+    StaysAtRefusal (are_copies asked) new.held old.written new.written
 Writes asked old new read_fault =
-    StaysAtReadFault (are_copies asked) asked old.held old.written new.written
+    StaysAtReadFault (are_copies asked) asked new.held old.written new.written
 Writes asked old new write_fault = StandsAtWriteFault asked old new
-Writes asked old new no_memory = StandsInPart asked old.held old.written new.written
+Writes asked old new no_memory = StandsInPart asked new.held old.written new.written
 
 -- no file changed but those of these names
 abbrev pub OnlyAt : List (List ℕ) → Outside → Outside → Type 0

@@ -10,7 +10,7 @@ ghost use Rattle.predator_cli.specs.Answer.{outputs};
 ghost use Rattle.predator_cli.specs.Commands.{RepeatsReport, ReportIsRecounted};
 ghost use Rattle.predator_cli.specs.Commands.{StaysWithinBudget};
 ghost use Rattle.predator_cli.specs.Written.{OnlyAt, Writes};
-ghost use Rattle.shelf.specs.Shelf.{Told};
+ghost use Rattle.shelf.specs.Shelf.{Files, Narrows, Told};
 
 use crate::check::check;
 use crate::convert::convert;
@@ -86,9 +86,10 @@ fn obey<S: Shelf>(alloc: Global, words: &[String], shelf: &mut S) -> Status
 /// eye on one line, and ends as it does; it writes no file and prints which instructions and
 /// which harts took the line from each other.
 pub fn predator<S: Shelf>(alloc: Global, words: &[String], shelf: &mut S) -> Status
-    // Where the held files are told, it ends as the words and the files ask, or by a fault of the
-    // outside before which nothing is refused.
-    ensures ends { Told (S.outside shelf.old).held
+    // It ends as the words and the files ask, or by a fault of the outside before which nothing is
+    // refused: for the files that are told still, so on a disk for all contents that agree with
+    // what each read of the call gave.
+    ensures ends { Told (S.outside shelf.new).held
         (λ files. EndsAs (demand_of (texts words.now)) files
         (S.outside shelf.old) (S.outside shelf.new) (kind_of result) result) }
     // Usage comes exactly where the words are refused, unless memory runs out.
@@ -111,14 +112,15 @@ pub fn predator<S: Shelf>(alloc: Global, words: &[String], shelf: &mut S) -> Sta
     // failed or memory ran out.
     ensures prints { Prints (demand_of (texts words.now))
         (S.outside shelf.old) (S.outside shelf.new) (kind_of result) result }
-    // No file that is read changes.
-    ensures held { (S.outside shelf.new).held ≡ (S.outside shelf.old).held }
+    // No file that is read changes, as far as it is told still what is held: a shelf tells it no more
+    // once a read gave other bytes.
+    ensures held { Narrows (S.outside shelf.old).held (S.outside shelf.new).held }
     // What stands in the files that are written: every output is whole where the work is done, and
     // where printing the command's own text failed, at which no number of faults of writing has
     // risen. Each is as it was or a front of its bytes where writing one failed and at want of
     // memory, and all are as they were at each other end. Copies may stand so at a fault of
-    // reading too, for their trace is read twice; and where it isn't told what is held, also at a
-    // refusal.
+    // reading too, for their trace is read twice; and where it isn't told still what is held, also
+    // at a refusal.
     ensures writes { Writes (demand_of (texts words.now))
         (S.outside shelf.old) (S.outside shelf.new) (kind_of result) }
     // Where a run is done, the replay of the trace that it wrote, under the same settings and
@@ -127,11 +129,10 @@ pub fn predator<S: Shelf>(alloc: Global, words: &[String], shelf: &mut S) -> Sta
     // so do those of more parts. Where `explain` is done, and a run of the same program under
     // the same settings and schedule lists a line with the base, the size and the start that it
     // was asked about, the count that it prints is the one that is listed.
-    ensures again { Told (S.outside shelf.old).held
+    ensures again { Told (S.outside shelf.new).held
         (λ files. WhereDone RepeatsReport (demand_of (texts words.now)) files (kind_of result)) }
     // The run that is asked for makes at most as many steps as its budget has.
-    ensures within { Told (S.outside shelf.old).held
-        (StaysWithinBudget (demand_of (texts words.now))) }
+    ensures within { (files : Files) → StaysWithinBudget (demand_of (texts words.now)) files }
     // Each count that a report of a run or of a whole trace lists is at most a plain recount of the
     // same line over the same accesses, under the line's own layout with tracking threshold 1, and
     // after the line's start both count alike. So it is of a trace that goes on from the state of
@@ -140,13 +141,12 @@ pub fn predator<S: Shelf>(alloc: Global, words: &[String], shelf: &mut S) -> Sta
     // owner, and a line of one hart's words counts nothing once the accesses have moved. What the
     // area counts then is the part of many harts, and where the object has its lines to itself, all
     // else that they counted is saved.
-    ensures recounts { Told (S.outside shelf.old).held
-        (ReportIsRecounted (demand_of (texts words.now))) }
+    ensures recounts { (files : Files) → ReportIsRecounted (demand_of (texts words.now)) files }
     // No other name's file changes.
     ensures only { OnlyAt (outputs (demand_of (texts words.now)))
         (S.outside shelf.old) (S.outside shelf.new) }
     // Where no number of faults rose it ends as it is asked, unless memory runs out.
-    ensures complete { Told (S.outside shelf.old).held
+    ensures complete { Told (S.outside shelf.new).held
         (λ files. IsComplete (demand_of (texts words.now)) files
         (S.outside shelf.old) (S.outside shelf.new) result) }
 {

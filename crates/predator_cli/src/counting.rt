@@ -35,7 +35,7 @@ pub fn see_trace<S: Shelf, O: Observer>(
     requires begins { (header : Head) → IsGoodHeader header → IsWanted wanted.now header
         → O.begins observer.old header.first }
     requires fresh { O.given observer.old observer.old [] }
-    ensures passed { IfOk result (λ passed. HasPassed (S.outside shelf.old).held name.now passed
+    ensures passed { IfOk result (λ passed. HasPassed (S.outside shelf.new).held name.now passed
         (O.given observer.old observer.new)) }
     ensures accepted { OnOk result (IsAccepted (trace_reading (λ _. wanted.now) name.now ∷ [])
         (S.outside shelf.old) (S.outside shelf.new)) }
@@ -57,7 +57,7 @@ pub fn see_whole<S: Shelf, O: Observer>(
 ) -> Result<Passed, Status>
     requires begins { O.begins observer.old 0 }
     requires fresh { O.given observer.old observer.old [] }
-    ensures passed { IfOk result (λ passed. HasPassed (S.outside shelf.old).held name.now passed
+    ensures passed { IfOk result (λ passed. HasPassed (S.outside shelf.new).held name.now passed
         (O.given observer.old observer.new)) }
     ensures accepted { OnOk result (IsAccepted (counted_readings name.now)
         (S.outside shelf.old) (S.outside shelf.new)) }

@@ -103,7 +103,7 @@ fn count_whole<S: Shelf>(
     requires fresh { HasSeen sightings.old sightings.old [] }
     ensures counted { (g : Grid) (v : Levels) → sightings.old ≡ nothing_sighted g v
         → IfOk result (λ counted.
-        IsReadFrom (S.outside shelf.old).held options.now.trace.now (λ bytes.
+        IsReadFrom (S.outside shelf.new).held options.now.trace.now (λ bytes.
         IsCounted (text_of options.now.save) g v None bytes
         counted.text.items counted.state.items)) }
     ensures accepted { OnOk result (IsAccepted
@@ -135,7 +135,7 @@ fn count_on<S: Shelf>(
     sightings: &mut Sightings,
 ) -> Result<Counted, Status>
     ensures counted { IfOk result (λ counted. (g : Grid) (v : Levels)
-        → IsReadFrom (S.outside shelf.old).held options.now.trace.now (λ bytes.
+        → IsReadFrom (S.outside shelf.new).held options.now.trace.now (λ bytes.
         IsCounted (text_of options.now.save) g v
         (Some (record { sightings = sightings.old; harts = harts })) bytes
         counted.text.items counted.state.items)) }
@@ -177,7 +177,7 @@ fn count_from<S: Shelf>(
 ) -> Result<Counted, Status>
     requires { IsTrue (may_predict layout thresholds) }
     ensures counted { IfOk result (λ counted.
-        IsReadFrom (S.outside shelf.old).held options.now.trace.now (λ bytes.
+        IsReadFrom (S.outside shelf.new).held options.now.trace.now (λ bytes.
         IsCounted (text_of options.now.save) layout thresholds begun bytes
         counted.text.items counted.state.items)) }
     ensures accepted { OnOk result (IsAccepted

@@ -157,7 +157,7 @@ fn read_schedule<S: Shelf>(
     settings: &Settings,
 ) -> Result<Schedule, Status>
     requires { IsAllowed settings.now }
-    ensures plan { IfOk result (λ plan. Told (S.outside shelf.old).held
+    ensures plan { IfOk result (λ plan. Told (S.outside shelf.new).held
         (λ files. schedule_in settings.now (text_of name.entry) files ≡ Ok plan)) }
     ensures harts { IfOk result (λ plan. plan.harts ≡ settings.now.harts) }
     ensures quantum { IfOk result (λ plan. plan.quantum ≡ settings.now.quantum) }
@@ -235,11 +235,11 @@ pub fn load_guest<S: Shelf>(
     options: &RunOptions<'_>,
 ) -> Result<Loaded, Status>
     ensures allowed { IfOk result (λ loaded. IsAllowed loaded.settings) }
-    ensures settings { IfOk result (λ loaded. Told (S.outside shelf.old).held
+    ensures settings { IfOk result (λ loaded. Told (S.outside shelf.new).held
         (λ files. settings_in (run_meaning options.now).settings files ≡ Ok loaded.settings)) }
-    ensures run { IfOk result (λ loaded. Told (S.outside shelf.old).held (λ files.
+    ensures run { IfOk result (λ loaded. Told (S.outside shelf.new).held (λ files.
         rest_of loaded.guest ≡ run_for_demand (run_meaning options.now) loaded.settings files)) }
-    ensures symbols { IfOk result (λ loaded. Told (S.outside shelf.old).held (λ files.
+    ensures symbols { IfOk result (λ loaded. Told (S.outside shelf.new).held (λ files.
         loaded.symbols.items ≡ symbol_records (content files options.now.program.now))) }
     ensures told { IfOk result (λ loaded. All IsSymbolRecord loaded.symbols.items) }
     ensures few { IfOk result (λ loaded. length loaded.symbols.items ≤ 2 ^ 20) }

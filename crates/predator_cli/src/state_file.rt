@@ -166,7 +166,7 @@ pub fn read_state<S: Shelf>(
     thresholds: Thresholds,
 ) -> Result<Option<Begun>, Status>
     requires { IsTrue (may_predict layout thresholds) }
-    ensures begun { IfOk result (λ begun. Told (S.outside shelf.old).held
+    ensures begun { IfOk result (λ begun. Told (S.outside shelf.new).held
         (λ files. begun_under layout thresholds (text_of name.entry) files ≡ begun)) }
     ensures accepted { OnOk result (IsAccepted
         (state_readings (λ _. layout) (λ _. thresholds) (text_of name.entry))

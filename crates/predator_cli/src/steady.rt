@@ -16,7 +16,7 @@ use std::alloc::Global;
 pub fn predator_steady(alloc: Global, words: &[String], shelf: &mut NeverFails) -> Status
     ensures read { result ≢ Status.ReadFault }
     ensures write { result ≢ Status.WriteFault }
-    ensures ends { Told (never_fails_outside shelf.old).held
+    ensures ends { Told (never_fails_outside shelf.new).held
         (λ files. (result ≡ (answer_of (demand_of (texts words.now)) files).status) ⊎ (result
         ≡ Status.NoMemory)) }
 {

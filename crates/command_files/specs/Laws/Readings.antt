@@ -4,7 +4,7 @@ use Rattle.std.proofs.Common.{◌≡◌, ℕ, List, [], ◌∷◌, ◌++◌, Opt
 use Rattle.std.proofs.Common.{sym, subst, ◌∙◌}
 use Rattle.std.proofs.lemmas.Option.{none-some}
 use Rattle.std.specs.Option.{option_or}
-use Rattle.shelf.specs.Shelf.{Files, Outside, Told, OnlyReads, Rose}
+use Rattle.shelf.specs.Shelf.{Files, HasRead, Outside, Told, OnlyReads, Rose}
 use Rattle.command_files.specs.Statuses.{Kind, kind_of, done, refusal, read_fault, write_fault}
 use Rattle.command_files.specs.Statuses.{no_memory}
 use Rattle.command_files.specs.Readings.{FailsInOrder, IsAccepted, IsRefusal, IsStopped}
@@ -12,7 +12,8 @@ use Rattle.command_files.specs.Readings.{Reading, RoseAt, StopsBy}
 use Rattle.command_files.specs.Readings.{first_refusal, named_before, names_of, reading, unread}
 use Rattle.command_files.specs.declared.status.Status.{Status}
 use Rattle.command_files.specs.declared.status.Status.TheVariants as status
-use Rattle.shelf.specs.Laws.Told.{told, told_map, told_both}
+use Rattle.shelf.specs.Laws.Told.{only_both, only_none, read_both, read_none, told, told_both}
+use Rattle.shelf.specs.Laws.Told.{told_map, told_still}
 
 -- ---- two lists of files
 
@@ -92,29 +93,35 @@ why_first : (s1 s2 : List Reading) (a b : Outside) (k : Kind) (s : Status) → S
     → StopsBy (s1 ++ s2) a b k s
 why_first s1 s2 a b done s why = why
 why_first s1 s2 a b refusal s why =
-    (told_map a.held (λ files is. refused_first s1 s2 files s is) why.0, why.1)
+    (told_map b.held (λ files is. refused_first s1 s2 files s is) why.0, why.1)
 why_first s1 s2 a b read_fault s why = (
   rose_first s1 s2 a.read_faults b.read_faults why.0,
-  told_map a.held
+  told_map b.held
       (λ files fails. fails_first s1 s2 files a.read_faults b.read_faults fails) why.1,
 )
 why_first s1 s2 a b write_fault s why = why
 why_first s1 s2 a b no_memory s why = why
 
-why_later : (s1 s2 : List Reading) (a b : Outside) (k : Kind) (s : Status)
-    → Told a.held (λ files. first_refusal s1 files ≡ None)
-    → StopsBy s2 a b k s → StopsBy (s1 ++ s2) a b k s
-why_later s1 s2 a b done s accepts why = why
-why_later s1 s2 a b refusal s accepts why =
-    (told_both a.held (λ files none is. passed s1 s2 files none ∙ is) accepts why.0, why.1)
-why_later s1 s2 a b read_fault s accepts why = (
-  rose_later s1 s2 a.read_faults b.read_faults why.0,
-  told_both a.held
-      (λ files none fails. fails_later s1 s2 files a.read_faults b.read_faults none fails) accepts
+-- the numbers of faults of reading before a call are those before the calls that failed nowhere
+-- ahead of it
+why_later : (s1 s2 : List Reading) (a b d : Outside) (k : Kind) (s : Status)
+    → Told d.held (λ files. first_refusal s1 files ≡ None) → b.read_faults ≡ a.read_faults
+    → StopsBy s2 b d k s → StopsBy (s1 ++ s2) a d k s
+why_later s1 s2 a b d done s accepts same why = why
+why_later s1 s2 a b d refusal s accepts same why = (
+  told_both d.held (λ files none is. passed s1 s2 files none ∙ is) accepts why.0,
+  why.1 ∙ same,
+)
+why_later s1 s2 a b d read_fault s accepts same why = (
+  rose_later s1 s2 a.read_faults d.read_faults
+      (subst (λ (f : List ℕ → ℕ). RoseAt (names_of s2) f d.read_faults) same why.0),
+  told_both d.held
+      (λ files none fails. fails_later s1 s2 files a.read_faults d.read_faults none
+      (subst (λ (f : List ℕ → ℕ). FailsInOrder s2 files f d.read_faults) same fails)) accepts
       why.1,
 )
-why_later s1 s2 a b write_fault s accepts why = why
-why_later s1 s2 a b no_memory s accepts why = why
+why_later s1 s2 a b d write_fault s accepts same why = why
+why_later s1 s2 a b d no_memory s accepts same why = why ∙ same
 
 -- what stops the first files stops them with others behind them
 pub stopped_first : (s1 s2 : List Reading) (a b : Outside) (s : Status) → IsStopped s1 a b s
@@ -124,17 +131,6 @@ stopped_first s1 s2 a b s stopped = record {
   words = stopped.words;
   memory =
       stopped.memory;
-  only = stopped.only;
-}
-
--- what stops some files stops them behind others that are accepted
-pub stopped_later : (s1 s2 : List Reading) (a b : Outside) (s : Status)
-    → Told a.held (λ files. first_refusal s1 files ≡ None)
-    → IsStopped s2 a b s → IsStopped (s1 ++ s2) a b s
-stopped_later s1 s2 a b s accepts stopped = record {
-  why = why_later s1 s2 a b (kind_of s) s accepts stopped.why;
-  words = stopped.words;
-  memory = stopped.memory;
   only = stopped.only;
 }
 
@@ -159,15 +155,6 @@ pub accepted_alone : (name : List ℕ) (refuses : Files → Option Status) (o : 
     → Told o (λ files. first_refusal (reading name refuses ∷ []) files ≡ None)
 accepted_alone name refuses o none = told_map o (λ files is. none_alone (refuses files) is) none
 
-pub only_same : (a b : Outside) → b ≡ a → OnlyReads a b
-only_same a b same = record {
-  held = ap (λ (o : Outside). o.held) same;
-  written = ap (λ (o : Outside). o.written) same;
-  printed = ap (λ (o : Outside). o.printed) same;
-  write_faults = ap (λ (o : Outside). o.write_faults) same;
-  print_faults = ap (λ (o : Outside). o.print_faults) same;
-}
-
 -- memory ran out
 pub memory_stopped : (readings : List Reading) (a b : Outside) → b.read_faults ≡ a.read_faults
     → OnlyReads a b → IsStopped readings a b status.NoMemory
@@ -179,7 +166,7 @@ pub fault_stopped : (name : List ℕ) (refuses : Files → Option Status) (a b :
     → Rose (a.read_faults name) (b.read_faults name)
     → OnlyReads a b → IsStopped (reading name refuses ∷ []) a b status.ReadFault
 fault_stopped name refuses a b rose only = record {
-  why = (inl rose, told a.held (λ files. inl rose));
+  why = (inl rose, told b.held (λ files. inl rose));
   words = λ e. cc;
   memory = refl;
   only = only;
@@ -188,11 +175,11 @@ fault_stopped name refuses a b rose only = record {
 -- a file is refused
 pub refused_stopped : (name : List ℕ) (refuses : Files → Option Status) (a b : Outside) (s : Status)
     → IsRefusal s
-    → Told a.held (λ files. refuses files ≡ Some s) → b.read_faults ≡ a.read_faults → OnlyReads a b
+    → Told b.held (λ files. refuses files ≡ Some s) → b.read_faults ≡ a.read_faults → OnlyReads a b
     → IsStopped (reading name refuses ∷ []) a b s
 refused_stopped name refuses a b s is_refusal is peace only =
     let why : StopsBy (reading name refuses ∷ []) a b refusal s =
-    (told_map a.held (λ files same. or_none (refuses files) s same) is, peace)
+    (told_map b.held (λ files same. or_none (refuses files) s same) is, peace)
     in
     record {
       why = rw is_refusal.kind why;
@@ -213,13 +200,13 @@ unread_stopped refused a s is_refusal is =
       why = rw is_refusal.kind why;
       words = is_refusal.words;
       memory = is_refusal.memory;
-      only = only_same a a refl;
+      only = only_none a;
     }
 
 pub unread_accepted : (refused : Option Status) (a : Outside) → refused ≡ None
     → IsAccepted (unread refused ∷ []) a a
 unread_accepted refused a none =
-    record { accepts = told a.held (λ files. none_alone refused none); same = refl }
+    record { accepts = told a.held (λ files. none_alone refused none); read = read_none a }
 
 -- ---- a file that is refused alike
 
@@ -231,21 +218,21 @@ alone_fails name r1 r2 files before now (inl rose) = inl rose
 alone_fails name r1 r2 files before now (inr later) = absurd later.1
 
 alike_why : (name : List ℕ) (r1 r2 : Files → Option Status) (a b : Outside) (k : Kind) (s : Status)
-    → Told a.held (λ files. r2 files ≡ r1 files) → StopsBy (reading name r1 ∷ []) a b k s
+    → Told b.held (λ files. r2 files ≡ r1 files) → StopsBy (reading name r1 ∷ []) a b k s
     → StopsBy (reading name r2 ∷ []) a b k s
 alike_why name r1 r2 a b done s alike why = why
 alike_why name r1 r2 a b refusal s alike why =
-    (told_both a.held (λ files same is. ap (λ x. option_or x None) same ∙ is) alike why.0, why.1)
+    (told_both b.held (λ files same is. ap (λ x. option_or x None) same ∙ is) alike why.0, why.1)
 alike_why name r1 r2 a b read_fault s alike why = (
   why.0,
-  told_map a.held
+  told_map b.held
       (λ files fails. alone_fails name r1 r2 files a.read_faults b.read_faults fails) why.1,
 )
 alike_why name r1 r2 a b write_fault s alike why = why
 alike_why name r1 r2 a b no_memory s alike why = why
 
 pub alike_stopped : (name : List ℕ) (r1 r2 : Files → Option Status) (a b : Outside) (s : Status)
-    → Told a.held (λ files. r2 files ≡ r1 files) → IsStopped (reading name r1 ∷ []) a b s
+    → Told b.held (λ files. r2 files ≡ r1 files) → IsStopped (reading name r1 ∷ []) a b s
     → IsStopped (reading name r2 ∷ []) a b s
 alike_stopped name r1 r2 a b s alike stopped = record {
   why = alike_why name r1 r2 a b (kind_of s) s alike stopped.why;
@@ -256,14 +243,13 @@ alike_stopped name r1 r2 a b s alike stopped = record {
 }
 
 pub alike_accepted : (name : List ℕ) (r1 r2 : Files → Option Status) (a b : Outside)
-    → Told a.held (λ files. r2 files ≡ r1 files)
+    → Told b.held (λ files. r2 files ≡ r1 files)
     → IsAccepted (reading name r1 ∷ []) a b → IsAccepted (reading name r2 ∷ []) a b
 alike_accepted name r1 r2 a b alike accepted =
     record {
-      accepts = told_both a.held
+      accepts = told_both b.held
           (λ files same is. ap (λ x. option_or x None) same ∙ is) alike accepted.accepts;
-      same =
-          accepted.same;
+      read = accepted.read;
     }
 
 -- ---- one after another
@@ -272,15 +258,26 @@ alike_accepted name r1 r2 a b alike accepted =
 pub stopped_behind : (s1 s2 : List Reading) (a b d : Outside) (s : Status) → IsAccepted s1 a b
     → IsStopped s2 b d s
     → IsStopped (s1 ++ s2) a d s
-stopped_behind s1 s2 a b d s accepted stopped = stopped_later s1 s2 a d s accepted.accepts
-    (subst (λ o. IsStopped s2 o d s) accepted.same stopped)
+stopped_behind s1 s2 a b d s accepted stopped =
+    let accepts = told_still (λ files. first_refusal s1 files ≡ None) b.held d.held
+    stopped.only.held accepted.accepts in
+    record {
+      why = why_later s1 s2 a b d (kind_of s) s accepts accepted.read.faults stopped.why;
+      words = stopped.words;
+      memory = stopped.memory;
+      only = only_both a b d accepted.read.only stopped.only;
+    }
 
 pub accepted_behind : (s1 s2 : List Reading) (a b d : Outside) → IsAccepted s1 a b
     → IsAccepted s2 b d → IsAccepted (s1 ++ s2) a d
 accepted_behind s1 s2 a b d first later =
-    let last : IsAccepted s2 a d = subst (λ o. IsAccepted s2 o d) first.same later in
-    record { accepts = accepted_both s1 s2 a.held first.accepts last.accepts; same = last.same }
+    let accepts = told_still (λ files. first_refusal s1 files ≡ None) b.held d.held
+    later.read.only.held first.accepts in
+    record {
+      accepts = accepted_both s1 s2 d.held accepts later.accepts;
+      read = read_both a b d first.read later.read;
+    }
 
--- what is told stays told
-pub told_again : (P : Files → Type 0) (a b : Outside) → b ≡ a → Told a.held P → Told b.held P
-told_again P a b same is = subst (λ (o : Outside). Told o.held P) (sym same) is
+-- what is told holds of what is told still, once more was read
+pub told_again : (P : Files → Type 0) (a b : Outside) → HasRead a b → Told a.held P → Told b.held P
+told_again P a b read is = told_still P a.held b.held read.only.held is

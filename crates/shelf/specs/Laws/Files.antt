@@ -9,11 +9,11 @@ use Rattle.std.proofs.Math.Seq.{take-append_seam}
 use Rattle.std.proofs.lemmas.Slice.Eq.{bytes_eq-Decides}
 use Rattle.std.specs.Option.{option_or}
 use Rattle.std.specs.Str.{bytes_eq}
-use Rattle.shelf.specs.Shelf.{Outside, Files, Told, Goes, HasRead}
+use Rattle.shelf.specs.Shelf.{Outside, Files, Told, Goes, HasRead, OnlyWrites}
 use Rattle.shelf.specs.declared.shelf.ShelfError.{ShelfError}
 use Rattle.shelf.specs.declared.shelf.ShelfError.TheVariants.{Failed}
 use Rattle.shelf.specs.Files.{Output, bytes_for, MayStand, AllMayStand, AreWhole, GoOn, RoseAmong}
-use Rattle.shelf.specs.Files.{HasCauseAmong, AreCut}
+use Rattle.shelf.specs.Files.{HasCauseAmong, AreCut, AreWritten}
 use Rattle.shelf.specs.OneFile.{Waiting, AddsUp, IsBegun, Sunk, Holds, HoldsFront}
 use Rattle.shelf.specs.OnTheirWay.{names_of, IsNew, AreBegun, AreSunk, IsOutputs, outputs_with}
 use Rattle.shelf.specs.Laws.Told.{narrows_then}
@@ -337,6 +337,39 @@ IsOutputs-read files outputs before mid now read on = record {
     read_faults = read.faults ∙ on.only.read_faults;
     print_faults = read.only.print_faults ∙ on.only.print_faults;
   };
+}
+
+-- ---- files that are written behind some reading
+
+writes_behind : (a m b : Outside) → HasRead a m → OnlyWrites m b → OnlyWrites a b
+writes_behind a m b read only = record {
+  held = narrows_then a.held m.held b.held read.only.held only.held;
+  printed = only.printed ∙ read.only.printed;
+  read_faults = only.read_faults ∙ read.faults;
+  print_faults = only.print_faults ∙ read.only.print_faults;
+}
+
+-- what was written is written since before it too
+pub AreWritten-behind : (outputs : List Output) (a m b : Outside) → HasRead a m
+    → AreWritten outputs m b
+    → AreWritten outputs a b
+AreWritten-behind outputs a m b read written = record {
+  whole = subst (λ (w : Option Files). Goes w b.written (AreWhole outputs)) read.only.written
+      written.whole;
+  faults = written.faults ∙ read.only.write_faults;
+  only = writes_behind a m b read written.only;
+}
+
+-- and so is what was cut
+pub AreCut-behind : (outputs : List Output) (a m b : Outside) (e : ShelfError) → HasRead a m
+    → AreCut outputs m b e
+    → AreCut outputs a b e
+AreCut-behind outputs a m b e read cut = record {
+  may = subst (λ (w : Option Files). Goes w b.written (AllMayStand outputs)) read.only.written
+      cut.may;
+  cause = subst (λ (f : List ℕ → ℕ). HasCauseAmong outputs f b.write_faults e)
+      read.only.write_faults cut.cause;
+  only = writes_behind a m b read cut.only;
 }
 
 -- ---- outputs that go on

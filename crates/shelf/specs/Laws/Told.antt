@@ -1,6 +1,6 @@
 -- What holds of a told meaning, of one that goes over into another, and of faults that rose.
 use Rattle.std.proofs.Common.{◌≡◌, ℕ, ◌≤◌, List, Option, Some, None, arith, length, refl, subst}
-use Rattle.std.proofs.Common.{◌∙◌}
+use Rattle.std.proofs.Common.{◌∙◌, sym}
 use Rattle.std.proofs.Math.Seq.{take-length}
 use Rattle.shelf.specs.Shelf.{Told, Narrows, Goes, Rose, Adds, AddsFront, HasRead, OnlyReads}
 use Rattle.shelf.specs.Shelf.{Outside}
@@ -30,6 +30,9 @@ narrows_same (Some x) = refl
 pub told_still : {A : Type 0} (P : A → Type 0) (o n : Option A) → Narrows o n → Told o P → Told n P
 told_still P o None narrow p = tt
 told_still {A = A} P o (Some x) narrow p = subst (λ (h : Option A). Told h P) narrow p
+
+pub told_same : {A : Type 0} (P : A → Type 0) (o n : Option A) → n ≡ o → Told o P → Told n P
+told_same {A = A} P o n same p = subst (λ (h : Option A). Told h P) (sym same) p
 
 pub narrows_then : {A : Type 0} (a b c : Option A) → Narrows a b → Narrows b c → Narrows a c
 narrows_then {A = A} a b c first then = told_still (λ (x : A). a ≡ Some x) b c then first

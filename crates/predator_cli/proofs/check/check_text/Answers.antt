@@ -6,7 +6,7 @@ use Rattle.command_files.specs.Readings.{IsStopped}
 use Rattle.command_files.specs.SettingsFiles.{chosen_settings, settings_in, settings_readings}
 use Rattle.command_files.specs.Laws.Settings.{program_alike}
 use Rattle.command_files.specs.Laws.Readings.{alike_stopped, stopped_behind, stopped_first}
-use Rattle.command_files.specs.Laws.Readings.{told_again}
+use Rattle.shelf.specs.Laws.Told.{told_still}
 use Rattle.predator_cli.proofs.check.check_text.Goals as goal
 
 pub returns-in-Err-clause-stopped : goal.returns-in-Err-clause-stopped
@@ -25,12 +25,12 @@ returns-in-Err-read_judged-clause-stopped g c =
     let p = g.S.Shelf.outside c.read_judged.new.shelf in
     let s = c.in-Ok.settings in
     let st = c.in-Err-read_judged.status in
-    let read : Told m.held (λ files. settings_in d.settings files ≡ Ok s) = told_again
-    (λ files. settings_in d.settings files ≡ Ok s) a m
-    c.in-Ok.ensures.accepted.same c.in-Ok.ensures.read in
+    let read : Told p.held (λ files. settings_in d.settings files ≡ Ok s) = told_still
+    (λ files. settings_in d.settings files ≡ Ok s) m.held p.held
+    c.in-Err-read_judged.ensures.stopped.only.held c.in-Ok.ensures.read in
     let stopped : IsStopped (program_reading d.settings d.program ∷ []) m p st =
     alike_stopped d.program (λ files. program_refusal s (content files d.program))
     (λ files. program_refusal (chosen_settings d.settings files) (content files d.program)) m p st
-    (program_alike d.settings d.program m.held s read) c.in-Err-read_judged.ensures.stopped in
+    (program_alike d.settings d.program p.held s read) c.in-Err-read_judged.ensures.stopped in
     stopped_behind (settings_readings d.settings) (program_reading d.settings d.program ∷ []) a m p
     st c.in-Ok.ensures.accepted stopped

@@ -16,11 +16,12 @@ pub returns-in-Ok : goal.returns-in-Ok
 returns-in-Ok g c =
     let d = run_meaning c.args.options.now in
     let a = g.S.Shelf.outside c.args.shelf.now in
+    let m = g.S.Shelf.outside c.load_guest.new.shelf in
     let s = c.in-Ok.loaded.settings in
     let r = rest_of c.in-Ok.loaded.guest in
     let symbols = c.in-Ok.loaded.symbols.items in
-    let traced : Told a.held (λ files. trace_for s.harts symbols r ≡ trace_for_demand d s files) =
-    told_both a.held (λ files runs named. ap (λ x. trace_for s.harts x r) named
+    let traced : Told m.held (λ files. trace_for s.harts symbols r ≡ trace_for_demand d s files) =
+    told_both m.held (λ files runs named. ap (λ x. trace_for s.harts x r) named
     ∙ ap (trace_for s.harts (symbol_records (content files d.program))) runs)
     c.in-Ok.ensures.run c.in-Ok.ensures.symbols in
     c.run_loaded.ensures a (record {
