@@ -11,7 +11,8 @@ use Rattle.std.proofs.lemmas.Slice.Eq.{bytes_eq-Decides}
 use Rattle.std.specs.Str.{bytes_eq}
 use Rattle.std.proofs.Math.Seq.{map-set_same}
 use Rattle.std.proofs.lemmas.List.{append-nil}
-use Rattle.shelf.specs.Shelf.{Outside, Files, Told, Goes, HasCauseAt, ChangesAt, OnlyWrites, Rose}
+use Rattle.shelf.specs.Shelf.{Outside, Files, Told, Goes, HasCauseAt, ChangesAt, Narrows, OnlyWrites}
+use Rattle.shelf.specs.Shelf.{Rose}
 use Rattle.shelf.specs.declared.shelf.ShelfError.{ShelfError}
 use Rattle.shelf.specs.declared.shelf.ShelfError.TheVariants.{Failed, NoMemory}
 use Rattle.shelf.specs.Files.{Output, MayStand, RoseAmong, AreCut, AreWritten}
@@ -380,6 +381,7 @@ pub record FinishedTo (first now : List Waiting) (place : ℕ) (old new : Outsid
   pub begun : AreBegun (names_of now) new
   pub outputs : (outputs : List Output) (before : Outside) → IsOutputs first outputs before old
       → IsOutputs now outputs before new
+  pub tells : Narrows old.held new.held
   pub done : FirstDone place now
 
 -- ---- one file more
@@ -562,6 +564,7 @@ finished_more first files i f after old mid new finished apart below is moves be
           (outputs_moved f after (λ put. put) mid new moves files i below is
           (subst AreApart (sym finished.names) apart) outputs before
           (finished.outputs outputs before on));
+      tells = narrows_then old.held mid.held new.held finished.tells moves.only.held;
       done = done_more files i after none finished.done;
     }
 

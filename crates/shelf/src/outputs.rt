@@ -1,6 +1,6 @@
 // Files on their way, in a list.
 ghost use Rattle.std.specs.Prelude.{◌≡◌, ◌<◌, ◌++◌, ◌∷◌, List, [], length, OnOk, IfErr};
-ghost use Rattle.shelf.specs.Shelf.{Outside};
+ghost use Rattle.shelf.specs.Shelf.{Narrows, Outside};
 ghost use Rattle.shelf.specs.Files.{Output, AreCut, AreWritten};
 ghost use Rattle.shelf.specs.OnTheirWay.{AreBegun, IsNew, IsOutputs, NothingWaits, names_of};
 ghost use Rattle.shelf.specs.OnTheirWay.{outputs_with, waiting_with};
@@ -66,6 +66,7 @@ impl<'a> Outputs<'a> {
             → IsOutputs self.old outputs before (S.outside shelf.old)
             → AreCut (outputs ++ record { name = name.now; bytes = [] } ∷ []) before
             (S.outside shelf.new) error) }
+        ensures tells { Narrows (S.outside shelf.old).held (S.outside shelf.new).held }
     {
         match Sink::begin(alloc, shelf, name) {
             Ok(sink) => {
@@ -102,6 +103,7 @@ impl<'a> Outputs<'a> {
         ensures cut { IfErr result (λ error. (outputs : List Output) (before : Outside)
             → IsOutputs self.old outputs before (S.outside shelf.old)
             → AreCut (outputs_with outputs place bytes.now) before (S.outside shelf.new) error) }
+        ensures tells { Narrows (S.outside shelf.old).held (S.outside shelf.new).held }
     {
         let file = &mut self.files[place];
         file.put(shelf, bytes)
@@ -128,6 +130,7 @@ impl<'a> Outputs<'a> {
         ensures cut { IfErr result (λ error. (outputs : List Output) (before : Outside)
             → IsOutputs self.old outputs before (S.outside shelf.old)
             → AreCut outputs before (S.outside shelf.new) error) }
+        ensures tells { Narrows (S.outside shelf.old).held (S.outside shelf.new).held }
     {
         for place in 0..self.files.len() {
             let file = &mut self.files[place];

@@ -33,14 +33,12 @@ module _ (held : Option Files) (name : List ℕ) (names : List (List ℕ))
 
     -- within the second reading
     pub stopped_reading : (files : List TraceRecord → List Output) → files ≡ so_far
-        → (read : Option Files) → read ≡ held
-        → (before now : Outside) (fault : CopyFault) → IsCutShort read name files before now fault
+        → (before now : Outside) (fault : CopyFault) → IsCutShort held name files before now fault
         → HasStopped held name names outputs before now fault
-    stopped_reading files is read same before now fault short =
+    stopped_reading files is before now fault short =
         stopped held name names outputs so_far before now fault named goes
-        (subst (λ (h : Option Files). IsCutShort h name so_far before now fault) same
-        (subst (λ (f : List TraceRecord → List Output). IsCutShort read name f before now fault) is
-        short))
+        (subst (λ (f : List TraceRecord → List Output). IsCutShort held name f before now fault) is
+        short)
 
 -- the files that the target was begun with
 pub begun_as : {so_far files : List TraceRecord → List Output} {waiting : List Waiting}

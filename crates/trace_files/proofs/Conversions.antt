@@ -1,11 +1,11 @@
 -- A conversion on its way to the file that it would be.
 use Rattle.std.proofs.Common.{◌≡◌, ℕ, List, [], ◌∷◌, ◌++◌, length, Option, Some, refl, sym, ap, ◌∙◌}
 use Rattle.std.proofs.Common.{subst}
-use Rattle.shelf.specs.Shelf.{Files, Outside, Told, content}
+use Rattle.shelf.specs.Shelf.{Files, Narrows, Outside, Told, content}
 use Rattle.shelf.specs.declared.shelf.ShelfError.{ShelfError}
 use Rattle.shelf.specs.Files.{AreCut, AreWritten, GoOn, Output}
 use Rattle.shelf.specs.OneFile.{Waiting}
-use Rattle.shelf.specs.Laws.Told.{told_both}
+use Rattle.shelf.specs.Laws.Told.{told_both, told_still}
 use Rattle.trace_format.specs.declared.record.Version.{Version}
 use Rattle.trace_format.specs.declared.record.TraceRecord.{TraceRecord}
 use Rattle.trace_format.specs.Rules.{touches_in}
@@ -65,30 +65,29 @@ module _ (held : Option Files) (name output : List ℕ) (first : Passed)
   -- what the second reading says of its target
   module _ (v : Version) (is : v ≡ other_version first.version)
       (files : List TraceRecord → List Output)
-      (named : files ≡ trace_so_far output v first.header) (read : Option Files)
-      (same : read ≡ held) (before : Outside)
+      (named : files ≡ trace_so_far output v first.header) (before : Outside)
     where
       so_named : files ≡ so_far
       so_named = named ∙ (λ i seen. trace_so_far output (is i) first.header seen)
 
       pub stopped_again : (now : Outside) (fault : CopyFault)
-          → IsCutShort read name files before now fault
+          → IsCutShort held name files before now fault
           → HasStopped held name (output ∷ []) (conversion output) before now fault
       stopped_again =
           stopped_reading held name (output ∷ []) (conversion output) so_far
-          (λ seen. refl) goes files so_named read same before
+          (λ seen. refl) goes files so_named before
 
       -- once it is done
       module _ (second : Passed) (alike : AreAlike first second) (has : List TraceRecord → Type 0)
           (waiting : List Waiting)
-          (mid : Outside) (copied : IsCopied read name second files has waiting before mid)
-          (now : Outside)
+          (mid : Outside) (narrow : Narrows mid.held held)
+          (copied : IsCopied mid.held name second files has waiting before mid) (now : Outside)
         where
           abbrev trace : Trace
           trace = trace_with second copied.items
 
           told : Told held (λ fs. copied.bytes ≡ content fs name)
-          told = subst (λ (h : Option Files). Told h (λ fs. copied.bytes ≡ content fs name)) same
+          told = told_still (λ fs. copied.bytes ≡ content fs name) mid.held held narrow
               copied.whole
 
           pub copied_whole : AreWritten (files (all_records trace)) before now

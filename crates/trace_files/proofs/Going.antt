@@ -1,10 +1,13 @@
 -- Records that come to a target, and a second reading on its way.
 use Rattle.std.proofs.Common.{◌≡◌, ℕ, List, [], ◌++◌, take, Option, refl, sym, subst, ◌∙◌}
 use Rattle.std.proofs.lemmas.List.{append-nil}
-use Rattle.shelf.specs.Shelf.{Files, Outside}
+use Rattle.shelf.specs.Shelf.{Files, HasRead, Narrows, Outside, content}
+use Rattle.shelf.specs.Fetch.{IsFront}
 use Rattle.shelf.specs.Files.{Output}
 use Rattle.shelf.specs.OneFile.{Waiting}
 use Rattle.shelf.specs.OnTheirWay.{IsOutputs}
+use Rattle.shelf.specs.Laws.Files.{IsOutputs-read}
+use Rattle.shelf.specs.Laws.Told.{narrows_same, narrows_then, told_still}
 use Rattle.trace_format.specs.declared.record.TraceRecord.{TraceRecord}
 use Rattle.trace_format.specs.Reading.{read_on, reading_of}
 use Rattle.trace_passes.specs.Cursors.{GoesOn, HasCome, Reached}
@@ -21,6 +24,7 @@ pub record PutTo {A : Type 0} (waiting : A → List Waiting)
   pub outputs : (seen : List TraceRecord) (before : Outside) → has first seen
       → IsOutputs (waiting first) (files first seen) before old
       → IsOutputs (waiting now) (files first (seen ++ take i items)) before new
+  pub tells : Narrows old.held new.held
 
 module _ {A : Type 0} (waiting : A → List Waiting) (files : A → List TraceRecord → List Output)
     (has : A → List TraceRecord → Type 0)
@@ -33,6 +37,7 @@ module _ {A : Type 0} (waiting : A → List Waiting) (files : A → List TraceRe
       outputs = λ seen before h on. subst
           (λ (l : List TraceRecord). IsOutputs (waiting first) (files first l) before old)
           (sym (append-nil seen)) on;
+      tells = narrows_same old.held;
     }
 
     -- more may come
@@ -49,15 +54,25 @@ module _ {A : Type 0} (waiting : A → List Waiting) (files : A → List TraceRe
           (sym to.files_stay) (to.outputs way.seen way.before way.came way.outputs);
     }
 
+-- What was read stands as long as its file is told.
+come_still : (o n : Option Files) (name bytes : List ℕ) (cursor : Reached) → Narrows o n
+    → HasCome o name any bytes cursor → HasCome n name any bytes cursor
+come_still o n name bytes cursor narrow come = record {
+  size = come.size;
+  room = come.room;
+  front = told_still (λ files. IsFront (content files name) bytes) o n narrow come.front;
+  read = come.read;
+}
+
 -- Some bytes are read, and all their records came to the target.
 pub record IsAt {A : Type 0} (waiting : A → List Waiting)
     (files : A → List TraceRecord → List Output)
-    (has : A → List TraceRecord → Type 0) (held : Option Files) (name : List ℕ) (first now : A)
+    (has : A → List TraceRecord → Type 0) (name : List ℕ) (first now : A)
     (cursor : Reached)
     (old new : Outside) : Type 0 where
   pub bytes : List ℕ
-  pub come : HasCome held name any bytes cursor
-  pub held_stay : new.held ≡ held
+  pub come : HasCome new.held name any bytes cursor
+  pub narrow : Narrows old.held new.held
   pub files_stay : files now ≡ files first
   pub came : has now (reading_of bytes).0
   pub outputs : (before : Outside) → IsOutputs (waiting first) (files first []) before old
@@ -73,11 +88,11 @@ module _ {A : Type 0} (waiting : A → List Waiting) (files : A → List TraceRe
 
     pub at_first : (target : A) (cursor : Reached) (old : Outside)
         → HasCome old.held name any [] cursor → has target []
-        → IsAt waiting files has old.held name target target cursor old old
+        → IsAt waiting files has name target target cursor old old
     at_first target cursor old come none = record {
       bytes = [];
       come = come;
-      held_stay = refl;
+      narrow = narrows_same old.held;
       files_stay = refl;
       came = subst (has target) (sym nothing_read) none;
       outputs = λ before on. subst (λ (l : List TraceRecord). IsOutputs (waiting target)
@@ -85,47 +100,48 @@ module _ {A : Type 0} (waiting : A → List Waiting) (files : A → List TraceRe
           (sym nothing_read) on;
     }
 
-    -- what the call may rest on, where it began with files on their way
-    pub way_at : (first now : A) (cursor : Reached) (old new mid : Outside) (before : Outside)
+    -- what the call may rest on once a piece was read, where it began with files on their way
+    pub way_at : (first now : A) (cursor : Reached) (old mid new : Outside) (before : Outside)
         → IsOutputs (waiting first) (files first []) before old
-        → IsAt waiting files has old.held name first now cursor old new → mid ≡ new
-        → IsUnderWay (waiting now) (files now) (has now) mid
-    way_at first now cursor old new mid before on at same = record {
-      seen = (reading_of at.bytes).0;
-      before = before;
-      came = at.came;
-      outputs = subst (λ (o : Outside). IsOutputs (waiting now) (files now (reading_of at.bytes).0)
-          before o) (sym same)
-          (subst (λ (f : List TraceRecord → List Output). IsOutputs (waiting now)
-          (f (reading_of at.bytes).0) before new)
-          (sym at.files_stay) (at.outputs before on));
-    }
+        → IsAt waiting files has name first now cursor old mid → HasRead mid new
+        → IsUnderWay (waiting now) (files now) (has now) new
+    way_at first now cursor old mid new before on at read =
+        let seen = (reading_of at.bytes).0 in
+        record {
+          seen = seen;
+          before = before;
+          came = at.came;
+          outputs = IsOutputs-read (waiting now) (files now seen) before mid new read
+              (subst (λ (f : List TraceRecord → List Output). IsOutputs (waiting now) (f seen)
+              before mid) (sym at.files_stay) (at.outputs before on));
+        }
 
-    -- one piece more
-    pub at_next : (first now later : A) (cursor next : Reached) (old mid new : Outside)
-        (before : Outside)
-        → IsOutputs (waiting first) (files first []) before old
-        → (at : IsAt waiting files has old.held name first now cursor old mid)
-        → (on : GoesOn old.held name any at.bytes next)
+    -- one piece more was read, and its records were put
+    pub at_next : (first now later : A) (cursor next : Reached) (old mid read new : Outside)
+        → (at : IsAt waiting files has name first now cursor old mid)
+        → HasRead mid read
+        → (on : GoesOn read.held name any at.bytes next)
         → files later ≡ files now
         → ((seen : List TraceRecord) → has now seen → has later (seen ++ next.items))
         → ((seen : List TraceRecord) (b : Outside) → has now seen
-        → IsOutputs (waiting now) (files now seen) b mid
+        → IsOutputs (waiting now) (files now seen) b read
         → IsOutputs (waiting later) (files now (seen ++ next.items)) b new)
-        → IsAt waiting files has old.held name first later next old new
-    at_next first now later cursor next old mid new before began at on files_stay came outputs =
+        → Narrows read.held new.held
+        → IsAt waiting files has name first later next old new
+    at_next first now later cursor next old mid read new at reads on files_stay came outputs narrow =
         let seen = (reading_of at.bytes).0 in
         let put : (b : Outside) → IsOutputs (waiting first) (files first []) b old
         → IsOutputs (waiting later) (files first (seen ++ next.items)) b new =
         λ b is. subst (λ (f : List TraceRecord → List Output). IsOutputs (waiting later)
         (f (seen ++ next.items)) b new) at.files_stay
-        (outputs seen b at.came
+        (outputs seen b at.came (IsOutputs-read (waiting now) (files now seen) b mid read reads
         (subst (λ (f : List TraceRecord → List Output). IsOutputs (waiting now) (f seen) b mid)
-        (sym at.files_stay) (at.outputs b is))) in
+        (sym at.files_stay) (at.outputs b is)))) in
         record {
           bytes = at.bytes ++ on.more;
-          come = on.come;
-          held_stay = (put before began).only.held ∙ sym began.only.held;
+          come = come_still read.held new.held name (at.bytes ++ on.more) next narrow on.come;
+          narrow = narrows_then old.held mid.held new.held at.narrow
+              (narrows_then mid.held read.held new.held reads.only.held narrow);
           files_stay = files_stay ∙ at.files_stay;
           came = subst (has later) (sym on.records) (came seen at.came);
           outputs = λ b is. subst (λ (l : List TraceRecord). IsOutputs (waiting later)

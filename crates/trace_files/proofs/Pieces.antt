@@ -2,11 +2,13 @@
 use Rattle.std.proofs.Common.{◌≡◌, ℕ, List, [], ◌∷◌, ◌++◌, take, All, Option, Some, None, Err, refl}
 use Rattle.std.proofs.Common.{sym, ◌∙◌, subst, arith}
 use Rattle.std.proofs.lemmas.List.Elements.{All-nil, All-tail}
-use Rattle.shelf.specs.Shelf.{Files, OnlyReads, Outside, Told, content}
+use Rattle.shelf.specs.Shelf.{Files, HasRead, Narrows, OnlyReads, Outside, Told, content}
 use Rattle.shelf.specs.declared.shelf.ShelfError.{ShelfError}
 use Rattle.shelf.specs.Files.{Output, AreCut}
 use Rattle.shelf.specs.OneFile.{Waiting}
 use Rattle.shelf.specs.OnTheirWay.{IsOutputs}
+use Rattle.shelf.specs.Laws.Files.{IsOutputs-read}
+use Rattle.shelf.specs.Laws.Told.{only_none}
 use Rattle.base.specs.declared.ending.Ending.{Ending}
 use Rattle.trace_format.specs.declared.read_so_far.ReadSoFar.{ReadSoFar}
 use Rattle.trace_format.specs.declared.record.TraceRecord.{TraceRecord}
@@ -27,7 +29,7 @@ use Rattle.trace_files.specs.declared.copy_fault.CopyFault.TheVariants.{NoMemory
 use Rattle.trace_files.specs.Copies.{any}
 use Rattle.trace_files.specs.Copying.{AreFirst, IsCopied, IsCutShort, second_fault, write_fault}
 use Rattle.trace_files.proofs.Going.{IsAt, at_next}
-use Rattle.trace_files.proofs.Readings.{first_none, first_of, first_read, same_outside, short_read}
+use Rattle.trace_files.proofs.Readings.{first_none, first_of, first_read, first_still, short_read}
 use Rattle.trace_files.proofs.Readings.{short_write}
 
 -- ---- the records of a piece may be written
@@ -53,51 +55,43 @@ piece_writable held name bytes next on =
 
 -- ---- what stands where it gives up, and at its end
 
+-- how the name's bytes are refused, by a call that reads
+pub refused_at : (held : Option Files) (name : List ℕ) (w : Wanted) → w ≡ any → (refusal : Refusal)
+    → Told held (λ fs. refusal_of w (content fs name) ≡ Some refusal)
+    → Told held (λ fs. refusal_of any (content fs name) ≡ Some refusal)
+refused_at held name w is refusal told =
+    subst (λ (x : Wanted). Told held (λ fs. refusal_of x (content fs name) ≡ Some refusal)) is told
+
 module _ {A : Type 0} (waiting : A → List Waiting) (files : A → List TraceRecord → List Output)
     (has : A → List TraceRecord → Type 0)
     (name : List ℕ) (first now : A) (cursor : Reached) (old mid : Outside)
-    (at : IsAt waiting files has old.held name first now cursor old mid)
+    (at : IsAt waiting files has name first now cursor old mid)
   where
     -- the cursor reads on from there
     pub come_at : (w : Wanted) → w ≡ any → HasCome mid.held name w at.bytes cursor
-    come_at w is =
-        subst (λ (h : Option Files). HasCome h name w at.bytes cursor) (sym at.held_stay)
-        (subst (λ (x : Wanted). HasCome old.held name x at.bytes cursor) (sym is) at.come)
+    come_at w is = subst (λ (x : Wanted). HasCome mid.held name x at.bytes cursor) (sym is) at.come
 
-    pub on_at : (w : Wanted) → w ≡ any → (next : Reached)
+    pub on_at : (w : Wanted) → w ≡ any → (next : Reached) (read : Option Files)
         → ((bytes : List ℕ) → HasCome mid.held name w bytes cursor
-        → GoesOn mid.held name w bytes next)
-        → GoesOn old.held name any at.bytes next
-    on_at w is next goes =
-        subst (λ (h : Option Files). GoesOn h name any at.bytes next) at.held_stay
-        (subst (λ (x : Wanted). GoesOn mid.held name x at.bytes next) is
-        (goes at.bytes (come_at w is)))
+        → GoesOn read name w bytes next)
+        → GoesOn read name any at.bytes next
+    on_at w is next read goes =
+        subst (λ (x : Wanted). GoesOn read name x at.bytes next) is
+        (goes at.bytes (come_at w is))
 
-    pub end_at : (w : Wanted) → w ≡ any → (passed : Passed)
+    pub end_at : (w : Wanted) → w ≡ any → (passed : Passed) (read : Option Files)
         → ((bytes : List ℕ) → HasCome mid.held name w bytes cursor
-        → HasEnded mid.held name w bytes passed)
-        → HasEnded old.held name any at.bytes passed
-    end_at w is passed ends =
-        subst (λ (h : Option Files). HasEnded h name any at.bytes passed) at.held_stay
-        (subst (λ (x : Wanted). HasEnded mid.held name x at.bytes passed) is
-        (ends at.bytes (come_at w is)))
+        → HasEnded read name w bytes passed)
+        → HasEnded read name any at.bytes passed
+    end_at w is passed read ends =
+        subst (λ (x : Wanted). HasEnded read name x at.bytes passed) is
+        (ends at.bytes (come_at w is))
 
-    -- how the name's bytes are refused, by a call that reads
-    pub refused_at : (w : Wanted) → w ≡ any → (refusal : Refusal)
-        → Told mid.held (λ fs. refusal_of w (content fs name) ≡ Some refusal)
-        → Told old.held (λ fs. refusal_of any (content fs name) ≡ Some refusal)
-    refused_at w is refusal told =
-        subst (λ (h : Option Files). Told h (λ fs. refusal_of any (content fs name) ≡ Some refusal))
-        at.held_stay
-        (subst (λ (x : Wanted). Told mid.held (λ fs. refusal_of x (content fs name) ≡ Some refusal))
-        is told)
-
-    pub ended_at : (passed : Passed) (new : Outside) → OnlyReads mid new → new.read_faults
-        ≡ mid.read_faults
-        → HasEnded old.held name any at.bytes passed → (before : Outside)
+    pub ended_at : (passed : Passed) (new : Outside) → HasRead mid new
+        → HasEnded new.held name any at.bytes passed → (before : Outside)
         → IsOutputs (waiting first) (files first []) before old
-        → IsCopied old.held name passed (files first) (has now) (waiting now) before new
-    ended_at passed new only quiet ended before began =
+        → IsCopied new.held name passed (files first) (has now) (waiting now) before new
+    ended_at passed new reads ended before began =
         let all = trace-records at.bytes (trace_with passed ended.items) ended.is in
         record {
           bytes = at.bytes;
@@ -107,63 +101,58 @@ module _ {A : Type 0} (waiting : A → List Waiting) (files : A → List TraceRe
           came = subst (has now) all at.came;
           outputs = subst (λ (l : List TraceRecord). IsOutputs (waiting now)
               (files first l) before new) all
-              (subst (λ (o : Outside). IsOutputs (waiting now) (files first (reading_of at.bytes).0)
-              before o)
-              (sym (same_outside mid new only quiet)) (at.outputs before began));
+              (IsOutputs-read (waiting now) (files first (reading_of at.bytes).0) before mid new
+              reads (at.outputs before began));
         }
 
     pub short_at : {T : Type 0} (fault : PassFault) (new : Outside) → OnlyReads mid new
         → HasPassCause {T = T} name mid new (Err fault)
         → (before : Outside) → IsOutputs (waiting first) (files first []) before old
-        → IsCutShort old.held name (files first) before new (second_fault fault)
+        → IsCutShort new.held name (files first) before new (second_fault fault)
     short_at {T} fault new only cause before began =
-        short_read old.held name (files first) (reading_of at.bytes).0 (waiting now) before mid new
-        (first_read old.held name at.bytes cursor at.come) (at.outputs before began) only {T = T}
-        fault cause
+        let seen = (reading_of at.bytes).0 in
+        short_read new.held name (files first) seen (waiting now) before mid new
+        (first_still mid.held new.held name seen only.held
+        (first_read mid.held name at.bytes cursor at.come))
+        (at.outputs before began) only {T = T} fault cause
 
     -- after a piece was read, its records are put
-    module _ (next : Reached) (read : Outside) (only : OnlyReads mid read)
-        (quiet : read.read_faults ≡ mid.read_faults)
-        (on : GoesOn old.held name any at.bytes next)
+    module _ (next : Reached) (read : Outside) (reads : HasRead mid read)
+        (on : GoesOn read.held name any at.bytes next)
       where
-        moved : (seen : List TraceRecord) (b : Outside)
-            → IsOutputs (waiting now) (files now seen) b mid
-            → IsOutputs (waiting now) (files now seen) b read
-        moved seen b is = subst (λ (o : Outside). IsOutputs (waiting now) (files now seen) b o)
-            (sym (same_outside mid read only quiet)) is
-
-        pub next_at : (later : A) (new before : Outside)
-            → IsOutputs (waiting first) (files first []) before old
-            → files later ≡ files now
+        pub next_at : (later : A) (new : Outside) → files later ≡ files now
             → ((seen : List TraceRecord) → has now seen → has later (seen ++ next.items))
             → ((seen : List TraceRecord) (b : Outside) → has now seen
             → IsOutputs (waiting now) (files now seen) b read
             → IsOutputs (waiting later) (files now (seen ++ next.items)) b new)
-            → IsAt waiting files has old.held name first later next old new
-        next_at later new before began files_stay came outputs =
-            at_next waiting files has name first now later cursor next old mid new before began at
-            on files_stay came
-            (λ seen b h is. outputs seen b h (moved seen b is))
+            → Narrows read.held new.held
+            → IsAt waiting files has name first later next old new
+        next_at later new files_stay came outputs narrow =
+            at_next waiting files has name first now later cursor next old mid read new at reads on
+            files_stay came outputs narrow
 
         pub cut_at : (new : Outside) (error : ShelfError)
             → (k : ℕ) × ((seen : List TraceRecord) (before : Outside) → has now seen
             → IsOutputs (waiting now) (files now seen) before read
             → AreCut (files now (seen ++ take k next.items)) before new error)
+            → Narrows read.held new.held
             → (before : Outside) → IsOutputs (waiting first) (files first []) before old
-            → IsCutShort old.held name (files first) before new (write_fault error)
-        cut_at new error cut before began =
+            → IsCutShort new.held name (files first) before new (write_fault error)
+        cut_at new error cut narrow before began =
             let seen = (reading_of at.bytes).0 in
             let items = next.items in
             let put : IsOutputs (waiting now) (files now seen) before mid
             → AreCut (files now (seen ++ take cut.0 items)) before new error =
-            λ is. cut.1 seen before at.came (moved seen before is) in
+            λ is. cut.1 seen before at.came
+            (IsOutputs-read (waiting now) (files now seen) before mid read reads is) in
             let first_put = subst (λ (f : List TraceRecord → List Output). IsOutputs (waiting now)
             (f seen) before mid
             → AreCut (f (seen ++ take cut.0 items)) before new error) at.files_stay put in
-            short_write old.held name (files first) (seen ++ take cut.0 items) before new error
-            (first_of old.held name seen items cut.0
-            (subst (AreFirst old.held name) on.records
-            (first_read old.held name (at.bytes ++ on.more) next on.come)))
+            short_write new.held name (files first) (seen ++ take cut.0 items) before new error
+            (first_of new.held name seen items cut.0
+            (first_still read.held new.held name (seen ++ items) narrow
+            (subst (AreFirst read.held name) on.records
+            (first_read read.held name (at.bytes ++ on.more) next on.come))))
             (first_put (at.outputs before began))
 
 -- where not even a cursor can be had
@@ -175,14 +164,7 @@ pub short_none : (held : Option Files) (name : List ℕ) (files : List TraceReco
 short_none held name files waiting fault memory now before began =
     subst (λ (f : PassFault). IsCutShort held name files before now (second_fault f)) (sym memory)
     (short_read held name files [] waiting before now now (first_none held name) began
-    (record {
-      held = refl;
-      written = refl;
-      printed = refl;
-      write_faults = refl;
-      print_faults =
-          refl;
-    }) {T = Unit {0}} passes.NoMemory
+    (only_none now) {T = Unit {0}} passes.NoMemory
     (record { later = λ n. omega arith; failed = λ e. absurd cc; quiet = λ e. refl }))
 
 -- a second reading is refused where its call is

@@ -3,7 +3,7 @@ use Rattle.std.proofs.Common.{◌≡◌, ◌≢◌, ℕ, ◌+◌, ◌<◌, ◌�
 use Rattle.std.proofs.Common.{drop, Option, Err, inl}
 use Rattle.std.proofs.Common.{inr, refl, sym, ap, ◌∙◌, subst, append_assoc, arith}
 use Rattle.std.proofs.lemmas.List.{take-append-drop, take_more}
-use Rattle.shelf.specs.Shelf.{Files, OnlyReads, Outside, Rose, content}
+use Rattle.shelf.specs.Shelf.{Files, Narrows, OnlyReads, Outside, Rose, content}
 use Rattle.shelf.specs.Fetch.{IsFront}
 use Rattle.shelf.specs.declared.shelf.ShelfError.{ShelfError}
 use Rattle.shelf.specs.declared.shelf.ShelfError.TheVariants as errors
@@ -11,7 +11,7 @@ use Rattle.shelf.specs.Files.{Output, AreCut, RoseAmong}
 use Rattle.shelf.specs.OneFile.{Waiting}
 use Rattle.shelf.specs.OnTheirWay.{IsOutputs}
 use Rattle.shelf.specs.Laws.Files.{IsOutputs-cut, output_names}
-use Rattle.shelf.specs.Laws.Told.{told, told_map}
+use Rattle.shelf.specs.Laws.Told.{narrows_then, told, told_map, told_still}
 use Rattle.trace_format.specs.declared.record.TraceRecord.{TraceRecord}
 use Rattle.trace_format.specs.Reading.{Reading, reading_of}
 use Rattle.trace_format.specs.Laws.Reading.{read_on-pieces}
@@ -36,23 +36,17 @@ seen_more items i x below is seen =
     ∙ ap (λ (xs : List TraceRecord). seen ++ xs)
     (sym (take_more items i x below ∙ ap (λ (y : TraceRecord). take i items ++ y ∷ []) (sym is)))
 
--- ---- the shelf
-
--- a call that read and didn't fail left all as it was
-pub same_outside : (a b : Outside) → OnlyReads a b → b.read_faults ≡ a.read_faults → b ≡ a
-same_outside a b only faults = λ i. record {
-  held = only.held i;
-  written = only.written i;
-  printed = only.printed i;
-  read_faults = faults i;
-  write_faults = only.write_faults i;
-  print_faults = only.print_faults i;
-}
-
 -- ---- the first records
 
 pub first_none : (held : Option Files) (name : List ℕ) → AreFirst held name []
 first_none held name = told held (λ files. ((reading_of (content files name)).0, refl))
+
+-- they are the first ones as long as their file is told
+pub first_still : (o n : Option Files) (name : List ℕ) (seen : List TraceRecord) → Narrows o n
+    → AreFirst o name seen → AreFirst n name seen
+first_still o n name seen narrow first =
+    told_still (λ files. (more : List TraceRecord)
+    × ((reading_of (content files name)).0 ≡ seen ++ more)) o n narrow first
 
 -- the records of a front are the first ones
 front_first : (file bytes : List ℕ) → IsFront file bytes
@@ -174,7 +168,7 @@ module _ (held : Option Files) (name : List ℕ) (files : List TraceRecord → L
       cut = cut;
       written = only.written;
       cause = cause;
-      held_stay = only.held ∙ on.only.held;
+      held_stay = narrows_then before.held mid.held now.held on.only.held only.held;
       printed = only.printed ∙ on.only.printed;
       print_faults = only.print_faults ∙ on.only.print_faults;
     }

@@ -5,13 +5,13 @@ use Rattle.std.proofs.Common.{append_assoc, arith}
 use Rattle.std.specs.Prelude.{min}
 use Rattle.std.proofs.lemmas.List.{append-nil}
 use Rattle.std.proofs.lemmas.List.Elements.{All-head}
-use Rattle.shelf.specs.Shelf.{Files, Outside, Told, content}
+use Rattle.shelf.specs.Shelf.{Files, Narrows, Outside, Told, content}
 use Rattle.shelf.specs.declared.shelf.ShelfError.{ShelfError}
 use Rattle.shelf.specs.Files.{AreCut, AreWritten, GoOn, Output}
 use Rattle.shelf.specs.OneFile.{Waiting}
 use Rattle.shelf.specs.OnTheirWay.{outputs_with}
 use Rattle.shelf.specs.Laws.Files.{GoOn-same}
-use Rattle.shelf.specs.Laws.Told.{told_both, told_map}
+use Rattle.shelf.specs.Laws.Told.{told_both, told_map, told_still}
 use Rattle.base.specs.declared.ending.Ending.{Ending}
 use Rattle.trace_format.specs.declared.record.Header.{Header}
 use Rattle.trace_format.specs.declared.record.Version.{Version}
@@ -271,27 +271,27 @@ module _ (grows : Grows) (held : Option Files) (name : List ℕ) (at : ℕ) (fir
 
     -- what the second reading says of its target
     module _ (files : List TraceRecord → List Output)
-        (named : files ≡ halves_so_far first second passed.version s)
-        (read : Option Files) (same : read ≡ held) (before : Outside)
+        (named : files ≡ halves_so_far first second passed.version s) (before : Outside)
       where
         pub stopped_copying : (now : Outside) (fault : CopyFault)
-            → IsCutShort read name files before now fault
+            → IsCutShort held name files before now fault
             → HasStopped held name names (halves at first second) before now fault
         stopped_copying =
             stopped_reading held name names (halves at first second) so_far
-            (λ seen. refl) goes files named read same before
+            (λ seen. refl) goes files named before
 
         -- once it is done
         module _ (again : Passed) (alike : AreAlike passed again) (has : List TraceRecord → Type 0)
             (waiting : List Waiting)
-            (mid : Outside) (copied : IsCopied read name again files has waiting before mid)
+            (mid : Outside) (narrow : Narrows mid.held held)
+            (copied : IsCopied mid.held name again files has waiting before mid)
             (ends : Ending × Ending) (are : ends ≡ endings_of s again.ending) (now : Outside)
           where
             abbrev trace : Trace
             trace = trace_with again copied.items
 
             told : Told held (λ fs. copied.bytes ≡ content fs name)
-            told = subst (λ (h : Option Files). Told h (λ fs. copied.bytes ≡ content fs name)) same
+            told = told_still (λ fs. copied.bytes ≡ content fs name) mid.held held narrow
                 copied.whole
 
             so_cut : s ≡ begin_split again.header again.ending.accesses at

@@ -1,16 +1,17 @@
 -- What stands where a copy gave up.
-use Rattle.std.proofs.Common.{◌≡◌, ◌≢◌, ℕ, List, [], ◌∷◌, Option, Some, None, Err, inl, inr, refl}
+use Rattle.std.proofs.Common.{◌≡◌, ◌≢◌, ◌≤◌, ℕ, List, [], ◌∷◌, Option, Some, None, Err, inl, inr, refl}
 use Rattle.std.proofs.Common.{sym, ap, ◌∙◌, subst, arith}
 use Rattle.std.proofs.lemmas.Bool.{cases_Bool}
 use Rattle.std.proofs.lemmas.List.{append-nil}
 use Rattle.std.proofs.lemmas.Slice.Eq.{bytes_eq-Decides}
 use Rattle.std.specs.Str.{bytes_eq}
-use Rattle.shelf.specs.Shelf.{Files, Goes, OnlyReads, Outside, Told, content}
-use Rattle.shelf.specs.Files.{Output, AllMayStand, GoOn, MayStand, bytes_for}
+use Rattle.shelf.specs.Shelf.{Files, Goes, HasRead, Narrows, OnlyReads, Outside, Rose}
+use Rattle.shelf.specs.Shelf.{Told, content}
+use Rattle.shelf.specs.Files.{Output, AllMayStand, AreWhole, AreWritten, GoOn, MayStand, bytes_for}
 use Rattle.shelf.specs.OneFile.{Waiting}
 use Rattle.shelf.specs.OnTheirWay.{IsNew, IsOutputs}
 use Rattle.shelf.specs.Laws.Files.{AreCut-longer, goes_by, output_names}
-use Rattle.shelf.specs.Laws.Told.{told, told_both, told_map}
+use Rattle.shelf.specs.Laws.Told.{narrows_then, only_none, told, told_both, told_map, told_still}
 use Rattle.trace_format.specs.declared.record.TraceRecord.{TraceRecord}
 use Rattle.trace_format.specs.Reading.{reading_of}
 use Rattle.trace_passes.specs.declared.passes.PassFault.{PassFault}
@@ -23,7 +24,8 @@ use Rattle.trace_passes.specs.Laws.Passes.{trace-records}
 use Rattle.trace_files.specs.declared.copy_fault.CopyFault.{CopyFault}
 use Rattle.trace_files.specs.declared.copy_fault.CopyFault.TheVariants.{Refused, Changed, ReadFault}
 use Rattle.trace_files.specs.declared.copy_fault.CopyFault.TheVariants.{WriteFault, NoMemory}
-use Rattle.trace_files.specs.Copies.{HasCopyCause, HasStopped, StaysWhereRefused, any}
+use Rattle.trace_files.specs.Copies.{HasCopied, HasCopyCause, HasStopped, RoseAt, StaysWhereRefused}
+use Rattle.trace_files.specs.Copies.{any}
 use Rattle.trace_files.specs.Copying.{AreFirst, IsAccepted, IsCutShort, first_fault}
 use Rattle.trace_files.specs.Laws.Copies.{trace_unrefused}
 use Rattle.trace_files.proofs.Readings.{same_at, short_read}
@@ -151,6 +153,70 @@ module _ (held : Option Files) (name : List ℕ) (old new : Outside) (only : Onl
       with_cause NoMemory names outputs (quiet NoMemory names (λ e. cc) (λ e. cc)
       (cause.quiet (λ e. cc)))
 
+-- ---- since the first reading began
+
+-- what the second reading did it did since then, for the first one changed nothing
+module _ (old mid new : Outside) (read : HasRead old mid) where
+  since : (P : Files → Files → Type 0) → Goes mid.written new.written P
+      → Goes old.written new.written P
+  since P goes = subst (λ (w : Option Files). Goes w new.written P) read.only.written goes
+
+  narrow_since : Narrows mid.held new.held → Narrows old.held new.held
+  narrow_since narrow = narrows_then old.held mid.held new.held read.only.held narrow
+
+  cause_since : (name : List ℕ) (names : List (List ℕ)) (fault : CopyFault)
+      → HasCopyCause name names mid new fault → HasCopyCause name names old new fault
+  cause_since name names fault cause = record {
+    reads = subst (λ (f : List ℕ → ℕ). (n : List ℕ) → f n ≤ new.read_faults n) read.faults
+        cause.reads;
+    writes = subst (λ (f : List ℕ → ℕ). (n : List ℕ) → f n ≤ new.write_faults n)
+        read.only.write_faults cause.writes;
+    read_failed = λ e. subst (λ (f : List ℕ → ℕ). Rose (f name) (new.read_faults name)) read.faults
+        (cause.read_failed e);
+    write_failed = λ e. subst (λ (f : List ℕ → ℕ). RoseAt names f new.write_faults)
+        read.only.write_faults (cause.write_failed e);
+    read_quiet = λ e. cause.read_quiet e ∙ read.faults;
+    write_quiet = λ e. cause.write_quiet e ∙ read.only.write_faults;
+  }
+
+  written_since : (outputs : List Output) → AreWritten outputs mid new → AreWritten outputs old new
+  written_since outputs written = record {
+    whole = since (AreWhole outputs) written.whole;
+    faults = written.faults ∙ read.only.write_faults;
+    only = record {
+      held = narrow_since written.only.held;
+      printed = written.only.printed ∙ read.only.printed;
+      read_faults = written.only.read_faults ∙ read.faults;
+      print_faults = written.only.print_faults ∙ read.only.print_faults;
+    };
+  }
+
+  pub copied_since : (held : Option Files) (name : List ℕ) (outputs : Trace → List Output)
+      (says : Trace → Type 0)
+      → HasCopied held name outputs says mid new → HasCopied held name outputs says old new
+  copied_since held name outputs says copied = record {
+    bytes = copied.bytes;
+    whole = copied.whole;
+    trace = copied.trace;
+    is = copied.is;
+    told = copied.told;
+    written = written_since (outputs copied.trace) copied.written;
+  }
+
+  pub stopped_since : (held : Option Files) (name : List ℕ) (names : List (List ℕ))
+      (outputs : Trace → List Output) (fault : CopyFault)
+      → HasStopped held name names outputs mid new fault
+      → HasStopped held name names outputs old new fault
+  stopped_since held name names outputs fault stopped = record {
+    fronts = told_map held (λ fs on t there. since (AllMayStand (outputs t)) (on t there))
+        stopped.fronts;
+    others = since (λ a b. (n : List ℕ) → IsNew n names → b n ≡ a n) stopped.others;
+    cause = cause_since name names fault stopped.cause;
+    held_stay = narrow_since stopped.held_stay;
+    printed = stopped.printed ∙ read.only.printed;
+    print_faults = stopped.print_faults ∙ read.only.print_faults;
+  }
+
 -- ---- behind the second reading
 
 -- the records of the trace that was copied are all of the held bytes
@@ -171,15 +237,7 @@ pub short_other : (held : Option Files) (name : List ℕ) (files : List TraceRec
     → IsOutputs waiting (files seen) before now → IsCutShort held name files before now
     (Changed refusal)
 short_other held name files seen waiting before now refusal first on =
-    short_read held name files seen waiting before now now first on
-    (record {
-      held = refl;
-      written = refl;
-      printed = refl;
-      write_faults = refl;
-      print_faults =
-          refl;
-    }) {T = Unit {0}}
+    short_read held name files seen waiting before now now first on (only_none now) {T = Unit {0}}
     (passes.Refused refusal)
     (record { later = λ n. omega arith; failed = λ e. absurd cc; quiet = λ e. refl })
 
@@ -220,6 +278,16 @@ untold None P told never = refl
 untold (Some files) P told never = absurd (never told)
 
 -- ---- an accepted trace
+
+-- it is accepted as long as its bytes are told
+pub accepted_still : (o n : Option Files) (name : List ℕ) (first : Passed) → Narrows o n
+    → IsAccepted o name first → IsAccepted n name first
+accepted_still o n name first narrow accepted = record {
+  bytes = accepted.bytes;
+  whole = told_still (λ files. accepted.bytes ≡ content files name) o n narrow accepted.whole;
+  items = accepted.items;
+  is = accepted.is;
+}
 
 pub told_accepted : (held : Option Files) (name : List ℕ) (first : Passed)
     → IsAccepted held name first

@@ -2,7 +2,7 @@
 use Rattle.std.specs.Prelude.{◌≡◌, ◌≢◌, ◌⊎◌, ◌≤◌, ℕ, ◌==◌, List, [], ◌∷◌, Option, Some, None}
 use Rattle.std.specs.Prelude.{if◌then◌else◌}
 use Rattle.std.specs.Option.{option_and_then, option_or}
-use Rattle.shelf.specs.Shelf.{Files, Goes, Outside, Rose, Told, content}
+use Rattle.shelf.specs.Shelf.{Files, Goes, Narrows, Outside, Rose, Told, content}
 use Rattle.shelf.specs.Files.{Output, AllMayStand, AreWritten, one_file}
 use Rattle.shelf.specs.OnTheirWay.{IsNew}
 use Rattle.trace_format.specs.declared.fault.TraceFault.TheVariants as faults
@@ -102,8 +102,8 @@ IsOther first refusal = (bytes : List ℕ) × (refusal_again first bytes ≡ Som
 
 -- ---- what a call says
 
--- There are bytes, the held ones of the name where these are told, that are a trace, of which this
--- is told, and whose outputs are written.
+-- There are bytes, the held ones of the name where these are still told, that are a trace, of which
+-- this is told, and whose outputs are written.
 pub record HasCopied (held : Option Files) (name : List ℕ) (outputs : Trace → List Output)
     (says : Trace → Type 0)
     (before now : Outside) : Type 0 where
@@ -141,8 +141,8 @@ pub record HasCopyCause (name : List ℕ) (outputs : List (List ℕ)) (before no
   pub read_quiet : fault ≢ ReadFault → now.read_faults ≡ before.read_faults
   pub write_quiet : fault ≢ WriteFault → now.write_faults ≡ before.write_faults
 
--- A copy gave up. Each output is as it was, or a front of its bytes where the trace is told, and
--- each other file is as it was; it is known who is the cause.
+-- A copy gave up. Each output is as it was, or a front of its bytes where the trace is still told,
+-- and each other file is as it was; it is known who is the cause.
 pub record HasStopped (held : Option Files) (name : List ℕ) (names : List (List ℕ))
     (outputs : Trace → List Output)
     (before now : Outside) (fault : CopyFault) : Type 0 where
@@ -151,6 +151,6 @@ pub record HasStopped (held : Option Files) (name : List ℕ) (names : List (Lis
   pub others : Goes before.written now.written
       (λ old new. (n : List ℕ) → IsNew n names → new n ≡ old n)
   pub cause : HasCopyCause name names before now fault
-  pub held_stay : now.held ≡ before.held
+  pub held_stay : Narrows before.held now.held
   pub printed : now.printed ≡ before.printed
   pub print_faults : now.print_faults ≡ before.print_faults

@@ -1,6 +1,6 @@
 -- How far a copy is, in the clauses of this crate's own functions.
 use Rattle.std.specs.Prelude.{◌≡◌, ℕ, List, [], ◌∷◌, ◌++◌, length, Option, Some}
-use Rattle.shelf.specs.Shelf.{Files, Outside, Told, content}
+use Rattle.shelf.specs.Shelf.{Files, Narrows, Outside, Told, content}
 use Rattle.shelf.specs.declared.shelf.ShelfError.{ShelfError}
 use Rattle.shelf.specs.declared.shelf.ShelfError.TheVariants as errors
 use Rattle.shelf.specs.Files.{Output, AreCut}
@@ -91,7 +91,7 @@ pub record IsUnderWay (waiting : List Waiting) (files : List TraceRecord → Lis
   pub came : has seen
   pub outputs : IsOutputs waiting (files seen) before now
 
--- All records of a trace came to the target, which the held bytes are where these are told.
+-- All records of a trace came to the target, which the held bytes are where these are still told.
 pub record IsCopied (held : Option Files) (name : List ℕ) (passed : Passed)
     (files : List TraceRecord → List Output)
     (has : List TraceRecord → Type 0) (waiting : List Waiting)
@@ -121,6 +121,6 @@ pub record IsCutShort (held : Option Files) (name : List ℕ)
   pub cut : AreCut (files seen) before last error
   pub written : now.written ≡ last.written
   pub cause : HasCopyCause name (output_names (files seen)) before now fault
-  pub held_stay : now.held ≡ before.held
+  pub held_stay : Narrows before.held now.held
   pub printed : now.printed ≡ before.printed
   pub print_faults : now.print_faults ≡ before.print_faults

@@ -1,6 +1,7 @@
 // A copy of a trace in the other version.
 ghost use Rattle.std.specs.Prelude.{◌≡◌, ◌≢◌, ◌∷◌, [], Err, None, Some, length};
 ghost use Rattle.std.specs.Prelude.{IfErr, IfOk};
+ghost use Rattle.shelf.specs.Shelf.{HasRead};
 ghost use Rattle.trace_format.specs.declared.fault.TraceFault.TheVariants as trace_faults;
 ghost use Rattle.trace_format.specs.Rules.{touches_in};
 ghost use Rattle.trace_passes.specs.declared.wanted.Refusal.{Refusal as Refused};
@@ -45,17 +46,17 @@ fn convert_accepted<S: Shelf>(
     first: &Passed,
 ) -> Result<Converted, CopyFault>
     requires { IsAccepted (S.outside shelf.old).held name.now first.now }
-    ensures copied { IfOk result (λ made. HasCopied (S.outside shelf.old).held name.now
+    ensures copied { IfOk result (λ made. HasCopied (S.outside shelf.new).held name.now
         (conversion output.now)
         (λ t. (made.version ≡ other_version t.version)
         × (made.accesses ≡ length (touches_in t.items)))
         (S.outside shelf.old) (S.outside shelf.new)) }
     ensures unrefused { (refusal : Refused) → result ≢ Err (CopyFault.Refused refusal) }
     ensures changed { (refusal : Refused) → result ≡ Err (CopyFault.Changed refusal)
-        → (S.outside shelf.old).held ≡ None }
+        → (S.outside shelf.new).held ≡ None }
     ensures other { (refusal : Refused) → result ≡ Err (CopyFault.Changed refusal)
         → IsOther first.now refusal }
-    ensures stopped { IfErr result (λ fault. HasStopped (S.outside shelf.old).held name.now
+    ensures stopped { IfErr result (λ fault. HasStopped (S.outside shelf.new).held name.now
         (output.now ∷ []) (conversion output.now) (S.outside shelf.old)
         (S.outside shelf.new) fault) }
 {
@@ -91,29 +92,29 @@ pub fn convert_trace<S: Shelf>(
     output: &str,
 ) -> Result<Converted, CopyFault>
     // The file is that of the trace that the name's bytes are.
-    ensures copied { IfOk result (λ made. HasCopied (S.outside shelf.old).held name.now
+    ensures copied { IfOk result (λ made. HasCopied (S.outside shelf.new).held name.now
         (conversion output.now)
         (λ t. (made.version ≡ other_version t.version)
         × (made.accesses ≡ length (touches_in t.items)))
         (S.outside shelf.old) (S.outside shelf.new)) }
-    // At a refusal nothing is done.
+    // At a refusal the trace was read, and nothing else is done.
     ensures refused { (refusal : Refused) → result ≡ Err (CopyFault.Refused refusal)
-        → IsJudged (S.outside shelf.old).held name.now (Some refusal) }
+        → IsJudged (S.outside shelf.new).held name.now (Some refusal) }
     ensures stays { (refusal : Refused) → result ≡ Err (CopyFault.Refused refusal)
-        → S.outside shelf.new ≡ S.outside shelf.old }
+        → HasRead (S.outside shelf.old) (S.outside shelf.new) }
     ensures memory { result ≢ Err (CopyFault.Refused (refusals.Trace trace_faults.NoMemory)) }
     // A second reading is refused as no trace, or beside the first: for its version, its number of
-    // harts, its first position, or its number of accesses.
+    // harts, its first position, or its number of accesses. No files are told then, or no more.
     ensures changed { (refusal : Refused) → result ≡ Err (CopyFault.Changed refusal)
-        → (S.outside shelf.old).held ≡ None }
+        → (S.outside shelf.new).held ≡ None }
     ensures other { (refusal : Refused) → result ≡ Err (CopyFault.Changed refusal)
-        → HasChanged (S.outside shelf.old).held name.now refusal }
+        → HasChanged (S.outside shelf.new).held name.now refusal }
     // Only an accepted trace is written, whatever the fault.
     ensures accepted { result ≡ Err CopyFault.WriteFault
-        → IsJudged (S.outside shelf.old).held name.now None }
-    ensures begun { IfErr result (λ fault. StaysWhereRefused (S.outside shelf.old).held name.now
+        → IsJudged (S.outside shelf.new).held name.now None }
+    ensures begun { IfErr result (λ fault. StaysWhereRefused (S.outside shelf.new).held name.now
         (S.outside shelf.old) (S.outside shelf.new)) }
-    ensures stopped { IfErr result (λ fault. HasStopped (S.outside shelf.old).held name.now
+    ensures stopped { IfErr result (λ fault. HasStopped (S.outside shelf.new).held name.now
         (output.now ∷ []) (conversion output.now) (S.outside shelf.old)
         (S.outside shelf.new) fault) }
 {

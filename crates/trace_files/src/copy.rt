@@ -2,7 +2,7 @@
 ghost use Rattle.std.specs.Prelude.{◌≡◌, ◌≢◌, ◌++◌, ℕ, List, [], Err, None, Some, take, IfErr};
 ghost use Rattle.std.specs.Prelude.{IfOk, OnOk};
 ghost use Rattle.std.specs.List.{All};
-ghost use Rattle.shelf.specs.Shelf.{Outside};
+ghost use Rattle.shelf.specs.Shelf.{HasRead, Narrows, Outside};
 ghost use Rattle.shelf.specs.Files.{AreCut, Output};
 ghost use Rattle.shelf.specs.OnTheirWay.{IsOutputs};
 ghost use Rattle.trace_format.specs.declared.fault.TraceFault.TheVariants as trace_faults;
@@ -53,18 +53,18 @@ pub(crate) fn accept<S: Shelf>(
     name: &str,
 ) -> Result<Passed, CopyFault>
     ensures accepted { IfOk result (λ passed. IsAccepted
-        (S.outside shelf.old).held name.now passed) }
-    ensures stays { OnOk result (S.outside shelf.new ≡ S.outside shelf.old) }
+        (S.outside shelf.new).held name.now passed) }
+    ensures stays { OnOk result (HasRead (S.outside shelf.old) (S.outside shelf.new)) }
     ensures refused { (refusal : Refused) → result ≡ Err (CopyFault.Refused refusal)
-        → IsJudged (S.outside shelf.old).held name.now (Some refusal) }
+        → IsJudged (S.outside shelf.new).held name.now (Some refusal) }
     ensures refused_stays { (refusal : Refused) → result ≡ Err (CopyFault.Refused refusal)
-        → S.outside shelf.new ≡ S.outside shelf.old }
+        → HasRead (S.outside shelf.old) (S.outside shelf.new) }
     ensures memory { result ≢ Err (CopyFault.Refused (refusals.Trace trace_faults.NoMemory)) }
     ensures unchanged { (refusal : Refused) → result ≢ Err (CopyFault.Changed refusal) }
     ensures unwritten { result ≢ Err CopyFault.WriteFault }
     ensures stopped { IfErr result (λ fault. (names : List (List ℕ))
         (outputs : Trace → List Output)
-        → HasStopped (S.outside shelf.old).held name.now names outputs
+        → HasStopped (S.outside shelf.new).held name.now names outputs
         (S.outside shelf.old) (S.outside shelf.new) fault) }
 {
     match pass(alloc, shelf, name, &any(), &mut Unseeing) {
@@ -94,6 +94,7 @@ fn put_all<S: Shelf, T: Target>(
         → IsOutputs (T.waiting target.old) (T.files target.old seen) before (S.outside shelf.old)
         → AreCut (T.files target.old (seen ++ take k items.now)) before
         (S.outside shelf.new) error)) }
+    ensures tells { Narrows (S.outside shelf.old).held (S.outside shelf.new).held }
 {
     for item in items {
         match target.put(shelf, item) {
@@ -117,18 +118,19 @@ pub(crate) fn copy_records<S: Shelf, T: Target>(
     ensures files { T.files target.new ≡ T.files target.old }
     ensures copied { IfOk result (λ passed. (before : Outside)
         → IsOutputs (T.waiting target.old) (T.files target.old []) before (S.outside shelf.old)
-        → IsCopied (S.outside shelf.old).held name.now passed (T.files target.old)
+        → IsCopied (S.outside shelf.new).held name.now passed (T.files target.old)
         (T.has target.new)
         (T.waiting target.new) before (S.outside shelf.new)) }
     ensures short { IfErr result (λ fault. (before : Outside)
         → IsOutputs (T.waiting target.old) (T.files target.old []) before (S.outside shelf.old)
-        → IsCutShort (S.outside shelf.old).held name.now (T.files target.old)
+        → IsCutShort (S.outside shelf.new).held name.now (T.files target.old)
         before (S.outside shelf.new) fault) }
     ensures unrefused { (refusal : Refused) → result ≢ Err (CopyFault.Refused refusal) }
     ensures changed { (refusal : Refused) → result ≡ Err (CopyFault.Changed refusal)
-        → IsJudged (S.outside shelf.old).held name.now (Some refusal) }
+        → IsJudged (S.outside shelf.new).held name.now (Some refusal) }
     ensures found { (refusal : Refused) → result ≡ Err (CopyFault.Changed refusal)
         → (bytes : List ℕ) × (refusal_of any bytes ≡ Some refusal) }
+    ensures tells { Narrows (S.outside shelf.old).held (S.outside shelf.new).held }
 {
     let mut cursor = match Cursor::new(alloc) {
         Ok(cursor) => cursor,
@@ -186,16 +188,16 @@ pub(crate) fn copy_again<S: Shelf, T: Target>(
     ensures alike { IfOk result (λ passed. AreAlike first.now passed) }
     ensures copied { IfOk result (λ passed. (before : Outside)
         → IsOutputs (T.waiting target.old) (T.files target.old []) before (S.outside shelf.old)
-        → IsCopied (S.outside shelf.old).held name.now passed (T.files target.old)
+        → IsCopied (S.outside shelf.new).held name.now passed (T.files target.old)
         (T.has target.new)
         (T.waiting target.new) before (S.outside shelf.new)) }
     ensures short { IfErr result (λ fault. (before : Outside)
         → IsOutputs (T.waiting target.old) (T.files target.old []) before (S.outside shelf.old)
-        → IsCutShort (S.outside shelf.old).held name.now (T.files target.old)
+        → IsCutShort (S.outside shelf.new).held name.now (T.files target.old)
         before (S.outside shelf.new) fault) }
     ensures unrefused { (refusal : Refused) → result ≢ Err (CopyFault.Refused refusal) }
     ensures changed { (refusal : Refused) → result ≡ Err (CopyFault.Changed refusal)
-        → (S.outside shelf.old).held ≡ None }
+        → (S.outside shelf.new).held ≡ None }
     ensures other { (refusal : Refused) → result ≡ Err (CopyFault.Changed refusal)
         → IsOther first.now refusal }
 {

@@ -1,7 +1,7 @@
 // A trace cut in two at an access.
 ghost use Rattle.std.specs.Prelude.{◌≡◌, ◌≢◌, ◌∷◌, ◌-◌, List, [], Err, None, Some, min};
 ghost use Rattle.std.specs.Prelude.{IfErr, IfOk, OnOk, length};
-ghost use Rattle.shelf.specs.Shelf.{Outside};
+ghost use Rattle.shelf.specs.Shelf.{HasRead, Narrows, Outside};
 ghost use Rattle.shelf.specs.Files.{AreCut, AreWritten, Output};
 ghost use Rattle.shelf.specs.OnTheirWay.{AreBegun, IsOutputs, names_of, outputs_with};
 ghost use Rattle.trace_format.specs.declared.fault.TraceFault.TheVariants as trace_faults;
@@ -87,6 +87,7 @@ impl<'a> Splitting<'a> {
             → IsOutputs self.old.files outputs before (S.outside shelf.old)
             → AreCut (outputs_with (outputs_with outputs 0 (spell_ending first)) 1
             (spell_ending second)) before (S.outside shelf.new) error) }
+        ensures tells { Narrows (S.outside shelf.old).held (S.outside shelf.new).held }
     {
         let (first, second) = (TraceRecord::End(first), TraceRecord::End(second));
         match self
@@ -162,17 +163,17 @@ fn split_accepted<'a, S: Shelf>(
 ) -> Result<Halves, CopyFault>
     requires apart { first.now ≢ second.now }
     requires accepted { IsAccepted (S.outside shelf.old).held name.now passed.now }
-    ensures copied { IfOk result (λ made. HasCopied (S.outside shelf.old).held name.now
+    ensures copied { IfOk result (λ made. HasCopied (S.outside shelf.new).held name.now
         (halves at first.now second.now)
         (λ t. (made.cut ≡ min at (length (touches_in t.items)))
         × (made.rest ≡ length (touches_in t.items) - made.cut))
         (S.outside shelf.old) (S.outside shelf.new)) }
     ensures unrefused { (refusal : Refused) → result ≢ Err (CopyFault.Refused refusal) }
     ensures changed { (refusal : Refused) → result ≡ Err (CopyFault.Changed refusal)
-        → (S.outside shelf.old).held ≡ None }
+        → (S.outside shelf.new).held ≡ None }
     ensures other { (refusal : Refused) → result ≡ Err (CopyFault.Changed refusal)
         → IsOther passed.now refusal }
-    ensures stopped { IfErr result (λ fault. HasStopped (S.outside shelf.old).held name.now
+    ensures stopped { IfErr result (λ fault. HasStopped (S.outside shelf.new).held name.now
         (first.now ∷ second.now ∷ []) (halves at first.now second.now) (S.outside shelf.old)
         (S.outside shelf.new) fault) }
 {
@@ -215,29 +216,29 @@ pub fn split_trace<S: Shelf>(
 ) -> Result<Halves, CopyFault>
     requires apart { first.now ≢ second.now }
     // The files are the halves of the trace that the name's bytes are.
-    ensures copied { IfOk result (λ made. HasCopied (S.outside shelf.old).held name.now
+    ensures copied { IfOk result (λ made. HasCopied (S.outside shelf.new).held name.now
         (halves at first.now second.now)
         (λ t. (made.cut ≡ min at (length (touches_in t.items)))
         × (made.rest ≡ length (touches_in t.items) - made.cut))
         (S.outside shelf.old) (S.outside shelf.new)) }
     ensures memory { result ≢ Err (CopyFault.Refused (refusals.Trace trace_faults.NoMemory)) }
-    // At a refusal neither half is begun.
+    // At a refusal the trace was read, and neither half is begun.
     ensures refused { (refusal : Refused) → result ≡ Err (CopyFault.Refused refusal)
-        → IsJudged (S.outside shelf.old).held name.now (Some refusal) }
+        → IsJudged (S.outside shelf.new).held name.now (Some refusal) }
     ensures stays { (refusal : Refused) → result ≡ Err (CopyFault.Refused refusal)
-        → S.outside shelf.new ≡ S.outside shelf.old }
+        → HasRead (S.outside shelf.old) (S.outside shelf.new) }
     // A second reading is refused as no trace, or beside the first: for its version, its number of
-    // harts, its first position, or its number of accesses.
+    // harts, its first position, or its number of accesses. No files are told then, or no more.
     ensures changed { (refusal : Refused) → result ≡ Err (CopyFault.Changed refusal)
-        → (S.outside shelf.old).held ≡ None }
+        → (S.outside shelf.new).held ≡ None }
     ensures other { (refusal : Refused) → result ≡ Err (CopyFault.Changed refusal)
-        → HasChanged (S.outside shelf.old).held name.now refusal }
+        → HasChanged (S.outside shelf.new).held name.now refusal }
     // Only an accepted trace is written, whatever the fault.
     ensures accepted { result ≡ Err CopyFault.WriteFault
-        → IsJudged (S.outside shelf.old).held name.now None }
-    ensures begun { IfErr result (λ fault. StaysWhereRefused (S.outside shelf.old).held name.now
+        → IsJudged (S.outside shelf.new).held name.now None }
+    ensures begun { IfErr result (λ fault. StaysWhereRefused (S.outside shelf.new).held name.now
         (S.outside shelf.old) (S.outside shelf.new)) }
-    ensures stopped { IfErr result (λ fault. HasStopped (S.outside shelf.old).held name.now
+    ensures stopped { IfErr result (λ fault. HasStopped (S.outside shelf.new).held name.now
         (first.now ∷ second.now ∷ []) (halves at first.now second.now) (S.outside shelf.old)
         (S.outside shelf.new) fault) }
 {

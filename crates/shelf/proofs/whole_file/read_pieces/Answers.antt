@@ -1,4 +1,4 @@
-use Rattle.std.proofs.Common.{rules, arith, ◌∙◌, length, ◌<◌, ◌≤◌, ◌+◌, ◌≡◌}
+use Rattle.std.proofs.Common.{arith, ◌∙◌}
 use Rattle.std.proofs.lemmas.Grind.{common_steps}
 use Rattle.shelf.specs.Laws.Told.{only_both}
 use Rattle.shelf.proofs.whole_file.read_pieces.Goals as goal

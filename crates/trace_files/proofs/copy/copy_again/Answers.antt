@@ -1,20 +1,23 @@
 use Rattle.std.proofs.Common.{◌≡◌}
 use Rattle.trace_passes.specs.Passes.{all_records, trace_with}
-use Rattle.trace_files.proofs.Stopped.{first_all, never_refused, same_parts, short_other, untold}
+use Rattle.trace_files.proofs.Stopped.{accepted_still, first_all, never_refused, same_parts}
+use Rattle.trace_files.proofs.Stopped.{short_other, untold}
 use Rattle.trace_files.proofs.Differing.{no_trace_again, other_again}
 use Rattle.trace_files.proofs.copy.copy_again.Goals as goal
 
 pub returns-in-Err-clause-changed : goal.returns-in-Err-clause-changed
 returns-in-Err-clause-changed g c = λ refusal same.
-    never_refused (g.S.Shelf.outside c.args.shelf.now).held c.args.name.now c.args.first.now
-    c.requires.accepted refusal
+    let held = (g.S.Shelf.outside c.copy_records.new.shelf).held in
+    never_refused held c.args.name.now c.args.first.now
+    (accepted_still (g.S.Shelf.outside c.args.shelf.now).held held c.args.name.now c.args.first.now
+    c.copy_records.ensures.tells c.requires.accepted) refusal
     (c.in-Err.ensures.changed refusal (cc))
 
 pub returns-in-Some-clause-short : goal.returns-in-Some-clause-short
 returns-in-Some-clause-short g c = λ before began.
     let copied = c.in-Ok.ensures.copied before began in
     let t = trace_with c.in-Ok.passed copied.items in
-    let held = (g.S.Shelf.outside c.args.shelf.now).held in
+    let held = (g.S.Shelf.outside c.copy_records.new.shelf).held in
     short_other held c.args.name.now (g.T.Target.files c.args.target.now) (all_records t)
     (g.T.Target.waiting c.copy_records.new.target) before
     (g.S.Shelf.outside c.copy_records.new.shelf) c.in-Some.refusal
@@ -24,10 +27,11 @@ pub returns-in-Some-clause-changed : goal.returns-in-Some-clause-changed
 returns-in-Some-clause-changed g c = λ refusal same.
     let copied = c.in-Ok.ensures.copied c.requires.way.0 c.requires.way.1 in
     let some = c.in-Some.is in
-    untold (g.S.Shelf.outside c.args.shelf.now).held (c.args.first.now ≡ c.in-Ok.passed)
-    (same_parts (g.S.Shelf.outside c.args.shelf.now).held c.args.name.now c.args.first.now
-    c.in-Ok.passed copied.bytes copied.items
-    c.requires.accepted copied.whole copied.is)
+    let held = (g.S.Shelf.outside c.copy_records.new.shelf).held in
+    untold held (c.args.first.now ≡ c.in-Ok.passed)
+    (same_parts held c.args.name.now c.args.first.now c.in-Ok.passed copied.bytes copied.items
+    (accepted_still (g.S.Shelf.outside c.args.shelf.now).held held c.args.name.now c.args.first.now
+    c.copy_records.ensures.tells c.requires.accepted) copied.whole copied.is)
     (λ one. let none = c.differs.ensures.other one in absurd cc)
 
 pub returns-in-Err-clause-other : goal.returns-in-Err-clause-other

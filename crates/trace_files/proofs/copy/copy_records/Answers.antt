@@ -3,7 +3,8 @@ use Rattle.trace_passes.specs.declared.passes.PassFault.{PassFault}
 use Rattle.trace_passes.specs.declared.passes.Passed.{Passed}
 use Rattle.trace_passes.specs.declared.wanted.Wanted.{Wanted}
 use Rattle.trace_passes.specs.Passes.{refusal_of}
-use Rattle.shelf.specs.Shelf.{Outside}
+use Rattle.shelf.specs.Shelf.{HasRead, Outside}
+use Rattle.shelf.specs.Laws.Told.{narrows_same, narrows_then}
 use Rattle.shelf.specs.Files.{AreCut}
 use Rattle.shelf.specs.OnTheirWay.{IsOutputs}
 use Rattle.trace_format.specs.declared.record.TraceRecord.{TraceRecord}
@@ -12,7 +13,6 @@ use Rattle.trace_files.proofs.Going.{at_first, way_at}
 use Rattle.trace_files.proofs.Pieces.{come_at, cut_at, end_at, ended_at, next_at, on_at}
 use Rattle.trace_files.proofs.Pieces.{piece_writable, refused_at, short_at, short_none}
 use Rattle.trace_files.proofs.Pieces.{was_refused}
-use Rattle.trace_files.proofs.Readings.{same_outside}
 use Rattle.trace_files.proofs.copy.copy_records.Goals as goal
 
 -- an answer is no fault
@@ -41,18 +41,18 @@ put_all-requires g c =
     let old = g.S.Shelf.outside c.args.shelf.now in
     let mid = g.S.Shelf.outside c.pieces.shelf in
     let next = c.advance.new.self in
+    let read = g.S.Shelf.outside c.advance.new.shelf in
+    let reads : HasRead mid read = record { only = e.only; faults = e.cause.quiet (no_fault _ _) }
+    in
     let on = on_at g.T.Target.waiting g.T.Target.files g.T.Target.has c.args.name.now
     c.args.target.now c.pieces.target c.pieces.cursor
-    old mid c.pieces.invariant c.any.result c.any.ensures next (e.more (ap Ok none)) in
+    old mid c.pieces.invariant c.any.result c.any.ensures next read.held (e.more (ap Ok none)) in
     record {
       writable = subst (All IsWritable) (sym c.items.ensures)
-          (piece_writable old.held c.args.name.now c.pieces.invariant.bytes next on);
+          (piece_writable read.held c.args.name.now c.pieces.invariant.bytes next on);
       way = way_at g.T.Target.waiting g.T.Target.files g.T.Target.has c.args.name.now
           c.args.target.now c.pieces.target c.pieces.cursor
-          old mid (g.S.Shelf.outside c.advance.new.shelf) c.requires.way.0 c.requires.way.1
-          c.pieces.invariant
-          (same_outside mid (g.S.Shelf.outside c.advance.new.shelf) e.only
-          (e.cause.quiet (no_fault _ _)));
+          old mid read c.requires.way.0 c.requires.way.1 c.pieces.invariant reads;
     }
 
 pub pieces-preserved : goal.pieces-preserved
@@ -67,14 +67,14 @@ pieces-preserved g c =
     let later = c.put_all.new.target in
     let next = c.advance.new.self in
     let has = g.T.Target.has in
+    let reads : HasRead mid read = record { only = e.only; faults = e.cause.quiet (no_fault _ _) }
+    in
     let on = on_at g.T.Target.waiting g.T.Target.files has c.args.name.now c.args.target.now now
     c.pieces.cursor
-    old mid c.pieces.invariant c.any.result c.any.ensures next (e.more (ap Ok none)) in
+    old mid c.pieces.invariant c.any.result c.any.ensures next read.held (e.more (ap Ok none)) in
     next_at g.T.Target.waiting g.T.Target.files has c.args.name.now c.args.target.now now
     c.pieces.cursor
-    old mid c.pieces.invariant next read e.only (e.cause.quiet (no_fault _ _)) on later new
-    c.requires.way.0 c.requires.way.1
-    c.put_all.ensures.files
+    old mid c.pieces.invariant next read reads on later new c.put_all.ensures.files
     (subst (λ (items : List TraceRecord). (seen : List TraceRecord) → has now seen
     → has later (seen ++ items))
     c.items.ensures c.in-Ok-put_all.ensures.has)
@@ -82,6 +82,7 @@ pieces-preserved g c =
     → IsOutputs (g.T.Target.waiting now) (g.T.Target.files now seen) b read
     → IsOutputs (g.T.Target.waiting later) (g.T.Target.files now (seen ++ items)) b new)
     c.items.ensures c.in-Ok-put_all.ensures.outputs)
+    c.put_all.ensures.tells
 
 pub pieces-smaller : goal.pieces-smaller
 pieces-smaller g c = let none = c.in-Ok-None.field-0-is in c.in-Ok-None.ensures.fewer (ap Ok none)
@@ -100,14 +101,17 @@ returns-in-Ok-Some-clause-copied g c =
     let e = c.in-Ok-Some.ensures in
     let old = g.S.Shelf.outside c.args.shelf.now in
     let mid = g.S.Shelf.outside c.pieces.shelf in
+    let read = g.S.Shelf.outside c.advance.new.shelf in
+    let reads : HasRead mid read = record { only = e.only; faults = e.cause.quiet (no_fault _ _) }
+    in
     let passed = c.in-Ok-Some.passed in
     let ended = end_at g.T.Target.waiting g.T.Target.files g.T.Target.has c.args.name.now
     c.args.target.now c.pieces.target c.pieces.cursor
-    old mid c.pieces.invariant c.any.result c.any.ensures passed (e.ended passed (ap Ok some)) in
+    old mid c.pieces.invariant c.any.result c.any.ensures passed read.held
+    (e.ended passed (ap Ok some)) in
     ended_at g.T.Target.waiting g.T.Target.files g.T.Target.has c.args.name.now c.args.target.now
     c.pieces.target c.pieces.cursor
-    old mid c.pieces.invariant passed (g.S.Shelf.outside c.advance.new.shelf) e.only
-    (e.cause.quiet (no_fault _ _)) ended
+    old mid c.pieces.invariant passed read reads ended
 
 pub returns-in-Err-put_all-clause-short : goal.returns-in-Err-put_all-clause-short
 returns-in-Err-put_all-clause-short g c = λ before began.
@@ -120,19 +124,21 @@ returns-in-Err-put_all-clause-short g c = λ before began.
     let now = c.pieces.target in
     let next = c.advance.new.self in
     let error = c.in-Err-put_all.error in
+    let reads : HasRead mid read = record { only = e.only; faults = e.cause.quiet (no_fault _ _) }
+    in
     let on = on_at g.T.Target.waiting g.T.Target.files g.T.Target.has c.args.name.now
     c.args.target.now now c.pieces.cursor
-    old mid c.pieces.invariant c.any.result c.any.ensures next (e.more (ap Ok none)) in
+    old mid c.pieces.invariant c.any.result c.any.ensures next read.held (e.more (ap Ok none)) in
     rw c.write_fault.ensures
     (cut_at g.T.Target.waiting g.T.Target.files g.T.Target.has c.args.name.now c.args.target.now now
     c.pieces.cursor
-    old mid c.pieces.invariant next read e.only (e.cause.quiet (no_fault _ _)) on new error
+    old mid c.pieces.invariant next read reads on new error
     (subst (λ (items : List TraceRecord). (k : ℕ)
     × ((seen : List TraceRecord) (b : Outside) → g.T.Target.has now seen
     → IsOutputs (g.T.Target.waiting now) (g.T.Target.files now seen) b read
     → AreCut (g.T.Target.files now (seen ++ take k items)) b new error)) c.items.ensures
     c.in-Err-put_all.ensures.cut)
-    before began)
+    c.put_all.ensures.tells before began)
 
 pub returns-in-Err-advance-clause-short : goal.returns-in-Err-advance-clause-short
 returns-in-Err-advance-clause-short g c = λ before began.
@@ -148,10 +154,8 @@ pub returns-in-Err-advance-clause-changed : goal.returns-in-Err-advance-clause-c
 returns-in-Err-advance-clause-changed g c = λ refusal same.
     let refused = was_refused c.in-Err-advance.fault c.second_fault-in-Err-advance.result refusal
     c.second_fault-in-Err-advance.ensures (cc) in
-    refused_at g.T.Target.waiting g.T.Target.files g.T.Target.has c.args.name.now c.args.target.now
-    c.pieces.target c.pieces.cursor
-    (g.S.Shelf.outside c.args.shelf.now) (g.S.Shelf.outside c.pieces.shelf) c.pieces.invariant
-    c.any.result c.any.ensures refusal
+    refused_at (g.S.Shelf.outside c.advance.new.shelf).held c.args.name.now c.any.result
+    c.any.ensures refusal
     (c.in-Err-advance.ensures.refused refusal (cc))
 
 pub returns-in-Err-advance-clause-found : goal.returns-in-Err-advance-clause-found
@@ -160,3 +164,21 @@ returns-in-Err-advance-clause-found g c = λ refusal same.
     c.second_fault-in-Err-advance.ensures (cc) in
     let some = c.in-Err-advance.ensures.found refusal (cc) in
     (some.0, subst (λ (w : Wanted). refusal_of w some.0 ≡ Some refusal) c.any.ensures some.1)
+
+-- ---- no more is told than before
+
+pub returns-in-Err-clause-tells : goal.returns-in-Err-clause-tells
+returns-in-Err-clause-tells g c = narrows_same (g.S.Shelf.outside c.args.shelf.now).held
+
+pub returns-in-Ok-Some-clause-tells : goal.returns-in-Ok-Some-clause-tells
+returns-in-Ok-Some-clause-tells g c =
+    narrows_then _ _ _ c.pieces.invariant.narrow c.in-Ok-Some.ensures.only.held
+
+pub returns-in-Err-put_all-clause-tells : goal.returns-in-Err-put_all-clause-tells
+returns-in-Err-put_all-clause-tells g c =
+    narrows_then _ _ _ c.pieces.invariant.narrow
+    (narrows_then _ _ _ c.in-Ok-None.ensures.only.held c.put_all.ensures.tells)
+
+pub returns-in-Err-advance-clause-tells : goal.returns-in-Err-advance-clause-tells
+returns-in-Err-advance-clause-tells g c =
+    narrows_then _ _ _ c.pieces.invariant.narrow c.in-Err-advance.ensures.only.held

@@ -4,8 +4,7 @@ use Rattle.trace_files.proofs.copy.copy_records.Given as goal
 
 abbrev pub invariant-pieces : goal.invariant-pieces
 invariant-pieces g l =
-    IsAt g.T.Target.waiting g.T.Target.files g.T.Target.has (g.S.Shelf.outside l.initial.shelf).held
-    l.name l.initial.target l.target
+    IsAt g.T.Target.waiting g.T.Target.files g.T.Target.has l.name l.initial.target l.target
     l.cursor (g.S.Shelf.outside l.initial.shelf) (g.S.Shelf.outside l.shelf)
 
 abbrev pub decreases-pieces : goal.decreases-pieces

@@ -1,5 +1,6 @@
 use Rattle.std.proofs.Common.{refl, sym, subst, arith}
 use Rattle.shelf.specs.Laws.Files.{IsOutputs-begun}
+use Rattle.shelf.specs.Laws.Told.{narrows_then}
 use Rattle.base.specs.declared.ending.Ending.{Ending}
 use Rattle.trace_format.specs.Rules.{IsAllowedEnd, IsGoodHeader}
 use Rattle.trace_passes.specs.Passes.{trace_with}
@@ -9,6 +10,7 @@ use Rattle.trace_files.specs.Copying.{HasSplit, halves_so_far}
 use Rattle.trace_files.proofs.Again.{begun_as}
 use Rattle.trace_files.proofs.Splittings.{end_allowed, second_header, split_whole, stopped_begun}
 use Rattle.trace_files.proofs.Splittings.{stopped_copying, stopped_ending}
+use Rattle.trace_files.proofs.Stopped.{accepted_still}
 use Rattle.trace_files.proofs.split.split_accepted.Goals as goal
 
 pub new-splitter-requires : goal.new-splitter-requires
@@ -35,12 +37,20 @@ pub returns-in-Err-clause-stopped : goal.returns-in-Err-clause-stopped
 returns-in-Err-clause-stopped g c =
     let a = c.args in
     let old = g.S.Shelf.outside a.shelf.now in
+    let now = g.S.Shelf.outside c.begin.new.shelf in
     rw c.write_fault.ensures
-    (stopped_begun c.a_trace_is_cut_in_two.ensures.grows old.held a.name.now a.at a.first.now
+    (stopped_begun c.a_trace_is_cut_in_two.ensures.grows now.held a.name.now a.at a.first.now
     a.second.now a.passed.now
-    c.requires.accepted c.new-splitter.result c.new-splitter.ensures.value old
-    (g.S.Shelf.outside c.begin.new.shelf) c.in-Err.error
+    (accepted_still old.held now.held a.name.now a.passed.now c.in-Err.ensures.cut.only.held
+    c.requires.accepted)
+    c.new-splitter.result c.new-splitter.ensures.value old now c.in-Err.error
     c.in-Err.ensures.cut)
+
+pub copy_again-requires-clause-accepted : goal.copy_again-requires-clause-accepted
+copy_again-requires-clause-accepted g c =
+    accepted_still (g.S.Shelf.outside c.args.shelf.now).held
+    (g.S.Shelf.outside c.begin.new.shelf).held c.args.name.now c.args.passed.now
+    c.in-Ok.ensures.outputs.only.held c.requires.accepted
 
 pub copy_again-requires-clause-way : goal.copy_again-requires-clause-way
 copy_again-requires-clause-way g c =
@@ -50,16 +60,16 @@ pub returns-in-Err-copy_again-clause-stopped : goal.returns-in-Err-copy_again-cl
 returns-in-Err-copy_again-clause-stopped g c =
     let a = c.args in
     let old = g.S.Shelf.outside a.shelf.now in
-    let mid = g.S.Shelf.outside c.begin.new.shelf in
+    let now = g.S.Shelf.outside c.copy_again.new.shelf in
     let to = c.in-Ok.target in
-    let way = begun_as c.in-Ok.ensures.files c.in-Ok.ensures.outputs in
-    stopped_copying c.a_trace_is_cut_in_two.ensures.grows old.held a.name.now a.at a.first.now
+    let short = c.in-Err-copy_again.ensures.short old
+    (begun_as c.in-Ok.ensures.files c.in-Ok.ensures.outputs) in
+    stopped_copying c.a_trace_is_cut_in_two.ensures.grows now.held a.name.now a.at a.first.now
     a.second.now a.passed.now
-    c.requires.accepted c.new-splitter.result c.new-splitter.ensures.value
-    (halves_so_far to.first.now to.second.now to.version to.splitter) c.in-Ok.ensures.files mid.held
-    c.in-Ok.ensures.outputs.only.held old (g.S.Shelf.outside c.copy_again.new.shelf)
-    c.in-Err-copy_again.fault
-    (c.in-Err-copy_again.ensures.short old way)
+    (accepted_still old.held now.held a.name.now a.passed.now short.held_stay c.requires.accepted)
+    c.new-splitter.result c.new-splitter.ensures.value
+    (halves_so_far to.first.now to.second.now to.version to.splitter) c.in-Ok.ensures.files old now
+    c.in-Err-copy_again.fault short
 
 pub finish-requires-clause-count : goal.finish-requires-clause-count
 finish-requires-clause-count g c =
@@ -92,40 +102,44 @@ pub returns-in-Ok-finish-clause-copied : goal.returns-in-Ok-finish-clause-copied
 returns-in-Ok-finish-clause-copied g c =
     let a = c.args in
     let old = g.S.Shelf.outside a.shelf.now in
+    let mid = g.S.Shelf.outside c.copy_again.new.shelf in
+    let now = g.S.Shelf.outside c.finish.new.shelf in
     let to = c.in-Ok.target in
     let later = c.copy_again.new.target in
     let s = c.new-splitter in
     let copied = c.in-Ok-copy_again.ensures.copied old
     (begun_as c.in-Ok.ensures.files c.in-Ok.ensures.outputs) in
-    split_whole c.a_trace_is_cut_in_two.ensures.grows old.held a.name.now a.at a.first.now
-    a.second.now a.passed.now c.requires.accepted
+    let narrow = c.finish.ensures.tells in
+    split_whole c.a_trace_is_cut_in_two.ensures.grows now.held a.name.now a.at a.first.now
+    a.second.now a.passed.now
+    (accepted_still old.held now.held a.name.now a.passed.now
+    (narrows_then old.held mid.held now.held copied.outputs.only.held narrow) c.requires.accepted)
     s.result s.ensures.value (halves_so_far to.first.now to.second.now to.version to.splitter)
-    c.in-Ok.ensures.files
-    (g.S.Shelf.outside c.begin.new.shelf).held c.in-Ok.ensures.outputs.only.held old
-    c.in-Ok-copy_again.again
-    c.in-Ok-copy_again.ensures.alike (HasSplit later) later.files
-    (g.S.Shelf.outside c.copy_again.new.shelf) copied
-    c.endings-before.result c.endings-before.ensures (g.S.Shelf.outside c.finish.new.shelf)
+    c.in-Ok.ensures.files old c.in-Ok-copy_again.again
+    c.in-Ok-copy_again.ensures.alike (HasSplit later) later.files mid narrow copied
+    c.endings-before.result c.endings-before.ensures now
     (c.in-Ok-finish.ensures.written _ old copied.outputs)
 
 pub returns-clause-stopped : goal.returns-clause-stopped
 returns-clause-stopped g c =
     let a = c.args in
     let old = g.S.Shelf.outside a.shelf.now in
+    let mid = g.S.Shelf.outside c.copy_again.new.shelf in
+    let now = g.S.Shelf.outside c.finish.new.shelf in
     let to = c.in-Ok.target in
     let later = c.copy_again.new.target in
     let s = c.new-splitter in
     let copied = c.in-Ok-copy_again.ensures.copied old
     (begun_as c.in-Ok.ensures.files c.in-Ok.ensures.outputs) in
+    let narrow = c.finish.ensures.tells in
     rw c.write_fault-in-Err-finish.ensures
-    (stopped_ending c.a_trace_is_cut_in_two.ensures.grows old.held a.name.now a.at a.first.now
+    (stopped_ending c.a_trace_is_cut_in_two.ensures.grows now.held a.name.now a.at a.first.now
     a.second.now a.passed.now
-    c.requires.accepted s.result s.ensures.value
+    (accepted_still old.held now.held a.name.now a.passed.now
+    (narrows_then old.held mid.held now.held copied.outputs.only.held narrow) c.requires.accepted)
+    s.result s.ensures.value
     (halves_so_far to.first.now to.second.now to.version to.splitter)
-    c.in-Ok.ensures.files (g.S.Shelf.outside c.begin.new.shelf).held
-    c.in-Ok.ensures.outputs.only.held old c.in-Ok-copy_again.again
-    c.in-Ok-copy_again.ensures.alike (HasSplit later) later.files
-    (g.S.Shelf.outside c.copy_again.new.shelf) copied
-    c.endings-before.result c.endings-before.ensures (g.S.Shelf.outside c.finish.new.shelf)
-    c.in-Err-finish.error
+    c.in-Ok.ensures.files old c.in-Ok-copy_again.again
+    c.in-Ok-copy_again.ensures.alike (HasSplit later) later.files mid narrow copied
+    c.endings-before.result c.endings-before.ensures now c.in-Err-finish.error
     (c.in-Err-finish.ensures.cut _ old copied.outputs))

@@ -1,5 +1,6 @@
 use Rattle.std.proofs.Common.{◌∙◌, arith, add-one, subst, sym}
 use Rattle.shelf.specs.OnTheirWay.{AreApart}
+use Rattle.shelf.specs.Laws.Told.{narrows_then}
 use Rattle.shelf.proofs.OutputLists.{Moves, Stops, begun_at, finished_all, finished_more}
 use Rattle.shelf.proofs.OutputLists.{finished_stops, name_at, outputs_written}
 use Rattle.shelf.proofs.outputs.Outputs.finish.Goals as goal
@@ -61,6 +62,10 @@ loop-place-preserved g c =
     (omega (arith, c.loop-place.invariant.long, c.len-place-end.ensures))
     (sym c.index_mut-file.ensures.value) moves
     c.in-Ok.ensures.begun c.in-Ok.ensures.kept)
+
+pub returns-in-Err-clause-tells : goal.returns-in-Err-clause-tells
+returns-in-Err-clause-tells g c =
+    narrows_then _ _ _ c.loop-place.invariant.tells c.in-Err.ensures.only.held
 
 pub returns-clause-nothing_waits : goal.returns-clause-nothing_waits
 returns-clause-nothing_waits g c =
