@@ -1,7 +1,6 @@
 -- What the two proofs by hand of the log share: how a struct of no fields is made.
 pub use Rattle.std.proofs.Common.{List, [], ◌∷◌, refl}
 pub use Rattle.std.proofs.raw_atomic.Walks.{proved}
-pub use contract.Running.{tables}
 pub use types.Kit.{‵, raw, ◌⊛◌, ◌$◌, ◌∵◌, !, qed, done, move, keep, split, fjoin, suffices}
 pub use types.Part.{agg}
 pub use types.Run.{enter, no_more, returns}

@@ -1,12 +1,11 @@
 -- What was read is tested against the files that are told: the test is that of the shelf, and they
 -- are told exactly as long as it holds.
-use Rattle.std.proofs.Common.{◌≡◌, ◌<◌, ◌≤◌, ◌-◌, ◌||◌, ◌&&◌, ◌==◌, ℕ, List, [], ◌∷◌, Bool, true}
-use Rattle.std.proofs.Common.{false, Option, Some, None, length, take, drop, refl, sym, ap, ◌∙◌}
+use Rattle.std.proofs.Common.{◌≡◌, ◌<◌, ◌≤◌, ◌||◌, ◌&&◌, ◌==◌, ℕ, List, ◌∷◌, Bool, true}
+use Rattle.std.proofs.Common.{false, Some, None, length, take, drop, refl, sym, ap, ◌∙◌}
 use Rattle.std.proofs.Common.{arith, length-take, length-take-le, length-drop, nat_lt, nat_le}
 use Rattle.std.specs.Prelude.{if◌then◌else◌}
 use Rattle.std.specs.Bool.{Decides}
 use Rattle.std.specs.List.{list_all}
-use Rattle.std.specs.Str.{bytes_eq}
 use Rattle.std.proofs.lemmas.Bool.{and_parts, and_from}
 use Rattle.std.proofs.lemmas.Bool.Decides.{nat_tests}
 use Rattle.std.proofs.lemmas.Slice.Eq.{bytes_eq-Decides}
@@ -28,8 +27,7 @@ reads_so-Decides file at n buffer fits =
     let len : length (take n buffer) ≡ n = length-take-le n buffer fits in
     let part : take (length (take n buffer)) (drop at file) ≡ take n (drop at file) =
     ap (λ k. take k (drop at file)) len in
-    let same = bytes_eq-Decides (take n buffer) (take (length (take n buffer)) (drop at file)) in
-    (
+    let same = bytes_eq-Decides (take n buffer) (take (length (take n buffer)) (drop at file)) in (
       λ test.
           let both = and_parts _ _ test in
           let bytes : take n buffer ≡ take n (drop at file) = same.0 both.0 ∙ part in

@@ -45,8 +45,8 @@ const LONGEST_FRONT: usize = 1 << 16;
 const IN_USE: &str = "the same file is in use under another name, and stays as it is";
 
 /// Contents of files that one thinks of. No code reads them: a shelf of the system's files tells
-/// them for as long as all that it has read is theirs, so what is proved of every such trait holds
-/// of all contents that agree with what was read.
+/// them as long as all that it has read is theirs. So what is proved of the files that it tells,
+/// which is proved for any contents, holds of all that agree with what was read.
 pub trait Contents {
     ghost use Rattle.shelf.specs.Shelf.{Files};
 
@@ -54,6 +54,7 @@ pub trait Contents {
     ghost files: { Files };
 }
 
+// No file: a proof that speaks of others picks them, or is of any.
 impl Contents for Brand {
     ghost use Rattle.std.specs.Prelude.{None};
 
@@ -62,15 +63,16 @@ impl Contents for Brand {
 
 /// The files of the system and its standard output, as a shelf.
 ///
-/// What it holds are contents that one thinks of, `K`: it tells them as long as each byte that was
-/// read is theirs, and no more from the first reading on that gave others. What was written and
-/// printed is what it handed to the system in calls that were answered Ok. It counts the errors of
-/// each kind, for all names alike, want of memory aside: contracts see these numbers. Each file is opened once for reading and once for
-/// writing, and kept open, so that pipes and terminals serve where they are read, or written, from
-/// the front to the end. A regular file that it has read or begun is not begun under another name,
-/// nor is one that standard output is, and nothing is printed over one: that fails, and the file
-/// stays as it is. It says on standard error why a call failed, and where that is asked for shows
-/// there how far long work is and what a run puts out.
+/// What it holds are contents that one thinks of: it tells them as long as all that it has read is
+/// theirs, and no more from the first reading on that gave other bytes. What was written and printed
+/// is what it handed to the system in calls that were answered Ok. It counts the errors of each kind,
+/// for all names alike, want of memory aside: contracts see these numbers.
+///
+/// Each file is opened once for reading and once for writing, and kept open, so that pipes and
+/// terminals serve where they are read, or written, from the front to the end. A regular file that it
+/// has read or begun is not begun under another name, nor is one that standard output is, and nothing
+/// is printed over one: that fails, and the file stays as it is. It says on standard error why a call
+/// failed, and where that is asked for shows there how far long work is and what a run puts out.
 #[derive(Drop)]
 pub struct DiskShelf<'a, R: Files + Print + Eprint + Clock + AllocGlobal, K: Contents> {
     runtime: &'a R,
@@ -86,14 +88,17 @@ pub struct DiskShelf<'a, R: Files + Print + Eprint + Clock + AllocGlobal, K: Con
 }
 
 impl<'a, R: Files + Print + Eprint + Clock + AllocGlobal, K: Contents> Model
-    for DiskShelf<'a, R, K>
-{
+    for DiskShelf<'a, R, K> {
     ghost use Rattle.disk_shelf.specs.Disk.{Seen};
 
     ghost Value = { Seen };
 
     ghost view = { λ s. record {
-        reads = s.reads; writes = s.writes; prints = s.prints; done = s.log.items } };
+      reads = s.reads;
+      writes = s.writes;
+      prints = s.prints;
+      done = s.log.items;
+    } };
 }
 
 // What an error of the system is to a shelf: it counts, unless it is want of memory, which is what
@@ -333,7 +338,8 @@ impl<'a, R: Files + Print + Eprint + Clock + AllocGlobal, K: Contents> DiskShelf
         }
     }
 
-    /// The shelf of a runtime, none of whose calls has failed yet.
+    /// The shelf of a runtime, which has done nothing yet: it tells any contents, and that nothing
+    /// was written or printed and no call has failed.
     pub fn new(runtime: &'a R) -> Self
         ensures { disk_outside K.files result ≡ fresh_outside K.files }
     {

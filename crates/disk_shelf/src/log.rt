@@ -17,11 +17,18 @@ pub enum Call<'a> {
         bytes: &'a [u8],
     },
     /// A file was made empty.
-    Begin { name: &'a str },
+    Begin {
+        name: &'a str,
+    },
     /// A piece was added to a file.
-    Append { name: &'a str, piece: &'a [u8] },
+    Append {
+        name: &'a str,
+        piece: &'a [u8],
+    },
     /// A piece was printed.
-    Print { piece: &'a [u8] },
+    Print {
+        piece: &'a [u8],
+    },
 }
 
 /// A clause reads what was done as `items`, the latest first.

@@ -1,5 +1,9 @@
 -- `and` makes the struct of no fields, with the list that its clause names.
-use Rattle.disk_shelf.proofs.LogSteps.{[], ◌∷◌, refl, proved, tables, ‵, raw, ◌⊛◌, ◌$◌, ◌∵◌, !, qed, done, move, keep, split, fjoin, suffices, agg, enter, no_more, returns, alloc_all, pass_all, free_all, look_at, sets, owns, types_at, nothing, alive, RattleType, Stays, walk_of, says, ends_at, no_fields, empty_made}
+use Rattle.disk_shelf.proofs.LogSteps.{[], ◌∷◌, refl, proved, ‵, raw, ◌⊛◌, ◌$◌, ◌∵◌, !, qed, done}
+use Rattle.disk_shelf.proofs.LogSteps.{move, keep, split, fjoin, suffices, agg, enter, no_more}
+use Rattle.disk_shelf.proofs.LogSteps.{returns, alloc_all, pass_all, free_all, look_at, sets, owns}
+use Rattle.disk_shelf.proofs.LogSteps.{types_at, nothing, alive, RattleType, Stays, walk_of, says}
+use Rattle.disk_shelf.proofs.LogSteps.{ends_at, no_fields, empty_made}
 use denote.Exit.{yes}
 use denote.Builtin.{RefOf}
 use denote.Ref.{shr_vals, shr_Tells}
