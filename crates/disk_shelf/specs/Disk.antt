@@ -1,28 +1,80 @@
--- What the system's files mean as a shelf: nothing is told but the numbers of faults.
-use Rattle.std.specs.Prelude.{ℕ, ◌+◌, ◌-◌, ◌^◌, min, None, Bool, ◌&&◌, not, List, string_bytes}
-use Rattle.std.specs.Prelude.{◌==◌}
-use Rattle.std.specs.List.{list_any}
+-- What the system's files mean as a shelf: what its calls have read, written and printed, and any
+-- contents that one thinks of, which it tells as long as all that was read is theirs.
+use Rattle.std.specs.Prelude.{ℕ, ◌+◌, ◌-◌, ◌^◌, min, Some, None, Bool, true, ◌&&◌, ◌||◌, not, nat_lt}
+use Rattle.std.specs.Prelude.{nat_le, ◌==◌, List, [], ◌∷◌, ◌++◌, length, take, drop, string_bytes}
+use Rattle.std.specs.Prelude.{Option, if◌then◌else◌, option_map}
+use Rattle.std.specs.List.{list_all, list_any}
 use Rattle.std.specs.Str.{bytes_eq}
-use Rattle.shelf.specs.Shelf.{Outside}
+use Rattle.shelf.specs.Shelf.{Files, Outside, content}
 use Rattle.shelf.specs.declared.shelf.ShelfError.{ShelfError}
 use Rattle.shelf.specs.declared.shelf.ShelfError.TheVariants.{Failed, NoMemory}
+use Rattle.disk_shelf.specs.Done.{Done, WasRead, WasBegun, WasAppended, WasPrinted}
 use Rattle.disk_shelf.specs.declared.known_files.FileId.{FileId}
 use Rattle.disk_shelf.specs.declared.known_files.KnownFile.{KnownFile}
 
--- how often calls have failed
-pub record Faults : Type 0 where
+-- how often calls have failed, and what those that the system answered Ok have done, the latest first
+pub record Seen : Type 0 where
   pub reads : ℕ
   pub writes : ℕ
   pub prints : ℕ
+  pub done : List Done
 
-abbrev pub disk_outside : Faults → Outside
-disk_outside faults = record {
-  held = None;
-  written = None;
-  printed = None;
-  read_faults = λ _. faults.reads;
-  write_faults = λ _. faults.writes;
-  print_faults = faults.prints;
+-- the bytes are those of the file from a place on; none only at its end or with no room
+abbrev pub reads_so : List ℕ → ℕ → ℕ → List ℕ → Bool
+reads_so file at room bytes =
+    bytes_eq bytes (take (length bytes) (drop at file))
+    && (nat_lt 0 (length bytes) || (room == 0) || nat_le (length file) at)
+
+-- what was read, if anything was, is of these files
+abbrev pub agrees : Files → Done → Bool
+agrees files (WasRead name at room bytes) = reads_so (content files name) at room bytes
+agrees files (WasBegun name) = true
+agrees files (WasAppended name piece) = true
+agrees files (WasPrinted piece) = true
+
+-- these files, as long as all that was read is of them
+abbrev pub held_by : Files → List Done → Option Files
+held_by files done = if list_all (agrees files) done then Some files else None
+
+-- the file of each name: empty once it was begun, and longer by each piece that was added
+abbrev pub written_by : List Done → Files
+written_by [] name = None
+written_by (WasRead n at room bytes ∷ before) name = written_by before name
+written_by (WasBegun n ∷ before) name =
+    if bytes_eq n name then Some [] else written_by before name
+written_by (WasAppended n piece ∷ before) name =
+    if bytes_eq n name then option_map (λ bytes. bytes ++ piece) (written_by before name)
+    else written_by before name
+written_by (WasPrinted piece ∷ before) name = written_by before name
+
+-- the pieces that were printed, one behind the other
+abbrev pub printed_by : List Done → List ℕ
+printed_by [] = []
+printed_by (WasRead n at room bytes ∷ before) = printed_by before
+printed_by (WasBegun n ∷ before) = printed_by before
+printed_by (WasAppended n piece ∷ before) = printed_by before
+printed_by (WasPrinted piece ∷ before) = printed_by before ++ piece
+
+-- it tells these files as long as what was read is of them, and all that was written and printed
+abbrev pub disk_outside : Files → Seen → Outside
+disk_outside files seen = record {
+  held = held_by files seen.done;
+  written = Some (written_by seen.done);
+  printed = Some (printed_by seen.done);
+  read_faults = λ _. seen.reads;
+  write_faults = λ _. seen.writes;
+  print_faults = seen.prints;
+}
+
+-- these files, with nothing begun or printed, and no fault yet
+abbrev pub fresh_outside : Files → Outside
+fresh_outside files = record {
+  held = Some files;
+  written = Some (λ _. None);
+  printed = Some [];
+  read_faults = λ _. 0;
+  write_faults = λ _. 0;
+  print_faults = 0;
 }
 
 -- a number of faults after one more, which ends at 2^64 - 1

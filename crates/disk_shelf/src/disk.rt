@@ -1,11 +1,15 @@
-// Real files and standard output: the trusted edge, of whose content nothing is told.
+// Real files and standard output: the trusted edge. What it was given and what it handed to the
+// system is kept in a log that only proofs read.
 //
 // Each call that fails says so on standard error, with the file's name and the system's reason.
 ghost use Rattle.std.specs.Prelude.{◌≡◌, ◌≢◌, ◌≤◌, ◌↔◌, IfOk, OnOk, Some, false, length};
+ghost use Rattle.std.specs.Io.{ReadsAtMost};
 ghost use Rattle.std.specs.IoError.{error_kind};
+ghost use Rattle.shelf.specs.Shelf.{content, Told, HasCauseAt, OnlyReads, Reads};
 ghost use Rattle.disk_shelf.specs.Disk.{after_fault, has_other_name};
 
 use crate::known_files::{FileId, KnownFiles};
+use crate::log::{Call, Log};
 use crate::meter::Meter;
 use crate::open_files::{OpenFiles, ReadBytes};
 use crate::reasons::tell_fault;
@@ -14,7 +18,7 @@ use shelf::{RunShown, Shelf, ShelfError};
 use std::alloc::{AllocError, Global};
 use std::fs::{self, OpenFile, OpenOptions};
 use std::io::{self, ErrorKind, Print, Read, Seek, Stderr, Write};
-use std::marker::Model;
+use std::marker::{Brand, Model, PhantomData};
 use std::rt::{Clock, Files};
 
 // What standard output and standard input are called where they fail, and their paths.
@@ -40,18 +44,40 @@ const LONGEST_FRONT: usize = 1 << 16;
 // Why a file isn't begun that is read or written under another name.
 const IN_USE: &str = "the same file is in use under another name, and stays as it is";
 
+/// Contents of files that one thinks of. No code reads them: a shelf of the system's files tells
+/// them as long as all that it has read is theirs. So what is proved of the files that it tells,
+/// which is proved for any contents, holds of all that agree with what was read.
+pub trait Contents {
+    ghost use Rattle.shelf.specs.Shelf.{Files};
+
+    /// The bytes of each name that has a file.
+    ghost files: { Files };
+}
+
+// No file: a proof that speaks of others picks them, or is of any.
+impl Contents for Brand {
+    ghost use Rattle.std.specs.Prelude.{None};
+
+    ghost files = { λ _. None };
+}
+
 /// The files of the system and its standard output, as a shelf.
 ///
-/// It tells nothing of content. It counts the errors of each kind, for all names alike, want of
-/// memory aside: contracts see these numbers. Each file is opened once for reading and once for
-/// writing, and kept open, so that pipes and terminals serve where they are read, or written, from
-/// the front to the end. A regular file that it has read or begun is not begun under another name,
-/// nor is one that standard output is, and nothing is printed over one: that fails, and the file
-/// stays as it is. It says on standard error why a call failed, and where that is asked for shows
-/// there how far long work is and what a run puts out.
+/// What it holds are contents that one thinks of: it tells them as long as all that it has read is
+/// theirs, and no more from the first reading on that gave other bytes. What was written and printed
+/// is what it handed to the system in calls that were answered Ok. It counts the errors of each kind,
+/// for all names alike, want of memory aside: contracts see these numbers.
+///
+/// Each file is opened once for reading and once for writing, and kept open, so that pipes and
+/// terminals serve where they are read, or written, from the front to the end. A regular file that it
+/// has read or begun is not begun under another name, nor is one that standard output is, and nothing
+/// is printed over one: that fails, and the file stays as it is. It says on standard error why a call
+/// failed, and where that is asked for shows there how far long work is and what a run puts out.
 #[derive(Drop)]
-pub struct DiskShelf<'a, R: Files + Print + Eprint + Clock + AllocGlobal> {
+pub struct DiskShelf<'a, R: Files + Print + Eprint + Clock + AllocGlobal, K: Contents> {
     runtime: &'a R,
+    contents: PhantomData<K>,
+    log: Log,
     files: Opened<R::File>,
     meter: Meter,
     stderr: Option<Stderr>,
@@ -61,12 +87,18 @@ pub struct DiskShelf<'a, R: Files + Print + Eprint + Clock + AllocGlobal> {
     prints: u64,
 }
 
-impl<'a, R: Files + Print + Eprint + Clock + AllocGlobal> Model for DiskShelf<'a, R> {
-    ghost use Rattle.disk_shelf.specs.Disk.{Faults};
+impl<'a, R: Files + Print + Eprint + Clock + AllocGlobal, K: Contents> Model
+    for DiskShelf<'a, R, K> {
+    ghost use Rattle.disk_shelf.specs.Disk.{Seen};
 
-    ghost Value = { Faults };
+    ghost Value = { Seen };
 
-    ghost view = { λ s. record { reads = s.reads; writes = s.writes; prints = s.prints } };
+    ghost view = { λ s. record {
+      reads = s.reads;
+      writes = s.writes;
+      prints = s.prints;
+      done = s.log.items;
+    } };
 }
 
 // What an error of the system is to a shelf: it counts, unless it is want of memory, which is what
@@ -286,12 +318,16 @@ fn print_to<R: Files + Print>(
     runtime.write_all(piece)
 }
 
-impl<'a, R: Files + Print + Eprint + Clock + AllocGlobal> DiskShelf<'a, R> {
+impl<'a, R: Files + Print + Eprint + Clock + AllocGlobal, K: Contents> DiskShelf<'a, R, K> {
+    ghost use Rattle.disk_shelf.specs.Disk.{disk_outside, fresh_outside};
+
     fn with_meter(runtime: &'a R, meter: Meter) -> Self
-        ensures { result ≡ record { reads = 0; writes = 0; prints = 0 } }
+        ensures { disk_outside K.files result ≡ fresh_outside K.files }
     {
         DiskShelf {
             runtime,
+            contents: PhantomData,
+            log: Log::new(),
             files: Opened::new(runtime),
             meter,
             stderr: None,
@@ -302,9 +338,10 @@ impl<'a, R: Files + Print + Eprint + Clock + AllocGlobal> DiskShelf<'a, R> {
         }
     }
 
-    /// The shelf of a runtime, none of whose calls has failed yet.
+    /// The shelf of a runtime, which has done nothing yet: it tells any contents, and that nothing
+    /// was written or printed and no call has failed.
     pub fn new(runtime: &'a R) -> Self
-        ensures { result ≡ record { reads = 0; writes = 0; prints = 0 } }
+        ensures { disk_outside K.files result ≡ fresh_outside K.files }
     {
         DiskShelf::with_meter(runtime, Meter::hidden())
     }
@@ -312,7 +349,7 @@ impl<'a, R: Files + Print + Eprint + Clock + AllocGlobal> DiskShelf<'a, R> {
     /// The same, for a standard error that is a terminal: once a second it shows there how far it
     /// is.
     pub fn on_terminal(runtime: &'a R) -> Self
-        ensures { result ≡ record { reads = 0; writes = 0; prints = 0 } }
+        ensures { disk_outside K.files result ≡ fresh_outside K.files }
     {
         DiskShelf::with_meter(runtime, Meter::shown(runtime))
     }
@@ -363,15 +400,33 @@ impl<'a, R: Files + Print + Eprint + Clock + AllocGlobal> DiskShelf<'a, R> {
     }
 }
 
-impl<R: Files + Print + Eprint + Clock + AllocGlobal> Shelf for DiskShelf<'_, R> {
+impl<R: Files + Print + Eprint + Clock + AllocGlobal, K: Contents> Shelf for DiskShelf<'_, R, K> {
     ghost use Rattle.disk_shelf.specs.Disk.{disk_outside};
 
-    ghost outside = { disk_outside };
+    ghost outside = { disk_outside K.files };
 
-    fn read_at(&mut self, name: &str, at: u64, into: &mut [u8]) -> Result<usize, ShelfError> {
+    fn read_at(&mut self, name: &str, at: u64, into: &mut [u8]) -> Result<usize, ShelfError>
+        ensures bound { ReadsAtMost result into.new }
+        ensures bytes { IfOk result (λ n. Told (disk_outside K.files self.new).held
+            (λ files. Reads (content files name.now) at n into.new)) }
+        ensures cause { HasCauseAt name.now (disk_outside K.files self.old).read_faults
+            (disk_outside K.files self.new).read_faults result }
+        ensures only { OnlyReads (disk_outside K.files self.old) (disk_outside K.files self.new) }
+
+        // Beyond the trait's: what is told stays told where what was read is of it.
+        ensures stays { Told (disk_outside K.files self.old).held
+            (λ files. IfOk result (λ n. Reads (content files name.now) at n into.new)
+            → (disk_outside K.files self.new).held ≡ Some files) }
+    {
         match self.files.read_at(self.runtime, name, at, into) {
             Ok(read) => {
                 self.meter.show_read(self.runtime, at, read.length);
+                self.log = self.log.and(&Call::Read {
+                    name,
+                    at,
+                    room: into.len(),
+                    bytes: &into[..read.count],
+                });
                 Ok(read.count)
             }
             Err(error) => Err(tell_and_count(
@@ -386,7 +441,10 @@ impl<R: Files + Print + Eprint + Clock + AllocGlobal> Shelf for DiskShelf<'_, R>
 
     fn begin(&mut self, name: &str) -> Result<(), ShelfError> {
         match self.files.begin(self.runtime, name) {
-            Ok(()) => Ok(()),
+            Ok(()) => {
+                self.log = self.log.and(&Call::Begin { name });
+                Ok(())
+            }
             Err(error) => Err(tell_and_count(
                 self.runtime,
                 &mut self.meter,
@@ -401,6 +459,7 @@ impl<R: Files + Print + Eprint + Clock + AllocGlobal> Shelf for DiskShelf<'_, R>
         match self.files.written.add(name, piece) {
             Ok(length) => {
                 self.meter.show_written(self.runtime, length);
+                self.log = self.log.and(&Call::Append { name, piece });
                 Ok(())
             }
             Err(error) => Err(tell_and_count(
@@ -416,7 +475,10 @@ impl<R: Files + Print + Eprint + Clock + AllocGlobal> Shelf for DiskShelf<'_, R>
     fn print(&mut self, piece: &[u8]) -> Result<(), ShelfError> {
         self.meter.make_room(self.runtime);
         match print_to(self.runtime, &self.files, piece) {
-            Ok(()) => Ok(()),
+            Ok(()) => {
+                self.log = self.log.and(&Call::Print { piece });
+                Ok(())
+            }
             Err(error) => {
                 tell_fault(self.runtime, STANDARD_OUTPUT, &error);
                 Err(fault_of(&mut self.prints, &error))

@@ -4,6 +4,7 @@ use disk_shelf::DiskShelf;
 use predator_cli::predator;
 use shelf::{FetchError, Shelf, ShelfError, fetch};
 use std::alloc::{AllocError, Global};
+use std::marker::Brand;
 use std::os::unix::fs::symlink;
 use std::rt::{Clock, Files};
 use std::test::Fail;
@@ -87,13 +88,13 @@ fn is_missing<S: Shelf>(alloc: Global, shelf: &mut S) -> Result<bool, AllocError
 #[test]
 fn a_real_file_is_written_read_and_replayed(rt: HostRuntime) -> Result<(), Fail> {
     let content = trace(rt.alloc(), &NEIGHBOURS)?;
-    let mut shelf = DiskShelf::new(&rt);
+    let mut shelf = DiskShelf::<_, Brand>::new(&rt);
     let (is_held, status) = replay_written(rt.alloc(), &mut shelf, &content)?;
     fs::remove_file(&rt, NAME)?;
     assert!(rt; is_held);
     assert_eq!(rt; status, 0);
     // in a call of its own, since a file that is open stays
-    assert!(rt; is_missing(rt.alloc(), &mut DiskShelf::new(&rt))?);
+    assert!(rt; is_missing(rt.alloc(), &mut DiskShelf::<_, Brand>::new(&rt))?);
     Ok(())
 }
 
@@ -107,7 +108,7 @@ fn fetch_written<S: Shelf>(alloc: Global, shelf: &mut S, content: &[u8]) -> Resu
 #[test]
 fn a_long_file_is_written_and_read_whole(rt: HostRuntime) -> Result<(), Fail> {
     let content = Vec::from_elem(rt.alloc(), b'x', LONG)?;
-    let fetched = fetch_written(rt.alloc(), &mut DiskShelf::new(&rt), &content)?;
+    let fetched = fetch_written(rt.alloc(), &mut DiskShelf::<_, Brand>::new(&rt), &content)?;
     fs::remove_file(&rt, LONG_NAME)?;
     assert_eq!(rt; fetched.len(), LONG + 3);
     assert!(rt; fetched.ends_with(b"xend"));
@@ -117,7 +118,7 @@ fn a_long_file_is_written_and_read_whole(rt: HostRuntime) -> Result<(), Fail> {
 // A folder can be opened, and its first read fails.
 #[test]
 fn a_folder_as_a_trace_is_a_read_fault(rt: HostRuntime) -> Result<(), Fail> {
-    let mut shelf = DiskShelf::new(&rt);
+    let mut shelf = DiskShelf::<_, Brand>::new(&rt);
     assert_eq!(rt; status_of(rt.alloc(), &mut shelf, "replay .")?, 7);
     Ok(())
 }
@@ -154,7 +155,7 @@ fn remove_names<R: Files>(rt: &R) -> io::Result<()> {
 #[test]
 fn a_file_that_was_read_is_not_begun_under_another_name(rt: HostRuntime) -> Result<(), Fail> {
     make_names(&rt)?;
-    let is_kept = is_kept(rt.alloc(), &mut DiskShelf::new(&rt))?;
+    let is_kept = is_kept(rt.alloc(), &mut DiskShelf::<_, Brand>::new(&rt))?;
     remove_names(&rt)?;
     assert!(rt; is_kept);
     Ok(())
@@ -170,7 +171,7 @@ fn is_begun_by_its_name<S: Shelf>(shelf: &mut S) -> Result<bool, ShelfError> {
 
 #[test]
 fn a_file_that_was_begun_is_not_begun_under_another_name(rt: HostRuntime) -> Result<(), Fail> {
-    let is_begun = is_begun_by_its_name(&mut DiskShelf::new(&rt))?;
+    let is_begun = is_begun_by_its_name(&mut DiskShelf::<_, Brand>::new(&rt))?;
     fs::remove_file(&rt, BEGUN_NAME)?;
     assert!(rt; is_begun);
     Ok(())
@@ -179,7 +180,7 @@ fn a_file_that_was_begun_is_not_begun_under_another_name(rt: HostRuntime) -> Res
 // Whether a device is read as empty, and begun and written under a second name.
 fn is_known_by_no_name<R: Files + Print + Eprint + Clock + AllocGlobal>(
     alloc: Global,
-    shelf: &mut DiskShelf<'_, R>,
+    shelf: &mut DiskShelf<'_, R, Brand>,
 ) -> Result<bool, Fail> {
     let is_empty = holds(alloc, shelf, "/dev/null", b"")?;
     shelf.begin("/dev/./null")?;
@@ -190,6 +191,6 @@ fn is_known_by_no_name<R: Files + Print + Eprint + Clock + AllocGlobal>(
 // Nothing is lost in a device.
 #[test]
 fn a_device_may_have_many_names(rt: HostRuntime) -> Result<(), Fail> {
-    assert!(rt; is_known_by_no_name(rt.alloc(), &mut DiskShelf::new(&rt))?);
+    assert!(rt; is_known_by_no_name(rt.alloc(), &mut DiskShelf::<_, Brand>::new(&rt))?);
     Ok(())
 }

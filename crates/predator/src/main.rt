@@ -8,13 +8,14 @@ use predator_cli::{
 };
 use std::env;
 use std::io::IsTerminal;
+use std::marker::Brand;
 use std::process::ExitCode;
 
 fn main(rt: HostRuntime) -> ExitCode {
     let mut shelf = if rt.stderr().is_terminal() {
-        DiskShelf::on_terminal(&rt)
+        DiskShelf::<_, Brand>::on_terminal(&rt)
     } else {
-        DiskShelf::new(&rt)
+        DiskShelf::<_, Brand>::new(&rt)
     };
     shelf.show_output_on(rt.stderr());
     let status = match words_of(rt.alloc(), env::args(&rt)) {
