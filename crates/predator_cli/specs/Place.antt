@@ -37,7 +37,7 @@ place_work demand files =
 -- ---- how far it is
 
 -- the trace was read once, nothing was changed, and P holds of its records
-pub record HasRead (demand : PlaceDemand) (P : List TraceRecord → Type 0) (old now : Outside)
+pub record WasRead (demand : PlaceDemand) (P : List TraceRecord → Type 0) (old now : Outside)
     : Type 0 where
   pub accepted : IsAccepted (place_readings demand) old now
   pub holds : Told now.held (λ files. P (records_for demand files))

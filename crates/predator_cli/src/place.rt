@@ -9,7 +9,7 @@ ghost use Rattle.placement.specs.Plans.{has_room, plan_of};
 ghost use Rattle.placement.specs.Sought.{is_too_large};
 ghost use Rattle.placement.specs.Words.{owned_of};
 ghost use Rattle.predator_cli.specs.Meets.{IsAnswered, IsFaulty, Meets};
-ghost use Rattle.predator_cli.specs.Place.{AreFor, HasRead, Means, place_readings, records_for};
+ghost use Rattle.predator_cli.specs.Place.{AreFor, Means, WasRead, place_readings, records_for};
 ghost use Rattle.shelf.specs.Shelf.{Told};
 ghost use Rattle.trace_format.specs.Rules.{touches_in};
 
@@ -31,7 +31,7 @@ fn seek<S: Shelf>(
     options: &PlaceOptions<'_>,
     shelf: &mut S,
 ) -> Result<Option<Extent>, Status>
-    ensures sought { IfOk result (λ object. HasRead (place_meaning options.now)
+    ensures sought { IfOk result (λ object. WasRead (place_meaning options.now)
         (Means (place_meaning options.now) object)
         (S.outside shelf.old) (S.outside shelf.new)) }
     ensures some { IfOk result (λ object. IfSome object (λ e. 1 ≤ e.size)) }
@@ -57,7 +57,7 @@ fn own<S: Shelf>(
 ) -> Result<Owners, Status>
     requires some { 1 ≤ extent.size }
     requires few { extent.size ≤ 2 ^ 24 }
-    ensures owned { IfOk result (λ owners. HasRead (place_meaning options.now)
+    ensures owned { IfOk result (λ owners. WasRead (place_meaning options.now)
         (λ items. owners ≡ owned_of extent (touches_in items))
         (S.outside shelf.old) (S.outside shelf.new)) }
     ensures stopped { IfErr result (IsStopped (place_readings (place_meaning options.now))
@@ -81,7 +81,7 @@ fn count_moved<S: Shelf>(
     shelf: &mut S,
 ) -> Result<Recount, Status>
     requires { IsTrue (is_line_size options.now.size) }
-    ensures counted { IfOk result (λ recount. HasRead (place_meaning options.now)
+    ensures counted { IfOk result (λ recount. WasRead (place_meaning options.now)
         (λ items. RecountsFor (touches_in items) recount)
         (S.outside shelf.old) (S.outside shelf.new)) }
     ensures size { IfOk result (λ recount. recount.size ≡ options.now.size) }
