@@ -1,15 +1,18 @@
-use Rattle.std.proofs.Common.{◌≡◌, [], ◌∷◌, Ok}
+use Rattle.std.proofs.Common.{◌≡◌, ◌∙◌, [], ◌∷◌, Ok, ap}
 use Rattle.command_line.specs.Run.{run_meaning}
-use Rattle.shelf.specs.Shelf.{Told, content}
-use Rattle.command_files.specs.ProgramFiles.{program_reading, program_refusal}
+use Rattle.guest.specs.Runs.{rest_of}
+use Rattle.program_files.specs.PlacedImages.{image_of}
+use Rattle.shelf.specs.Shelf.{Narrows, Told, content}
+use Rattle.command_files.specs.ProgramFiles.{program_reading, program_refusal, space_of}
 use Rattle.command_files.specs.Readings.{IsAccepted, IsStopped}
 use Rattle.command_files.specs.SettingsFiles.{chosen_settings, settings_in, settings_readings}
 use Rattle.command_files.specs.Laws.Settings.{program_alike}
 use Rattle.command_files.specs.Laws.Readings.{accepted_behind, alike_accepted, alike_stopped}
 use Rattle.command_files.specs.Laws.Readings.{memory_stopped, stopped_behind}
 use Rattle.command_files.specs.Laws.Readings.{stopped_first, told_again}
-use Rattle.shelf.specs.Laws.Told.{told_still}
-use Rattle.predator_cli.specs.Run.{run_readings, schedule_readings}
+use Rattle.shelf.specs.Laws.Told.{told_map, told_still}
+use Rattle.predator_cli.specs.Run.{run_readings, schedule_readings, symbol_records}
+use Rattle.predator_cli.proofs.RunLaws.{run_told}
 use Rattle.predator_cli.proofs.run.load_guest.Given.{Over}
 use Rattle.predator_cli.proofs.run.load_guest.Goals as goal
 use Rattle.predator_cli.proofs.run.load_guest.Goals.{After-make_guest}
@@ -104,3 +107,59 @@ returns-in-Err-make_guest-clause-stopped g c =
     let b = g.S.Shelf.outside c.read_schedule.new.shelf in
     memory_stopped (run_readings (run_meaning c.args.options.now)) a b all.read.faults
     all.read.only
+
+-- ---- what is told still once the schedule was read
+
+settings_last : (g : Over) (c : After-make_guest g)
+    → Told (g.S.Shelf.outside c.read_judged.new.shelf).held
+    (λ files. settings_in (run_meaning c.args.options.now).settings files ≡ Ok c.in-Ok.settings)
+settings_last g c =
+    let d = run_meaning c.args.options.now in
+    told_again (λ files. settings_in d.settings files ≡ Ok c.in-Ok.settings)
+    (g.S.Shelf.outside c.read_settings.new.shelf) (g.S.Shelf.outside c.read_judged.new.shelf)
+    c.in-Ok-read_judged.ensures.accepted.read c.in-Ok.ensures.read
+
+still_last : (g : Over) (c : After-make_guest g)
+    → Narrows (g.S.Shelf.outside c.read_judged.new.shelf).held
+    (g.S.Shelf.outside c.read_schedule.new.shelf).held
+still_last g c =
+    (c.in-Ok-read_schedule.ensures.accepted (run_meaning c.args.options.now).settings
+    (settings_last g c)).read.only.held
+
+pub returns-in-Ok-make_guest-clause-settings : goal.returns-in-Ok-make_guest-clause-settings
+returns-in-Ok-make_guest-clause-settings g c =
+    let at = (goal.at.returns-in-Ok-make_guest-clause-settings g c).After-make_guest in
+    let d = run_meaning c.args.options.now in
+    rw c.in-Ok-make_guest.ensures.settings
+    (told_still (λ files. settings_in d.settings files ≡ Ok c.in-Ok.settings)
+    (g.S.Shelf.outside c.read_judged.new.shelf).held
+    (g.S.Shelf.outside c.read_schedule.new.shelf).held (still_last g at) (settings_last g at))
+
+pub returns-in-Ok-make_guest-clause-run : goal.returns-in-Ok-make_guest-clause-run
+returns-in-Ok-make_guest-clause-run g c =
+    let at = (goal.at.returns-in-Ok-make_guest-clause-run g c).After-make_guest in
+    let d = run_meaning c.args.options.now in
+    let p = (g.S.Shelf.outside c.read_judged.new.shelf).held in
+    let b = (g.S.Shelf.outside c.read_schedule.new.shelf).held in
+    let s = c.in-Ok.settings in
+    let loading = c.in-Ok-read_judged.loading in
+    let given = c.in-Ok-read_judged.ensures.given in
+    let whole : Told b (λ files. given.bytes ≡ content files d.program) =
+    told_still (λ files. given.bytes ≡ content files d.program) p b (still_last g at) given.whole in
+    let image : Told b (λ files. loading.image ≡ image_of (space_of s) (content files d.program)) =
+    told_map b (λ files is. given.given.image ∙ ap (image_of (space_of s)) is) whole in
+    rw c.in-Ok-make_guest.ensures.settings
+    (run_told d s b loading.image c.in-Ok-read_schedule.schedule
+    (rest_of c.in-Ok-make_guest.loaded.guest) image c.in-Ok-read_schedule.ensures.plan
+    c.in-Ok-make_guest.ensures.run)
+
+pub returns-in-Ok-make_guest-clause-symbols : goal.returns-in-Ok-make_guest-clause-symbols
+returns-in-Ok-make_guest-clause-symbols g c =
+    let at = (goal.at.returns-in-Ok-make_guest-clause-symbols g c).After-make_guest in
+    let name = c.args.options.now.program.now in
+    let b = (g.S.Shelf.outside c.read_schedule.new.shelf).held in
+    let given = c.in-Ok-read_judged.ensures.given in
+    told_map b (λ files is. rw c.in-Ok-make_guest.ensures.symbols
+    (given.given.symbols ∙ ap symbol_records is))
+    (told_still (λ files. given.bytes ≡ content files name)
+    (g.S.Shelf.outside c.read_judged.new.shelf).held b (still_last g at) given.whole)
