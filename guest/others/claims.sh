@@ -70,6 +70,12 @@ holds() {
     told "$1" $?
 }
 
+# whole WHAT PATTERN: each line of what the last program put out is as the pattern says.
+whole() {
+    ! grep -q -v -x -E -e "$2" put
+    told "$1" $?
+}
+
 # viewed WHAT STATUS TEXT [WORD ..] PROGRAM: `predator view run` of it ends so, and its screen has this text.
 viewed() {
     local what=$1 wanted=$2 text=$3
@@ -438,7 +444,7 @@ claim_deadlocks() {
     ran "deadlocks: valgrind's pth_spinlock with eight harts" deadlock.elf deadlock "each of the 8 harts is in use"
 }
 
-# What atexit was given, failed assertions, and errno.
+# What atexit was given, lines of many threads, failed assertions, and errno.
 claim_ends() {
     local tests=$fetched/gnulib/tests words
     words=(-w -D_GL_UNUSED= -I . -I "$tests" -idirafter "$fetched/gnulib/lib")
@@ -446,6 +452,10 @@ claim_ends() {
     # (it is to end by a signal, which is the 30th here)
     built "ends: glibc's tst-basic3 is built" "$cc" $lines "${glibc_words[@]}" "$glibc/sysdeps/pthread/tst-basic3.c" glibc.a -o tst-basic3.elf
     MORE="harts = 24" ran "ends: glibc's tst-basic3 calls what atexit was given" tst-basic3.elf 158 "final_test has been called"
+    holds "lines: each of glibc's 21 threads puts out one" " left" 21
+    whole "lines: glibc's are whole" "starting 20 \+ 1 threads|[ 0-9]{2} left|final_test has been called"
+    valgrind lines helgrind/tests/pth_mempcpy_false_races "Thread 3: 99"
+    whole "lines: valgrind's are whole" "Thread [123]: [0-9]+"
     # (what it does there is to remove a file)
     sed 's/unlink (TEMPFILE)/puts (TEMPFILE)/' "$tests/test-atexit.c" >test-atexit.c
     built "ends: gnulib's test-atexit is built" "$cc" $lines "${words[@]}" -include stdio.h test-atexit.c -o test-atexit.elf
