@@ -209,6 +209,18 @@ done
 builds "the same where nobody calls it, by build.sh" "$build" can.elf can.c -- -w
 builds "the same where nobody calls it, in C++" "$cxx" -w -x c++ -fpermissive can.c -o can.elf
 
+# Constants that stand beside such calls: one that tells that there is something to be had is no macro.
+cat >constants.c <<'C'
+#include <pthread.h>
+#if defined PTHREAD_MUTEX_ROBUST || defined PTHREAD_PRIO_INHERIT || defined PTHREAD_PRIO_PROTECT
+#error "they aren't there"
+#endif
+const int robust[] = {PTHREAD_MUTEX_STALLED, PTHREAD_MUTEX_ROBUST};
+const int kinds[] = {PTHREAD_PRIO_NONE, PTHREAD_PRIO_INHERIT, PTHREAD_PRIO_PROTECT, PTHREAD_MUTEX_RECURSIVE_NP, PTHREAD_MUTEX_ERRORCHECK_NP};
+void *const canceled = PTHREAD_CANCELED;
+C
+builds "constants of what can't be had" "$cc" -Wall -Werror -c constants.c -o constants.o
+
 # Each marked name may be named where nobody calls it; and where a program wants it, the linker's line has a reason.
 names=$(grep -rhoE '[ *][a-z_0-9]+\(.*\) PREDATOR_NO_[A-Z]+;' "$here/include" | sed -E 's/^[ *]([a-z_0-9]+)\(.*/\1/' | LC_ALL=C sort -u)
 {

@@ -784,15 +784,19 @@ int pthread_attr_setaffinity_np(pthread_attr_t *attr, size_t size, const cpu_set
     return 0;
 }
 
+static int concurrency;
+
 int pthread_setconcurrency(int level)
 {
-    (void)level;
+    if (level < 0)
+        return EINVAL;
+    concurrency = level;
     return 0;
 }
 
 int pthread_getconcurrency(void)
 {
-    return 0;
+    return concurrency;
 }
 
 int pthread_setschedparam(pthread_t thread, int policy, const struct sched_param *param)

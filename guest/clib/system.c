@@ -1,6 +1,5 @@
 // What the C library asks of a system, and where a program with it begins and ends.
 #include <errno.h>
-#include <signal.h>
 #include <stdint.h>
 #include <stdlib.h>
 #include <sys/types.h>
@@ -57,17 +56,10 @@ _Noreturn void abort(void)
     predator_exit_group(134);
 }
 
-// There is one process. A signal that it raises, and doesn't handle, ends the run in the same way.
+// There is one process.
 pid_t getpid(void)
 {
     return 1;
-}
-
-int kill(pid_t process, int signal)
-{
-    if (process == getpid() && signal != 0)
-        predator_exit_group(128 + signal);
-    return process == getpid() ? 0 : (errno = ESRCH, -1);
 }
 
 ssize_t write(int file, const void *bytes, size_t count)

@@ -80,6 +80,7 @@ int pthread_attr_setaffinity_np(pthread_attr_t *attr, size_t size, const cpu_set
 #define PTHREAD_MUTEX_RECURSIVE 1
 #define PTHREAD_MUTEX_ERRORCHECK 2
 #define PTHREAD_MUTEX_DEFAULT PTHREAD_MUTEX_NORMAL
+enum { PTHREAD_MUTEX_RECURSIVE_NP = PTHREAD_MUTEX_RECURSIVE, PTHREAD_MUTEX_ERRORCHECK_NP = PTHREAD_MUTEX_ERRORCHECK };
 #define PTHREAD_PROCESS_PRIVATE 0
 #define PTHREAD_PROCESS_SHARED 1
 
@@ -248,10 +249,14 @@ int pthread_condattr_getclock(const pthread_condattr_t *attr, clockid_t *clock);
 
 // ---- what can't be had
 
+// (constants that programs name beside them; those of an enum are no macros, so that `#ifdef` says that they aren't there)
+#define PTHREAD_CANCELED ((void *)-1)
 #define PTHREAD_CANCEL_ENABLE 0
 #define PTHREAD_CANCEL_DISABLE 1
 #define PTHREAD_CANCEL_DEFERRED 0
 #define PTHREAD_CANCEL_ASYNCHRONOUS 1
+enum { PTHREAD_MUTEX_STALLED, PTHREAD_MUTEX_ROBUST };
+enum { PTHREAD_PRIO_NONE, PTHREAD_PRIO_INHERIT, PTHREAD_PRIO_PROTECT };
 
 int pthread_cancel(pthread_t thread) PREDATOR_NO_CANCEL;
 int pthread_setcancelstate(int state, int *old) PREDATOR_NO_CANCEL;

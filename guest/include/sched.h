@@ -32,6 +32,15 @@ typedef struct {
 #define CPU_CLR(hart, set) ((void)((set)->bits[(hart) / 32 % 8] &= ~(1u << (hart) % 32)))
 #define CPU_ISSET(hart, set) ((int)((set)->bits[(hart) / 32 % 8] >> (hart) % 32 & 1))
 
+static inline int predator_count_harts(const cpu_set_t *set)
+{
+    int harts = 0;
+    for (int hart = 0; hart < CPU_SETSIZE; hart++)
+        harts += CPU_ISSET(hart, set);
+    return harts;
+}
+#define CPU_COUNT(set) predator_count_harts(set)
+
 // The number of the hart that asks.
 int sched_getcpu(void);
 

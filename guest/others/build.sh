@@ -101,12 +101,16 @@ build_sqlite() {
 
 # NAME FLAGS ..: DPDK's ring over its port to RISC-V, with what its build says of that (config/riscv/meson.build).
 rte_ring() {
-    local name=$1 dpdk=$fetched/dpdk made=$out/$1.headers it words=(-w)
+    local name=$1 dpdk=$fetched/dpdk made=$out/$1.headers it words=(-w) source=$here/rte_ring.c
     shift
     rm -rf "$made"
     cp -r "$dpdk/lib/ring" "$made"
+    # (both sides for many threads, with indices of 8 bytes)
+    if [ "$name" = rte_ring-hts ]; then
+        sed 's/RING_F_SP_ENQ/RING_F_MP_HTS_ENQ/; s/RING_F_SC_DEQ/RING_F_MC_HTS_DEQ/; s/rte_ring_s[pc]_/rte_ring_/' "$source" >"$made/hts.c"
+        source=$made/hts.c
     # (indices of both sides side by side, which the source checks against)
-    if [ "$name" != rte_ring ]; then
+    elif [ "$name" != rte_ring ]; then
         sed -i '/^struct rte_ring {$/,/^};$/{/pad[012]/d;s/} *__rte_cache_aligned;/};/}' "$made/rte_ring_core.h"
         sed -i '/^\tRTE_BUILD_BUG_ON((offsetof/,/;$/d' "$made/rte_ring.c"
     fi
@@ -117,7 +121,7 @@ rte_ring() {
     for it in "$made" "$dpdk/config" "$dpdk"/lib/eal/{riscv/include,linux/include,include,common} "$dpdk"/lib/{log,kvargs,telemetry}; do
         words+=(-I "$it")
     done
-    "$cc" "$lines" "${words[@]}" -DALLOW_EXPERIMENTAL_API -include rte_config.h "$@" "$here/rte_ring.c" "$made/rte_ring.c" \
+    "$cc" "$lines" "${words[@]}" -DALLOW_EXPERIMENTAL_API -include rte_config.h "$@" "$source" "$made/rte_ring.c" \
         -o "$out/$name.elf"
     rm -rf "$made"
 }
@@ -126,6 +130,7 @@ build_rte_ring() {
     rte_ring rte_ring
     rte_ring rte_ring-together
     rte_ring rte_ring-together-at-24 -DPLACE=24
+    rte_ring rte_ring-hts
 }
 
 # liburcu's own benchmark, by its configure: six readers and one that waits for them, for a second of 500,000 steps.

@@ -1,10 +1,13 @@
 #!/usr/bin/env bash
 # Tries what guest/README.md says of the kit on code that nobody here wrote, each claim on two code bases or more:
 #
-#     claims.sh [CLAIM ..]       mmap, sbrk, cxx, harts, clock, words, refusals, threads, configure and cmake, or those that are named
+#     claims.sh [CLAIM ..]       all of those that stand at the end of this file, or those that are named
 #
 # fetch.sh has fetched the sources, and build.sh has built the studies. What is built here goes to out/claims/. The last line is
 # `N passed, M failed`, and the status is 0 exactly if nothing failed.
+#
+# A test of glibc's or valgrind's is compiled as it stands. Of glibc's the kit has to have what a test asks of the system alone: its checks are
+# those of glibc's support/, and claims/glibc.c stands in place of the driver.
 set -u
 here=$(cd "$(dirname "$(readlink -f "$0")")" && pwd)
 cc=$here/../cc
@@ -15,8 +18,12 @@ allocators=$here/../allocators/fetched
 studies=$here/out
 out=$here/out/claims
 lines=-gline-tables-only
+glibc=$fetched/glibc
+valgrind=$fetched/valgrind
 tools=(AUTOMAKE=: AUTOCONF=: ACLOCAL=: AUTOHEADER=:)
 mkdir -p "$out" && cd "$out" || exit 1
+# (gnulib's sources and valgrind's ask for one, which their configure would make)
+: >config.h
 passed=0 failed=0
 
 # told WHAT STATUS: counts it, and says what was said where the status isn't 0.
@@ -44,14 +51,38 @@ refused() {
     told "$what" $?
 }
 
-# ran WHAT PROGRAM CODE LINE [WORD ..]: it ends by exit with this code, and puts out a line that has this text. `put` is all that it put out.
+# ran WHAT PROGRAM END LINE [WORD ..]: it ends by exit with this code, or as a deadlock, and puts out a line that has this text. `put` is all
+# that it put out.
 ran() {
-    local what=$1 elf=$2 code=$3 line=$4
+    local what=$1 elf=$2 end="exit $3" line=$4
+    [ "$3" != deadlock ] || end=deadlock
     shift 4
     : >put
     printf 'quantum = 10\nmemory = 67108864\n%s' "${MORE:-}" >settings
     "$predator" run --settings settings --output put "$elf" "$@" >said 2>&1
-    grep -q -x "outcome exit $code" said && { [ -z "$line" ] || grep -q -F -e "$line" put; }
+    grep -q -x "outcome $end" said && { [ -z "$line" ] || grep -q -F -e "$line" put; }
+    told "$what" $?
+}
+
+# holds WHAT TEXT COUNT: so many lines of what the last program put out have this text.
+holds() {
+    [ "$(grep -c -F -e "$2" put)" = "$3" ]
+    told "$1" $?
+}
+
+# whole WHAT PATTERN: each line of what the last program put out is as the pattern says.
+whole() {
+    ! grep -q -v -x -E -e "$2" put
+    told "$1" $?
+}
+
+# viewed WHAT STATUS TEXT [WORD ..] PROGRAM: `predator view run` of it ends so, and its screen has this text.
+viewed() {
+    local what=$1 wanted=$2 text=$3
+    shift 3
+    printf 'quantum = 10\nmemory = 67108864\n' >settings
+    "$predator" view run --settings settings "$@" >said 2>&1
+    [ $? = "$wanted" ] && grep -q -F -e "$text" said
     told "$what" $?
 }
 
@@ -61,6 +92,50 @@ as_native() {
     shift
     c++ -pthread -w "$@" -o native >said 2>&1 && ./native >wanted && cmp put wanted >said 2>&1
     told "$what" $?
+}
+
+# What a test of glibc's wants beside itself. (Names of glibc's that mean nothing to another compiler, or no more than others do, are words here,
+# and so are headers that have nothing which is wanted.)
+glibc_words=(-O1 -w -D_GNU_SOURCE -D__attr_dealloc_free= "-D__attr_dealloc(a,b)=" -D__returns_nonnull= "-D__attribute_alloc_size__(a)="
+    "-D__attribute_alloc_align__(a)=" -Doff64_t=off_t -Dloff_t=off_t "-DTEMP_FAILURE_RETRY(call)=(call)" -I glibc-headers -I "$glibc"
+    -I "$glibc/support" -idirafter "$fetched/gnulib/lib")
+
+glibc_checks() {
+    local it
+    [ ! -f glibc.a ] || return
+    rm -rf glibc-headers glibc-objects && mkdir glibc-headers glibc-objects
+    : >glibc-headers/features.h && : >glibc-headers/config.h
+    echo 'void error(int, int, const char *, ...);' >glibc-headers/error.h
+    cp "$glibc/include/libc-diag.h" glibc-headers/
+    for it in check delayed_exit support_{record_failure,test_compare_failure,test_verify_impl} write_message \
+        xpthread_{check_return,create,detach,join,sigmask,spin_lock}; do
+        built "glibc: $it of its checks" "$cc" -c $lines "${glibc_words[@]}" "$glibc/support/$it.c" -o "glibc-objects/$it.o"
+    done
+    built "glibc: what calls a test" "$cc" -c $lines "${glibc_words[@]}" "$here/claims/glibc.c" -o glibc-objects/glibc.o
+    llvm-ar rc glibc.a glibc-objects/*.o
+}
+
+# glibc WHAT TEST ..: tests of glibc's, which fail by their status; up to 100 threads, and a second is 10,000 steps.
+glibc() {
+    local what=$1 it
+    shift
+    glibc_checks
+    for it; do
+        built "$what: glibc's ${it##*/} is built" env STEP_TIME=100000 "$cc" $lines "${glibc_words[@]}" "$glibc/$it.c" glibc.a -o "${it##*/}.elf"
+        MORE="harts = 128" ran "$what: glibc's ${it##*/}" "${it##*/}.elf" 0 ""
+    done
+}
+
+# valgrind WHAT TEST LINE [WORD ..]: a program that valgrind's tests look at, which puts out this line; the words are the compiler's.
+valgrind() {
+    local what=$1 it=$2 line=$3 name=${2##*/} source=$valgrind/$2.c
+    shift 3
+    # (alarms can't be had, and here one is but for a program that hangs; fopen is there to set an error, and so is what stands for it)
+    sed -e 's/^  alarm(60);$//' -e 's/fopen(\(".*"\), "r")/(errno = \1[5], NULL)/' "$source" >"$name.c"
+    cmp -s "$source" "$name.c" || source=$name.c
+    built "$what: valgrind's $name is built" env STEP_TIME=100000 "$cc" $lines -O1 -w -I . -I "$valgrind" "$@" \
+        "$source" -o "$name.elf"
+    MORE="harts = 128" ran "$what: valgrind's $name" "$name.elf" 0 "$line"
 }
 
 claim_cxx() {
@@ -89,6 +164,12 @@ claim_sbrk() {
     built "sbrk: dlmalloc is built" "$cc" $lines -w -DMALLOC=dlmalloc -DREALLOC=dlrealloc -DFREE=dlfree -DUSE_DL_PREFIX -DUSE_LOCKS \
         "$here/claims/blocks.c" "$allocators/dlmalloc/src/dlmalloc.c" -o dlmalloc.elf
     ran "sbrk: dlmalloc runs" dlmalloc.elf 0 whole
+    # (in place of the kit's, as bash's is)
+    built "sbrk: dlmalloc as malloc is built" "$cc" $lines -w -DUSE_LOCKS "$here/claims/blocks.c" "$allocators/dlmalloc/src/dlmalloc.c" \
+        -o dlmalloc-own.elf
+    ran "sbrk: dlmalloc as malloc runs" dlmalloc-own.elf 0 whole
+    ! llvm-nm dlmalloc-own.elf | grep -q predator_keeps_sizes
+    told "sbrk: dlmalloc as malloc has the kit's place" $?
     bash_malloc sbrk
 }
 
@@ -146,16 +227,267 @@ claim_words() {
 
 # What reads files is refused where it is called, with the reason; and at run time where the build says so.
 claim_refusals() {
-    local no="there are no files but an empty stdin, stdout and stderr"
+    local no="there are no files but an empty stdin, stdout and stderr" what test why
     refused "refusals: pugixml's files" "$no" "$cxx" -c -DPUGIXML_NO_STL -DPUGIXML_NO_EXCEPTIONS -I "$fetched/pugixml/src" \
         "$fetched/pugixml/src/pugixml.cpp" -o no.o
     refused "refusals: TinyXML-2's files" "$no" "$cxx" -c -DANDROID_NDK -I "$fetched/tinyxml2" "$fetched/tinyxml2/tinyxml2.cpp" -o no.o
+    glibc_checks
+    while IFS='|' read -r what test why; do
+        refused "refusals: $what, in glibc's ${test##*/}" "$why" "$cc" -c "${glibc_words[@]}" "$glibc/$test.c" -o no.o
+    done <<'END'
+cancellation|sysdeps/pthread/tst-cancel1|a hart can't be ended by another one: let the thread look at a flag
+signals of others|sysdeps/pthread/tst-kill1|there are no signals: harts meet by mutexes and condition variables
+alarms|sysdeps/pthread/tst-sem6|nothing comes by itself after a time: let a thread look at the clock
+a stack of one's own|sysdeps/pthread/tst-stack1|each hart has the stack of the settings
+priorities|sysdeps/pthread/tst-cond-except|harts have no priorities: a schedule says who runs
+other processes|sysdeps/pthread/tst-fork1|there is one process, and no other
+files|sysdeps/pthread/tst-mutex4|there are no files but an empty stdin, stdout and stderr
+END
+    mkdir -p valgrind-headers/sys && : >valgrind-headers/sys/syscall.h
+    # (what a signal is told beside its number isn't in the C library's header)
+    local words=(-O1 -w -Dsa_sigaction=sa_handler -DSIGRTMAX=31 -I valgrind-headers -I . -I "$valgrind")
+    while IFS='|' read -r what test why; do
+        refused "refusals: $what, in valgrind's ${test##*/}" "$why" "$cc" -c "${words[@]}" "$valgrind/$test.c" -o no.o
+    done <<'END'
+cancellation|none/tests/pth_cancel2|a hart can't be ended by another one: let the thread look at a flag
+signals of others|none/tests/pth_self_kill|there are no signals: harts meet by mutexes and condition variables
+alarms|drd/tests/pth_broadcast|nothing comes by itself after a time: let a thread look at the clock
+a stack of one's own|helgrind/tests/stackteardown|each hart has the stack of the settings
+priorities|drd/tests/pth_mutex_signal|harts have no priorities: a schedule says who runs
+other processes|none/tests/pth_term_signal|there is one process, and no other
+files|none/tests/threadederrno|there are no files but an empty stdin, stdout and stderr
+END
+    built "refusals: glibc's tst-cancel1 for a run" "$cc" $lines "${glibc_words[@]}" -DPREDATOR_REFUSE_AT_RUN \
+        "$glibc/sysdeps/pthread/tst-cancel1.c" glibc.a -o cancel1.elf
+    ran "refusals: glibc's tst-cancel1 as it runs" cancel1.elf 134 "can't be had: a hart can't be ended by another one"
+    built "refusals: valgrind's pth_cancel_locked for a run" "$cc" $lines "${words[@]}" -DPREDATOR_REFUSE_AT_RUN \
+        "$valgrind/drd/tests/pth_cancel_locked.c" -o pth_cancel_locked.elf
+    ran "refusals: valgrind's pth_cancel_locked as it runs" pth_cancel_locked.elf 134 "can't be had: a hart can't be ended by another one"
+}
+
+claim_barriers() {
+    glibc barriers sysdeps/pthread/tst-{barrier3,barrier4}
+    valgrind barriers helgrind/tests/bar_trivial "x = 2"
+    valgrind barriers drd/tests/pth_barrier_thr_cr "Done."
+}
+
+claim_cleanup() {
+    glibc "cleanup handlers" sysdeps/pthread/tst-cleanup3
+    valgrind "cleanup handlers" drd/tests/pth_cleanup_handler "Test succeeded."
+    holds "cleanup handlers: both of valgrind's threads call theirs" "Cleanup handler has been called." 2
+}
+
+claim_once() {
+    glibc once sysdeps/pthread/tst-{once1,once2}
+    valgrind once none/tests/pth_once "main: Goodbye"
+}
+
+claim_spin() {
+    glibc "spin locks" sysdeps/pthread/tst-{spin3,spin4}
+    valgrind "spin locks" drd/tests/pth_spinlock "Test successful."
+}
+
+claim_semaphores() {
+    glibc semaphores sysdeps/pthread/tst-{sem1,sem14,sem15}
+    valgrind semaphores drd/tests/pth_detached_sem "Done."
+}
+
+claim_c11() {
+    glibc threads.h sysdeps/pthread/tst-{call-once,cnd-basic,cnd-broadcast,mtx-basic,mtx-recursive,mtx-trylock,thrd-detach,tss-basic}
+}
+
+# Mutexes that know their holder.
+claim_kinds() {
+    glibc "kinds of mutexes" sysdeps/pthread/tst-{mutex-errorcheck,mutex2,pthread-mutexattr}
+    valgrind "kinds of mutexes" drd/tests/recursive_mutex "Done." \
+        -DHAVE_PTHREAD_{RECURSIVE_MUTEX_INITIALIZER,MUTEX_RECURSIVE,MUTEX_ERRORCHECK}_NP
+    holds "kinds of mutexes: valgrind's checking one and its plain one are locked once" "second lock call failed !" 2
+}
+
+# Detached threads, hundreds in all, whose harts come free; and attributes that have no effect.
+claim_detached() {
+    local it
+    for it in detach1 thrd-detach; do
+        glibc "detached threads" "sysdeps/pthread/tst-$it"
+        ran "detached threads: glibc's tst-$it, forty times with eight harts" "tst-$it.elf" 0 "" -- 40
+    done
+    valgrind "detached threads" drd/tests/pth_detached "Done."
+    glibc attributes sysdeps/pthread/tst-{basic5,join4}
+    valgrind attributes drd/tests/rwlock_test "Finished."
+}
+
+claim_timed() {
+    glibc "waits for a time" sysdeps/pthread/tst-{mtx-timedlock,cnd-timedwait,thrd-sleep}
+    valgrind "waits for a time" drd/tests/trylock "Locking mutex via pthread_mutex_timedlock()."
+}
+
+# The number of processors, by sysconf and by sets of harts.
+claim_processors() {
+    local words=(-w -DGNULIB -include stdbool.h -D_GL_INLINE_HEADER_BEGIN= -D_GL_INLINE_HEADER_END= "-DC_CTYPE_INLINE=static inline" -I .)
+    words+=(-idirafter "$fetched/gnulib/lib" "$here/claims/harts.c" "$fetched/gnulib/lib/nproc.c")
+    built "processors: gnulib's nproc by sysconf is built" "$cc" $lines "${words[@]}" -o nproc.elf
+    MORE="harts = 12" ran "processors: gnulib's nproc by sysconf" nproc.elf 0 "12 harts"
+    built "processors: gnulib's nproc by a set is built" "$cc" $lines "${words[@]}" -DHAVE_SCHED_GETAFFINITY_LIKE_GLIBC=1 -o nproc-set.elf
+    MORE="harts = 12" ran "processors: gnulib's nproc by a set" nproc-set.elf 0 "12 harts"
+    xz_all
+    grep -q "define TUKLIB_CPUCORES_SCHED_GETAFFINITY 1" xz-configure/config.h
+    told "processors: xz's configure finds sets of harts" $?
+    built "processors: liblzma's count is built" "$cc" $lines -I "$fetched/xz/src/liblzma/api" "$here/claims/harts.c" \
+        xz-configure/src/liblzma/.libs/liblzma.a -o cputhreads.elf
+    MORE="harts = 12" ran "processors: liblzma's count" cputhreads.elf 0 "12 harts"
+}
+
+# pthread.h alone, without the C library's package.
+claim_bare() {
+    local it
+    for it in valgrind/helgrind/tests/hg02_deadlock valgrind/drd/tests/pth_barrier_reinit glibc/nptl/test-rwlock-printers; do
+        built "bare: ${it%%/*}'s ${it##*/} is built" env PICOLIBC=/nowhere "$here/../build.sh" "${it##*/}.elf" "$fetched/$it.c" -- $lines -w
+        ran "bare: ${it%%/*}'s ${it##*/}" "${it##*/}.elf" 0 ""
+    done
+}
+
+# A variable that is put apart, by a word before it: NAME is 256 bytes and more from any other.
+alone() {
+    local what=$1 elf=$2 name=$3
+    shift 3
+    built "$what is built" "$cc" $lines -w "$@" -o "$elf"
+    llvm-nm -n --radix=d "$elf" | awk -v name="$name" '
+        $2 ~ /[bBdD]/ { if ($3 == name || was == name) near += $1 - at < 256; seen += $3 == name; at = $1; was = $3 }
+        END { exit !seen || near }'
+    told "$what lies apart" $?
+}
+
+claim_alone() {
+    local tests=$fetched/gnulib/tests
+    sed 's/^static pthread_spinlock_t s_spinlock;/ALONE &/' "$valgrind/drd/tests/pth_spinlock.c" >alone-valgrind.c
+    alone "alone: valgrind's s_spinlock" alone-valgrind.elf s_spinlock -include "$here/../predator.h" -I . -I "$valgrind" alone-valgrind.c
+    MORE="harts = 24" ran "alone: valgrind's pth_spinlock" alone-valgrind.elf 0 "Test successful."
+    sed -e 's/^static pthread_spinlock_t my_lock;/ALONE &/' -e 's/^#define REPEAT_COUNT .*/#define REPEAT_COUNT 100/' \
+        "$tests/test-pthread-spin.c" >alone-gnulib.c
+    alone "alone: gnulib's my_lock" alone-gnulib.elf my_lock -include "$here/../predator.h" -include errno.h -DUSE_POSIX_THREADS=1 \
+        -DHAVE_SEMAPHORE_H=1 -I . -I "$tests" -idirafter "$fetched/gnulib/lib" alone-gnulib.c
+    MORE="harts = 24" ran "alone: gnulib's test-pthread-spin" alone-gnulib.elf 0 ""
+}
+
+# Atomic variables of 8 bytes.
+claim_wide() {
+    local it
+    rm -rf ck && cp -r "$fetched/ck" ck
+    built "8 bytes: Concurrency Kit's configure" bash -c "cd ck && ./configure --platform=unknown --use-cc-builtins --disable-double \
+        --without-pic"
+    for it in cas faa; do
+        built "8 bytes: Concurrency Kit's ck_pr_$it is built" make -s -C ck/regressions/ck_pr/validate CC="$cc" \
+            PTHREAD_CFLAGS="-pthread $lines -DR_REPEAT=2000" "ck_pr_$it"
+        ran "8 bytes: Concurrency Kit's ck_pr_$it" "ck/regressions/ck_pr/validate/ck_pr_$it" 0 "ck_pr_${it}_64"
+        llvm-nm "ck/regressions/ck_pr/validate/ck_pr_$it" | grep -q "__atomic_.*_8$"
+        told "8 bytes: Concurrency Kit's ck_pr_$it has the kit's" $?
+    done
+    ran "8 bytes: DPDK's ring for many on both sides" "$studies/rte_ring-hts.elf" 0 1999000
+    llvm-nm "$studies/rte_ring-hts.elf" | grep -q "__atomic_.*_8$"
+    told "8 bytes: DPDK's ring has the kit's" $?
+}
+
+# Accesses at no multiple of their size, which are traps; as bytes, by memcpy or packed, they are none.
+claim_places() {
+    local it words=(-I "$fetched/zstd/lib/common" -DXXH_FORCE_ALIGN_CHECK=0 "$here/claims/xxhash.c")
+    built "places: valgrind's tc19_shadowmem is built" "$cc" $lines -O1 -w -I "$valgrind" -I "$valgrind/include" \
+        "$valgrind/helgrind/tests/tc19_shadowmem.c" -o shadowmem.elf
+    viewed "places: valgrind's tc19_shadowmem is stopped, and its line told" 3 "tc19_shadowmem.c:" --fail-above 1000000 shadowmem.elf
+    for it in 0 1; do
+        built "places: zstd's xxHash of kind $it is built" "$cc" $lines "-DXXH_FORCE_MEMORY_ACCESS=$it" "${words[@]}" -o xxhash.elf
+        ran "places: zstd's xxHash of kind $it" xxhash.elf 0 "3 "
+        as_native "places: zstd's xxHash of kind $it does what it does here" "${words[@]}"
+    done
+    built "places: zstd's xxHash by casts is built" "$cc" $lines -DXXH_FORCE_MEMORY_ACCESS=2 "${words[@]}" -o xxhash.elf
+    viewed "places: zstd's xxHash by casts is stopped, and its line told" 3 "xxhash.h:" --fail-above 1000000 xxhash.elf
+}
+
+# A build's test of sharing.
+claim_sharing() {
+    viewed "sharing: kt_for is above 100" 1 "" --fail-above 100 "$studies/kt_for.elf"
+    viewed "sharing: kt_for by blocks isn't" 0 "" --fail-above 100 "$studies/kt_for-blocks.elf"
+    viewed "sharing: Concurrency Kit's lock is above 100" 1 "" --fail-above 100 "$studies/ck_anderson.elf"
+    viewed "sharing: Concurrency Kit's lock with slots apart isn't" 0 "" --fail-above 100 "$studies/ck_anderson-apart.elf"
+}
+
+# A free of what is no block, by programs that mean it.
+claim_free() {
+    local it no="free: no block begins there"
+    glibc_checks
+    for it in tcfree1 tcfree2; do
+        built "free: glibc's tst-$it is built" "$cc" $lines "${glibc_words[@]}" "$glibc/malloc/tst-$it.c" glibc.a -o "tst-$it.elf"
+        ran "free: glibc's tst-$it ends" "tst-$it.elf" 134 "$no"
+    done
+    for it in doublefree malloc2; do
+        built "free: valgrind's $it is built" "$cc" $lines -O0 -w "$valgrind/memcheck/tests/$it.c" -o "$it.elf"
+        ran "free: valgrind's $it ends" "$it.elf" 134 "$no"
+    done
+}
+
+# Signals of the program's own, and how a program ends.
+claim_signals() {
+    local it tests=$fetched/gnulib/tests
+    glibc signals signal/tst-{signal,raise}
+    for it in raise sigaction; do
+        built "signals: gnulib's test-$it is built" "$cc" $lines -w -D_GL_UNUSED= -I . -I "$tests" -idirafter "$fetched/gnulib/lib" \
+            "$tests/test-$it.c" -o "test-$it.elf"
+        ran "signals: gnulib's test-$it" "test-$it.elf" 0 ""
+    done
+}
+
+# Waits that nobody ends. (The lock is the caller's own; and the barrier is for ten threads.)
+claim_deadlocks() {
+    glibc_checks
+    built "deadlocks: glibc's tst-rwlock3 is built" "$cc" $lines "${glibc_words[@]}" "$glibc/nptl/tst-rwlock3.c" glibc.a -o tst-rwlock3.elf
+    ran "deadlocks: glibc's tst-rwlock3" tst-rwlock3.elf deadlock "rwlock_trywrlock on unlocked rwlock succeeded"
+    built "deadlocks: valgrind's pth_spinlock is built" "$cc" $lines -w -I . -I "$valgrind" "$valgrind/drd/tests/pth_spinlock.c" -o deadlock.elf
+    ran "deadlocks: valgrind's pth_spinlock with eight harts" deadlock.elf deadlock "each of the 8 harts is in use"
+}
+
+# What atexit was given, lines of many threads, failed assertions, and errno.
+claim_ends() {
+    local tests=$fetched/gnulib/tests words
+    words=(-w -D_GL_UNUSED= -I . -I "$tests" -idirafter "$fetched/gnulib/lib")
+    glibc "ends: exit by another thread" sysdeps/pthread/tst-exit1
+    # (it is to end by a signal, which is the 30th here)
+    built "ends: glibc's tst-basic3 is built" "$cc" $lines "${glibc_words[@]}" "$glibc/sysdeps/pthread/tst-basic3.c" glibc.a -o tst-basic3.elf
+    MORE="harts = 24" ran "ends: glibc's tst-basic3 calls what atexit was given" tst-basic3.elf 158 "final_test has been called"
+    holds "lines: each of glibc's 21 threads puts out one" " left" 21
+    whole "lines: glibc's are whole" "starting 20 \+ 1 threads|[ 0-9]{2} left|final_test has been called"
+    valgrind lines helgrind/tests/pth_mempcpy_false_races "Thread 3: 99"
+    whole "lines: valgrind's are whole" "Thread [123]: [0-9]+"
+    # (what it does there is to remove a file)
+    sed 's/unlink (TEMPFILE)/puts (TEMPFILE)/' "$tests/test-atexit.c" >test-atexit.c
+    built "ends: gnulib's test-atexit is built" "$cc" $lines "${words[@]}" -include stdio.h test-atexit.c -o test-atexit.elf
+    ran "ends: gnulib's test-atexit calls what atexit was given" test-atexit.elf 7 "t-atexit.tmp" -- 7
+    # (asserts that it has room for its threads, and here it hasn't)
+    built "ends: gnulib's test-pthread-spin is built" "$cc" $lines "${words[@]}" -DUSE_POSIX_THREADS=1 -DHAVE_SEMAPHORE_H=1 -include errno.h \
+        "$tests/test-pthread-spin.c" -o assert-spin.elf
+    MORE="harts = 2" ran "ends: gnulib's test-pthread-spin aborts with two harts" assert-spin.elf 134 "assertion 'pthread_create"
+    # (asserts that it gets memory to be executed)
+    built "ends: valgrind's custom_alloc is built" "$cc" $lines -w -I "$valgrind" -I "$valgrind/include" "$valgrind/drd/tests/custom_alloc.c" \
+        -o custom_alloc.elf
+    ran "ends: valgrind's custom_alloc fails its assertion" custom_alloc.elf 134 'assertion "p != ((void*)(-1))" failed'
+    built "errno of each hart: dlmalloc is built" "$cc" $lines -w -DUSE_DL_PREFIX -DUSE_LOCKS "$here/claims/errno.c" \
+        "$allocators/dlmalloc/src/dlmalloc.c" -o errno.elf
+    ran "errno of each hart: dlmalloc" errno.elf 0 "wrong 0"
+    valgrind "errno of each hart" none/tests/threadederrno "errno  = 50" -include errno.h
+    holds "errno of each hart: valgrind's other thread has its own" "errno  = 51" 1
+    holds "errno of each hart: valgrind's first thread has its own" "errno  = 0" 1
+}
+
+# An empty stdin.
+claim_files() {
+    xz_all
+    ran "files: xzdec finds no input" xz-configure/src/xzdec/xzdec 1 "(stdin): Unexpected end of input"
+    glibc_checks
+    built "files: glibc's tst-ferror is built" "$cc" $lines "${glibc_words[@]}" "$glibc/stdio-common/tst-ferror.c" glibc.a -o tst-ferror.elf
+    ran "files: glibc's tst-ferror finds no input" tst-ferror.elf 1 "fgets with existing input has problem"
 }
 
 # gnulib's tests of what pthread.h and threads.h have, up to eleven threads at once, each with fewer rounds.
 claim_threads() {
     local it tests=$fetched/gnulib/tests kind
-    : >config.h
     # (a time of a second or two is 10,000 steps of these)
     export STEP_TIME=100000
     for it in pthread-{mutex,cond,rwlock,spin,once1,once2,tss,thread} call_once cnd tss thrd_create thrd_current thread_local; do
@@ -169,15 +501,24 @@ claim_threads() {
     unset STEP_TIME
 }
 
-claim_configure() {
+# All of xz, by its configure.
+xz_all() {
     local made=$out/xz-configure
-    liburcu
-    ran "configure: liburcu's test_rwlock" urcu/tests/benchmark/test_rwlock 0 "SUMMARY" -- 4 1 1
-    ran "configure: liburcu's test_mutex" urcu/tests/benchmark/test_mutex 0 "SUMMARY" -- 4 1 1
+    [ ! -x "$made/src/xz/xz" ] || return
     rm -rf "$made" && mkdir "$made"
     built "configure: xz" bash -c 'cd "$1" && "$2/xz/configure" -q CC="$3" CFLAGS="-O1 $4 -DPREDATOR_REFUSE_AT_RUN" --host=riscv32 \
         --disable-shared --disable-nls' all "$made" "$fetched" "$cc" $lines
     built "make: all of xz" make -s -C "$made" "${tools[@]}" LDFLAGS=
+}
+
+claim_configure() {
+    local made=$out/xz-configure
+    liburcu
+    refused "no shared libraries: of minimap2's kthread.c" "there are no shared libraries" "$cc" -shared "$fetched/minimap2/kthread.c" -o no.so
+    refused "no shared libraries: of zstd's xxhash.c" "there are no shared libraries" "$cc" -shared "$fetched/zstd/lib/common/xxhash.c" -o no.so
+    ran "configure: liburcu's test_rwlock" urcu/tests/benchmark/test_rwlock 0 "SUMMARY" -- 4 1 1
+    ran "configure: liburcu's test_mutex" urcu/tests/benchmark/test_mutex 0 "SUMMARY" -- 4 1 1
+    xz_all
     ran "make: xzdec tells its version" "$made/src/xzdec/xzdec" 0 "xzdec (XZ Utils)" -- --version
     # (xz makes a pipe before it looks at its words)
     ran "make: xz is refused as it runs" "$made/src/xz/xz" 134 "can't be had: there is one process, and no other" -- --version
@@ -196,7 +537,8 @@ claim_cmake() {
     told "CMake: zstd's library, by build.sh" $?
 }
 
-(($# > 0)) || set -- mmap sbrk cxx harts clock words refusals threads configure cmake
+(($# > 0)) || set -- bare mmap sbrk free alone places cxx harts processors clock timed words refusals threads barriers cleanup once spin \
+    semaphores c11 kinds detached wide files signals deadlocks ends sharing configure cmake
 for claim; do
     if ! declare -F "claim_$claim" >/dev/null; then
         echo "claims.sh: $claim is no claim" >&2

@@ -16,3 +16,5 @@ fetch bash bash
 fetch pugixml pugixml
 fetch tinyxml2 tinyxml2
 fetch gnulib gnulib
+fetch glibc glibc
+fetch valgrind valgrind

@@ -65,7 +65,10 @@ static void *make(void *argument)
 
 int main(void)
 {
+    cpu_set_t set;
     CHECK(sysconf(_SC_NPROCESSORS_ONLN) == HARTS && sysconf(_SC_NPROCESSORS_CONF) == HARTS);
+    CHECK(sched_getaffinity(0, sizeof set, &set) == 0 && CPU_COUNT(&set) == HARTS && CPU_ISSET(HARTS - 1, &set) && !CPU_ISSET(HARTS, &set));
+    CHECK(pthread_setconcurrency(3) == 0 && pthread_setconcurrency(-1) == EINVAL && pthread_getconcurrency() == 3);
     for (int i = 0; i < 5; i++)
         on_all(run);
     for (int i = 0; i < HARTS; i++)

@@ -1,7 +1,8 @@
 // What there is of files, signals and users, asked by all harts at once.
 //
 //> asked 80
-//> handled 1
+//> told 8
+//> handled 3
 //> held 4
 #include "check.h"
 #include <errno.h>
@@ -17,11 +18,19 @@
 
 static _Atomic uint32_t asked;
 static volatile uint32_t handled;
+static _Atomic uint32_t told;
 
 static void handle(int number)
 {
     CHECK(number == SIGTERM);
     handled++;
+}
+
+// (set by the first hart, for all of them)
+static void note(int number)
+{
+    CHECK(number == SIGUSR1);
+    told++;
 }
 
 static void *run(void *argument)
@@ -45,6 +54,7 @@ static void *run(void *argument)
         CHECK(pthread_sigmask(SIG_BLOCK, NULL, &seen) == 0 && seen == mine);
         asked++;
     }
+    CHECK(raise(SIGUSR1) == 0);
     return argument;
 }
 
@@ -53,12 +63,18 @@ int main(void)
     struct rusage used;
     sigset_t set, before;
     struct sigaction action = {.sa_handler = handle, .sa_flags = SA_RESTART}, old;
+    CHECK(signal(SIGUSR1, note) == SIG_DFL);
     on_all(run);
     show("asked", asked);
+    show("told", told);
     CHECK(getrusage(RUSAGE_SELF, &used) == -1 && errno == ENOSYS && sizeof used.ru_maxrss == sizeof(long));
     CHECK(getuid() == 0 && geteuid() == 0 && getgid() == 0 && getegid() == 0 && umask(022) == 0 && FILENAME_MAX >= 255);
     CHECK(sigaction(SIGTERM, &action, NULL) == 0 && sigaction(SIGTERM, NULL, &old) == 0 && old.sa_handler == handle);
-    CHECK(raise(SIGTERM) == 0 && sigaction(1000, &action, NULL) == -1);
+    CHECK(raise(SIGTERM) == 0 && sigaction(1000, &action, NULL) == -1 && sigaction(SIGKILL, &action, NULL) == -1 && errno == EINVAL);
+    CHECK(kill(getpid(), SIGTERM) == 0 && kill(2, SIGTERM) == -1 && errno == ESRCH && kill(getpid(), 0) == 0 && raise(1000) == -1);
+    action.sa_flags = (int)SA_RESETHAND;
+    CHECK(sigaction(SIGTERM, &action, NULL) == 0 && raise(SIGTERM) == 0 && signal(SIGTERM, SIG_IGN) == SIG_DFL && raise(SIGTERM) == 0);
+    CHECK(raise(SIGCHLD) == 0 && signal(0, SIG_IGN) == SIG_ERR);
     show("handled", handled);
     sigemptyset(&set);
     sigaddset(&set, 1);

@@ -1,5 +1,5 @@
 // The C library's sys/unistd.h. The files 0 to 2 are there, and 0 is at its end: read, write, lseek, close, isatty, fsync and fdatasync
-// answer for them, and with EBADF for any other.
+// answer for them, and with EBADF for any other (write: EINVAL).
 #ifndef PREDATOR_SYS_UNISTD_H
 #define PREDATOR_SYS_UNISTD_H
 
