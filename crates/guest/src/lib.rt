@@ -16,6 +16,7 @@
 //! - the blocks of a guest's own allocator, which it notes: `notes` (`specs/Notes.antt`).
 #![tactic(auto)]
 
+mod ahead;
 mod call_list;
 mod configuration;
 mod guest;
