@@ -91,6 +91,16 @@ own_quiet s hart (suc n) c t l states calls runs sure room own = (
       (omega (arith, room)) own.4 own.5,
 )
 
+pub gone_none : (hart most : ℕ) (c : Config) → HasGone hart most c c
+gone_none hart most c = record {
+  count = 0;
+  few = omega arith;
+  state = state_of c hart;
+  calls = calls_of c hart;
+  own = (refl, refl);
+  after = none-gone hart c (state_of c hart) (calls_of c hart) refl refl;
+}
+
 -- some steps and then some more
 quiet-all : (s : Setup) (m n : ℕ) (c x d : Config) → AreQuiet s m c x → AreQuiet s n x d
     → (k : ℕ) × AreQuiet s k c d

@@ -72,7 +72,11 @@ impl Configuration {
         ensures early { self.now.steps < until → self.now.steps + result < until }
     {
         let left = (setup.budget - self.steps).min(until.saturating_sub(self.steps));
-        self.sure_turns(hart).min(left).saturating_sub(1)
+        let sure = self.sure_turns(hart);
+        if sure < 2 {
+            return 0;
+        }
+        sure.min(left).saturating_sub(1)
     }
 
     // The steps of the hart that is next, as long as they are its own, `most` at most.
@@ -85,6 +89,9 @@ impl Configuration {
         requires few { self.old.steps + most < 2 ^ 64 }
         ensures { HasGone hart most (config_of self.old) (config_of self.new) }
     {
+        if most == 0 {
+            return;
+        }
         let place = usize::from(hart.number());
         let state = &mut self.states[place];
         let calls = &mut self.calls[place];

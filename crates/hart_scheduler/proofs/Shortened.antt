@@ -1,5 +1,5 @@
 -- Choices of a hart that goes on: each takes one of the turns that its streak has left.
-use Rattle.std.proofs.Common.{◌≡◌, ◌∙◌, ℕ, zero, suc, ◌-◌, ◌<◌, ◌≤◌, Bool, true, false, List, []}
+use Rattle.std.proofs.Common.{◌≡◌, ◌∙◌, ℕ, zero, suc, ◌+◌, ◌-◌, ◌<◌, ◌≤◌, Bool, true, false, List, []}
 use Rattle.std.proofs.Common.{Option, Some, None, ap, arith, length, refl, subst, sym, true≢false}
 use Rattle.std.proofs.lemmas.Bool.{and_from, eqb-true, lt-ltb}
 use Rattle.std.proofs.lemmas.Bool.Decides.{nat_tests}
@@ -207,3 +207,34 @@ pub lone_all : (runnable : List Bool) (plan : Plan) (hart n : ℕ) → length ru
 lone_all runnable plan hart n all lone = λ k below.
     lone_chosen runnable (plan_after_all runnable k plan) hart
     (all ∙ sym (all-harts runnable k plan)) lone
+
+-- so many choices, and then so many more
+pub all_after : (runnable : List Bool) (m n : ℕ) (plan : Plan)
+    → plan_after_all runnable n (plan_after_all runnable m plan)
+    ≡ plan_after_all runnable (m + n) plan
+all_after runnable m zero plan =
+    let e : m ≡ m + 0 = omega arith in
+    ap (λ (k : ℕ). plan_after_all runnable k plan) e
+all_after runnable m (suc n) plan =
+    let e : suc (m + n) ≡ m + suc n = omega arith in
+    ap (λ (p : Plan). plan_after runnable p) (all_after runnable m n plan)
+    ∙ ap (λ (k : ℕ). plan_after_all runnable k plan) e
+
+-- those that are left are of the hart too
+pub rest_of_hart : (runnable : List Bool) (plan : Plan) (turns made hart : ℕ)
+    → AreOf runnable plan turns hart
+    → AreOf runnable (plan_after_all runnable made plan) (turns - made) hart
+rest_of_hart runnable plan turns made hart all = λ k below.
+    ap (λ (p : Plan). choice runnable p) (all_after runnable made k plan)
+    ∙ all (made + k) (omega (arith, below))
+
+pub all_made : (runnable : List Bool) (plan now new : Plan) (turns made : ℕ)
+    → now ≡ plan_after_all runnable made plan → made < turns
+    → shortened (turns - made) now ≡ plan_after_all runnable (turns - made) now
+    → new ≡ shortened (turns - made) now
+    → new ≡ plan_after_all runnable turns plan
+all_made runnable plan now new turns made so_far below short is =
+    let e : made + (turns - made) ≡ turns = omega (arith, below) in
+    is ∙ short ∙ ap (λ (p : Plan). plan_after_all runnable (turns - made) p) so_far
+    ∙ all_after runnable made (turns - made) plan
+    ∙ ap (λ (k : ℕ). plan_after_all runnable k plan) e

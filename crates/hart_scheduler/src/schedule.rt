@@ -246,13 +246,22 @@ impl Schedule {
         ensures quantum { self.new.quantum ≡ self.old.quantum }
     {
         if self.only_shorten(runnable, hart, turns) {
-            self.latest.shorten_by(turns);
+            self.shorten(turns);
         } else {
             self.advance_each(runnable, hart, turns);
         }
     }
 
-    // The same, one choice after the other.
+    // Takes so many turns of the streak, or all where there are fewer.
+    #[inline(always)]
+    fn shorten(&mut self, turns: u64)
+        ensures { self.new ≡ shortened turns self.old }
+    {
+        self.latest.shorten_by(turns);
+    }
+
+    // The same, one choice after the other until those that are left only shorten the streak.
+    #[inline(never)]
     fn advance_each(&mut self, runnable: &[bool], hart: Hart, turns: u64)
         requires all { length runnable.now ≡ self.old.harts }
         requires chosen { AreOf runnable.now self.old turns hart }
@@ -260,7 +269,11 @@ impl Schedule {
         ensures harts { self.new.harts ≡ self.old.harts }
         ensures quantum { self.new.quantum ≡ self.old.quantum }
     {
-        for _turn in 0..turns {
+        for made in 0..turns {
+            if self.only_shorten(runnable, hart, turns - made) {
+                self.shorten(turns - made);
+                return;
+            }
             self.advance(runnable, hart);
         }
     }
