@@ -71,12 +71,14 @@ impl Configuration {
         ensures few { self.now.steps + result + 1 < 2 ^ 64 }
         ensures early { self.now.steps < until → self.now.steps + result < until }
     {
-        let left = (setup.budget - self.steps).min(until.saturating_sub(self.steps));
+        let left = setup.budget - self.steps;
         let sure = self.sure_turns(hart);
         if sure < 2 {
             return 0;
         }
-        sure.min(left).saturating_sub(1)
+        sure.min(left)
+            .min(until.saturating_sub(self.steps))
+            .saturating_sub(1)
     }
 
     // The steps of the hart that is next, as long as they are its own, `most` at most.

@@ -97,9 +97,9 @@ made_with hart x y i None h own = record {
   held = own.1;
   step =
       ap (λ (m : Space). outcome (Next i None) (machine y.state m x.held)) (sym own.0)
-          ∙ ap (λ (l : List (Option ℕ)). outcome (Next i None) (machine y.state y.memory l))
-          (sym own.1)
-          ∙ h;
+      ∙ ap (λ (l : List (Option ℕ)). outcome (Next i None) (machine y.state y.memory l))
+      (sym own.1)
+      ∙ h;
 }
 made_with hart x y i (Some a) h own = absurd own
 
