@@ -7,7 +7,7 @@ use Rattle.std.proofs.lemmas.Bool.{cases_lt}
 use Rattle.rv32_decode.specs.declared.instruction.Instr.{Instr}
 use Rattle.rv32_hart.specs.Space.{Space}
 use Rattle.rv32_hart.specs.Registers.{Registers}
-use Rattle.rv32_hart.specs.Effect.{IsOwnStep, Machine, machine, outcome, stepped}
+use Rattle.rv32_hart.specs.Effect.{IsOwnStep, machine, outcome, stepped}
 use Rattle.rv32_hart.specs.declared.step_end.StepEnd.TheVariants.{Next}
 use Rattle.hart_scheduler.specs.Choices.{AreOf, Plan, choice, plan_after_all}
 use Rattle.guest.specs.declared.phase.HartPhase.{HartPhase}
@@ -16,7 +16,7 @@ use Rattle.guest.specs.declared.setup.Setup.{Setup}
 use Rattle.guest.specs.Phases.{phase_of}
 use Rattle.guest.specs.CallLists.{calls_after}
 use Rattle.guest.specs.Configs.{CanStep, Config, Fits, calls_of, state_of, unused}
-use Rattle.guest.specs.GuestCalls.{RunTurn, quiet, ran}
+use Rattle.guest.specs.GuestCalls.{quiet, ran}
 use Rattle.guest.specs.OwnSteps.{AreOwn, HasGone, IsAt, gone_ahead}
 use Rattle.guest.specs.Turns.{AreQuiet, chosen, hart_turn, runnable_in, turn_of}
 use Rattle.guest.proofs.AtCall.{turn-at-next}

@@ -14,7 +14,7 @@ use Rattle.rv32_hart.specs.Space.{Space}
 use Rattle.rv32_hart.specs.Faults.{fetched}
 use Rattle.rv32_hart.specs.Kept.{instr_at, instr_in, instr_of}
 use Rattle.rv32_hart.specs.declared.page.MemFault.{MemFault}
-use Rattle.rv32_hart.specs.Registers.{Registers, reg, moved}
+use Rattle.rv32_hart.specs.Registers.{reg, moved}
 use Rattle.rv32_hart.specs.declared.step_end.StepEnd.{StepEnd}
 use Rattle.rv32_hart.specs.declared.step_end.StepEnd.TheVariants.{Next, Call, Trap}
 use Rattle.rv32_hart.specs.Effect.{Machine, Outcome, IsOwnStep, machine, outcome, jumps, branches}

@@ -1,4 +1,4 @@
-use Rattle.std.proofs.Common.{◌∙◌, ap, sym}
+use Rattle.std.proofs.Common.{◌∙◌}
 use Rattle.guest.proofs.GoingAhead.{one_own}
 use Rattle.guest.proofs.ahead.own_steps.Goals as goal
 

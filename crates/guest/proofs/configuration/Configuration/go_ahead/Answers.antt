@@ -1,6 +1,6 @@
 use Rattle.std.proofs.Common.{arith}
 use Rattle.guest.specs.ConfigInside.{config_of}
-use Rattle.guest.proofs.GoingAhead.{Ahead, ahead, can_step, gone_steps, turn_at}
+use Rattle.guest.proofs.GoingAhead.{ahead, can_step, gone_steps, turn_at}
 use Rattle.guest.proofs.configuration.Configuration.go_ahead.Goals as goal
 
 pub go_own-requires-clause-ready : goal.go_own-requires-clause-ready
