@@ -4,7 +4,7 @@ ghost use Rattle.std.specs.Prelude.{◌≡◌, ℕ, ◌+◌, ◌<◌, ◌≤◌,
 ghost use Rattle.hart_scheduler.specs.Choices.{AreOf};
 ghost use Rattle.guest.specs.Phases.{phase_of};
 ghost use Rattle.guest.specs.declared.phase.HartPhase.TheVariants.{Runnable};
-ghost use Rattle.guest.specs.Configs.{CanStep, Fits};
+ghost use Rattle.guest.specs.Configs.{CanStep};
 ghost use Rattle.guest.specs.OwnSteps.{AreOwn, HasGone, IsAt};
 ghost use Rattle.guest.specs.Turns.{AreQuiet, IsNext, chosen, hart_turn, runnable_in, turn_of};
 ghost use Rattle.guest.specs.ConfigInside.{config_of};

@@ -71,7 +71,8 @@ pub all_shorter : (runnable : List Bool) (turns : Turns) (listed : List ℕ) (la
     → is_runnable runnable latest.hart ≡ true → n ≤ latest.left
     → plan_after_all runnable n (plan_by turns listed latest harts quantum)
     ≡ plan_by turns listed (cut n latest) harts quantum
-all_shorter runnable turns listed latest harts quantum zero order able few = ap (λ (s : AStreak). plan_by turns listed s harts quantum) (none-less latest)
+all_shorter runnable turns listed latest harts quantum zero order able few =
+    ap (λ (s : AStreak). plan_by turns listed s harts quantum) (none-less latest)
 all_shorter runnable turns listed latest harts quantum (suc n) order able few =
     let before = plan_by turns listed (cut n latest) harts quantum in
     let kept : IsInOrder turns listed (cut n latest) = order_kept turns listed latest n order in
@@ -110,7 +111,8 @@ pub round_shorter : (runnable : List Bool) (listed : List ℕ) (latest : AStreak
     → AreOf runnable (plan_by Round listed latest harts quantum) n latest.hart
     → plan_after_all runnable n (plan_by Round listed latest harts quantum)
     ≡ plan_by Round listed (cut n latest) harts quantum
-round_shorter runnable listed latest harts quantum zero over own = ap (λ (s : AStreak). plan_by Round listed s harts quantum) (none-less latest)
+round_shorter runnable listed latest harts quantum zero over own =
+    ap (λ (s : AStreak). plan_by Round listed s harts quantum) (none-less latest)
 round_shorter runnable listed latest harts quantum (suc n) over own =
     let start = plan_by Round listed latest harts quantum in
     let before = plan_after_all runnable n start in
@@ -128,7 +130,8 @@ pub own_shorter : (runnable : List Bool) (turns : Turns) (listed : List ℕ) (la
     → AreOf runnable (plan_by turns listed latest harts quantum) n latest.hart
     → plan_after_all runnable n (plan_by turns listed latest harts quantum)
     ≡ plan_by turns listed (cut n latest) harts quantum
-own_shorter runnable turns listed latest harts quantum zero order few own = ap (λ (s : AStreak). plan_by turns listed s harts quantum) (none-less latest)
+own_shorter runnable turns listed latest harts quantum zero order few own =
+    ap (λ (s : AStreak). plan_by turns listed s harts quantum) (none-less latest)
 own_shorter runnable turns listed latest harts quantum (suc n) order few own =
     all_shorter runnable turns listed latest harts quantum (suc n) order
     (able_chosen runnable (plan_by turns listed latest harts quantum) latest.hart
