@@ -6,10 +6,12 @@ use Rattle.std.proofs.lemmas.Option.{slice_get_read, get_or_from_slice_get}
 use Rattle.rv32_hart.specs.Space.{Space}
 use Rattle.rv32_hart.specs.Registers.{Registers}
 use Rattle.rv32_hart.specs.Effect.{Machine, machine, outcome, stepped}
-use Rattle.rv32_hart.specs.declared.step_end.StepEnd.TheVariants.{Call, Next}
+use Rattle.rv32_hart.specs.declared.step_end.StepEnd.TheVariants.{Call, Next, Trap}
+use Rattle.base.specs.declared.ending.Cause.{Cause}
+use Rattle.base.specs.declared.ending.Outcome.TheVariants.{Trap as Trapped}
 use Rattle.guest.specs.declared.setup.Setup.{Setup}
 use Rattle.guest.specs.Configs.{Config, noted, unused, state_of}
-use Rattle.guest.specs.GuestCalls.{RunTurn, call_turn}
+use Rattle.guest.specs.GuestCalls.{RunTurn, call_turn, over}
 use Rattle.guest.specs.Turns.{machine_of, made, with_machine, hart_turn}
 use Rattle.base.specs.Touch.{Touch}
 use Rattle.rv32_decode.specs.declared.instruction.Instr.{Instr}
@@ -65,7 +67,7 @@ called s hart place c old new m held t same inside read effect left turn =
     ∙ sym (turn-at-call s hart c (machine new m held)
     (effect ∙ ap (λ (x : Machine). stepped hart x) before))
 
-turn-at-next : (s : Setup) (hart : ℕ) (c : Config) (i : Instr) (a : Option Touch) (x : Machine)
+pub turn-at-next : (s : Setup) (hart : ℕ) (c : Config) (i : Instr) (a : Option Touch) (x : Machine)
     → outcome (Next i a) x ≡ stepped hart (machine_of hart c)
     → made (state_of c hart).pc a (noted hart i (state_of c hart).pc (with_machine hart x c))
     ≡ hart_turn s hart c
@@ -88,4 +90,28 @@ next_made s hart place pc c old new m held i a same inside read effect at =
     (noted hart i pc (record c { states = set c.states k new; memory = m; held = held }))) same
     ∙ ap (λ (p : ℕ). made p a (noted hart i p (with_machine hart (machine new m held) c))) at
     ∙ turn-at-next s hart c i a (machine new m held)
+    (effect ∙ ap (λ (x : Machine). stepped hart x) before)
+
+turn-at-trap : (s : Setup) (hart : ℕ) (c : Config) (cause : Cause) (x : Machine)
+    → outcome (Trap cause) x ≡ stepped hart (machine_of hart c)
+    → over (Trapped hart (state_of c hart).pc cause) c ≡ hart_turn s hart c
+turn-at-trap s hart c cause x h = rw (← h) refl
+
+-- a trap, by the parts of what it left as it was
+pub trapped : (s : Setup) (hart place pc : ℕ) (c d : Config) (old new : Registers) (m : Space)
+    (held : List (Option ℕ)) (cause : Cause)
+    → place ≡ hart → hart < length c.states → old ≡ get_or c.states place old
+    → outcome (Trap cause) (machine new m held) ≡ stepped hart (machine old c.memory c.held)
+    → machine new m held ≡ machine old c.memory c.held
+    → pc ≡ (state_of c hart).pc
+    → d ≡ record c { states = set c.states place new; memory = m; held = held }
+    → over (Trapped hart pc cause) d ≡ hart_turn s hart c
+trapped s hart place pc c d old new m held cause same inside read effect left at stays =
+    let is_old : old ≡ state_of c hart = read_state c hart place old same inside read in
+    let before : machine old c.memory c.held ≡ machine_of hart c =
+    ap (λ (r : Registers). machine r c.memory c.held) is_old in
+    ap (λ (x : Config). over (Trapped hart pc cause) x)
+    (stays ∙ whole_left hart place c old new m held same inside read left)
+    ∙ ap (λ (p : ℕ). over (Trapped hart p cause) c) at
+    ∙ turn-at-trap s hart c cause (machine new m held)
     (effect ∙ ap (λ (x : Machine). stepped hart x) before)

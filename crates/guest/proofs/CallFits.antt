@@ -282,7 +282,7 @@ pub fits_seen : (h hart : ℕ) (s : Setup) (c : Config) (t : Turn) (d : Config) 
 fits_seen h hart s c t d e f = fits-of h t d (rw e (fits_call h hart s c f))
 
 -- a choice is one for as many harts
-harts_after : (o : Option ℕ) (runnable : List Bool) (plan : Plan)
+pub harts_after : (o : Option ℕ) (runnable : List Bool) (plan : Plan)
     → (option_map_or (plan_with runnable plan) o plan).harts ≡ plan.harts
 harts_after None runnable plan = refl
 harts_after (Some hart) runnable plan = refl

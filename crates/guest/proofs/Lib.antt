@@ -3,6 +3,7 @@ pub mod CallFits
 pub mod CallLengths
 pub mod ChosenTurn
 pub mod FirstPhases
+pub mod GoingAhead
 pub mod HeapBlocks
 pub mod HeapLayouts
 pub mod LeastPlace

@@ -7,6 +7,7 @@ pub mod HeapLayout
 pub mod Heaps
 pub mod LeastPlaces
 pub mod Notes
+pub mod OwnSteps
 pub mod Phases
 pub mod Runs
 pub mod SeenTurns

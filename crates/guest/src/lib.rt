@@ -6,8 +6,8 @@
 //!
 //! Its parts, each with files of its own:
 //!
-//! - the run: `guest`, over a `configuration` that `one_turn` and the calls of the environment in
-//!   `guest_calls` change;
+//! - the run: `guest`, over a `configuration` that `one_turn`, the steps of a hart on its own in
+//!   `ahead` and the calls of the environment in `guest_calls` change;
 //! - threads: each hart has one phase (`phase`), and `threads` has the calls by which harts start,
 //!   join, wait for, wake and end one another (`specs/ThreadCalls.antt`);
 //! - calls of functions: a [`CallList`] keeps the last 256 that a hart made and hasn't returned from
@@ -16,6 +16,7 @@
 //! - the blocks of a guest's own allocator, which it notes: `notes` (`specs/Notes.antt`).
 #![tactic(auto)]
 
+mod ahead;
 mod call_list;
 mod configuration;
 mod guest;

@@ -9,6 +9,7 @@ ghost use Rattle.guest.specs.ThreadCalls.{finished_code};
 ghost use Rattle.guest.specs.Configs.{CanStep, Config, Fits, counted, noted};
 ghost use Rattle.guest.specs.GuestCalls.{over, quiet, ran};
 ghost use Rattle.guest.specs.Runs.{ending_with};
+ghost use Rattle.guest.specs.OwnSteps.{IsAt};
 ghost use Rattle.guest.specs.Turns.{IsNext, chosen, hart_turn, made, makes_block};
 ghost use Rattle.guest.specs.Turns.{runnable_in, turn_of};
 ghost use Rattle.guest.specs.ConfigInside.{config_of};
@@ -154,6 +155,7 @@ impl Configuration {
         ensures over { IsTrue result
             → over Outcome.Budget (config_of self.now) ≡ turn_of setup.now (config_of self.now) }
         ensures ready { IsFalse result → CanStep hart (config_of self.now) }
+        ensures at { IsFalse result → IsAt setup.now hart (config_of self.now) }
         ensures turn { IsFalse result → hart_turn setup.now hart (chosen (config_of self.now))
             ≡ turn_of setup.now (config_of self.now) }
     {
@@ -210,6 +212,7 @@ impl Configuration {
             if self.is_spent(setup, hart) {
                 return Ok(Turn::Ended(Outcome::Budget));
             }
+            self.go_ahead(setup, hart, until);
             let pc = self.pc(hart);
             let state = &mut self.states[usize::from(hart.number())];
             match step(hart, state, &mut self.memory, &mut self.held) {

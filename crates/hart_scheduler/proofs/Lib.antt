@@ -4,6 +4,7 @@ pub mod InTurn
 pub mod ListedLaws
 pub mod Ordered
 pub mod Reading
+pub mod Shortened
 pub mod WorkedDraws
 pub mod WorkedTexts
 pub mod Written

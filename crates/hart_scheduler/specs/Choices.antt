@@ -1,6 +1,7 @@
 -- Which hart runs next: the one that the list names, and after the list the one that is in turn, or
 -- the one that is drawn.
-use Rattle.std.specs.Prelude.{◌≢◌, ℕ, ◌+◌, ◌-◌, ◌*◌, ◌%◌, max, Bool, false, ◌&&◌, nat_eq, nat_lt}
+use Rattle.std.specs.Prelude.{◌≡◌, ◌≢◌, ℕ, zero, suc, ◌+◌, ◌-◌, ◌*◌, ◌%◌, ◌<◌, max, Bool, false}
+use Rattle.std.specs.Prelude.{◌&&◌, nat_eq, nat_lt}
 use Rattle.std.specs.Prelude.{if◌then◌else◌, List, ◌++◌, length, slice_get, Option, None, Some}
 use Rattle.std.specs.Prelude.{is_some, slice_index_or, IsFalse, IsTrue}
 use Rattle.std.specs.List.{find, filter, after_first, range_with_len}
@@ -142,3 +143,19 @@ plan_with runnable plan hart = record plan {
 -- the plan after a choice: where there is none it stays
 abbrev pub plan_after : List Bool → Plan → Plan
 plan_after runnable plan = option_map_or (plan_with runnable plan) (choice runnable plan) plan
+
+-- the plan after so many choices
+abbrev pub plan_after_all : List Bool → ℕ → Plan → Plan
+plan_after_all runnable zero plan = plan
+plan_after_all runnable (suc n) plan = plan_after runnable (plan_after_all runnable n plan)
+
+-- the next so many choices are all of this hart
+abbrev pub AreOf : List Bool → Plan → ℕ → ℕ → Type 0
+AreOf runnable plan n hart =
+    (k : ℕ) → k < n → choice runnable (plan_after_all runnable k plan) ≡ Some hart
+
+-- a plan whose streak has so many turns less, or none
+abbrev pub shortened : ℕ → Plan → Plan
+shortened n plan = record plan {
+  streak = option_map (λ (s : AStreak). record { hart = s.hart; left = s.left - n }) plan.streak;
+}

@@ -16,5 +16,5 @@ mod streak;
 mod turns;
 
 pub use fault::ScheduleFault;
-pub use lone_choice::lone_is_chosen;
+pub use lone_choice::{lone_goes_on, lone_is_chosen};
 pub use schedule::Schedule;

@@ -1,8 +1,10 @@
 // A schedule, and the choices that it makes.
 ghost use Rattle.std.specs.Prelude.{◌≡◌, ◌≤◌, ◌<◌, ◌-◌, ◌↔◌, [], length, None, Some, IfSome};
-ghost use Rattle.std.specs.Prelude.{IsTrue};
-ghost use Rattle.hart_scheduler.specs.Choices.{is_runnable, NoneRunnable, choice, plan_after};
-ghost use Rattle.hart_scheduler.specs.Choices.{drawn_turns, going_on, plan_with};
+ghost use Rattle.std.specs.Prelude.{Bool, IsTrue, List};
+ghost use Rattle.std.specs.Bool.{OnTrue};
+ghost use Rattle.hart_scheduler.specs.Choices.{AreOf, is_runnable, NoneRunnable, choice};
+ghost use Rattle.hart_scheduler.specs.Choices.{drawn_turns, going_on, plan_after, plan_after_all};
+ghost use Rattle.hart_scheduler.specs.Choices.{plan_with, shortened};
 ghost use Rattle.hart_scheduler.specs.Draws.{next_state, number_in};
 ghost use Rattle.hart_scheduler.specs.Texts.{plan_of};
 
@@ -201,6 +203,78 @@ impl Schedule {
             self.latest.shorten();
         } else {
             self.take_anew(runnable, hart);
+        }
+    }
+
+    /// How many turns the hart that was last chosen after the list has left in a row, if it is this
+    /// one, and 0 for others: while it can run, so many choices are sure to be of it.
+    #[inline(always)]
+    pub fn turns_left(&self, hart: Hart) -> u32
+        ensures { (runnable : List Bool) → IsTrue (is_runnable runnable hart)
+            → AreOf runnable self.now result hart }
+    {
+        if self.latest.is_of(hart) {
+            self.latest.left()
+        } else {
+            0
+        }
+    }
+
+    // Whether so many choices, all of this hart, do no more than to shorten its streak.
+    #[inline(always)]
+    fn only_shorten(&self, runnable: &[bool], hart: Hart, turns: u64) -> bool
+        requires { AreOf runnable.now self.now turns hart }
+        ensures { OnTrue result
+            (shortened turns self.now ≡ plan_after_all runnable.now turns self.now) }
+    {
+        if !self.latest.is_of(hart) {
+            return false;
+        }
+        if turns <= u64::from(self.latest.left()) {
+            return true;
+        }
+        matches!(self.turns, Turns::Round)
+    }
+
+    /// Makes so many choices, all of them of this hart, as `advance` makes one.
+    #[inline(always)]
+    pub fn advance_by(&mut self, runnable: &[bool], hart: Hart, turns: u64)
+        requires all { length runnable.now ≡ self.old.harts }
+        requires chosen { AreOf runnable.now self.old turns hart }
+        ensures after { self.new ≡ plan_after_all runnable.now turns self.old }
+        ensures harts { self.new.harts ≡ self.old.harts }
+        ensures quantum { self.new.quantum ≡ self.old.quantum }
+    {
+        if self.only_shorten(runnable, hart, turns) {
+            self.shorten(turns);
+        } else {
+            self.advance_each(runnable, hart, turns);
+        }
+    }
+
+    // Takes so many turns of the streak, or all where there are fewer.
+    #[inline(always)]
+    fn shorten(&mut self, turns: u64)
+        ensures { self.new ≡ shortened turns self.old }
+    {
+        self.latest.shorten_by(turns);
+    }
+
+    // The same, one choice after the other until those that are left only shorten the streak.
+    #[inline(never)]
+    fn advance_each(&mut self, runnable: &[bool], hart: Hart, turns: u64)
+        requires all { length runnable.now ≡ self.old.harts }
+        requires chosen { AreOf runnable.now self.old turns hart }
+        ensures after { self.new ≡ plan_after_all runnable.now turns self.old }
+        ensures harts { self.new.harts ≡ self.old.harts }
+        ensures quantum { self.new.quantum ≡ self.old.quantum }
+    {
+        for made in 0..turns {
+            if self.only_shorten(runnable, hart, turns - made) {
+                self.shorten(turns - made);
+                return;
+            }
+            self.advance(runnable, hart);
         }
     }
 }

@@ -62,6 +62,13 @@ impl Streak {
         self.left > 0
     }
 
+    #[inline(always)]
+    pub(crate) fn left(self) -> u32
+        ensures { result ≡ self.left }
+    {
+        self.left
+    }
+
     // The first runnable hart after it in cyclic order, itself last.
     #[inline(always)]
     pub(crate) fn successor(self, runnable: &[bool], harts: u16) -> Option<Hart>
@@ -85,6 +92,14 @@ impl Streak {
         ensures { self.new ≡ record { hart = self.old.hart; left = self.old.left - 1 } }
     {
         self.left = self.left.saturating_sub(1);
+    }
+
+    // Takes so many of them, or all where there are fewer.
+    #[inline(always)]
+    pub(crate) fn shorten_by(&mut self, turns: u64)
+        ensures { self.new ≡ record { hart = self.old.hart; left = self.old.left - turns } }
+    {
+        self.left = u64::from(self.left).saturating_sub(turns) as u32;
     }
 
     // A turn of the hart that was chosen. Another one than the last begins with its whole quantum.

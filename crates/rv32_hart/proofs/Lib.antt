@@ -3,6 +3,7 @@ pub mod Freshness
 pub mod KeptInstrs
 pub mod LoadedNumbers
 pub mod Mappings
+pub mod OwnSteps
 pub mod Products
 pub mod Releases
 pub mod Rights

@@ -1,7 +1,7 @@
 -- The effect of each instruction on a hart's registers, the memory and the reservations: the
 -- RISC-V unprivileged specification's RV32I, with its extensions M and A.
-use Rattle.std.specs.Prelude.{◌≡◌, ℕ, ℤ, ◌+◌, ◌*◌, ◌/◌, ◌%◌, ◌^◌, Bool, not, List, Option, Some}
-use Rattle.std.specs.Prelude.{None, Result, Ok, Err, nat_eq, nat_lt, int_lt, if◌then◌else◌}
+use Rattle.std.specs.Prelude.{◌≡◌, ℕ, ℤ, ◌+◌, ◌*◌, ◌/◌, ◌%◌, ◌^◌, Bool, true, false, not, List}
+use Rattle.std.specs.Prelude.{Option, Some, None, Result, Ok, Err, nat_eq, nat_lt, int_lt, if◌then◌else◌}
 use Rattle.std.specs.Prelude.{slice_set}
 use Rattle.std.specs.Int.{w32, cast_unsigned}
 use Rattle.base.specs.Touch.{Touch}
@@ -225,3 +225,18 @@ pub record KeepsPages (old new : Space) : Type 0 where
   pub base : new.base ≡ old.base
   pub size : size_of new ≡ size_of old
   pub pages : new.pages ≡ old.pages
+
+-- whether an instruction is for its hart's registers alone
+abbrev pub is_own : Instr → Bool
+is_own (Load k d s z) = false
+is_own (Store k s t z) = false
+is_own Ecall = false
+is_own Ebreak = false
+is_own (Lr d s o) = false
+is_own (Sc d s t o) = false
+is_own (Amo op d s t o) = false
+is_own _ = true
+
+-- this step made an instruction that changed its hart's registers alone
+abbrev pub IsOwnStep : ℕ → Space → List (Option ℕ) → Registers → Instr → Registers → Type 0
+IsOwnStep hart m h old i new = goes i None new m h ≡ stepped hart (machine old m h)

@@ -22,7 +22,7 @@ mod step_end;
 
 pub use hart_state::HartState;
 pub use memory::Memory;
-pub use one_step::step;
+pub use one_step::{own_step, step};
 pub use page::MemFault;
 pub use reservations::Reservations;
 pub use step_end::StepEnd;

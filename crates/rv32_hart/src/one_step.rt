@@ -1,7 +1,8 @@
 // One step of a hart.
-ghost use Rattle.std.specs.Prelude.{◌≡◌, ◌<◌, length};
-ghost use Rattle.rv32_hart.specs.Effect.{KeepsPages, LeavesUnlessNext, effect, machine, outcome};
-ghost use Rattle.rv32_hart.specs.Effect.{stepped};
+ghost use Rattle.std.specs.Prelude.{◌≡◌, ◌<◌, IfSome, None, Ok, length};
+ghost use Rattle.rv32_hart.specs.Effect.{IsOwnStep, KeepsPages, LeavesUnlessNext, effect, is_own};
+ghost use Rattle.rv32_hart.specs.Effect.{machine, outcome, stepped};
+ghost use Rattle.rv32_hart.specs.Kept.{instr_at};
 
 use crate::Memory;
 use crate::arithmetic::{alu_of, plain_op};
@@ -59,6 +60,75 @@ fn run_step(
     match memory.instr_at(state.pc()) {
         Ok(instr) => act(hart, instr, state, memory, held),
         Err(cause) => StepEnd::Trap(cause),
+    }
+}
+
+// Whether an instruction is for its hart's registers alone.
+#[inline(always)]
+fn is_own(instr: &Instr) -> bool
+    ensures { result ≡ is_own instr.now }
+{
+    match instr {
+        Instr::Load { .. }
+        | Instr::Store { .. }
+        | Instr::Ecall
+        | Instr::Ebreak
+        | Instr::Lr { .. }
+        | Instr::Sc { .. }
+        | Instr::Amo { .. } => false,
+        _ => true,
+    }
+}
+
+/// The step of a hart whose instruction is for its registers alone, as those of arithmetic, jumps
+/// and branches are: the instruction, which is made.
+///
+/// None where it is another one, where it would trap, or where there is none at the pc. All is as
+/// it was then.
+#[inline(always)]
+pub fn own_step(
+    hart: Hart,
+    state: &mut HartState,
+    memory: &mut Memory,
+    held: &mut Reservations,
+) -> Option<Instr>
+    requires { hart < length held.old }
+    ensures made { IfSome result
+        (λ instr. IsOwnStep hart memory.old held.old state.old instr state.new) }
+    ensures left { result ≡ None → state.new ≡ state.old }
+    // No such instruction changes the memory or a reservation.
+    ensures memory { memory.new ≡ memory.old }
+    ensures held { held.new ≡ held.old }
+{
+    match memory.instr_at(state.pc()) {
+        Ok(instr) => own_act(hart, instr, state, memory, held),
+        Err(_) => None,
+    }
+}
+
+// The same of the instruction that is there.
+#[inline(always)]
+fn own_act(
+    hart: Hart,
+    instr: Instr,
+    state: &mut HartState,
+    memory: &mut Memory,
+    held: &mut Reservations,
+) -> Option<Instr>
+    requires there { hart < length held.old }
+    requires read { Ok instr ≡ instr_at memory.old state.old.pc }
+    ensures made { IfSome result
+        (λ instr. IsOwnStep hart memory.old held.old state.old instr state.new) }
+    ensures left { result ≡ None → state.new ≡ state.old }
+    ensures memory { memory.new ≡ memory.old }
+    ensures held { held.new ≡ held.old }
+{
+    if !is_own(&instr) {
+        return None;
+    }
+    match act(hart, instr, state, memory, held) {
+        StepEnd::Next(made, _access) => Some(made),
+        StepEnd::Call | StepEnd::Trap(_) => None,
     }
 }
 

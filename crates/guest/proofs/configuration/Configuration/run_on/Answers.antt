@@ -4,8 +4,10 @@ use Rattle.std.specs.Prelude.{IsFalse, IsOk}
 use Rattle.guest.specs.GuestCalls.{RunTurn, quiet, ran}
 use Rattle.guest.specs.ConfigInside.{config_of}
 use Rattle.guest.specs.Turns.{chosen, makes_block, turn_of}
-use Rattle.guest.proofs.AtCall.{called, next_made, whole_left}
+use Rattle.guest.specs.SeenTurns.{turn_seen}
+use Rattle.guest.proofs.AtCall.{called, next_made, trapped, whole_left}
 use Rattle.guest.proofs.CallFits.{fits_called, fits_chosen}
+use Rattle.guest.proofs.GoingAhead.{passing_all}
 use Rattle.guest.proofs.OwnAccesses.{own_seen}
 use Rattle.guest.proofs.QuietSteps.{passing_on, passing_start, quiet_answer, quiet_one, taken}
 use Rattle.guest.proofs.TurnAnswers.{fits-either, if_ok-map, on_err-map, on_ok-if}
@@ -19,7 +21,7 @@ turns-init c =
 pub turns-smaller-else-self-until : goal.turns-smaller-else-self-until
 turns-smaller-else-self-until c =
     let s = c.args.setup.now in
-    let x = config_of c.turns.self in
+    let x = config_of c.go_ahead.new.self in
     let d = config_of c.pass_over.new.self in
     let made : ran quiet d ≡ turn_of s x = c.pass_over.ensures.turn
     ∙ next_made s c.in-Some.hart c.from.result c.pc-pc.result (chosen x)
@@ -27,20 +29,23 @@ turns-smaller-else-self-until c =
     c.in-Next-default-None.instr None (c.from.ensures ∙ c.number.ensures.value)
     (omega (
       arith,
-      (c.is_spent.ensures.ready c.if-is_spent.false).inside,
-      (c.is_spent.ensures.ready c.if-is_spent.false).states,
+      c.go_ahead.ensures.ready.inside,
+      c.go_ahead.ensures.ready.states,
     ))
     c.index_mut-state.ensures.value
     (rw c.in-Next-default-None.field-1-is at c.in-Next-default-None.ensures.effect)
     c.pc-pc.ensures.value
-    ∙ c.is_spent.ensures.turn c.if-is_spent.false in
-    let one = quiet_one s x d c.turns.invariant.counts.room made in
-    omega (arith, one.steps, one.room)
+    ∙ c.go_ahead.ensures.turn in
+    let before = passing_all s c.args.until (config_of c.args.self.now) (config_of c.turns.self) x
+    c.turns.invariant c.go_ahead.ensures.passed c.go_ahead.ensures.at.fits
+    c.go_ahead.ensures.early in
+    let one = quiet_one s x d before.counts.room made in
+    omega (arith, one.steps, one.room, c.go_ahead.ensures.steps)
 
 pub turns-preserved-else-self-until : goal.turns-preserved-else-self-until
 turns-preserved-else-self-until c =
     let s = c.args.setup.now in
-    let x = config_of c.turns.self in
+    let x = config_of c.go_ahead.new.self in
     let d = config_of c.pass_over.new.self in
     let made : ran quiet d ≡ turn_of s x = c.pass_over.ensures.turn
     ∙ next_made s c.in-Some.hart c.from.result c.pc-pc.result (chosen x)
@@ -48,15 +53,18 @@ turns-preserved-else-self-until c =
     c.in-Next-default-None.instr None (c.from.ensures ∙ c.number.ensures.value)
     (omega (
       arith,
-      (c.is_spent.ensures.ready c.if-is_spent.false).inside,
-      (c.is_spent.ensures.ready c.if-is_spent.false).states,
+      c.go_ahead.ensures.ready.inside,
+      c.go_ahead.ensures.ready.states,
     ))
     c.index_mut-state.ensures.value
     (rw c.in-Next-default-None.field-1-is at c.in-Next-default-None.ensures.effect)
     c.pc-pc.ensures.value
-    ∙ c.is_spent.ensures.turn c.if-is_spent.false in
-    let fits = c.turns.invariant.fits in
-    passing_on s c.args.until (config_of c.args.self.now) x d c.turns.invariant made
+    ∙ c.go_ahead.ensures.turn in
+    let fits = c.go_ahead.ensures.at.fits in
+    let before = passing_all s c.args.until (config_of c.args.self.now) (config_of c.turns.self) x
+    c.turns.invariant c.go_ahead.ensures.passed c.go_ahead.ensures.at.fits
+    c.go_ahead.ensures.early in
+    passing_on s c.args.until (config_of c.args.self.now) x d before made
     (c.pass_over.ensures.fits s.harts (record {
       states = length-set x.states c.from.result c.step.new.state ∙ fits.states;
       held = c.step.ensures.harts ∙ fits.held;
@@ -73,14 +81,14 @@ returns-in-Next-default-Some-clause-seen c =
     (rw c.in-Next-default-Some.field-1-is at c.in-Next-default-Some.ensures.effect)
     (omega (
       arith,
-      (c.is_spent.ensures.ready c.if-is_spent.false).inside,
-      c.turns.invariant.fits.phases,
+      c.go_ahead.ensures.ready.inside,
+      c.go_ahead.ensures.at.fits.phases,
     )))
 
 pub returns-then-not-is_quiet-clause-turn : goal.returns-then-not-is_quiet-clause-turn
 returns-then-not-is_quiet-clause-turn c =
     let s = c.args.setup.now in
-    let x = config_of c.turns.self in
+    let x = config_of c.go_ahead.new.self in
     let d = config_of c.call-answer.new.self in
     let turn = if_ok-map c.call-answer.result _ _
     (λ turn h. called s c.in-Some.hart c.from.result (chosen x) c.index_mut-state.result.now
@@ -88,11 +96,11 @@ returns-then-not-is_quiet-clause-turn c =
     (c.from.ensures ∙ c.number.ensures.value)
     (omega (
       arith,
-      (c.is_spent.ensures.ready c.if-is_spent.false).inside,
-      (c.is_spent.ensures.ready c.if-is_spent.false).states,
+      c.go_ahead.ensures.ready.inside,
+      c.go_ahead.ensures.ready.states,
     ))
     c.index_mut-state.ensures.value c.in-Call.ensures.effect c.in-Call.ensures.left h
-    ∙ c.is_spent.ensures.turn c.if-is_spent.false)
+    ∙ c.go_ahead.ensures.turn)
     c.call-answer.ensures.turn in
     let same = on_err-map c.call-answer.result _ _
     (λ h. h ∙ whole_left c.in-Some.hart c.from.result x c.index_mut-state.result.now
@@ -100,8 +108,8 @@ returns-then-not-is_quiet-clause-turn c =
     (c.from.ensures ∙ c.number.ensures.value)
     (omega (
       arith,
-      (c.is_spent.ensures.ready c.if-is_spent.false).inside,
-      (c.is_spent.ensures.ready c.if-is_spent.false).states,
+      c.go_ahead.ensures.ready.inside,
+      c.go_ahead.ensures.ready.states,
     ))
     c.index_mut-state.ensures.value c.in-Call.ensures.left)
     c.call-answer.ensures.refused in
@@ -113,19 +121,22 @@ returns-then-not-is_quiet-clause-turn c =
     (c.from.ensures ∙ c.number.ensures.value)
     (omega (
       arith,
-      (c.is_spent.ensures.ready c.if-is_spent.false).inside,
-      (c.is_spent.ensures.ready c.if-is_spent.false).states,
+      c.go_ahead.ensures.ready.inside,
+      c.go_ahead.ensures.ready.states,
     ))
     c.index_mut-state.ensures.value c.in-Call.ensures.effect c.in-Call.ensures.left refl
-    ∙ c.is_spent.ensures.turn c.if-is_spent.false)
+    ∙ c.go_ahead.ensures.turn)
     ∙ no_block) in
-    (taken s c.args.until (config_of c.args.self.now) x d c.call-answer.result c.turns.invariant
+    let before = passing_all s c.args.until (config_of c.args.self.now) (config_of c.turns.self) x
+    c.turns.invariant c.go_ahead.ensures.passed c.go_ahead.ensures.at.fits
+    c.go_ahead.ensures.early in
+    (taken s c.args.until (config_of c.args.self.now) x d c.call-answer.result before
     turn same settled).turn
 
 pub returns-then-not-is_quiet-clause-passed : goal.returns-then-not-is_quiet-clause-passed
 returns-then-not-is_quiet-clause-passed c =
     let s = c.args.setup.now in
-    let x = config_of c.turns.self in
+    let x = config_of c.go_ahead.new.self in
     let d = config_of c.call-answer.new.self in
     let turn = if_ok-map c.call-answer.result _ _
     (λ turn h. called s c.in-Some.hart c.from.result (chosen x) c.index_mut-state.result.now
@@ -133,11 +144,11 @@ returns-then-not-is_quiet-clause-passed c =
     (c.from.ensures ∙ c.number.ensures.value)
     (omega (
       arith,
-      (c.is_spent.ensures.ready c.if-is_spent.false).inside,
-      (c.is_spent.ensures.ready c.if-is_spent.false).states,
+      c.go_ahead.ensures.ready.inside,
+      c.go_ahead.ensures.ready.states,
     ))
     c.index_mut-state.ensures.value c.in-Call.ensures.effect c.in-Call.ensures.left h
-    ∙ c.is_spent.ensures.turn c.if-is_spent.false)
+    ∙ c.go_ahead.ensures.turn)
     c.call-answer.ensures.turn in
     let same = on_err-map c.call-answer.result _ _
     (λ h. h ∙ whole_left c.in-Some.hart c.from.result x c.index_mut-state.result.now
@@ -145,8 +156,8 @@ returns-then-not-is_quiet-clause-passed c =
     (c.from.ensures ∙ c.number.ensures.value)
     (omega (
       arith,
-      (c.is_spent.ensures.ready c.if-is_spent.false).inside,
-      (c.is_spent.ensures.ready c.if-is_spent.false).states,
+      c.go_ahead.ensures.ready.inside,
+      c.go_ahead.ensures.ready.states,
     ))
     c.index_mut-state.ensures.value c.in-Call.ensures.left)
     c.call-answer.ensures.refused in
@@ -158,19 +169,22 @@ returns-then-not-is_quiet-clause-passed c =
     (c.from.ensures ∙ c.number.ensures.value)
     (omega (
       arith,
-      (c.is_spent.ensures.ready c.if-is_spent.false).inside,
-      (c.is_spent.ensures.ready c.if-is_spent.false).states,
+      c.go_ahead.ensures.ready.inside,
+      c.go_ahead.ensures.ready.states,
     ))
     c.index_mut-state.ensures.value c.in-Call.ensures.effect c.in-Call.ensures.left refl
-    ∙ c.is_spent.ensures.turn c.if-is_spent.false)
+    ∙ c.go_ahead.ensures.turn)
     ∙ no_block) in
-    (taken s c.args.until (config_of c.args.self.now) x d c.call-answer.result c.turns.invariant
+    let before = passing_all s c.args.until (config_of c.args.self.now) (config_of c.turns.self) x
+    c.turns.invariant c.go_ahead.ensures.passed c.go_ahead.ensures.at.fits
+    c.go_ahead.ensures.early in
+    (taken s c.args.until (config_of c.args.self.now) x d c.call-answer.result before
     turn same settled).passed
 
 pub returns-then-not-is_quiet-clause-settled : goal.returns-then-not-is_quiet-clause-settled
 returns-then-not-is_quiet-clause-settled c =
     let s = c.args.setup.now in
-    let x = config_of c.turns.self in
+    let x = config_of c.go_ahead.new.self in
     let d = config_of c.call-answer.new.self in
     let turn = if_ok-map c.call-answer.result _ _
     (λ turn h. called s c.in-Some.hart c.from.result (chosen x) c.index_mut-state.result.now
@@ -178,11 +192,11 @@ returns-then-not-is_quiet-clause-settled c =
     (c.from.ensures ∙ c.number.ensures.value)
     (omega (
       arith,
-      (c.is_spent.ensures.ready c.if-is_spent.false).inside,
-      (c.is_spent.ensures.ready c.if-is_spent.false).states,
+      c.go_ahead.ensures.ready.inside,
+      c.go_ahead.ensures.ready.states,
     ))
     c.index_mut-state.ensures.value c.in-Call.ensures.effect c.in-Call.ensures.left h
-    ∙ c.is_spent.ensures.turn c.if-is_spent.false)
+    ∙ c.go_ahead.ensures.turn)
     c.call-answer.ensures.turn in
     let same = on_err-map c.call-answer.result _ _
     (λ h. h ∙ whole_left c.in-Some.hart c.from.result x c.index_mut-state.result.now
@@ -190,8 +204,8 @@ returns-then-not-is_quiet-clause-settled c =
     (c.from.ensures ∙ c.number.ensures.value)
     (omega (
       arith,
-      (c.is_spent.ensures.ready c.if-is_spent.false).inside,
-      (c.is_spent.ensures.ready c.if-is_spent.false).states,
+      c.go_ahead.ensures.ready.inside,
+      c.go_ahead.ensures.ready.states,
     ))
     c.index_mut-state.ensures.value c.in-Call.ensures.left)
     c.call-answer.ensures.refused in
@@ -203,19 +217,22 @@ returns-then-not-is_quiet-clause-settled c =
     (c.from.ensures ∙ c.number.ensures.value)
     (omega (
       arith,
-      (c.is_spent.ensures.ready c.if-is_spent.false).inside,
-      (c.is_spent.ensures.ready c.if-is_spent.false).states,
+      c.go_ahead.ensures.ready.inside,
+      c.go_ahead.ensures.ready.states,
     ))
     c.index_mut-state.ensures.value c.in-Call.ensures.effect c.in-Call.ensures.left refl
-    ∙ c.is_spent.ensures.turn c.if-is_spent.false)
+    ∙ c.go_ahead.ensures.turn)
     ∙ no_block) in
-    (taken s c.args.until (config_of c.args.self.now) x d c.call-answer.result c.turns.invariant
+    let before = passing_all s c.args.until (config_of c.args.self.now) (config_of c.turns.self) x
+    c.turns.invariant c.go_ahead.ensures.passed c.go_ahead.ensures.at.fits
+    c.go_ahead.ensures.early in
+    (taken s c.args.until (config_of c.args.self.now) x d c.call-answer.result before
     turn same settled).settled
 
 pub returns-then-not-is_quiet-clause-fits : goal.returns-then-not-is_quiet-clause-fits
 returns-then-not-is_quiet-clause-fits c =
     let s = c.args.setup.now in
-    let x = config_of c.turns.self in
+    let x = config_of c.go_ahead.new.self in
     let d = config_of c.call-answer.new.self in
     let same = on_err-map c.call-answer.result _ _
     (λ h. h ∙ whole_left c.in-Some.hart c.from.result x c.index_mut-state.result.now
@@ -223,8 +240,8 @@ returns-then-not-is_quiet-clause-fits c =
     (c.from.ensures ∙ c.number.ensures.value)
     (omega (
       arith,
-      (c.is_spent.ensures.ready c.if-is_spent.false).inside,
-      (c.is_spent.ensures.ready c.if-is_spent.false).states,
+      c.go_ahead.ensures.ready.inside,
+      c.go_ahead.ensures.ready.states,
     ))
     c.index_mut-state.ensures.value c.in-Call.ensures.left)
     c.call-answer.ensures.refused in
@@ -233,7 +250,7 @@ returns-then-not-is_quiet-clause-fits c =
     c.step.new.state c.step.new.memory c.step.new.held turn d h c.step.ensures.harts
     (fits_chosen harts x fits))
     c.call-answer.ensures.turn in
-    let fits = fits-either c.call-answer.result s.harts x d go same c.turns.invariant.fits in
+    let fits = fits-either c.call-answer.result s.harts x d go same c.go_ahead.ensures.at.fits in
     fits
 
 pub returns-then-not-is_quiet-clause-seen : goal.returns-then-not-is_quiet-clause-seen
@@ -244,7 +261,7 @@ returns-then-not-is_quiet-clause-seen c =
 pub turns-smaller : goal.turns-smaller
 turns-smaller c =
     let s = c.args.setup.now in
-    let x = config_of c.turns.self in
+    let x = config_of c.go_ahead.new.self in
     let d = config_of c.call-answer.new.self in
     let turn = if_ok-map c.call-answer.result _ _
     (λ turn h. called s c.in-Some.hart c.from.result (chosen x) c.index_mut-state.result.now
@@ -252,21 +269,24 @@ turns-smaller c =
     (c.from.ensures ∙ c.number.ensures.value)
     (omega (
       arith,
-      (c.is_spent.ensures.ready c.if-is_spent.false).inside,
-      (c.is_spent.ensures.ready c.if-is_spent.false).states,
+      c.go_ahead.ensures.ready.inside,
+      c.go_ahead.ensures.ready.states,
     ))
     c.index_mut-state.ensures.value c.in-Call.ensures.effect c.in-Call.ensures.left h
-    ∙ c.is_spent.ensures.turn c.if-is_spent.false)
+    ∙ c.go_ahead.ensures.turn)
     c.call-answer.ensures.turn in
     let silent = quiet_answer s x d c.call-answer.result turn
     (c.is_quiet.ensures.0 c.if-not-is_quiet.false) in
-    let one = quiet_one s x d c.turns.invariant.counts.room silent in
-    omega (arith, one.steps, one.room)
+    let before = passing_all s c.args.until (config_of c.args.self.now) (config_of c.turns.self) x
+    c.turns.invariant c.go_ahead.ensures.passed c.go_ahead.ensures.at.fits
+    c.go_ahead.ensures.early in
+    let one = quiet_one s x d before.counts.room silent in
+    omega (arith, one.steps, one.room, c.go_ahead.ensures.steps)
 
 pub turns-preserved : goal.turns-preserved
 turns-preserved c =
     let s = c.args.setup.now in
-    let x = config_of c.turns.self in
+    let x = config_of c.go_ahead.new.self in
     let d = config_of c.call-answer.new.self in
     let turn = if_ok-map c.call-answer.result _ _
     (λ turn h. called s c.in-Some.hart c.from.result (chosen x) c.index_mut-state.result.now
@@ -274,11 +294,11 @@ turns-preserved c =
     (c.from.ensures ∙ c.number.ensures.value)
     (omega (
       arith,
-      (c.is_spent.ensures.ready c.if-is_spent.false).inside,
-      (c.is_spent.ensures.ready c.if-is_spent.false).states,
+      c.go_ahead.ensures.ready.inside,
+      c.go_ahead.ensures.ready.states,
     ))
     c.index_mut-state.ensures.value c.in-Call.ensures.effect c.in-Call.ensures.left h
-    ∙ c.is_spent.ensures.turn c.if-is_spent.false)
+    ∙ c.go_ahead.ensures.turn)
     c.call-answer.ensures.turn in
     let same = on_err-map c.call-answer.result _ _
     (λ h. h ∙ whole_left c.in-Some.hart c.from.result x c.index_mut-state.result.now
@@ -286,8 +306,8 @@ turns-preserved c =
     (c.from.ensures ∙ c.number.ensures.value)
     (omega (
       arith,
-      (c.is_spent.ensures.ready c.if-is_spent.false).inside,
-      (c.is_spent.ensures.ready c.if-is_spent.false).states,
+      c.go_ahead.ensures.ready.inside,
+      c.go_ahead.ensures.ready.states,
     ))
     c.index_mut-state.ensures.value c.in-Call.ensures.left)
     c.call-answer.ensures.refused in
@@ -296,8 +316,73 @@ turns-preserved c =
     c.step.new.state c.step.new.memory c.step.new.held turn d h c.step.ensures.harts
     (fits_chosen harts x fits))
     c.call-answer.ensures.turn in
-    let fits = fits-either c.call-answer.result s.harts x d go same c.turns.invariant.fits in
+    let fits = fits-either c.call-answer.result s.harts x d go same c.go_ahead.ensures.at.fits in
     let silent = quiet_answer s x d c.call-answer.result turn
     (c.is_quiet.ensures.0 c.if-not-is_quiet.false) in
-    passing_on s c.args.until (config_of c.args.self.now) x d c.turns.invariant silent fits
+    let before = passing_all s c.args.until (config_of c.args.self.now) (config_of c.turns.self) x
+    c.turns.invariant c.go_ahead.ensures.passed c.go_ahead.ensures.at.fits
+    c.go_ahead.ensures.early in
+    passing_on s c.args.until (config_of c.args.self.now) x d before silent fits
     c.if-self-until-2.false
+
+pub returns-then-self-until-clause-turn : goal.returns-then-self-until-clause-turn
+returns-then-self-until-clause-turn c =
+    let s = c.args.setup.now in
+    let x = config_of c.go_ahead.new.self in
+    let before = passing_all s c.args.until (config_of c.args.self.now) (config_of c.turns.self) x
+    c.turns.invariant c.go_ahead.ensures.passed c.go_ahead.ensures.at.fits
+    c.go_ahead.ensures.early in
+    let made : ran quiet (config_of c.pass_over.new.self) ≡ turn_of s x = c.pass_over.ensures.turn
+    ∙ next_made s c.in-Some.hart c.from.result c.pc-pc.result (chosen x)
+    c.index_mut-state.result.now c.step.new.state c.step.new.memory c.step.new.held
+    c.in-Next-default-None.instr None (c.from.ensures ∙ c.number.ensures.value)
+    (omega (arith, c.go_ahead.ensures.ready.inside, c.go_ahead.ensures.ready.states))
+    c.index_mut-state.ensures.value
+    (rw c.in-Next-default-None.field-1-is at c.in-Next-default-None.ensures.effect)
+    c.pc-pc.ensures.value
+    ∙ c.go_ahead.ensures.turn in
+    (x, before.so_far, made)
+
+pub go_on-requires-clause-accesses : goal.go_on-requires-clause-accesses
+go_on-requires-clause-accesses c =
+    let s = c.args.setup.now in
+    let x = config_of c.go_ahead.new.self in
+    let before = passing_all s c.args.until (config_of c.args.self.now) (config_of c.turns.self) x
+    c.turns.invariant c.go_ahead.ensures.passed c.go_ahead.ensures.at.fits
+    c.go_ahead.ensures.early in
+    before.within
+
+pub returns-in-Next-default-Some-clause-turn : goal.returns-in-Next-default-Some-clause-turn
+returns-in-Next-default-Some-clause-turn c =
+    let s = c.args.setup.now in
+    let x = config_of c.go_ahead.new.self in
+    let before = passing_all s c.args.until (config_of c.args.self.now) (config_of c.turns.self) x
+    c.turns.invariant c.go_ahead.ensures.passed c.go_ahead.ensures.at.fits
+    c.go_ahead.ensures.early in
+    let touched : turn_seen c.go_on.result (config_of c.go_on.new.self) ≡ turn_of s x =
+    c.go_on.ensures.turn
+    ∙ next_made s c.in-Some.hart c.from.result c.pc-pc.result (chosen x)
+    c.index_mut-state.result.now c.step.new.state c.step.new.memory c.step.new.held
+    c.in-Next-default-Some.instr (Some c.in-Next-default-Some.access)
+    (c.from.ensures ∙ c.number.ensures.value)
+    (omega (arith, c.go_ahead.ensures.ready.inside, c.go_ahead.ensures.ready.states))
+    c.index_mut-state.ensures.value
+    (rw c.in-Next-default-Some.field-1-is at c.in-Next-default-Some.ensures.effect)
+    c.pc-pc.ensures.value
+    ∙ c.go_ahead.ensures.turn in
+    (x, before.so_far, touched)
+
+pub returns-in-Trap-clause-turn : goal.returns-in-Trap-clause-turn
+returns-in-Trap-clause-turn c =
+    let s = c.args.setup.now in
+    let x = config_of c.go_ahead.new.self in
+    let before = passing_all s c.args.until (config_of c.args.self.now) (config_of c.turns.self) x
+    c.turns.invariant c.go_ahead.ensures.passed c.go_ahead.ensures.at.fits
+    c.go_ahead.ensures.early in
+    let ended = trapped s c.in-Some.hart c.from.result c.pc-pc.result (chosen x)
+    (config_of c.take_turn.new.self) c.index_mut-state.result.now c.step.new.state
+    c.step.new.memory c.step.new.held c.in-Trap.cause (c.from.ensures ∙ c.number.ensures.value)
+    (omega (arith, c.go_ahead.ensures.ready.inside, c.go_ahead.ensures.ready.states))
+    c.index_mut-state.ensures.value c.in-Trap.ensures.effect c.in-Trap.ensures.left
+    c.pc-pc.ensures.value c.take_turn.ensures in
+    (x, before.so_far, ended ∙ c.go_ahead.ensures.turn)
