@@ -2,6 +2,7 @@
 ghost use Rattle.std.specs.Prelude.{◌≡◌, ◌+◌, ◌≤◌, ◌<◌, ◌^◌, is_some, if◌then◌else◌};
 ghost use Rattle.detector.specs.Entries.{entry_at};
 ghost use Rattle.detector.specs.Noting.{CanTouch, CanTouchAll, places, touched_at, touched_places};
+ghost use Rattle.detector.specs.Noting;
 
 use crate::{LineEntry, LineIndex};
 use base::{Access, Steps};
@@ -24,17 +25,16 @@ pub fn places_of<I: LineIndex>(index: &I, line: u64) -> Places
     requires { line ≤ 2 ^ 30 }
     ensures { result ≡ places (entry_at (I.entries index.now)) line }
 {
-    places_beside(index, line, index.peek(line))
+    let here = index.peek(line);
+    let below = index.peek(line.saturating_sub(1));
+    places_between(line, here, below)
 }
 
-/// The same, where the line's own entry was looked up.
+/// The same, where both entries were looked up.
 #[inline(always)]
-pub fn places_beside<I: LineIndex>(index: &I, line: u64, here: LineEntry) -> Places
-    requires small { line ≤ 2 ^ 30 }
-    requires here { here ≡ entry_at (I.entries index.now) line }
-    ensures { result ≡ places (entry_at (I.entries index.now)) line }
+pub fn places_between(line: u64, here: LineEntry, below: LineEntry) -> Places
+    ensures { result ≡ Noting.places_between line here below }
 {
-    let below = index.peek(line.saturating_sub(1));
     let doubled = if line % 2 == 1 {
         here.doubled
     } else {
