@@ -4,7 +4,7 @@ ghost use Rattle.detector.specs.Entries.{entry_at};
 ghost use Rattle.detector.specs.Noting.{CanTouch, CanTouchAll, places, touched_at, touched_places};
 ghost use Rattle.detector.specs.Noting;
 
-use crate::{LineEntry, LineIndex};
+use crate::{LineEntry, LineIndex, Place};
 use base::{Access, Steps};
 use line_tracks::Tracks;
 use std::sync::ledger::Ledger;
@@ -13,10 +13,10 @@ use std::sync::ledger::Ledger;
 /// pairs with the line above and with the line below, and the doubled one of its even pair.
 #[derive(Clone, Copy, Drop)]
 pub struct Places {
-    pub own: Option<u32>,
-    pub shifted: Option<u32>,
-    pub below: Option<u32>,
-    pub doubled: Option<u32>,
+    pub own: Place,
+    pub shifted: Place,
+    pub below: Place,
+    pub doubled: Place,
 }
 
 /// The places that the entries of a line and of the one below it name.
@@ -52,7 +52,7 @@ pub fn places_between(line: u64, here: LineEntry, below: LineEntry) -> Places
 #[inline(always)]
 fn note_at<L: Ledger>(
     tracks: &mut Tracks,
-    place: Option<u32>,
+    place: Place,
     position: u64,
     access: Access,
     steps: &mut Steps<L>,
@@ -62,7 +62,7 @@ fn note_at<L: Ledger>(
     ensures tracks { tracks.new ≡ touched_at position access place tracks.old }
     ensures steps { steps.new ≤ steps.old + (if is_some place then 1 else 0) }
 {
-    if let Some(place) = place {
+    if let Some(place) = place.number() {
         if tracks.all()[place as usize].contains(access.addr()) {
             tracks.note(place, position, access, steps);
         }

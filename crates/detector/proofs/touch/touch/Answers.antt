@@ -1,6 +1,5 @@
-use Rattle.std.proofs.Common.{◌≡◌, ℕ, ◌+◌, ◌<◌, ◌≤◌, refl, sym, ap, ◌∙◌, subst, arith}
+use Rattle.std.proofs.Common.{◌≡◌, ℕ, ◌+◌, ◌<◌, ◌≤◌, refl, sym, ap, ◌∙◌, arith}
 use Rattle.std.proofs.lemmas.Bool.{or_parts}
-use Rattle.std.proofs.lemmas.Result.{on_ok_weaker}
 use Rattle.std.specs.Prelude.{is_ok}
 use Rattle.base.specs.Touch.{is_write}
 use Rattle.detector.specs.Entries.{entry_at}
@@ -8,10 +7,10 @@ use Rattle.detector.specs.declared.line_entry.LineEntry.{LineEntry}
 use Rattle.detector.specs.Counts.{counts_of}
 use Rattle.detector.specs.Noting.{places_between}
 use Rattle.detector.specs.Tasks.{counted}
-use Rattle.detector.proofs.AfterLaws.{after-read, after-task, after-write, counts-read}
-use Rattle.detector.proofs.AfterLaws.{counts-write, due-lent, first-written, native-grid, notable}
-use Rattle.detector.proofs.AfterLaws.{one-more-fits, plain-indexed, quiet, read-indexed}
-use Rattle.detector.proofs.AfterLaws.{searches-is, steps-within, task-lent, writes-few}
+use Rattle.detector.proofs.AfterLaws.{after-read, after-write, counts-read}
+use Rattle.detector.proofs.AfterLaws.{counts-write, first-written, notable}
+use Rattle.detector.proofs.AfterLaws.{one-more-fits, plain-indexed, read-indexed}
+use Rattle.detector.proofs.AfterLaws.{steps-within, task-lent, writes-few}
 use Rattle.detector.proofs.CountLaws.{counts-with_entry}
 use Rattle.detector.proofs.SettleLaws.{counted-lent}
 use Rattle.detector.proofs.touch.touch.Goals as goal
