@@ -15,7 +15,8 @@ use crate::pages::{
 use base::NoMemory;
 use std::alloc::Global;
 
-/// Directories of pages of entries. A line's first `entry` makes its page of 64 lines, of 2 KiB.
+/// Directories of pages of entries. A line's first `entry` makes its page of 64 lines, of 1.5
+/// KiB.
 #[derive(Drop)]
 pub struct PagedIndex {
     directories: Vec<Directory>,

@@ -1,8 +1,8 @@
 // A write at which a track may begin, or a predicted line may open.
 ghost use Rattle.std.specs.Prelude.{◌≡◌, ◌≢◌, ℕ, ◌+◌, ◌%◌, ◌≤◌, ◌<◌, ◌^◌, ◌-◌, ◌∷◌, []};
 ghost use Rattle.std.specs.Prelude.{◌++◌, ◌==◌, ◌||◌, IsOk, IsFalse, IsTrue, OnOk};
-ghost use Rattle.std.specs.Prelude.{OnErr};
-ghost use Rattle.std.specs.Prelude.{is_some, IfOk, None, Some, length, map, take, option_map, if◌then◌else◌};
+ghost use Rattle.std.specs.Prelude.{OnErr, is_some};
+ghost use Rattle.std.specs.Prelude.{IfOk, None, Some, length, map, take, option_map, if◌then◌else◌};
 ghost use Rattle.detector.specs.Entries.{blank_entry, entry_at};
 ghost use Rattle.base.specs.declared.layout.Range.{Range as Span};
 ghost use Rattle.base.specs.Lines.{is_layout, line_number};

@@ -68,8 +68,9 @@ fn task_of(entry: &LineEntry, thresholds: &Thresholds) -> Task
     Task { begins, searches }
 }
 
-// `touch` in any case: the entries are looked up one by one, and a write is noted so that it can be
-// taken back.
+// `touch` of any line: the entries are looked up one by one, and a write is noted so that it can be
+// taken back. Few accesses come here: writes at which something is due, and those of a line that
+// has no place yet.
 #[inline(never)]
 fn touch_apart<I: LineIndex, L: Ledger>(
     index: &mut I,
@@ -101,8 +102,9 @@ fn touch_apart<I: LineIndex, L: Ledger>(
     ensures same { OnErr result (I.entries index.new ≡ I.entries index.old) }
     ensures same_tracks { OnErr result (tracks.new ≡ tracks.old) }
     ensures known { IsFalse
-        (may_take_memory (watch_of (I.entries index.old) tracks.old layout thresholds.now position) line
-        access) → IsOk result }
+        (may_take_memory
+        (watch_of (I.entries index.old) tracks.old layout thresholds.now position) line access)
+        → IsOk result }
     ensures steps { steps.new ≤ steps.old + 4 + search_steps layout
         (is_search thresholds.now.prediction (counts_of (I.entries index.old)) line access) }
 {
@@ -156,8 +158,9 @@ pub fn touch<I: LineIndex, L: Ledger>(
     ensures same { OnErr result (I.entries index.new ≡ I.entries index.old) }
     ensures same_tracks { OnErr result (tracks.new ≡ tracks.old) }
     ensures known { IsFalse
-        (may_take_memory (watch_of (I.entries index.old) tracks.old layout thresholds.now position) line
-        access) → IsOk result }
+        (may_take_memory
+        (watch_of (I.entries index.old) tracks.old layout thresholds.now position) line access)
+        → IsOk result }
     ensures steps { steps.new ≤ steps.old + 4 + search_steps layout
         (is_search thresholds.now.prediction (counts_of (I.entries index.old)) line access) }
 {

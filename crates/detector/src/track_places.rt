@@ -35,11 +35,8 @@ pub fn places_of<I: LineIndex>(index: &I, line: u64) -> Places
 pub fn places_between(line: u64, here: LineEntry, below: LineEntry) -> Places
     ensures { result ≡ Noting.places_between line here below }
 {
-    let doubled = if line % 2 == 1 {
-        here.doubled
-    } else {
-        below.doubled
-    };
+    // Taken out of an array, since a branch that goes as lines come is foretold badly.
+    let doubled = [below.doubled, here.doubled][(line % 2) as usize];
     Places {
         own: here.track,
         shifted: here.shifted,
