@@ -14,6 +14,7 @@ pub mod Openings
 pub mod PagedEntries
 pub mod Pages
 pub mod Pairs
+pub mod PlaceFields
 pub mod Quiet
 pub mod Standing
 pub mod Tasks

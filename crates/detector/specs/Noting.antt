@@ -16,13 +16,16 @@ use Rattle.detector.specs.Watch.{touched}
 
 -- where the line's own track stands, the shifted ones of its pairs with the line above and with the
 -- line below, and the doubled one of its even pair
-abbrev pub places : (ℕ → LineEntry) → ℕ → Places
-places entry_of k = record {
-  own = (entry_of k).track;
-  shifted = (entry_of k).shifted;
-  below = (entry_of (k - 1)).shifted;
-  doubled = if k % 2 == 1 then (entry_of k).doubled else (entry_of (k - 1)).doubled;
+abbrev pub places_between : ℕ → LineEntry → LineEntry → Places
+places_between k here below = record {
+  own = here.track;
+  shifted = here.shifted;
+  below = below.shifted;
+  doubled = if k % 2 == 1 then here.doubled else below.doubled;
 }
+
+abbrev pub places : (ℕ → LineEntry) → ℕ → Places
+places entry_of k = places_between k (entry_of k) (entry_of (k - 1))
 
 -- the track at a place is noted if its range holds the address
 abbrev pub touched_at : ℕ → Touch → Option ℕ → List Kept → List Kept

@@ -11,7 +11,7 @@ ghost use Rattle.detector.specs.Index.{IsIndexed, place_in};
 ghost use Rattle.detector.specs.Named.{line_of_base};
 
 use crate::task::name;
-use crate::{LineEntry, LineIndex};
+use crate::{LineEntry, LineIndex, Place};
 use base::{Layout, NoMemory, Range, Thresholds};
 use line_tracks::{History, LineKind, Shadow, Tracks};
 use sharing_rules::number_of_base;
@@ -21,9 +21,9 @@ pub fn place_of(entry: &LineEntry, kind: LineKind) -> Option<u32>
     ensures { result ≡ place_in entry.now kind }
 {
     match kind {
-        LineKind::Observed => entry.track,
-        LineKind::Shifted => entry.shifted,
-        LineKind::Doubled => entry.doubled,
+        LineKind::Observed => entry.track.number(),
+        LineKind::Shifted => entry.shifted.number(),
+        LineKind::Doubled => entry.doubled.number(),
     }
 }
 
@@ -83,7 +83,7 @@ pub fn add_saved<I: LineIndex>(
     let line = line_of(layout, shadow.range());
     match tracks.add_saved(kind, shadow, start, count) {
         Ok(place) => {
-            name(index, line, kind, Some(place));
+            name(index, line, kind, Place::at(place));
             Ok(())
         }
         Err(refused) => Err(refused),

@@ -182,7 +182,7 @@ impl<I: LineIndex> Detector<I> {
             &mut self.index,
             &mut self.tracks,
             self.layout,
-            self.thresholds,
+            &self.thresholds,
             line,
             self.position,
             access,

@@ -1,6 +1,6 @@
 // What every index of lines does, and what it means: a finite map from line numbers to entries.
 ghost use Rattle.std.specs.Prelude.{◌≡◌, ℕ, ◌<◌, ◌≤◌, ◌^◌, Bool, false, IfOk, OnErr, IfSome};
-ghost use Rattle.std.specs.Prelude.{IfNone};
+ghost use Rattle.std.specs.Prelude.{IfNone, ◌-◌, is_some};
 ghost use Rattle.std.specs.Borrow.{sem};
 ghost use Rattle.detector.specs.Entries.{Entries, IsEntry, blank_entry, entry_at, get};
 ghost use Rattle.detector.specs.Lending.{LendsEntry};
@@ -20,6 +20,13 @@ pub trait LineIndex {
     fn peek(&self, line: u64) -> LineEntry
         requires { line ≤ 2 ^ 30 }
         ensures { result ≡ entry_at (entries self.now) line };
+
+    /// The entry of the line below one (of line 0, its own): None exactly where the line itself has
+    /// no place.
+    fn below(&self, line: u64) -> Option<LineEntry>
+        requires { line ≤ 2 ^ 30 }
+        ensures placed { is_some result ≡ has_place self.now line }
+        ensures value { IfSome result (λ e. e ≡ entry_at (entries self.now) (line - 1)) };
 
     /// Lends the entry of a line for writing; every other line keeps its own. `NoMemory` comes only
     /// for a line that has no place yet, and so no write and no track, and then every line keeps

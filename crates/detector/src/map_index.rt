@@ -79,6 +79,13 @@ impl LineIndex for MapIndex {
         }
     }
 
+    fn below(&self, line: u64) -> Option<LineEntry> {
+        if !self.lines.contains_key(&line) {
+            return None;
+        }
+        Some(self.peek(line.saturating_sub(1)))
+    }
+
     fn entry(&mut self, line: u64) -> Result<&mut LineEntry, NoMemory> {
         match self.make_place(line) {
             Ok(()) => match self.lines.get_mut(&line) {

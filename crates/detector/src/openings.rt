@@ -11,7 +11,7 @@ ghost use Rattle.detector.specs.Pairs.{AreAround, ArePair, AreShaped, IsPairOf, 
 ghost use Rattle.detector.specs.Pairs.{kept_at, shifted_between};
 ghost use Rattle.sharing_rules.specs.Lines.{native_grid};
 
-use crate::LineEntry;
+use crate::{LineEntry, Place};
 use base::{Range, Steps};
 use line_tracks::{Pair, Tracks, best_pair, doubled_range, shifted_range};
 use std::sync::ledger::Ledger;
@@ -44,8 +44,8 @@ pub struct Around {
 // track.
 fn pair_between<L: Ledger>(
     tracks: &Tracks,
-    lower: Option<u32>,
-    upper: Option<u32>,
+    lower: Place,
+    upper: Place,
     within: Option<u32>,
     steps: &mut Steps<L>,
 ) -> Option<Pair>
@@ -56,8 +56,8 @@ fn pair_between<L: Ledger>(
     ensures cost { (n k : ℕ) → ArePair n k tracks.now lower upper
         → steps.new ≤ steps.old + n / 4 * (n / 4) }
 {
-    let lower = &tracks.all()[lower? as usize];
-    let upper = &tracks.all()[upper? as usize];
+    let lower = &tracks.all()[lower.number()? as usize];
+    let upper = &tracks.all()[upper.number()? as usize];
     // A shadow has a word for each 4 bytes, as its range says.
     let _ranges = (lower.shadow().range(), upper.shadow().range());
     best_pair(lower.shadow(), upper.shadow(), within, steps)

@@ -1,10 +1,11 @@
 // An index by pages of 64 lines. Pages stand in directories of 4096, and directories and pages
 // appear once a line of theirs is lent.
-ghost use Rattle.std.specs.Prelude.{◌≡◌, ℕ, false, IsTrue, OnOk, OnErr, unwrap_or};
+ghost use Rattle.std.specs.Prelude.{◌≡◌, ℕ, ◌-◌, false, IsTrue, OnOk, OnErr, unwrap_or};
 ghost use Rattle.std.specs.Option.{option_copied};
 ghost use Rattle.detector.specs.Entries.{blank_entry, no_entries};
 ghost use Rattle.detector.specs.Lending.{KeepsPlaces};
 ghost use Rattle.detector.specs.PagedEntries.{paged_entries, paged_entry, paged_place};
+ghost use Rattle.detector.specs.Pages.{items_at, page_entry};
 
 use crate::line_entry::{BLANK, LAST_LINE, LineEntry};
 use crate::line_index::LineIndex;
@@ -14,7 +15,8 @@ use crate::pages::{
 use base::NoMemory;
 use std::alloc::Global;
 
-/// Directories of pages of entries. A line's first `entry` makes its page of 64 lines, of 2 KiB.
+/// Directories of pages of entries. A line's first `entry` makes its page of 64 lines, of 1.5
+/// KiB.
 #[derive(Drop)]
 pub struct PagedIndex {
     directories: Vec<Directory>,
@@ -32,15 +34,41 @@ impl PagedIndex {
         }
     }
 
+    // The entry at a place of a page of a directory, if it is there.
+    #[inline(always)]
+    fn entry_in(&self, directory: usize, page: usize, place: usize) -> Option<&LineEntry>
+        ensures { unwrap_or (option_copied result) blank_entry
+            ≡ page_entry (items_at (items_at self.now.directories.items directory) page) place }
+    {
+        self.directories.get(directory)?.get(page)?.get(place)
+    }
+
     // The entry of a line that has a place.
     #[inline(always)]
     fn find(&self, line: u64) -> Option<&LineEntry>
         ensures { unwrap_or (option_copied result) blank_entry ≡ paged_entry self.now line }
     {
         let place = (line % DIRECTORY_LINES) as usize;
-        let directory = self.directories.get((line / DIRECTORY_LINES) as usize)?;
-        let page = directory.get(place / PAGE_LINES)?;
-        page.get(place % PAGE_LINES)
+        let directory = (line / DIRECTORY_LINES) as usize;
+        self.entry_in(directory, place / PAGE_LINES, place % PAGE_LINES)
+    }
+
+    // The entry of the line below one. It is on the same page, unless that begins with the line.
+    #[inline(always)]
+    fn entry_below(&self, line: u64) -> LineEntry
+        ensures { result ≡ paged_entry self.now (line - 1) }
+    {
+        let place = (line % DIRECTORY_LINES) as usize;
+        let directory = (line / DIRECTORY_LINES) as usize;
+        let found = if place % PAGE_LINES > 0 {
+            self.entry_in(directory, place / PAGE_LINES, place % PAGE_LINES - 1)
+        } else {
+            self.find(line.saturating_sub(1))
+        };
+        match found {
+            Some(entry) => *entry,
+            None => BLANK,
+        }
     }
 
     // Whether the page of a line is there.
@@ -108,6 +136,14 @@ impl LineIndex for PagedIndex {
             Some(entry) => *entry,
             None => BLANK,
         }
+    }
+
+    #[inline(always)]
+    fn below(&self, line: u64) -> Option<LineEntry> {
+        if !self.has_page(line) {
+            return None;
+        }
+        Some(self.entry_below(line))
     }
 
     #[inline(always)]

@@ -1,7 +1,7 @@
 // A write at which a track may begin, or a predicted line may open.
 ghost use Rattle.std.specs.Prelude.{◌≡◌, ◌≢◌, ℕ, ◌+◌, ◌%◌, ◌≤◌, ◌<◌, ◌^◌, ◌-◌, ◌∷◌, []};
 ghost use Rattle.std.specs.Prelude.{◌++◌, ◌==◌, ◌||◌, IsOk, IsFalse, IsTrue, OnOk};
-ghost use Rattle.std.specs.Prelude.{OnErr};
+ghost use Rattle.std.specs.Prelude.{OnErr, is_some};
 ghost use Rattle.std.specs.Prelude.{IfOk, None, Some, length, map, take, option_map, if◌then◌else◌};
 ghost use Rattle.detector.specs.Entries.{blank_entry, entry_at};
 ghost use Rattle.base.specs.declared.layout.Range.{Range as Span};
@@ -22,7 +22,7 @@ use crate::openings::{Around, NOTHING, Openings, search};
 use crate::track_places::places_of;
 use crate::undo::{note_all_undoably, take_all_back};
 use crate::write_count::count;
-use crate::{LineEntry, LineIndex};
+use crate::{LineEntry, LineIndex, Place};
 use base::{Access, Layout, NoMemory, Range, Steps};
 use line_tracks::{LineKind, Tracks};
 use std::sync::ledger::Ledger;
@@ -48,9 +48,9 @@ impl Task {
 // The places of the tracks that were opened.
 #[derive(Clone, Copy, Drop)]
 struct Opened {
-    below: Option<u32>,
-    here: Option<u32>,
-    doubled: Option<u32>,
+    below: Place,
+    here: Place,
+    doubled: Place,
 }
 
 // Adds a track. There are places for 2^31 of them.
@@ -93,11 +93,7 @@ fn begin<L: Ledger>(
 }
 
 // Adds the track of a range that opens, if there is one.
-fn open_one(
-    tracks: &mut Tracks,
-    kind: LineKind,
-    opening: Option<Range>,
-) -> Result<Option<u32>, NoMemory>
+fn open_one(tracks: &mut Tracks, kind: LineKind, opening: Option<Range>) -> Result<Place, NoMemory>
     requires few { length tracks.old ≤ 2 ^ 31 }
     requires sized { (r : Span) → opening ≡ Some r → r.size % 4 ≡ 0 }
     ensures added { OnOk result (tracks.new ≡ tracks.old ++ waiting_for kind opening) }
@@ -108,10 +104,10 @@ fn open_one(
 {
     match opening {
         Some(range) => match add(tracks, kind, range) {
-            Ok(place) => Ok(Some(place)),
+            Ok(place) => Ok(Place::at(place)),
             Err(refused) => Err(refused),
         },
-        None => Ok(None),
+        None => Ok(Place::none()),
     }
 }
 
@@ -148,12 +144,12 @@ fn open(tracks: &mut Tracks, openings: Openings) -> Result<Opened, NoMemory>
 fn own_place<L: Ledger>(
     tracks: &mut Tracks,
     begins: bool,
-    named: Option<u32>,
+    named: Place,
     layout: Layout,
     position: u64,
     access: Access,
     steps: &mut Steps<L>,
-) -> Result<Option<u32>, NoMemory>
+) -> Result<Place, NoMemory>
     requires early { position < 2 ^ 40 }
     requires few { length tracks.old ≤ 2 ^ 31 }
     ensures tracks { OnOk result (tracks.new
@@ -170,7 +166,7 @@ fn own_place<L: Ledger>(
         return Ok(named);
     }
     match begin(tracks, layout, position, access, steps) {
-        Ok(place) => Ok(Some(place)),
+        Ok(place) => Ok(Place::at(place)),
         Err(refused) => Err(refused),
     }
 }
@@ -181,7 +177,7 @@ fn openings_at<I: LineIndex, L: Ledger>(
     tracks: &Tracks,
     searches: bool,
     line: u64,
-    own: Option<u32>,
+    own: Place,
     layout: Layout,
     steps: &mut Steps<L>,
 ) -> Openings
@@ -231,18 +227,19 @@ fn reserve<I: LineIndex>(index: &mut I, line: u64) -> Result<(), NoMemory>
 }
 
 // An entry with a place for a kind.
-fn set_place(entry: &mut LineEntry, kind: LineKind, place: u32)
-    ensures { entry.new ≡ with_place entry.old kind (Some place) }
+fn set_place(entry: &mut LineEntry, kind: LineKind, place: Place)
+    requires { IsTrue (is_some place) }
+    ensures { entry.new ≡ with_place entry.old kind place }
 {
     match kind {
-        LineKind::Observed => entry.track = Some(place),
-        LineKind::Shifted => entry.shifted = Some(place),
-        LineKind::Doubled => entry.doubled = Some(place),
+        LineKind::Observed => entry.track = place,
+        LineKind::Shifted => entry.shifted = place,
+        LineKind::Doubled => entry.doubled = place,
     }
 }
 
 /// Names a track of a written line, if a place is given.
-pub fn name<I: LineIndex>(index: &mut I, line: u64, kind: LineKind, place: Option<u32>)
+pub fn name<I: LineIndex>(index: &mut I, line: u64, kind: LineKind, place: Place)
     requires small { line ≤ 2 ^ 30 }
     requires written { (p : ℕ) → place ≡ Some p → 0 < (entry_at (I.entries index.old) line).writes }
     ensures names { names_in (entry_at (I.entries index.new)) ≡ with_name
@@ -251,7 +248,7 @@ pub fn name<I: LineIndex>(index: &mut I, line: u64, kind: LineKind, place: Optio
         (entry_at (I.entries index.old) q).writes }
     ensures counts { counts_of (I.entries index.new) ≡ counts_of (I.entries index.old) }
 {
-    if let Some(place) = place {
+    if place.is_some() {
         match index.entry(line) {
             Ok(entry) => set_place(entry, kind, place),
             Err(_) => unreachable!(),
@@ -271,7 +268,7 @@ fn lower_of(line: u64) -> u64
 }
 
 // Counts a write of a line that has a place, and names its own track and those that were opened.
-fn settle<I: LineIndex>(index: &mut I, line: u64, own: Option<u32>, opened: Opened)
+fn settle<I: LineIndex>(index: &mut I, line: u64, own: Place, opened: Opened)
     requires small { line ≤ 2 ^ 30 }
     requires placed { IsTrue (I.has_place index.old line) }
     requires few { (entry_at (I.entries index.old) line).writes < 2 ^ 40 }

@@ -1,5 +1,6 @@
 // One access: of the tracks that hold its address, and of its line's entry in the index.
-ghost use Rattle.std.specs.Prelude.{◌≡◌, ℕ, ◌+◌, ◌%◌, ◌==◌, ◌<◌, ◌≤◌, ◌^◌, false};
+ghost use Rattle.std.specs.Prelude.{◌≡◌, ℕ, ◌+◌, ◌-◌, ◌%◌, ◌==◌, ◌<◌, ◌≤◌, ◌^◌, false};
+ghost use Rattle.detector.specs.declared.line_entry.LineEntry.{LineEntry};
 ghost use Rattle.std.specs.Prelude.{map, IsOk, IsTrue, IsFalse, OnOk, OnErr, Some};
 ghost use Rattle.std.specs.Option.{option_map_or};
 ghost use Rattle.base.specs.Lines.{Grid, is_layout, line_number};
@@ -7,13 +8,14 @@ ghost use Rattle.detector.specs.Entries.{entry_at};
 ghost use Rattle.sharing_rules.specs.Listed.{may_predict};
 ghost use Rattle.detector.specs.Counts.{counts_of};
 ghost use Rattle.detector.specs.Index.{IsIndexed, IsReached};
-ghost use Rattle.detector.specs.Noting.{IsNotable};
+ghost use Rattle.detector.specs.Noting.{IsNotable, places};
+ghost use Rattle.detector.specs.Noting;
 ghost use Rattle.detector.specs.Tasks.{IsTaskOf, search_steps};
 ghost use Rattle.detector.specs.Watch.{is_search, may_take_memory, touched, tracks_after, watch_of};
 ghost use Rattle.detector.specs.Watch.{writes_after};
 
 use crate::task::{Task, do_task};
-use crate::track_places::{note_places, places_beside};
+use crate::track_places::{note_places, places_between};
 use crate::{LineEntry, LineIndex};
 use base::{Access, Kind, Layout, NoMemory, Steps, Thresholds};
 use line_tracks::Tracks;
@@ -32,39 +34,92 @@ fn is_multiple(n: u64, of: Option<u64>) -> bool
     }
 }
 
-// Notes the tracks that hold the address of an access of a line with this entry.
+// Notes the tracks that hold the address of an access of a line with these entries.
 #[inline(always)]
-fn note<I: LineIndex, L: Ledger>(
-    index: &I,
+fn note<L: Ledger>(
     tracks: &mut Tracks,
     line: u64,
     here: LineEntry,
+    below: LineEntry,
     position: u64,
     access: Access,
     steps: &mut Steps<L>,
 )
-    requires small { line ≤ 2 ^ 30 }
-    requires here { here ≡ entry_at (I.entries index.now) line }
     requires early { position < 2 ^ 40 }
-    requires notable { (g : Grid) × IsNotable (entry_at (I.entries index.now)) g tracks.old line
-        position access }
+    requires notable { (f : ℕ → LineEntry) × (g : Grid)
+        × (Noting.places_between line here below ≡ places f line)
+        × IsNotable f g tracks.old line position access }
     ensures tracks { tracks.new ≡ map (touched position access) tracks.old }
     ensures steps { steps.new ≤ steps.old + 4 }
 {
-    let places = places_beside(index, line, here);
+    let places = places_between(line, here, below);
     note_places(tracks, places, position, access, steps);
 }
 
 // What a write of a line with this entry may do beside being noted.
 #[inline(always)]
-fn task_of(entry: &LineEntry, thresholds: Thresholds) -> Task
+fn task_of(entry: &LineEntry, thresholds: &Thresholds) -> Task
     requires few { entry.now.writes < 2 ^ 40 }
-    ensures { IsTaskOf entry.now thresholds result }
+    ensures { IsTaskOf entry.now thresholds.now result }
 {
     let writes = entry.writes + 1;
     let begins = writes == thresholds.tracking();
     let searches = is_multiple(writes, thresholds.prediction());
     Task { begins, searches }
+}
+
+// `touch` of any line: the entries are looked up one by one, and a write is noted so that it can be
+// taken back. Few accesses come here: writes at which something is due, and those of a line that
+// has no place yet.
+#[inline(never)]
+fn touch_apart<I: LineIndex, L: Ledger>(
+    index: &mut I,
+    tracks: &mut Tracks,
+    layout: Layout,
+    thresholds: &Thresholds,
+    line: u64,
+    position: u64,
+    access: Access,
+    steps: &mut Steps<L>,
+) -> Result<(), NoMemory>
+    requires indexed { IsIndexed (entry_at (I.entries index.old)) layout tracks.old
+        thresholds.now.tracking position }
+    requires small { line ≤ 2 ^ 30 }
+    requires reached { IsReached layout line }
+    requires early { position < 2 ^ 40 }
+    requires line { line ≡ line_number layout.size layout.offset access.addr }
+    requires layout { IsTrue (is_layout layout.size layout.offset) }
+    requires native { IsTrue (may_predict layout thresholds.now) }
+    requires some { 1 ≤ thresholds.now.tracking }
+    ensures tracks { OnOk result
+        (tracks.new ≡ tracks_after
+        (watch_of (I.entries index.old) tracks.old layout thresholds.now position) line access) }
+    ensures counts { OnOk result (counts_of (I.entries index.new) ≡ writes_after line access
+        (counts_of (I.entries index.old))) }
+    ensures indexed { OnOk result
+        (IsIndexed (entry_at (I.entries index.new)) layout tracks.new thresholds.now.tracking
+        (position + 1)) }
+    ensures same { OnErr result (I.entries index.new ≡ I.entries index.old) }
+    ensures same_tracks { OnErr result (tracks.new ≡ tracks.old) }
+    ensures known { IsFalse
+        (may_take_memory
+        (watch_of (I.entries index.old) tracks.old layout thresholds.now position) line access)
+        → IsOk result }
+    ensures steps { steps.new ≤ steps.old + 4 + search_steps layout
+        (is_search thresholds.now.prediction (counts_of (I.entries index.old)) line access) }
+{
+    let here = index.peek(line);
+    match access.kind() {
+        Kind::Read => {
+            let below = index.peek(line.saturating_sub(1));
+            note(tracks, line, here, below, position, access, steps);
+            Ok(())
+        }
+        Kind::Write => {
+            let task = task_of(&here, thresholds);
+            do_task(index, tracks, layout, line, task, position, access, steps)
+        }
+    }
 }
 
 /// An access: the tracks that hold its address are noted, a write is counted, and what is due
@@ -77,56 +132,64 @@ pub fn touch<I: LineIndex, L: Ledger>(
     index: &mut I,
     tracks: &mut Tracks,
     layout: Layout,
-    thresholds: Thresholds,
+    thresholds: &Thresholds,
     line: u64,
     position: u64,
     access: Access,
     steps: &mut Steps<L>,
 ) -> Result<(), NoMemory>
     requires indexed { IsIndexed (entry_at (I.entries index.old)) layout tracks.old
-        thresholds.tracking position }
+        thresholds.now.tracking position }
     requires small { line ≤ 2 ^ 30 }
     requires reached { IsReached layout line }
     requires early { position < 2 ^ 40 }
     requires line { line ≡ line_number layout.size layout.offset access.addr }
     requires layout { IsTrue (is_layout layout.size layout.offset) }
-    requires native { IsTrue (may_predict layout thresholds) }
-    requires some { 1 ≤ thresholds.tracking }
+    requires native { IsTrue (may_predict layout thresholds.now) }
+    requires some { 1 ≤ thresholds.now.tracking }
     ensures tracks { OnOk result
         (tracks.new ≡ tracks_after
-        (watch_of (I.entries index.old) tracks.old layout thresholds position) line access) }
+        (watch_of (I.entries index.old) tracks.old layout thresholds.now position) line access) }
     ensures counts { OnOk result (counts_of (I.entries index.new) ≡ writes_after line access
         (counts_of (I.entries index.old))) }
     ensures indexed { OnOk result
-        (IsIndexed (entry_at (I.entries index.new)) layout tracks.new thresholds.tracking
+        (IsIndexed (entry_at (I.entries index.new)) layout tracks.new thresholds.now.tracking
         (position + 1)) }
     ensures same { OnErr result (I.entries index.new ≡ I.entries index.old) }
     ensures same_tracks { OnErr result (tracks.new ≡ tracks.old) }
     ensures known { IsFalse
-        (may_take_memory (watch_of (I.entries index.old) tracks.old layout thresholds position) line
-        access) → IsOk result }
+        (may_take_memory
+        (watch_of (I.entries index.old) tracks.old layout thresholds.now position) line access)
+        → IsOk result }
     ensures steps { steps.new ≤ steps.old + 4 + search_steps layout
-        (is_search thresholds.prediction (counts_of (I.entries index.old)) line access) }
+        (is_search thresholds.now.prediction (counts_of (I.entries index.old)) line access) }
 {
+    // A line that has a place is found once, and the one below it with it.
     match access.kind() {
         Kind::Read => {
-            let here = index.peek(line);
-            note(index, tracks, line, here, position, access, steps);
-            Ok(())
-        }
-        // The line is looked up once: the entry says what is due, and counts the write.
-        Kind::Write => match index.entry(line) {
-            Ok(entry) => {
-                let task = task_of(entry, thresholds);
-                if task.is_due() {
-                    return do_task(index, tracks, layout, line, task, position, access, steps);
-                }
-                entry.writes += 1;
-                let here = *entry;
-                note(index, tracks, line, here, position, access, steps);
-                Ok(())
+            if let Some(below) = index.below(line) {
+                let here = index.peek(line);
+                note(tracks, line, here, below, position, access, steps);
+                return Ok(());
             }
-            Err(refused) => Err(refused),
-        },
+        }
+        Kind::Write => {
+            if let Some(below) = index.below(line) {
+                if !task_of(&index.peek(line), thresholds).is_due() {
+                    return match index.entry(line) {
+                        Ok(entry) => {
+                            entry.writes += 1;
+                            let here = *entry;
+                            note(tracks, line, here, below, position, access, steps);
+                            Ok(())
+                        }
+                        Err(refused) => Err(refused),
+                    };
+                }
+            }
+        }
     }
+    touch_apart(
+        index, tracks, layout, thresholds, line, position, access, steps,
+    )
 }

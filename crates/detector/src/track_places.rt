@@ -2,8 +2,9 @@
 ghost use Rattle.std.specs.Prelude.{◌≡◌, ◌+◌, ◌≤◌, ◌<◌, ◌^◌, is_some, if◌then◌else◌};
 ghost use Rattle.detector.specs.Entries.{entry_at};
 ghost use Rattle.detector.specs.Noting.{CanTouch, CanTouchAll, places, touched_at, touched_places};
+ghost use Rattle.detector.specs.Noting;
 
-use crate::{LineEntry, LineIndex};
+use crate::{LineEntry, LineIndex, Place};
 use base::{Access, Steps};
 use line_tracks::Tracks;
 use std::sync::ledger::Ledger;
@@ -12,10 +13,10 @@ use std::sync::ledger::Ledger;
 /// pairs with the line above and with the line below, and the doubled one of its even pair.
 #[derive(Clone, Copy, Drop)]
 pub struct Places {
-    pub own: Option<u32>,
-    pub shifted: Option<u32>,
-    pub below: Option<u32>,
-    pub doubled: Option<u32>,
+    pub own: Place,
+    pub shifted: Place,
+    pub below: Place,
+    pub doubled: Place,
 }
 
 /// The places that the entries of a line and of the one below it name.
@@ -24,22 +25,18 @@ pub fn places_of<I: LineIndex>(index: &I, line: u64) -> Places
     requires { line ≤ 2 ^ 30 }
     ensures { result ≡ places (entry_at (I.entries index.now)) line }
 {
-    places_beside(index, line, index.peek(line))
+    let here = index.peek(line);
+    let below = index.peek(line.saturating_sub(1));
+    places_between(line, here, below)
 }
 
-/// The same, where the line's own entry was looked up.
+/// The same, where both entries were looked up.
 #[inline(always)]
-pub fn places_beside<I: LineIndex>(index: &I, line: u64, here: LineEntry) -> Places
-    requires small { line ≤ 2 ^ 30 }
-    requires here { here ≡ entry_at (I.entries index.now) line }
-    ensures { result ≡ places (entry_at (I.entries index.now)) line }
+pub fn places_between(line: u64, here: LineEntry, below: LineEntry) -> Places
+    ensures { result ≡ Noting.places_between line here below }
 {
-    let below = index.peek(line.saturating_sub(1));
-    let doubled = if line % 2 == 1 {
-        here.doubled
-    } else {
-        below.doubled
-    };
+    // Taken out of an array, since a branch that goes as lines come is foretold badly.
+    let doubled = [below.doubled, here.doubled][(line % 2) as usize];
     Places {
         own: here.track,
         shifted: here.shifted,
@@ -52,7 +49,7 @@ pub fn places_beside<I: LineIndex>(index: &I, line: u64, here: LineEntry) -> Pla
 #[inline(always)]
 fn note_at<L: Ledger>(
     tracks: &mut Tracks,
-    place: Option<u32>,
+    place: Place,
     position: u64,
     access: Access,
     steps: &mut Steps<L>,
@@ -62,7 +59,7 @@ fn note_at<L: Ledger>(
     ensures tracks { tracks.new ≡ touched_at position access place tracks.old }
     ensures steps { steps.new ≤ steps.old + (if is_some place then 1 else 0) }
 {
-    if let Some(place) = place {
+    if let Some(place) = place.number() {
         if tracks.all()[place as usize].contains(access.addr()) {
             tracks.note(place, position, access, steps);
         }

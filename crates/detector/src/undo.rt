@@ -7,6 +7,7 @@ ghost use Rattle.detector.specs.Noting.{AreUndos, CanTakeBack, CanTouch, CanTouc
 ghost use Rattle.detector.specs.Noting.{touched_places, undo_at};
 ghost use Rattle.detector.specs.declared.track_places.Places.{Places as Spots};
 
+use crate::Place;
 use crate::track_places::Places;
 use base::{Access, Steps};
 use line_tracks::{Mark, Tracks};
@@ -22,7 +23,7 @@ pub struct Undo {
 /// Notes the track at a place, if its range holds the address, and gives what undoes that.
 pub fn note_undoably<L: Ledger>(
     tracks: &mut Tracks,
-    place: Option<u32>,
+    place: Place,
     position: u64,
     access: Access,
     steps: &mut Steps<L>,
@@ -34,7 +35,7 @@ pub fn note_undoably<L: Ledger>(
     ensures undo { result ≡ undo_at access.addr place tracks.old }
     ensures ready { CanTakeBack tracks.new result }
 {
-    let place = place?;
+    let place = place.number()?;
     if !tracks.all()[place as usize].contains(access.addr()) {
         return None;
     }

@@ -3,7 +3,7 @@ ghost use Rattle.std.specs.Prelude.{◌≡◌, ◌≢◌, ℕ, ◌≤◌, ◌^�
 ghost use Rattle.detector.specs.Entries.{entry_at};
 
 use base::NoMemory;
-use detector::{LineEntry, LineIndex, MapIndex, PagedIndex};
+use detector::{LineEntry, LineIndex, MapIndex, PagedIndex, Place};
 use std::process::Abort;
 use std::test::Fail;
 
@@ -26,12 +26,15 @@ fn set_writes<I: LineIndex>(index: &mut I, line: u64, writes: u64) -> Result<(),
     }
 }
 
-const BLANK: LineEntry = LineEntry {
-    writes: 0,
-    track: None,
-    shifted: None,
-    doubled: None,
-};
+// The entry of a line without a track that was written so often.
+fn written(writes: u64) -> LineEntry {
+    LineEntry {
+        writes,
+        track: Place::none(),
+        shifted: Place::none(),
+        doubled: Place::none(),
+    }
+}
 
 // From where a search goes, and the written line that it finds.
 const NEXT: [(u64, Option<u64>); 4] = [
@@ -57,7 +60,11 @@ fn finds_written_lines<I: LineIndex>(rt: &impl Abort, index: &mut I) -> Result<(
         assert!(rt; from <= 1 << 30);
         assert_eq!(rt; index.next_from(from), next, "from {from}");
     }
-    assert_eq!(rt; index.peek(63), BLANK);
+    assert_eq!(rt; index.peek(63), written(0));
+    // The line below on the same page and on another one, and a line without a place.
+    assert_eq!(rt; index.below(65), Some(written(1)));
+    assert_eq!(rt; index.below(64), Some(written(0)));
+    assert_eq!(rt; index.below(1 << 20), None);
     Ok(())
 }
 

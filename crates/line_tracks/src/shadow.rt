@@ -1,5 +1,6 @@
 // A range and its words.
 ghost use Rattle.std.specs.Prelude.{ℕ, ◌++◌, ◌∷◌, ◌≡◌, ◌+◌, ◌*◌, ◌/◌, ◌%◌, ◌<◌, ◌≤◌, ◌^◌, IsTrue};
+ghost use Rattle.std.specs.Prelude.{pos, ◌-ℤ◌, nat_abs, nat_lt};
 ghost use Rattle.std.specs.Prelude.{IfOk, Some, [], length, map, sum_by, slice_get, slice_set};
 ghost use Rattle.base.specs.Lines.{is_layout};
 ghost use Rattle.base.specs.Ranges.{holds_address};
@@ -39,15 +40,26 @@ impl Model for Shadow {
         × (s.total ≡ sum_by accesses s.words.items) };
 }
 
+// How far an address lies behind the first one of a range. It is below the range's size exactly
+// where the range holds the address: before the range, the difference goes round.
+#[inline(always)]
+fn distance(range: Range, addr: u32) -> u64
+    ensures held { nat_lt result range.size ≡ holds_address range addr }
+    ensures value { IsTrue (holds_address range addr)
+        → result ≡ nat_abs (pos addr -ℤ range.base) }
+{
+    u64::from(addr).wrapping_sub(range.base.cast_unsigned())
+}
+
 // Which word of a range an address is in.
 #[inline(always)]
-fn place_in(range: Range, addr: u32) -> u32
+fn place_in(range: Range, addr: u32) -> usize
     requires { IsTrue (holds_address range addr) }
     ensures place { result ≡ place_of range addr }
     ensures within { 4 * result < range.size }
+    ensures small { result < 2 ^ 30 }
 {
-    let offset = (i64::from(addr) - range.base).cast_unsigned();
-    offset as u32 / 4
+    (distance(range, addr) / 4) as usize
 }
 
 // So many words that no one touched.
@@ -100,7 +112,7 @@ impl Shadow {
             → self.old.range ≡ range_of l → self.old.words ≡ words_since l s t
             → self.new.words ≡ words_since l s (t ++ access ∷ []) }
     {
-        let place = place_in(self.range, access.addr()) as usize;
+        let place = place_in(self.range, access.addr());
         let word = &mut self.words[place];
         word.note(&access);
         self.total += 1;
@@ -119,6 +131,15 @@ impl Shadow {
         self.total = self.total - old.accesses() + word.accesses();
     }
 
+    /// Whether its range holds an address. (Its words tell how many bytes it has, so that a note
+    /// of the access that follows finds its word by the same comparison.)
+    #[inline(always)]
+    pub fn holds(&self, addr: u32) -> bool
+        ensures { result ≡ holds_address self.now.range addr }
+    {
+        distance(self.range, addr) / 4 < self.words.len() as u64
+    }
+
     /// Which of its words an address of the range is in.
     pub fn place(&self, addr: u32) -> u32
         requires { IsTrue (holds_address self.now.range addr) }
@@ -126,7 +147,7 @@ impl Shadow {
         ensures within { result < self.now.range.size / 4 }
         ensures words { AreWords self.now }
     {
-        place_in(self.range, addr)
+        place_in(self.range, addr) as u32
     }
 
     /// Word `i`.

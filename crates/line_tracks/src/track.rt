@@ -227,7 +227,7 @@ impl Track {
             → IsTrue (is_layout l.size l.offset) → IsTrackOf l from t self.now
             → IsTrackOf l from (t ++ a ∷ []) self.now }
     {
-        self.shadow.range().contains(addr)
+        self.shadow.holds(addr)
     }
 
     /// The position of the write that started it: None exactly where there was none yet.

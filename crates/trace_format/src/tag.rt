@@ -30,8 +30,8 @@ impl Tag {
     {
         match version {
             Version::One => match byte {
-                1 => Some(Tag::Touch(Kind::Read)),
-                2 => Some(Tag::Touch(Kind::Write)),
+                // Both in one arm: a branch that goes as the kinds come is foretold badly.
+                1 | 2 => Some(Tag::Touch(if byte == 1 { Kind::Read } else { Kind::Write })),
                 _ => Tag::of_others(byte),
             },
             Version::Two => match byte {

@@ -33,7 +33,7 @@ returns-in-Ok-clause-indexed g c =
     (saved c.args.kind c.args.shadow c.args.start c.args.count) c.requires
     (c.line_of-line.ensures ∙ ap (line_of_base c.args.layout) c.range.ensures.value)
     (c.name.ensures.names
-    ∙ ap (λ i. with_name (names_in (entry_at (g.I.LineIndex.entries c.args.index.now))) c.args.kind
-    c.line_of-line.result (Some i))
-    c.in-Ok.ensures.place) c.name.ensures.writes
+    ∙ ap (with_name (names_in (entry_at (g.I.LineIndex.entries c.args.index.now))) c.args.kind
+    c.line_of-line.result)
+    (c.at.ensures ∙ ap Some c.in-Ok.ensures.place)) c.name.ensures.writes
     (omega (arith, ap length c.all.ensures)) c.in-Ok.ensures.added

@@ -16,13 +16,13 @@ best_pair-requires g c =
     let pair = h.2 in
     let at : kept_at c.args.tracks.now c.args.lower ≡ Some c.index-branch-branch.result =
     read_at c.args.tracks.now c.all.result.now c.args.lower c.in_ok-lower.field-0
-    c.index-branch-branch.result c.in_ok-lower.was
-    c.all.ensures (pair.below.within c.in_ok-lower.field-0 c.in_ok-lower.was)
+    c.index-branch-branch.result (sym c.number.ensures ∙ c.in_ok-lower.was)
+    c.all.ensures (pair.below.within c.in_ok-lower.field-0 (sym c.number.ensures ∙ c.in_ok-lower.was))
     c.index-branch-branch.is in
     let up : kept_at c.args.tracks.now c.args.upper ≡ Some c.index-branch-branch-2.result =
     read_at c.args.tracks.now c.all-2.result.now c.args.upper c.in_ok-upper.field-0
-    c.index-branch-branch-2.result c.in_ok-upper.was
-    c.all-2.ensures (pair.above.within c.in_ok-upper.field-0 c.in_ok-upper.was)
+    c.index-branch-branch-2.result (sym c.number-2.ensures ∙ c.in_ok-upper.was)
+    c.all-2.ensures (pair.above.within c.in_ok-upper.field-0 (sym c.number-2.ensures ∙ c.in_ok-upper.was))
     c.index-branch-branch-2.is in
     subst (λ (v : RangeWords). AreNeighbours v.range c.shadow-4.result.now.range)
     (sym c.shadow-3.ensures)
@@ -38,13 +38,13 @@ returns-clause-found g c = λ n k pair.
     let y = c.index-branch-branch-2.result in
     let at : kept_at c.args.tracks.now c.args.lower ≡ Some c.index-branch-branch.result =
     read_at c.args.tracks.now c.all.result.now c.args.lower c.in_ok-lower.field-0
-    c.index-branch-branch.result c.in_ok-lower.was
-    c.all.ensures (pair.below.within c.in_ok-lower.field-0 c.in_ok-lower.was)
+    c.index-branch-branch.result (sym c.number.ensures ∙ c.in_ok-lower.was)
+    c.all.ensures (pair.below.within c.in_ok-lower.field-0 (sym c.number.ensures ∙ c.in_ok-lower.was))
     c.index-branch-branch.is in
     let up : kept_at c.args.tracks.now c.args.upper ≡ Some c.index-branch-branch-2.result =
     read_at c.args.tracks.now c.all-2.result.now c.args.upper c.in_ok-upper.field-0
-    c.index-branch-branch-2.result c.in_ok-upper.was
-    c.all-2.ensures (pair.above.within c.in_ok-upper.field-0 c.in_ok-upper.was)
+    c.index-branch-branch-2.result (sym c.number-2.ensures ∙ c.in_ok-upper.was)
+    c.all-2.ensures (pair.above.within c.in_ok-upper.field-0 (sym c.number-2.ensures ∙ c.in_ok-upper.was))
     c.index-branch-branch-2.is in
     let sized : 4 * length c.index-branch-branch.result.words
     ≡ c.index-branch-branch.result.range.size =
@@ -74,8 +74,8 @@ pub returns-clause-cost : goal.returns-clause-cost
 returns-clause-cost g c = λ n k pair.
     let at : kept_at c.args.tracks.now c.args.lower ≡ Some c.index-branch-branch.result =
     read_at c.args.tracks.now c.all.result.now c.args.lower c.in_ok-lower.field-0
-    c.index-branch-branch.result c.in_ok-lower.was
-    c.all.ensures (pair.below.within c.in_ok-lower.field-0 c.in_ok-lower.was)
+    c.index-branch-branch.result (sym c.number.ensures ∙ c.in_ok-lower.was)
+    c.all.ensures (pair.below.within c.in_ok-lower.field-0 (sym c.number.ensures ∙ c.in_ok-lower.was))
     c.index-branch-branch.is in
     let size : c.shadow-3.result.now.range.size ≡ n =
     ap (λ (v : RangeWords). v.range.size) c.shadow-3.ensures ∙ ap (λ (r : Range). r.size)
