@@ -1,5 +1,5 @@
 // One access: of the tracks that hold its address, and of its line's entry in the index.
-ghost use Rattle.std.specs.Prelude.{◌≡◌, ℕ, ◌+◌, ◌-◌, ◌%◌, ◌==◌, ◌<◌, ◌≤◌, ◌^◌, false};
+ghost use Rattle.std.specs.Prelude.{◌≡◌, ℕ, ◌+◌, ◌%◌, ◌==◌, ◌<◌, ◌≤◌, ◌^◌, false};
 ghost use Rattle.detector.specs.declared.line_entry.LineEntry.{LineEntry};
 ghost use Rattle.std.specs.Prelude.{map, IsOk, IsTrue, IsFalse, OnOk, OnErr, Some};
 ghost use Rattle.std.specs.Option.{option_map_or};

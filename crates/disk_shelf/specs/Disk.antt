@@ -12,7 +12,8 @@ use Rattle.disk_shelf.specs.Done.{Done, WasRead, WasBegun, WasAppended, WasPrint
 use Rattle.disk_shelf.specs.declared.known_files.FileId.{FileId}
 use Rattle.disk_shelf.specs.declared.known_files.KnownFile.{KnownFile}
 
--- how often calls have failed, and what those that the system answered Ok have done, the latest first
+-- how often calls have failed, and what those that the system answered Ok have done, the latest
+-- first
 pub record Seen : Type 0 where
   pub reads : ℕ
   pub writes : ℕ

@@ -64,15 +64,16 @@ impl Contents for Brand {
 /// The files of the system and its standard output, as a shelf.
 ///
 /// What it holds are contents that one thinks of: it tells them as long as all that it has read is
-/// theirs, and no more from the first reading on that gave other bytes. What was written and printed
-/// is what it handed to the system in calls that were answered Ok. It counts the errors of each kind,
-/// for all names alike, want of memory aside: contracts see these numbers.
+/// theirs, and no more from the first reading on that gave other bytes. What was written and
+/// printed is what it handed to the system in calls that were answered Ok. It counts the errors of
+/// each kind, for all names alike, want of memory aside: contracts see these numbers.
 ///
 /// Each file is opened once for reading and once for writing, and kept open, so that pipes and
-/// terminals serve where they are read, or written, from the front to the end. A regular file that it
-/// has read or begun is not begun under another name, nor is one that standard output is, and nothing
-/// is printed over one: that fails, and the file stays as it is. It says on standard error why a call
-/// failed, and where that is asked for shows there how far long work is and what a run puts out.
+/// terminals serve where they are read, or written, from the front to the end. A regular file that
+/// it has read or begun is not begun under another name, nor is one that standard output is, and
+/// nothing is printed over one: that fails, and the file stays as it is. It says on standard error
+/// why a call failed, and where that is asked for shows there how far long work is and what a run
+/// puts out.
 #[derive(Drop)]
 pub struct DiskShelf<'a, R: Files + Print + Eprint + Clock + AllocGlobal, K: Contents> {
     runtime: &'a R,
@@ -385,8 +386,8 @@ impl<'a, R: Files + Print + Eprint + Clock + AllocGlobal, K: Contents> DiskShelf
         };
     }
 
-    /// The beginning of a file that was read, up to 64 KiB: none of one that can't be read again, as
-    /// a pipe, and none where there is no memory. Nothing that contracts see changes.
+    /// The beginning of a file that was read, up to 64 KiB: none of one that can't be read again,
+    /// as a pipe, and none where there is no memory. Nothing that contracts see changes.
     pub fn front_of(&mut self, name: &str) -> Vec<u8>
         ensures { self.new ≡ self.old }
     {

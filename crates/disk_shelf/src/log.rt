@@ -1,5 +1,5 @@
-// What a shelf of the system's files has done: a list that only proofs read. It takes no memory, and
-// nothing is done for it when the program runs.
+// What a shelf of the system's files has done: a list that only proofs read. It takes no memory,
+// and nothing is done for it when the program runs.
 ghost use Rattle.std.specs.Prelude.{◌≡◌, List, [], ◌∷◌};
 ghost use Rattle.std.specs.Borrow.{ftrue};
 ghost use Rattle.disk_shelf.specs.Done.{Done};

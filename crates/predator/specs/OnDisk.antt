@@ -1,5 +1,5 @@
 -- What a call of the program does to the system's files, by what it has read of them.
-use Rattle.std.specs.Prelude.{◌≡◌, List, Option, None, IsTrue}
+use Rattle.std.specs.Prelude.{◌≡◌, Option, None, IsTrue}
 use Rattle.std.specs.List.{list_all}
 use Rattle.command_line.specs.Words.{Demand}
 use Rattle.command_files.specs.declared.status.Status.{Status}

@@ -1,6 +1,6 @@
 -- What a replay reads and gives, and how the command ends after it.
 use Rattle.std.proofs.Common.{◌≡◌, ℕ, List, [], ◌∷◌, ◌++◌, Option, Some, None, Ok, refl, sym, ap}
-use Rattle.std.proofs.Common.{subst, ◌∙◌}
+use Rattle.std.proofs.Common.{◌∙◌}
 use Rattle.std.specs.Option.{option_map_or}
 use Rattle.command_line.specs.Names.{given}
 use Rattle.command_line.specs.Replay.{ReplayDemand}

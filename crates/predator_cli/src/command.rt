@@ -112,7 +112,7 @@ pub fn predator<S: Shelf>(alloc: Global, words: &[String], shelf: &mut S) -> Sta
     // failed or memory ran out.
     ensures prints { Prints (demand_of (texts words.now))
         (S.outside shelf.old) (S.outside shelf.new) (kind_of result) result }
-    // No file that is read changes, as far as it is told still what is held: a shelf tells it no more
+    // No file that is read changes, as far as what is held is still told: a shelf tells it no more
     // once a read gave other bytes.
     ensures held { Narrows (S.outside shelf.old).held (S.outside shelf.new).held }
     // What stands in the files that are written: every output is whole where the work is done, and

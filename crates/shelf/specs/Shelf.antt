@@ -81,8 +81,8 @@ pub record HasRead (old new : Outside) : Type 0 where
   pub only : OnlyReads old new
   pub faults : new.read_faults ≡ old.read_faults
 
--- nothing changes but what is written, and the faults of writing; a file that is held may be told no
--- more here too, for on a disk one that is written may be one that is read
+-- nothing changes but what is written, and the faults of writing; a file that is held may be told
+-- no more here too, for on a disk one that is written may be one that is read
 pub record OnlyWrites (old new : Outside) : Type 0 where
   pub held : Narrows old.held new.held
   pub printed : new.printed ≡ old.printed

@@ -118,8 +118,9 @@ fn read_pieces<S: Shelf>(
 ///
 /// `ReadFault` comes only where the shelf's faults of reading this name rose in this call;
 /// `TooLong` exactly where the shelf gave `limit + 1` bytes, which where the shelf still tells its
-/// files are the bytes of a longer one; `NoMemory` for want of memory. Nothing of the shelf changes but
-/// its faults of reading, and they stay too at each other answer than `ReadFault`.
+/// files are the bytes of a longer one; `NoMemory` for want of memory. Nothing of the shelf changes
+/// but its faults of reading, which stay at each other answer than `ReadFault`, and that its files
+/// may be told no more.
 pub fn fetch<S: Shelf>(
     alloc: Global,
     shelf: &mut S,

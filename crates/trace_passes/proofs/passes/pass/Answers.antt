@@ -1,11 +1,9 @@
-use Rattle.std.proofs.Common.{◌≡◌, ◌≤◌, ◌++◌, ◌∙◌, ℕ, [], List, Ok, Option, Some, All, refl, sym}
+use Rattle.std.proofs.Common.{◌≡◌, ◌≤◌, ◌++◌, ◌∙◌, ℕ, [], List, Ok, All, refl, sym}
 use Rattle.std.proofs.Common.{ap, subst, arith, length}
-use Rattle.shelf.specs.Shelf.{Files, Told, content}
 use Rattle.trace_format.specs.declared.record.TraceRecord.{TraceRecord}
 use Rattle.trace_format.specs.Reading.{Reading, reading_of}
 use Rattle.trace_format.specs.Rules.{IsWritable}
-use Rattle.trace_passes.specs.Cursors.{GoesOn, HasCome, HasEnded}
-use Rattle.trace_passes.specs.Passes.{refusal_of}
+use Rattle.trace_passes.specs.Cursors.{GoesOn, HasEnded}
 use Rattle.trace_passes.specs.Rooms.{HasRoom}
 use Rattle.shelf.specs.Laws.Told.{only_both, only_none}
 use Rattle.trace_passes.proofs.Fronts.{nothing_read}
