@@ -122,7 +122,7 @@ glibc() {
     glibc_checks
     for it; do
         built "$what: glibc's ${it##*/} is built" env STEP_TIME=100000 "$cc" $lines "${glibc_words[@]}" "$glibc/$it.c" glibc.a -o "${it##*/}.elf"
-        MORE="harts = 128" ran "$what: glibc's ${it##*/}" "${it##*/}.elf" 0 ""
+        MORE=$'harts = 128\nbudget = 1000000000' ran "$what: glibc's ${it##*/}" "${it##*/}.elf" 0 ""
     done
 }
 
