@@ -1,5 +1,6 @@
 //! The program: the top call of `predator_cli` over the system's files and standard output.
 #![tactic(auto)]
+
 ghost use Rattle.std.specs.Prelude.{◌≡◌};
 ghost use Rattle.command_files.specs.Statuses.{done, kind_of, refusal};
 ghost use Rattle.command_line.specs.Demands.{texts};
