@@ -608,7 +608,7 @@ C
     runs "a longer step" step.elf 70 ""
     STEP_TIME=71 "$build" step.elf step.c
     runs "a longer step, by build.sh" step.elf 71 ""
-    printf '#include <poll.h>\nint main(void) { return poll(0, 0, -1); }\n' >polls.c
+    printf '#include <sys/poll.h>\n#include <poll.h>\nint main(void) { return poll(0, 0, -1); }\n' >polls.c
     "$cc" polls.c -o polls.elf
     runs "poll as a wait" polls.elf 134 "poll: no file becomes ready: wait for another thread, or for a time"
 else

@@ -64,6 +64,17 @@ ran() {
     told "$what" $?
 }
 
+# coded WHAT CODE PROGRAM [WORD ..]: the one line behind the report, on standard error, says that it ended with this code.
+coded() {
+    local what=$1 code=$2 elf=$3
+    shift 3
+    printf 'quantum = 10\nmemory = 67108864\n' >settings
+    "$predator" run --settings settings --output put "$elf" "$@" >said 2>&1
+    [ "$(sed '1,/^end$/d' said)" = "predator: the program ended with exit code $code" ] &&
+        "$predator" run --settings settings --output put "$elf" "$@" 2>/dev/null | cmp - <(sed '/^end$/q' said)
+    told "$what" $?
+}
+
 # holds WHAT TEXT COUNT: so many lines of what the last program put out have this text.
 holds() {
     [ "$(grep -c -F -e "$2" put)" = "$3" ]
@@ -139,15 +150,38 @@ valgrind() {
 }
 
 claim_cxx() {
+    local it no="a thread_local variable has no destructor here: free it where the thread ends"
     local pugi=(-DPUGIXML_NO_STL -DPUGIXML_NO_EXCEPTIONS -I "$fetched/pugixml/src" "$here/claims/pugixml.cc" "$fetched/pugixml/src/pugixml.cpp")
     # (the name of a system without <cstdio> and its like)
     local tiny=(-DANDROID_NDK -I "$fetched/tinyxml2" "$here/claims/tinyxml2.cc" "$fetched/tinyxml2/tinyxml2.cpp")
     built "C++: pugixml is built" "$cxx" $lines -O1 -DPREDATOR_REFUSE_AT_RUN "${pugi[@]}" -o pugixml.elf
     ran "C++: pugixml runs in four threads" pugixml.elf 0 "0: "
     as_native "C++: pugixml does what it does here" "${pugi[@]}"
+    llvm-nm pugixml.elf | grep -q __cxa_guard_acquire
+    told "C++: its query is a static of a function" $?
     built "C++: TinyXML-2 is built" "$cxx" $lines -O1 -DPREDATOR_REFUSE_AT_RUN "${tiny[@]}" -o tinyxml2.elf
     ran "C++: TinyXML-2 runs in four threads" tinyxml2.elf 0 "0: "
     as_native "C++: TinyXML-2 does what it does here" "${tiny[@]}"
+    for it in drd/tests/{new_delete,annotate_static} massif/tests/{new-cpp,overloaded-new} memcheck/tests/{new_nothrow,new_override}; do
+        built "C++: valgrind's ${it##*/} is built" "$cxx" $lines -w -I . -I "$valgrind" -I "$valgrind/include" "$valgrind/$it.cpp" -o it.elf
+        ran "C++: valgrind's ${it##*/}" it.elf 0 ""
+    done
+    built "C++: valgrind's local_static is built" "$cxx" $lines -w -I "$here/claims/c++" "$valgrind/drd/tests/local_static.cpp" -o it.elf
+    ran "C++: valgrind's local_static, two threads with a static of a function" it.elf 0 "Done."
+    holds "C++: local_static's was made before each look at it" 42 10
+    llvm-nm it.elf | grep -q __cxa_guard_acquire
+    told "C++: local_static's is one" $?
+    # (each thread its document, which has a destructor)
+    for it in pugixml tinyxml2; do
+        sed 's/^    \(pugi::xml_document\|tinyxml2::XMLDocument\) document;/    static thread_local&/' "$here/claims/$it.cc" >"$it.cc"
+    done
+    pugi[4]=pugixml.cc tiny[3]=tinyxml2.cc
+    refused "C++: a thread_local document of pugixml's" "$no" "$cxx" -DPREDATOR_REFUSE_AT_RUN "${pugi[@]}" -o no.elf
+    refused "C++: a thread_local document of TinyXML-2's" "$no" "$cxx" -DPREDATOR_REFUSE_AT_RUN "${tiny[@]}" -o no.elf
+    glibc_checks
+    for it in quick_exit thread-quick_exit; do
+        refused "C++: a thread_local variable in glibc's tst-$it" "$no" "$cxx" "${glibc_words[@]}" "$glibc/stdlib/tst-$it.cc" glibc.a -o no.elf
+    done
 }
 
 # The allocators ask the kit itself for memory, by sbrk or by mmap; `blocks` are large enough for both.
@@ -265,6 +299,77 @@ END
     ran "refusals: valgrind's pth_cancel_locked as it runs" pth_cancel_locked.elf 134 "can't be had: a hart can't be ended by another one"
 }
 
+# Functions in headers, which nobody calls in one program, and which are refused in another that calls them.
+claim_unused() {
+    local zstd=(-I "$fetched/zstd/lib" "$studies/zstd/lib/libzstd.a" -o memory.elf)
+    local words=(CC="$cc" "PTHREAD_CFLAGS=-pthread $lines")
+    ck
+    built "unused: an alarm in a header of Concurrency Kit's, ck_ring_spsc" make -B -s -C ck/regressions/ck_ring/validate "${words[@]}" ck_ring_spsc
+    ran "unused: ck_ring_spsc" ck/regressions/ck_ring/validate/ck_ring_spsc 1 "Usage: validate"
+    refused "unused: Concurrency Kit's parallel_direct calls the alarm" "call to alarm declared with 'error' attribute: nothing comes by itself" \
+        make -B -s -C ck/regressions/ck_ht/benchmark "${words[@]}" parallel_direct
+    built "unused: files in a header of zstd's, streaming_memory_usage" "$cc" $lines -DMAX_TESTED_LEVEL=1 \
+        "$fetched/zstd/examples/streaming_memory_usage.c" "${zstd[@]}"
+    ran "unused: streaming_memory_usage" memory.elf 0 "Level  1 : Compression Mem"
+    refused "unused: zstd's simple_compression calls for a file" "call to fopen declared with 'error' attribute: there are no files" \
+        "$cc" $lines "$fetched/zstd/examples/simple_compression.c" "${zstd[@]}"
+}
+
+# late WHAT FUNCTION LEAST MOST SOURCE WORD ..: how many steps more it takes where the first call of the function is late by 200,000 steps,
+# with the words of a compiler.
+late() {
+    local what=$1 function=$2 least=$3 most=$4 rounds steps=() more words
+    shift 4
+    words=(env STEP_TIME=100000 "$cc" "$lines" -w "-DLATE=$function" "-Wl,--wrap=$function" "$here/claims/late.c" "$@" -o late.elf)
+    for rounds in 0 100000; do
+        built "$what with $rounds rounds is built" "${words[@]}" "-DROUNDS=$rounds"
+        MORE="harts = 24" ran "$what with $rounds rounds" late.elf 0 ""
+        steps+=("$(sed -n 's/^steps //p' said)")
+    done
+    more=$((steps[1] - steps[0]))
+    echo "$more steps more" >said
+    ((least <= more && more <= most))
+    told "$what: $more steps more" $?
+}
+
+# Who waits makes no step: the run is longer by what was late, whoever waits for it, but for some steps by which turns are other ones. With a
+# lock that spins each of those who wait makes as many.
+claim_waits() {
+    local it function threads=$glibc/sysdeps/pthread words=(-O1 -I . -I "$valgrind")
+    glibc_checks
+    while read -r it function; do
+        late "waits: glibc's $it, $function" "$function" 200000 204000 "${glibc_words[@]}" "$threads/$it.c" glibc.a
+    done <<'END'
+tst-cond2 pthread_cond_broadcast
+tst-barrier4 pthread_barrier_wait
+tst-cond2 pthread_mutex_unlock
+END
+    while read -r it function; do
+        late "waits: valgrind's $it, $function" "$function" 200000 204000 "${words[@]}" "$valgrind/drd/tests/$it.c"
+    done <<'END'
+pth_cond_destroy_busy pthread_cond_signal
+pth_barrier pthread_barrier_wait
+pth_cond_race pthread_mutex_unlock
+pth_detached_sem sem_post
+END
+    late "spins: glibc's tst-spin4" pthread_spin_unlock 400000 10000000 "${glibc_words[@]}" "$threads/tst-spin4.c" glibc.a
+    late "spins: valgrind's pth_spinlock" pthread_spin_unlock 400000 10000000 "${words[@]}" "$valgrind/drd/tests/pth_spinlock.c"
+}
+
+# poll with a time and nothing that would be ready before it.
+claim_poll() {
+    liburcu
+    built "poll: what looks at it is built" "$cc" -c $lines "$here/claims/poll.c" -o poll.o
+    built "poll: liburcu's tap is built" make -s -C urcu/tests/utils "${tools[@]}" libtap.a
+    built "poll: liburcu's rcutorture is built" env STEP_TIME=200 make -B -s -C urcu/tests/regression "${tools[@]}" \
+        LDFLAGS="-Wl,--wrap=poll $out/poll.o" rcutorture_urcu_bp
+    ran "poll: liburcu's rcutorture" urcu/tests/regression/rcutorture_urcu_bp 0 "ok 1 - perftest readers: 3" -- 3 perf
+    holds "poll: liburcu's rcutorture waits until the time is over" "poll: waited, 0 early" 1
+    built "poll: valgrind's badpoll is built" env STEP_TIME=2000 "$cc" $lines -w "$valgrind/memcheck/tests/badpoll.c" poll.o -Wl,--wrap=poll \
+        -o badpoll.elf
+    ran "poll: valgrind's badpoll waits until the time is over" badpoll.elf 0 "poll: waited, 0 early"
+}
+
 claim_barriers() {
     glibc barriers sysdeps/pthread/tst-{barrier3,barrier4}
     valgrind barriers helgrind/tests/bar_trivial "x = 2"
@@ -369,14 +474,19 @@ claim_alone() {
     MORE="harts = 24" ran "alone: gnulib's test-pthread-spin" alone-gnulib.elf 0 ""
 }
 
+# A copy of Concurrency Kit's sources, for this machine.
+ck() {
+    [ ! -f ck/build/regressions.build ] || return
+    rm -rf ck && cp -r "$fetched/ck" ck
+    built "configure: Concurrency Kit" bash -c "cd ck && ./configure --platform=unknown --use-cc-builtins --disable-double --without-pic"
+}
+
 # Atomic variables of 8 bytes.
 claim_wide() {
     local it
-    rm -rf ck && cp -r "$fetched/ck" ck
-    built "8 bytes: Concurrency Kit's configure" bash -c "cd ck && ./configure --platform=unknown --use-cc-builtins --disable-double \
-        --without-pic"
+    ck
     for it in cas faa; do
-        built "8 bytes: Concurrency Kit's ck_pr_$it is built" make -s -C ck/regressions/ck_pr/validate CC="$cc" \
+        built "8 bytes: Concurrency Kit's ck_pr_$it is built" make -B -s -C ck/regressions/ck_pr/validate CC="$cc" \
             PTHREAD_CFLAGS="-pthread $lines -DR_REPEAT=2000" "ck_pr_$it"
         ran "8 bytes: Concurrency Kit's ck_pr_$it" "ck/regressions/ck_pr/validate/ck_pr_$it" 0 "ck_pr_${it}_64"
         llvm-nm "ck/regressions/ck_pr/validate/ck_pr_$it" | grep -q "__atomic_.*_8$"
@@ -408,6 +518,25 @@ claim_sharing() {
     viewed "sharing: kt_for by blocks isn't" 0 "" --fail-above 100 "$studies/kt_for-blocks.elf"
     viewed "sharing: Concurrency Kit's lock is above 100" 1 "" --fail-above 100 "$studies/ck_anderson.elf"
     viewed "sharing: Concurrency Kit's lock with slots apart isn't" 0 "" --fail-above 100 "$studies/ck_anderson-apart.elf"
+}
+
+# A test of sharing by make, as guest/README.md has it; and by ctest, for projects that CMake builds and for kt_for, which it finds.
+claim_checks() {
+    local it
+    for it in valgrind/drd/tests/pth_barrier glibc/nptl/test-rwlock-printers; do
+        rm -rf check && mkdir check && cp "$fetched/$it.c" check/
+        sed -n '/^    check: queue_test.elf$/,/build.sh/s/^    //p' "$here/../README.md" | sed "s/queue_test/${it##*/}/" >check/Makefile
+        built "checks: ${it%%/*}'s ${it##*/} by make" env PATH="${predator%/*}:$PATH" make -C check PREDATOR="$here/../.." check
+    done
+    rm -rf ctest
+    built "checks: CMake" cmake -S "$here/claims/ctest" -B ctest -DCMAKE_TOOLCHAIN_FILE="$here/../toolchain.cmake" -DFETCHED="$fetched" \
+        -DOTHERS="$here" -DPREDATOR="$predator" -DBUILD_TESTING=OFF -Dtinyxml2_BUILD_TESTING=OFF -DPUGIXML_NO_STL=ON \
+        -DPUGIXML_NO_EXCEPTIONS=ON -DCMAKE_CXX_FLAGS="-O1 $lines -DPREDATOR_REFUSE_AT_RUN -DANDROID_NDK"
+    built "checks: CMake builds them" cmake --build ctest
+    built "checks: TinyXML-2 and pugixml by ctest" ctest --test-dir ctest -E kt_for
+    grep -q -F "tests passed, 0 tests failed out of 2" said
+    told "checks: ctest ran both" $?
+    refused "checks: kt_for by ctest is above 100" "kt_for_sharing (Failed)" ctest --test-dir ctest -R kt_for
 }
 
 # A free of what is no block, by programs that mean it.
@@ -460,6 +589,7 @@ claim_ends() {
     sed 's/unlink (TEMPFILE)/puts (TEMPFILE)/' "$tests/test-atexit.c" >test-atexit.c
     built "ends: gnulib's test-atexit is built" "$cc" $lines "${words[@]}" -include stdio.h test-atexit.c -o test-atexit.elf
     ran "ends: gnulib's test-atexit calls what atexit was given" test-atexit.elf 7 "t-atexit.tmp" -- 7
+    coded "exit code: gnulib's test-atexit's" 7 test-atexit.elf -- 7
     # (asserts that it has room for its threads, and here it hasn't)
     built "ends: gnulib's test-pthread-spin is built" "$cc" $lines "${words[@]}" -DUSE_POSIX_THREADS=1 -DHAVE_SEMAPHORE_H=1 -include errno.h \
         "$tests/test-pthread-spin.c" -o assert-spin.elf
@@ -480,9 +610,11 @@ claim_ends() {
 claim_files() {
     xz_all
     ran "files: xzdec finds no input" xz-configure/src/xzdec/xzdec 1 "(stdin): Unexpected end of input"
+    coded "exit code: xzdec's" 1 xz-configure/src/xzdec/xzdec
     glibc_checks
     built "files: glibc's tst-ferror is built" "$cc" $lines "${glibc_words[@]}" "$glibc/stdio-common/tst-ferror.c" glibc.a -o tst-ferror.elf
     ran "files: glibc's tst-ferror finds no input" tst-ferror.elf 1 "fgets with existing input has problem"
+    coded "exit code: glibc's tst-ferror's" 1 tst-ferror.elf
 }
 
 # gnulib's tests of what pthread.h and threads.h have, up to eleven threads at once, each with fewer rounds.
@@ -537,8 +669,8 @@ claim_cmake() {
     told "CMake: zstd's library, by build.sh" $?
 }
 
-(($# > 0)) || set -- bare mmap sbrk free alone places cxx harts processors clock timed words refusals threads barriers cleanup once spin \
-    semaphores c11 kinds detached wide files signals deadlocks ends sharing configure cmake
+(($# > 0)) || set -- bare mmap sbrk free alone places cxx harts processors clock timed words refusals unused threads barriers cleanup once spin \
+    semaphores c11 kinds detached waits poll wide files signals deadlocks ends sharing checks configure cmake
 for claim; do
     if ! declare -F "claim_$claim" >/dev/null; then
         echo "claims.sh: $claim is no claim" >&2

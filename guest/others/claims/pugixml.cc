@@ -1,4 +1,4 @@
-// Four threads, each with a document of its own of pugixml, which they read, lengthen and search.
+// Four threads, each with a document of its own of pugixml, which they read, lengthen and search, by one query that the first of them makes.
 #include <pthread.h>
 #include <stdio.h>
 
@@ -21,7 +21,8 @@ static void *work(void *number)
                 sum += slot.attribute("at").as_int();
             ring.append_child("slot").append_attribute("at") = static_cast<int>(reinterpret_cast<long>(number));
         }
-    pugi::xpath_node_set found = document.select_nodes("//slot[@at > 1]");
+    static const pugi::xpath_query query("//slot[@at > 1]");
+    pugi::xpath_node_set found = query.evaluate_node_set(document);
     return reinterpret_cast<void *>(100 * sum + static_cast<long>(found.size()));
 }
 
