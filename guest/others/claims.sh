@@ -231,6 +231,26 @@ liburcu() {
     done
 }
 
+# munmap of a part of a mapping, which keeps it. (valgrind's program unmaps each page by itself, and expects the place again.)
+claim_munmap() {
+    local words=($lines -w "$here/claims/blocks.c" "$here/claims/parts.c" -Wl,--wrap=mmap,--wrap=munmap)
+    built "munmap: dlmalloc, which trims, is built" "$cc" "${words[@]}" -DMALLOC=dlmalloc -DREALLOC=dlrealloc -DFREE=dlfree -DUSE_DL_PREFIX \
+        -DUSE_LOCKS -DHAVE_MORECORE=0 -DDEFAULT_TRIM_THRESHOLD=65536 "$allocators/dlmalloc/src/dlmalloc.c" -o dlmalloc-parts.elf
+    ran "munmap: dlmalloc's parts are kept" dlmalloc-parts.elf 0 "munmap: of parts, 0 lost"
+    built "munmap: mimalloc is built" "$cc" "${words[@]}" -DNDEBUG -DMALLOC=mi_malloc -DREALLOC=mi_realloc -DFREE=mi_free \
+        -I "$allocators/mimalloc/include" "$allocators/mimalloc/src/static.c" -o mimalloc-parts.elf
+    ran "munmap: mimalloc's parts are kept" mimalloc-parts.elf 0 "munmap: of parts, 0 lost"
+    built "munmap: valgrind's map_unmap is built" "$cc" $lines -O1 -w -DPREDATOR_REFUSE_AT_RUN -I . -I "$valgrind" \
+        "$valgrind/none/tests/map_unmap.c" -o map_unmap.elf
+    ran "munmap: valgrind's map_unmap finds its mapping kept" map_unmap.elf 134 "FAIL i=1: m2="
+}
+
+# The number of blocks that a run makes.
+claim_blocks() {
+    built "blocks: valgrind's heap is built" "$cc" $lines -O1 -w "$valgrind/perf/heap.c" "$here/claims/many.c" -Wl,--wrap=malloc -o heap.elf
+    MORE="budget = 1000000000" ran "blocks: valgrind's heap gets 2^20" heap.elf 0 "malloc: 1048576 blocks, then none, 0 otherwise"
+}
+
 claim_harts() {
     local told="pthread_create: each of the 8 harts is in use, so there is none for another thread: the settings may have more, as harts = 16"
     built "harts: kt_for with nine threads is built" "$cc" $lines -DTHREADS=9 -I "$fetched/minimap2" "$fetched/minimap2/kthread.c" \
@@ -512,12 +532,41 @@ claim_places() {
     viewed "places: zstd's xxHash by casts is stopped, and its line told" 3 "xxhash.h:" --fail-above 1000000 xxhash.elf
 }
 
+# shown WHAT FILE LINE COUNT: so many results of false sharing in sharing.sarif stand at this line of the file.
+shown() {
+    python3 - "$2" "$3" "$4" >said 2>&1 <<'END'
+import json, sys
+name, line, count = sys.argv[1], int(sys.argv[2]), int(sys.argv[3])
+record = json.load(open("sharing.sarif"))
+places = [it["locations"][0]["physicalLocation"] for it in record["runs"][0]["results"] if it["ruleId"] == "false-sharing"]
+print(record["version"], places)
+found = [it for it in places if it["artifactLocation"]["uri"].endswith("/" + name) and it["region"]["startLine"] == line]
+sys.exit(record["version"] != "2.1.0" or len(found) != count)
+END
+    told "$1" $?
+}
+
 # A build's test of sharing.
 claim_sharing() {
+    local sarif=(--sarif sharing.sarif)
     viewed "sharing: kt_for is above 100" 1 "" --fail-above 100 "$studies/kt_for.elf"
     viewed "sharing: kt_for by blocks isn't" 0 "" --fail-above 100 "$studies/kt_for-blocks.elf"
     viewed "sharing: Concurrency Kit's lock is above 100" 1 "" --fail-above 100 "$studies/ck_anderson.elf"
     viewed "sharing: Concurrency Kit's lock with slots apart isn't" 0 "" --fail-above 100 "$studies/ck_anderson-apart.elf"
+    viewed "sharing: kt_for's lengths are above 100" 1 "lengths has " --fail-above 100 --object lengths "$studies/kt_for.elf"
+    viewed "sharing: the harts' own words in kt_for aren't" 0 "" --fail-above 100 --object pthread_harts "$studies/kt_for.elf"
+    viewed "sharing: the slots of Concurrency Kit's lock are above 100" 1 "validate.h:152 < main has " --fail-above 100 \
+        --object validate.h:152 "$studies/ck_anderson.elf"
+    viewed "sharing: the lock beside them isn't" 0 "" --fail-above 100 --object lock "$studies/ck_anderson.elf"
+    rm -f sharing.sarif
+    viewed "sharing: kt_for as SARIF" 0 "" "${sarif[@]}" "$studies/kt_for.elf"
+    shown "sharing: kt_for's line as SARIF" kt_for.kthread.c 45 1
+    viewed "sharing: kt_for by blocks as SARIF" 0 "" "${sarif[@]}" "$studies/kt_for-blocks.elf"
+    shown "sharing: kt_for by blocks has no such line" kt_for-blocks.kthread.c 45 0
+    viewed "sharing: Concurrency Kit's lock as SARIF" 0 "" "${sarif[@]}" "$studies/ck_anderson.elf"
+    shown "sharing: the line of Concurrency Kit's lock as SARIF" ck_pr.h 102 1
+    viewed "sharing: Concurrency Kit's lock with slots apart as SARIF" 0 "" "${sarif[@]}" "$studies/ck_anderson-apart.elf"
+    shown "sharing: it has no such line" ck_pr.h 102 0
 }
 
 # A test of sharing by make, as guest/README.md has it; and by ctest, for projects that CMake builds and for kt_for, which it finds.
@@ -669,8 +718,8 @@ claim_cmake() {
     told "CMake: zstd's library, by build.sh" $?
 }
 
-(($# > 0)) || set -- bare mmap sbrk free alone places cxx harts processors clock timed words refusals unused threads barriers cleanup once spin \
-    semaphores c11 kinds detached waits poll wide files signals deadlocks ends sharing checks configure cmake
+(($# > 0)) || set -- bare mmap munmap blocks sbrk free alone places cxx harts processors clock timed words refusals unused threads \
+    barriers cleanup once spin semaphores c11 kinds detached waits poll wide files signals deadlocks ends sharing checks configure cmake
 for claim; do
     if ! declare -F "claim_$claim" >/dev/null; then
         echo "claims.sh: $claim is no claim" >&2

@@ -1,0 +1,25 @@
+// How many blocks does a program get that the linker gives this malloc (--wrap), and what is it told where there are no more?
+#include <errno.h>
+#include <stdio.h>
+#include <stdlib.h>
+
+void *__real_malloc(size_t size);
+void *__wrap_malloc(size_t size);
+
+static unsigned blocks, refused, later, other;
+
+void *__wrap_malloc(size_t size)
+{
+    errno = 0;
+    void *block = __real_malloc(size);
+    if (block == NULL)
+        *(errno == ENOMEM ? &refused : &other) += 1;
+    else
+        *(refused == 0 ? &blocks : &later) += 1;
+    return block;
+}
+
+__attribute__((destructor)) static void tell(void)
+{
+    printf("malloc: %u blocks, then %s, %u otherwise\n", blocks, refused > 0 ? "none" : "still some", later + other);
+}
