@@ -2,3 +2,4 @@ pub mod FileLemmas
 pub mod Front
 pub mod Fronts
 pub mod OutputLists
+pub mod WorkedFiles

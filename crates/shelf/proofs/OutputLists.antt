@@ -1,6 +1,6 @@
 -- One of the files on their way, and the others beside it.
 use Rattle.std.proofs.Common.{◌≡◌, ◌≢◌, ℕ, ◌<◌, ◌≤◌, zero, suc, List, [], ◌∷◌, ◌++◌, length, get_or}
-use Rattle.std.proofs.Common.{Option, Some, None, true, false}
+use Rattle.std.proofs.Common.{Option, Some, None, take, true, false}
 use Rattle.std.proofs.Common.{Result, Ok, Err, ◌⊎◌, OnOk, OnErr, IfErr, refl, sym, ap, ◌∙◌, subst}
 use Rattle.std.proofs.Common.{inl, inr, arith}
 use Rattle.std.specs.Prelude.{IsErrOf, IsErrAnd}
@@ -11,19 +11,20 @@ use Rattle.std.proofs.lemmas.Slice.Eq.{bytes_eq-Decides}
 use Rattle.std.specs.Str.{bytes_eq}
 use Rattle.std.proofs.Math.Seq.{map-set_same}
 use Rattle.std.proofs.lemmas.List.{append-nil}
-use Rattle.shelf.specs.Shelf.{Outside, Files, Told, Goes, HasCauseAt, ChangesAt, Narrows, OnlyWrites}
-use Rattle.shelf.specs.Shelf.{Rose}
+use Rattle.std.proofs.Math.Seq.{take-append_seam}
+use Rattle.shelf.specs.Shelf.{Outside, Files, Told, Goes, HasCauseAt, ChangesAt, OnlyWrites}
+use Rattle.shelf.specs.Shelf.{OnlyWritesAndReads, Rose}
 use Rattle.shelf.specs.declared.shelf.ShelfError.{ShelfError}
 use Rattle.shelf.specs.declared.shelf.ShelfError.TheVariants.{Failed, NoMemory}
-use Rattle.shelf.specs.Files.{Output, MayStand, RoseAmong, AreCut, AreWritten}
+use Rattle.shelf.specs.Files.{Output, BegunInOrder, RoseAmong, AreCut, AreWritten}
 use Rattle.shelf.specs.OneFile.{Waiting, kept_of, AddsUp, Holds, IsBegun, Sunk, HoldsFront}
 use Rattle.shelf.specs.OneFile.{OthersStay, OthersStand}
 use Rattle.shelf.specs.OnTheirWay.{names_of, IsNew, AreApart, AreBegun, AreSunk, IsOutputs}
 use Rattle.shelf.specs.OnTheirWay.{NothingWaits, changed_at, waiting_with}
-use Rattle.shelf.specs.Laws.Files.{Sunk-front, goes_then, Others, output_names, MayBe, AllMayBe}
-use Rattle.shelf.specs.Laws.Files.{AreHeld, all_may, held_whole, may_all}
-use Rattle.shelf.specs.Laws.Files.{front_may, sunk_names}
-use Rattle.shelf.specs.Laws.Told.{narrows_then}
+use Rattle.shelf.specs.Laws.Files.{Sunk-front, goes_by, goes_then, Others, output_names, HaveFronts}
+use Rattle.shelf.specs.Laws.Files.{AreHeld, all_begun, front_at, front_name, held_whole}
+use Rattle.shelf.specs.Laws.Files.{sunk_fronts, sunk_names}
+use Rattle.shelf.specs.Laws.Told.{writes_alone, writes_both}
 
 pub changed_not : (outputs : List Output) (place : ℕ) → changed_at outputs place (λ b. b) ≡ outputs
 changed_not [] place = refl
@@ -48,13 +49,9 @@ pub record Stops (f : Waiting) (g : List ℕ → List ℕ) (old new : Outside)
   pub cause : HasCauseAt {T = Unit {0}} f.name old.write_faults new.write_faults (Err e)
   pub only : OnlyWrites old new
 
-pub only_then : (a b c : Outside) → OnlyWrites a b → OnlyWrites b c → OnlyWrites a c
-only_then a b c x y = record {
-  held = narrows_then a.held b.held c.held x.held y.held;
-  printed = y.printed ∙ x.printed;
-  read_faults = y.read_faults ∙ x.read_faults;
-  print_faults = y.print_faults ∙ x.print_faults;
-}
+-- one file is written more, behind what was written before
+pub only_then : (a b c : Outside) → OnlyWritesAndReads a b → OnlyWrites b c → OnlyWritesAndReads a c
+only_then a b c first then = writes_both a b c first (writes_alone b c then)
 
 same_error : (T : Type 0) (e f : ShelfError) → e ≡ f → IsErrOf {T = T} (Err e) f
 same_error T e f same = ap (λ (x : ShelfError). let r : Result T ShelfError = Err x in r) same
@@ -184,33 +181,31 @@ outputs_moved f after g old new moves files i below is apart outputs before on =
 
 -- ---- where a call gave up
 
-may_moved : (f : Waiting) (g : List ℕ → List ℕ) (before old new : Outside) (r : ShelfError)
-    → Stops f g old new r → (P : _)
-    → Goes before.written new.written P
+fronts_moved : (f : Waiting) (g : List ℕ → List ℕ) (old new : Outside) (r : ShelfError)
+    → Stops f g old new r → (n : Files) → new.written ≡ Some n
     → (files : List Waiting) (i : ℕ) → i < length files → get_or files i f ≡ f
     → AreApart (names_of files) → (outputs : List Output)
     → AreSunk files outputs old
-    → AllMayBe (changed_at outputs i g) before new
-may_moved f g before old new r stops P goes [] i below is apart outputs sunk = absurd (omega arith)
-may_moved f g before old new r stops P goes (x ∷ files) i below is apart [] sunk = absurd sunk
-may_moved f g before old new r stops P goes (x ∷ files) zero below is apart (o ∷ outputs) sunk =
+    → HaveFronts (changed_at outputs i g) n
+fronts_moved f g old new r stops n told [] i below is apart outputs sunk = absurd (omega arith)
+fronts_moved f g old new r stops n told (x ∷ files) i below is apart [] sunk = absurd sunk
+fronts_moved f g old new r stops n told (x ∷ files) zero below is apart (o ∷ outputs) sunk =
     let name : f.name ≡ o.name = sym (ap (λ (y : Waiting). y.name) is) ∙ sunk.0 in
     let put : Sunk f o.bytes old = subst (λ (y : Waiting). Sunk y o.bytes old) is sunk.1 in
     let new_name : IsNew f.name (names_of files) =
     subst (λ (y : Waiting). IsNew y.name (names_of files)) is apart.0 in (
-      front_may o.name (g o.bytes) P before new goes
-          (subst (λ (n : List ℕ). HoldsFront n (g o.bytes) new) name
-          (stops.front o.bytes put)),
-      all_may files outputs P before new goes
+      front_at o.name (g o.bytes) new n told
+          (subst (λ (m : List ℕ). HoldsFront m (g o.bytes) new) name (stops.front o.bytes put)),
+      sunk_fronts files outputs new n told
           (all_stay f.name files outputs old new new_name stops.stand sunk.2),
     )
-may_moved f g before old new r stops P goes (x ∷ files) (suc i) below is apart (o ∷ outputs) sunk =
+fronts_moved f g old new r stops n told (x ∷ files) (suc i) below is apart (o ∷ outputs) sunk =
     let other : f.name ≢ x.name = new_at x.name files i f (omega arith) is apart.0 in
     let stays : Sunk x o.bytes new = stops.stand.sunk x o.bytes (λ e. other (sym e)) sunk.1 in (
-      front_may o.name o.bytes P before new goes
-          (subst (λ (n : List ℕ). HoldsFront n o.bytes new) sunk.0
+      front_at o.name o.bytes new n told
+          (subst (λ (m : List ℕ). HoldsFront m o.bytes new) sunk.0
           (Sunk-front x o.bytes new stays)),
-      may_moved f g before old new r stops P goes files i (omega arith) is apart.1 outputs sunk.2,
+      fronts_moved f g old new r stops n told files i (omega arith) is apart.1 outputs sunk.2,
     )
 
 rose_at : (f : Waiting) (g : List ℕ → List ℕ) (before now : List ℕ → ℕ) (old : Outside)
@@ -244,24 +239,22 @@ outputs_stopped f g old new r stops files i below is apart outputs before on =
     let names : output_names (changed_at outputs i g) ≡ names_of files = changed_names outputs i g
     ∙ sunk_names files outputs old
     on.sunk in
-    let goes : Goes before.written new.written (Others (output_names (changed_at outputs i g))) =
+    let goes : Goes before.written new.written (Others (names_of files)) =
     goes_then (Others (names_of files)) (λ b n. (m : List ℕ) → m ≢ f.name → n m ≡ b m)
-    (Others (output_names (changed_at outputs i g)))
-    before.written old.written new.written
-    (λ x y z p q name fresh.
-    let so : IsNew name (names_of files) = subst (λ (l : List (List ℕ)). IsNew name l) names fresh
-    in
-    q name (λ e. new_at name files i f below is so (sym e)) ∙ p name so) on.others stops.others in
+    (Others (names_of files)) before.written old.written new.written
+    (λ x y z p q name so. q name (λ e. new_at name files i f below is so (sym e)) ∙ p name so)
+    on.others stops.others in
     let same : old.write_faults ≡ before.write_faults = on.faults in
     let cause : HasCauseAt {T = Unit {0}} f.name before.write_faults new.write_faults (Err r) =
     subst
     (λ (h : List ℕ → ℕ). HasCauseAt {T = Unit {0}} f.name h new.write_faults (Err r)) same
     stops.cause in
     record {
-      may = may_all (changed_at outputs i g) before new goes
-          (may_moved f g before old new r stops (Others (output_names (changed_at outputs i g)))
-          goes files i below is apart outputs
-          on.sunk);
+      begun = goes_by (Others (names_of files)) (BegunInOrder (changed_at outputs i g))
+          before.written new.written
+          (λ b n told there others. all_begun (changed_at outputs i g) b n
+          (fronts_moved f g old new r stops n there files i below is apart outputs on.sunk)
+          (subst (λ (l : List (List ℕ)). Others l b n) (sym names) others)) goes;
       cause = record {
         later = cause.later;
         failed = λ e. rose_at f g before.write_faults new.write_faults old
@@ -381,7 +374,7 @@ pub record FinishedTo (first now : List Waiting) (place : ℕ) (old new : Outsid
   pub begun : AreBegun (names_of now) new
   pub outputs : (outputs : List Output) (before : Outside) → IsOutputs first outputs before old
       → IsOutputs now outputs before new
-  pub tells : Narrows old.held new.held
+  pub tells : new.held ≡ old.held
   pub done : FirstDone place now
 
 -- ---- one file more
@@ -462,21 +455,48 @@ begun_moved files i f after old new at name stand is begun =
     subst (λ (l : List (List ℕ)). AreBegun l new) (sym (name_at files i f after at name))
     (begun_stays f.name (names_of files) old new stand is begun)
 
-may_added : (outputs : List Output) (o : Output) (before now : Outside)
-    → AllMayBe outputs before now → MayBe o before now
-    → AllMayBe (outputs ++ o ∷ []) before now
-may_added [] o before now may last = (last, tt)
-may_added (x ∷ outputs) o before now may last = (may.0, may_added outputs o before now may.1 last)
+fronts_added : (outputs : List Output) (o : Output) (n : Files) → HaveFronts outputs n
+    → (k : ℕ) × (n o.name ≡ Some (take k o.bytes)) → HaveFronts (outputs ++ o ∷ []) n
+fronts_added [] o n fronts last = (last, tt)
+fronts_added (x ∷ outputs) o n fronts last = (fronts.0, fronts_added outputs o n fronts.1 last)
 
 rose_added : (outputs : List Output) (o : Output) (f g : List ℕ → ℕ) → Rose (f o.name) (g o.name)
     → RoseAmong (outputs ++ o ∷ []) f g
 rose_added [] o f g rose = inl rose
 rose_added (x ∷ outputs) o f g rose = inr (rose_added outputs o f g rose)
 
-begins_may : (was now : Option (List ℕ)) → (now ≡ was) ⊎ (now ≡ Some [])
-    → MayStand (Some []) was now
-begins_may was now (inl same) = inl same
-begins_may was now (inr empty) = inr (0, empty)
+-- a name that may have been made empty, or is as it was
+abbrev MayBegin : List ℕ → Files → Files → Type 0
+MayBegin name old new = ChangesAt name (λ was now. (now ≡ was) ⊎ (now ≡ Some [])) old new
+
+-- the name was left alone: it is none of those that are begun
+not_begun : (name : List ℕ) (names : List (List ℕ)) (b o n : Files) → Others names b o
+    → MayBegin name o n → n name ≡ o name → Others names b n
+not_begun name names b o n others change same m new =
+    let kept : n m ≡ o m = elim (cases_Bool (bytes_eq m name)) [
+      | inl is ↦ subst (λ (x : List ℕ). n x ≡ o x) (sym ((bytes_eq-Decides m name).0 is)) same
+      | inr is ↦ change.others m (λ e. let both : true ≡ false = sym ((bytes_eq-Decides m name).1 e)
+          ∙ is in cc)
+    ] in
+    kept ∙ others m new
+
+-- where the begin of a file gave up, the earlier ones are begun, or it is too
+begun_or_last : (last : Output) (outputs : List Output) (b o n : Files)
+    → Others (output_names outputs) b o → MayBegin last.name o n → HaveFronts outputs n
+    → BegunInOrder (outputs ++ last ∷ []) b n
+begun_or_last last outputs b o n others change fronts =
+    elim change.here [
+      | inl same ↦ (
+        length outputs,
+        λ m. rw (take-append_seam outputs (last ∷ [])) (front_name outputs m b n fronts
+            (not_begun last.name (output_names outputs) b o n others change same m)),
+      )
+      | inr empty ↦ all_begun (outputs ++ last ∷ []) b n
+          (fronts_added outputs last n fronts (0, empty)) (λ m fresh.
+          let both = new_append m last.name (output_names outputs)
+          (subst (λ (l : List (List ℕ)). IsNew m l) (output_names_added outputs last) fresh) in
+          change.others m (λ e. both.1 (sym e)) ∙ others m both.0)
+    ]
 
 pub begin_cut : {T : Type 0} (name : List ℕ) (files : List Waiting) (outputs : List Output)
     (before old new : Outside) (r : ShelfError)
@@ -488,33 +508,20 @@ pub begin_cut : {T : Type 0} (name : List ℕ) (files : List Waiting) (outputs :
     (outputs ++ record { name = name; bytes = [] } ∷ []) before new r
 begin_cut {T = T} name files outputs before old new r is begins stand cause only on =
     let last : Output = record { name = name; bytes = [] } in
-    let names : output_names (outputs ++ last ∷ []) ≡ names_of files ++ name ∷ [] =
-    output_names_added outputs last ∙ ap
-    (λ (l : List (List ℕ)). l ++ name ∷ []) (sunk_names files outputs old on.sunk) in
-    let Change : Option (List ℕ) → Option (List ℕ) → Type 0 = λ was now. (now ≡ was)
-    ⊎ (now ≡ Some []) in
-    let goes : Goes before.written new.written (Others (output_names (outputs ++ last ∷ []))) =
-    goes_then (Others (names_of files)) (ChangesAt name Change)
-    (Others (output_names (outputs ++ last ∷ []))) before.written
-    old.written new.written
-    (λ x y z p q n fresh.
-    let both : IsNew n (names_of files) × (name ≢ n) = new_append n name (names_of files)
-    (subst (λ (l : List (List ℕ)). IsNew n l) names fresh) in
-    q.others n (λ e. both.1 (sym e)) ∙ p n both.0) on.others begins in
-    let may : MayBe last before new =
-    goes_then (Others (names_of files)) (ChangesAt name Change)
-    (λ b n. MayStand (Some []) (b name) (n name)) before.written old.written
-    new.written
-    (λ x y z p q. begins_may (x name) (z name)
-    (subst (λ (w : Option (List ℕ)). (z name ≡ w) ⊎ (z name ≡ Some [])) (p name is) q.here))
-    on.others begins in
+    let Both : Files → Files → Type 0 = λ b n. (o : Files) × Others (names_of files) b o
+    × MayBegin name o n in
+    let goes : Goes before.written new.written Both =
+    goes_then (Others (names_of files)) (MayBegin name) Both before.written old.written new.written
+    (λ x y z p q. (y, p, q)) on.others begins in
     let since : HasCauseAt {T = T} name before.write_faults new.write_faults (Err r) = subst
     (λ (h : List ℕ → ℕ). HasCauseAt {T = T} name h new.write_faults (Err r)) on.faults cause in
     record {
-      may = may_all (outputs ++ last ∷ []) before new goes
-          (may_added outputs last before new
-          (all_may files outputs (Others (output_names (outputs ++ last ∷ []))) before new goes
-          (all_stay name files outputs old new is stand on.sunk)) may);
+      begun = goes_by Both (BegunInOrder (outputs ++ last ∷ [])) before.written new.written
+          (λ b n i j both. begun_or_last last outputs b both.0 n
+          (subst (λ (l : List (List ℕ)). Others l b both.0)
+          (sym (sunk_names files outputs old on.sunk)) both.1) both.2
+          (sunk_fronts files outputs new n j
+          (all_stay name files outputs old new is stand on.sunk))) goes;
       cause = record {
         later = since.later;
         failed = λ e. rose_added outputs last before.write_faults new.write_faults
@@ -564,7 +571,7 @@ finished_more first files i f after old mid new finished apart below is moves be
           (outputs_moved f after (λ put. put) mid new moves files i below is
           (subst AreApart (sym finished.names) apart) outputs before
           (finished.outputs outputs before on));
-      tells = narrows_then old.held mid.held new.held finished.tells moves.only.held;
+      tells = moves.only.held ∙ finished.tells;
       done = done_more files i after none finished.done;
     }
 

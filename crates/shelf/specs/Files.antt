@@ -3,7 +3,7 @@ use Rattle.std.specs.Prelude.{◌≡◌, ◌≢◌, ◌⊎◌, ◌≤◌, ℕ, L
 use Rattle.std.specs.Prelude.{find}
 use Rattle.std.specs.Option.{option_map, option_or}
 use Rattle.std.specs.Str.{bytes_eq}
-use Rattle.shelf.specs.Shelf.{Outside, Files, Goes, OnlyWrites, Rose}
+use Rattle.shelf.specs.Shelf.{Outside, Files, Goes, OnlyWritesAndReads, Rose}
 use Rattle.shelf.specs.declared.shelf.ShelfError.{ShelfError}
 use Rattle.shelf.specs.declared.shelf.ShelfError.TheVariants.{Failed}
 
@@ -20,14 +20,20 @@ one_file name bytes = record { name = name; bytes = bytes } ∷ []
 abbrev pub bytes_for : List Output → List ℕ → Option (List ℕ)
 bytes_for outputs name = option_map (λ o. o.bytes) (find (λ o. bytes_eq o.name name) outputs)
 
--- a file is as it was, or it is a front of the bytes for its name, if there are any
-abbrev pub MayStand : Option (List ℕ) → Option (List ℕ) → Option (List ℕ) → Type 0
-MayStand None before now = now ≡ before
-MayStand (Some bytes) before now = (now ≡ before) ⊎ ((k : ℕ) × (now ≡ Some (take k bytes)))
+-- a file is a front of the bytes for its name, and as it was where there are none
+abbrev pub IsFrontOf : Option (List ℕ) → Option (List ℕ) → Option (List ℕ) → Type 0
+IsFrontOf None before now = now ≡ before
+IsFrontOf (Some bytes) before now = (k : ℕ) × (now ≡ Some (take k bytes))
 
-abbrev pub AllMayStand : List Output → Files → Files → Type 0
-AllMayStand outputs before now = (name : List ℕ) → MayStand (bytes_for outputs name) (before name)
+-- of every output a front stands, and each other file as it was
+abbrev pub AreFronts : List Output → Files → Files → Type 0
+AreFronts outputs before now = (name : List ℕ) → IsFrontOf (bytes_for outputs name) (before name)
     (now name)
+
+-- the outputs are begun in their order: of the first so many a front stands, and each other file as
+-- it was
+abbrev pub BegunInOrder : List Output → Files → Files → Type 0
+BegunInOrder outputs before now = (begun : ℕ) × AreFronts (take begun outputs) before now
 
 -- every output is whole, and each other file as it was
 abbrev pub AreWhole : List Output → Files → Files → Type 0
@@ -58,11 +64,11 @@ pub record HasCauseAmong (outputs : List Output) (before now : List ℕ → ℕ)
 pub record AreWritten (outputs : List Output) (before now : Outside) : Type 0 where
   pub whole : Goes before.written now.written (AreWhole outputs)
   pub faults : now.write_faults ≡ before.write_faults
-  pub only : OnlyWrites before now
+  pub only : OnlyWritesAndReads before now
 
--- the outputs are cut where a call gave up with an error: what stands is a front of each, and who
--- is the cause is known
+-- the outputs are cut where a call gave up with an error: some are begun, in their order, and what
+-- stands of each is a front, and who is the cause is known
 pub record AreCut (outputs : List Output) (before now : Outside) (error : ShelfError) : Type 0 where
-  pub may : Goes before.written now.written (AllMayStand outputs)
+  pub begun : Goes before.written now.written (BegunInOrder outputs)
   pub cause : HasCauseAmong outputs before.write_faults now.write_faults error
-  pub only : OnlyWrites before now
+  pub only : OnlyWritesAndReads before now

@@ -1,6 +1,6 @@
 -- Any number of files on their way.
 use Rattle.std.specs.Prelude.{◌≡◌, ◌≢◌, ℕ, zero, suc, List, [], ◌∷◌, ◌++◌, map}
-use Rattle.shelf.specs.Shelf.{Outside, Goes, OnlyWrites}
+use Rattle.shelf.specs.Shelf.{Outside, Goes, OnlyWritesAndReads}
 use Rattle.shelf.specs.Files.{Output}
 use Rattle.shelf.specs.OneFile.{Waiting, Sunk, IsBegun, kept_of}
 
@@ -40,7 +40,7 @@ pub record IsOutputs (files : List Waiting) (outputs : List Output) (before now 
     pub others : Goes before.written now.written
         (λ old new. (name : List ℕ) → IsNew name (names_of files) → new name ≡ old name)
     pub faults : now.write_faults ≡ before.write_faults
-    pub only : OnlyWrites before now
+    pub only : OnlyWritesAndReads before now
 
 -- the outputs, with the bytes of the one at a place changed
 abbrev pub changed_at : List Output → ℕ → (List ℕ → List ℕ) → List Output

@@ -81,9 +81,16 @@ pub record HasRead (old new : Outside) : Type 0 where
   pub only : OnlyReads old new
   pub faults : new.read_faults ≡ old.read_faults
 
--- nothing changes but what is written, and the faults of writing; a file that is held may be told
--- no more here too, for on a disk one that is written may be one that is read
+-- nothing changes but what is written, and the faults of writing
 pub record OnlyWrites (old new : Outside) : Type 0 where
+  pub held : new.held ≡ old.held
+  pub printed : new.printed ≡ old.printed
+  pub read_faults : new.read_faults ≡ old.read_faults
+  pub print_faults : new.print_faults ≡ old.print_faults
+
+-- the same, but reads that didn't fail may stand between the writes of one output, so the files that
+-- are held may be told no more
+pub record OnlyWritesAndReads (old new : Outside) : Type 0 where
   pub held : Narrows old.held new.held
   pub printed : new.printed ≡ old.printed
   pub read_faults : new.read_faults ≡ old.read_faults

@@ -8,8 +8,9 @@
 //! [`Outputs`] is a list of named files on their way to a shelf. Each is begun once, gets its bytes
 //! in pieces, and is whole once all is finished. What is put into a file waits until there are 64
 //! KiB of it, so that a caller who adds some bytes at a time makes few calls of the shelf. However
-//! many files there are, the clauses say the same: which bytes stand in each file, that a front of
-//! them stands where a call gave up, whose faults rose then, and that no other name is touched.
+//! many files there are, the clauses say the same: which bytes stand in each file, that the files
+//! are begun in their order and a front of each stands where a call gave up, whose faults rose then,
+//! and that no other name is touched.
 #![tactic(auto)]
 
 mod files;

@@ -1,6 +1,6 @@
 // Files on their way, in a list.
 ghost use Rattle.std.specs.Prelude.{◌≡◌, ◌<◌, ◌++◌, ◌∷◌, List, [], length, OnOk, IfErr};
-ghost use Rattle.shelf.specs.Shelf.{Narrows, Outside};
+ghost use Rattle.shelf.specs.Shelf.{Outside};
 ghost use Rattle.shelf.specs.Files.{Output, AreCut, AreWritten};
 ghost use Rattle.shelf.specs.OnTheirWay.{AreBegun, IsNew, IsOutputs, NothingWaits, names_of};
 ghost use Rattle.shelf.specs.OnTheirWay.{outputs_with, waiting_with};
@@ -10,7 +10,8 @@ use crate::{Shelf, ShelfError};
 use std::alloc::Global;
 use std::marker::Model;
 
-/// Files on their way, each under a name of its own, in the order in which they were begun.
+/// Files on their way, each under a name of its own, in the order in which they were begun. So where
+/// a call gives up, the first of them are begun, each a front of all that was put into it.
 ///
 /// Contracts see the name of each file and the bytes that wait for it. After a call that answers an
 /// error it isn't known any more which bytes wait: put nothing more.
@@ -66,7 +67,7 @@ impl<'a> Outputs<'a> {
             → IsOutputs self.old outputs before (S.outside shelf.old)
             → AreCut (outputs ++ record { name = name.now; bytes = [] } ∷ []) before
             (S.outside shelf.new) error) }
-        ensures tells { Narrows (S.outside shelf.old).held (S.outside shelf.new).held }
+        ensures tells { (S.outside shelf.new).held ≡ (S.outside shelf.old).held }
     {
         match Sink::begin(alloc, shelf, name) {
             Ok(sink) => {
@@ -103,7 +104,7 @@ impl<'a> Outputs<'a> {
         ensures cut { IfErr result (λ error. (outputs : List Output) (before : Outside)
             → IsOutputs self.old outputs before (S.outside shelf.old)
             → AreCut (outputs_with outputs place bytes.now) before (S.outside shelf.new) error) }
-        ensures tells { Narrows (S.outside shelf.old).held (S.outside shelf.new).held }
+        ensures tells { (S.outside shelf.new).held ≡ (S.outside shelf.old).held }
     {
         let file = &mut self.files[place];
         file.put(shelf, bytes)
@@ -130,7 +131,7 @@ impl<'a> Outputs<'a> {
         ensures cut { IfErr result (λ error. (outputs : List Output) (before : Outside)
             → IsOutputs self.old outputs before (S.outside shelf.old)
             → AreCut outputs before (S.outside shelf.new) error) }
-        ensures tells { Narrows (S.outside shelf.old).held (S.outside shelf.new).held }
+        ensures tells { (S.outside shelf.new).held ≡ (S.outside shelf.old).held }
     {
         for place in 0..self.files.len() {
             let file = &mut self.files[place];

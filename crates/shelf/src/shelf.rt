@@ -54,8 +54,9 @@ pub enum RunShown<'a> {
 /// A file that is read and a file that is written under one name have nothing to do with each
 /// other. A shelf need not tell what it holds, what was written or what was printed: what the
 /// clauses say of these holds where they are told. What it holds stays the same as long as it is
-/// told: a shelf that can't keep others from changing its files, as one on a disk, tells them for
-/// as long as what is read is theirs, and no more once a read gave other bytes.
+/// told, and only a read may make it untold: a shelf that can't keep others from changing its
+/// files, as one on a disk, tells them for as long as what is read is theirs, and no more once a
+/// read gave other bytes.
 pub trait Shelf {
     /// What is held, was written and was printed, where told, and how often calls have failed.
     ghost outside: { Self → Outside };

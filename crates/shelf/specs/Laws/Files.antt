@@ -5,18 +5,18 @@ use Rattle.std.proofs.Common.{arith}
 use Rattle.std.specs.Prelude.{IsSome}
 use Rattle.std.proofs.lemmas.Bool.{cases_Bool}
 use Rattle.std.proofs.lemmas.List.{append-nil}
-use Rattle.std.proofs.Math.Seq.{take-append_seam}
+use Rattle.std.proofs.Math.Seq.{take-append_seam, take-length}
 use Rattle.std.proofs.lemmas.Slice.Eq.{bytes_eq-Decides}
 use Rattle.std.specs.Option.{option_or}
 use Rattle.std.specs.Str.{bytes_eq}
-use Rattle.shelf.specs.Shelf.{Outside, Files, Told, Goes, HasRead, OnlyWrites}
+use Rattle.shelf.specs.Shelf.{Outside, Files, Told, Goes, HasRead}
 use Rattle.shelf.specs.declared.shelf.ShelfError.{ShelfError}
 use Rattle.shelf.specs.declared.shelf.ShelfError.TheVariants.{Failed}
-use Rattle.shelf.specs.Files.{Output, bytes_for, MayStand, AllMayStand, AreWhole, GoOn, RoseAmong}
-use Rattle.shelf.specs.Files.{HasCauseAmong, AreCut, AreWritten}
+use Rattle.shelf.specs.Files.{Output, bytes_for, IsFrontOf, BegunInOrder, AreWhole, GoOn}
+use Rattle.shelf.specs.Files.{HasCauseAmong, RoseAmong, AreCut, AreWritten}
 use Rattle.shelf.specs.OneFile.{Waiting, AddsUp, IsBegun, Sunk, Holds, HoldsFront}
 use Rattle.shelf.specs.OnTheirWay.{names_of, IsNew, AreBegun, AreSunk, IsOutputs, outputs_with}
-use Rattle.shelf.specs.Laws.Told.{narrows_then}
+use Rattle.shelf.specs.Laws.Told.{goes_map, reads_alone, writes_both}
 
 -- ---- meanings that a shelf may leave untold
 
@@ -135,48 +135,52 @@ held_whole outputs before now goes held =
     goes_by (Others (output_names outputs)) (AreWhole outputs) before.written now.written
     (λ b n i j others name. whole_name outputs now name b n j held (others name)) goes
 
--- ---- files that may stand
+-- ---- files of which a front stands
 
--- the file of an output is as it was, or a front of its bytes
-abbrev pub MayBe : Output → Outside → Outside → Type 0
-MayBe o before now = Goes before.written now.written
-    (λ b n. MayStand (Some o.bytes) (b o.name) (n o.name))
+abbrev pub HaveFronts : List Output → Files → Type 0
+HaveFronts [] now = Unit {0}
+HaveFronts (o ∷ outputs) now = ((k : ℕ) × (now o.name ≡ Some (take k o.bytes)))
+    × HaveFronts outputs now
 
-abbrev pub AllMayBe : List Output → Outside → Outside → Type 0
-AllMayBe [] before now = Unit {0}
-AllMayBe (o ∷ outputs) before now = MayBe o before now × AllMayBe outputs before now
-
-may_name : (outputs : List Output) (before now : Outside) (name : List ℕ) (b n : Files)
-    → before.written ≡ Some b → now.written ≡ Some n
-    → AllMayBe outputs before now
+pub front_name : (outputs : List Output) (name : List ℕ) (b n : Files) → HaveFronts outputs n
     → (IsNew name (output_names outputs) → n name ≡ b name)
-    → MayStand (bytes_for outputs name) (b name) (n name)
-may_name [] before now name b n i j may others = others tt
-may_name (o ∷ outputs) before now name b n i j may others =
-    at_name (λ (x : Option (List ℕ)). MayStand x (b name) (n name)) o outputs name
-    (λ is. let one : MayStand (Some o.bytes) (b o.name) (n o.name) =
-    goes_at (λ f g. MayStand (Some o.bytes) (f o.name) (g o.name))
-    before.written now.written b n i j may.0 in
-    subst (λ (x : List ℕ). MayStand (Some o.bytes) (b x) (n x)) is one)
-    (λ other. may_name outputs before now name b n i j may.1 (λ new. others (other, new)))
+    → IsFrontOf (bytes_for outputs name) (b name) (n name)
+front_name [] name b n fronts others = others tt
+front_name (o ∷ outputs) name b n fronts others =
+    at_name (λ (x : Option (List ℕ)). IsFrontOf x (b name) (n name)) o outputs name
+    (λ is. subst (λ (x : List ℕ). IsFrontOf (Some o.bytes) (b x) (n x)) is fronts.0)
+    (λ other. front_name outputs name b n fronts.1 (λ new. others (other, new)))
 
-pub may_all : (outputs : List Output) (before now : Outside)
-    → Goes before.written now.written (Others (output_names outputs))
-    → AllMayBe outputs before now
-    → Goes before.written now.written (AllMayStand outputs)
-may_all outputs before now goes may =
-    goes_by (Others (output_names outputs)) (AllMayStand outputs) before.written now.written
-    (λ b n i j others name. may_name outputs before now name b n i j may (others name)) goes
+-- all of them are begun
+pub all_begun : (outputs : List Output) (b n : Files) → HaveFronts outputs n
+    → Others (output_names outputs) b n → BegunInOrder outputs b n
+all_begun outputs b n fronts others = (
+  length outputs,
+  λ name. rw (take-length outputs) (front_name outputs name b n fronts (others name)),
+)
 
--- a front may stand
-pub front_may : (name bytes : List ℕ) (P : Files → Files → Type 0) (before now : Outside)
-    → Goes before.written now.written P
-    → HoldsFront name bytes now
-    → MayBe (record { name = name; bytes = bytes }) before now
-front_may name bytes P before now goes front =
-    goes_by P (λ b n. MayStand (Some bytes) (b name) (n name)) before.written now.written
-    (λ b n i j p. inr (told_at (λ (f : Files). (k : ℕ) × (f name ≡ Some (take k bytes))) now.written
-    n j front)) goes
+-- none of them is
+pub none_begun : (outputs : List Output) (b n : Files) → ((name : List ℕ) → n name ≡ b name)
+    → BegunInOrder outputs b n
+none_begun outputs b n same = (0, same)
+
+none_of : (k : ℕ) (outputs : List Output) (name : List ℕ) → bytes_for outputs name ≡ None
+    → bytes_for (take k outputs) name ≡ None
+none_of zero outputs name none = refl
+none_of (suc k) [] name none = refl
+none_of (suc k) (o ∷ os) name none =
+    elim (cases_Bool (bytes_eq o.name name)) [
+      | inl is ↦ let both : Some o.bytes ≡ None = sym (here o os name is) ∙ none in cc
+      | inr is ↦
+          later o (take k os) name is ∙ none_of k os name (sym (later o os name is) ∙ none)
+    ]
+
+-- a name that is none of theirs is as it was
+pub BegunInOrder-others : (outputs : List Output) (b n : Files) → BegunInOrder outputs b n
+    → (name : List ℕ) → bytes_for outputs name ≡ None → n name ≡ b name
+BegunInOrder-others outputs b n begun name none =
+    subst (λ (x : Option (List ℕ)). IsFrontOf x (b name) (n name))
+    (none_of begun.0 outputs name none) (begun.1 name)
 
 -- ---- more bytes, and more files
 
@@ -187,39 +191,53 @@ take_within (suc k) [] ys = (0, refl)
 take_within (suc k) (x ∷ xs) ys = let r = take_within k xs ys
     in (suc r.0, ap (λ (l : List ℕ). x ∷ l) r.1)
 
-may_longer : (xs ys : List ℕ) (before now : Option (List ℕ)) → MayStand (Some xs) before now
-    → MayStand (Some (xs ++ ys)) before now
-may_longer xs ys before now (inl same) = inl same
-may_longer xs ys before now (inr front) = let r = take_within front.0 xs ys
-    in inr (r.0, front.1 ∙ ap (λ (l : List ℕ). Some l) r.1)
+front_longer : (xs ys : List ℕ) (before now : Option (List ℕ)) → IsFrontOf (Some xs) before now
+    → IsFrontOf (Some (xs ++ ys)) before now
+front_longer xs ys before now front = let r = take_within front.0 xs ys
+    in (r.0, front.1 ∙ ap (λ (l : List ℕ). Some l) r.1)
 
-same_may : (bytes before now : Option (List ℕ)) → now ≡ before → MayStand bytes before now
-same_may None before now same = same
-same_may (Some b) before now same = inl same
-
-goes_on_at : (outputs longer : List Output) (name : List ℕ) (before now : Option (List ℕ))
-    → GoOn outputs longer
-    → MayStand (bytes_for outputs name) before now → MayStand (bytes_for longer name) before now
-goes_on_at [] longer name before now on may = same_may (bytes_for longer name) before now may
-goes_on_at (o ∷ os) [] name before now on may = absurd on
-goes_on_at (o ∷ os) (l ∷ ls) name before now on may =
+-- the first one goes on, and so do the others
+first_longer : (o l : Output) (os ls : List Output) (name more : List ℕ)
+    (before now : Option (List ℕ)) → l.name ≡ o.name → l.bytes ≡ o.bytes ++ more
+    → (IsFrontOf (bytes_for os name) before now → IsFrontOf (bytes_for ls name) before now)
+    → IsFrontOf (bytes_for (o ∷ os) name) before now
+    → IsFrontOf (bytes_for (l ∷ ls) name) before now
+first_longer o l os ls name more before now named longer rest front =
     elim (cases_Bool (bytes_eq o.name name)) [
       | inl is ↦
-          let short : MayStand (Some o.bytes) before now =
-          subst (λ (x : Option (List ℕ)). MayStand x before now) (here o os name is)
-          may in
-          let long : MayStand (Some l.bytes) before now =
-          subst (λ (x : List ℕ). MayStand (Some x) before now) (sym on.1.1)
-          (may_longer o.bytes on.1.0 before now short) in
-          subst (λ (x : Option (List ℕ)). MayStand x before now)
-          (sym (here l ls name (ap (λ (x : List ℕ). bytes_eq x name) on.0 ∙ is)))
+          let short : IsFrontOf (Some o.bytes) before now =
+          subst (λ (x : Option (List ℕ)). IsFrontOf x before now) (here o os name is) front in
+          let long : IsFrontOf (Some l.bytes) before now =
+          subst (λ (x : List ℕ). IsFrontOf (Some x) before now) (sym longer)
+          (front_longer o.bytes more before now short) in
+          subst (λ (x : Option (List ℕ)). IsFrontOf x before now)
+          (sym (here l ls name (ap (λ (x : List ℕ). bytes_eq x name) named ∙ is)))
           long
       | inr is ↦
-          subst (λ (x : Option (List ℕ)). MayStand x before now)
-          (sym (later l ls name (ap (λ (x : List ℕ). bytes_eq x name) on.0 ∙ is)))
-          (goes_on_at os ls name before now on.2
-          (subst (λ (x : Option (List ℕ)). MayStand x before now) (later o os name is) may))
+          subst (λ (x : Option (List ℕ)). IsFrontOf x before now)
+          (sym (later l ls name (ap (λ (x : List ℕ). bytes_eq x name) named ∙ is)))
+          (rest (subst (λ (x : Option (List ℕ)). IsFrontOf x before now) (later o os name is) front))
     ]
+
+-- of the longer ones as many are begun as of these, which are all that there are at most
+fronts_longer : (begun : ℕ) (outputs longer : List Output) → GoOn outputs longer
+    → (m : ℕ) × ((name : List ℕ) (before now : Option (List ℕ))
+    → IsFrontOf (bytes_for (take begun outputs) name) before now
+    → IsFrontOf (bytes_for (take m longer) name) before now)
+fronts_longer zero outputs longer on = (0, λ name before now front. front)
+fronts_longer (suc k) [] longer on = (0, λ name before now front. front)
+fronts_longer (suc k) (o ∷ os) [] on = absurd on
+fronts_longer (suc k) (o ∷ os) (l ∷ ls) on =
+    let rest = fronts_longer k os ls on.2 in (
+      suc rest.0,
+      λ name before now. first_longer o l (take k os) (take rest.0 ls) name on.1.0 before now on.0
+          on.1.1 (rest.1 name before now),
+    )
+
+begun_longer : (outputs longer : List Output) (b n : Files) → GoOn outputs longer
+    → BegunInOrder outputs b n → BegunInOrder longer b n
+begun_longer outputs longer b n on begun = let r = fronts_longer begun.0 outputs longer on
+    in (r.0, λ name. r.1 name (b name) (n name) (begun.1 name))
 
 rose_longer : (outputs longer : List Output) (f g : List ℕ → ℕ) → GoOn outputs longer
     → RoseAmong outputs f g → RoseAmong longer f g
@@ -243,8 +261,7 @@ pub AreCut-longer : (outputs longer : List Output) (before now : Outside) (e : S
     → GoOn outputs longer
     → AreCut outputs before now e → AreCut longer before now e
 AreCut-longer outputs longer before now e on cut = record {
-  may = goes_by (AllMayStand outputs) (AllMayStand longer) before.written now.written
-      (λ b n i j may name. goes_on_at outputs longer name (b name) (n name) on (may name)) cut.may;
+  begun = goes_map before.written now.written (λ b n. begun_longer outputs longer b n on) cut.begun;
   cause = cause_longer outputs longer before.write_faults now.write_faults e on cut.cause;
   only = cut.only;
 }
@@ -274,16 +291,20 @@ pub IsOutputs-begun : (files : List Waiting) (outputs : List Output) (before now
     → AreBegun (names_of files) now
 IsOutputs-begun files outputs before now on = sunk_begun files outputs now on.sunk
 
-pub all_may : (files : List Waiting) (outputs : List Output) (P : _) (before now : Outside)
-    → Goes before.written now.written P
-    → AreSunk files outputs now → AllMayBe outputs before now
-all_may files [] P before now goes sunk = tt
-all_may [] (o ∷ outputs) P before now goes sunk = absurd sunk
-all_may (f ∷ files) (o ∷ outputs) P before now goes sunk = (
-  front_may o.name o.bytes P before now goes
-      (subst (λ (n : List ℕ). HoldsFront n o.bytes now) sunk.0
+pub front_at : (name bytes : List ℕ) (now : Outside) (n : Files) → now.written ≡ Some n
+    → HoldsFront name bytes now → (k : ℕ) × (n name ≡ Some (take k bytes))
+front_at name bytes now n told front =
+    told_at (λ (f : Files). (k : ℕ) × (f name ≡ Some (take k bytes))) now.written n told front
+
+pub sunk_fronts : (files : List Waiting) (outputs : List Output) (now : Outside) (n : Files)
+    → now.written ≡ Some n → AreSunk files outputs now → HaveFronts outputs n
+sunk_fronts files [] now n told sunk = tt
+sunk_fronts [] (o ∷ outputs) now n told sunk = absurd sunk
+sunk_fronts (f ∷ files) (o ∷ outputs) now n told sunk = (
+  front_at o.name o.bytes now n told
+      (subst (λ (m : List ℕ). HoldsFront m o.bytes now) sunk.0
       (Sunk-front f o.bytes now sunk.1)),
-  all_may files outputs P before now goes sunk.2,
+  sunk_fronts files outputs now n told sunk.2,
 )
 
 -- where another call gives up, what was put stands but for what waits
@@ -291,12 +312,11 @@ pub IsOutputs-cut : (files : List Waiting) (outputs : List Output) (before now :
     (e : ShelfError) → e ≢ Failed
     → IsOutputs files outputs before now → AreCut outputs before now e
 IsOutputs-cut files outputs before now e quiet on =
-    let goes : Goes before.written now.written (Others (output_names outputs)) =
-    subst (λ (l : List (List ℕ)). Goes before.written now.written (Others l))
-    (sym (sunk_names files outputs now on.sunk)) on.others in
     record {
-      may = may_all outputs before now goes
-          (all_may files outputs (Others (output_names outputs)) before now goes on.sunk);
+      begun = goes_by (Others (names_of files)) (BegunInOrder outputs) before.written now.written
+          (λ b n i j others. all_begun outputs b n (sunk_fronts files outputs now n j on.sunk)
+          (subst (λ (l : List (List ℕ)). Others l b n) (sym (sunk_names files outputs now on.sunk))
+          others)) on.others;
       cause = record {
         later = λ n. let same : now.write_faults n ≡ before.write_faults n =
             ap (λ (h : List ℕ → ℕ). h n) on.faults in
@@ -331,23 +351,10 @@ IsOutputs-read files outputs before mid now read on = record {
       (λ old new. (name : List ℕ) → IsNew name (names_of files) → new name ≡ old name))
       (sym read.only.written) on.others;
   faults = read.only.write_faults ∙ on.faults;
-  only = record {
-    held = narrows_then before.held mid.held now.held on.only.held read.only.held;
-    printed = read.only.printed ∙ on.only.printed;
-    read_faults = read.faults ∙ on.only.read_faults;
-    print_faults = read.only.print_faults ∙ on.only.print_faults;
-  };
+  only = writes_both before mid now on.only (reads_alone mid now read);
 }
 
 -- ---- files that are written behind some reading
-
-writes_behind : (a m b : Outside) → HasRead a m → OnlyWrites m b → OnlyWrites a b
-writes_behind a m b read only = record {
-  held = narrows_then a.held m.held b.held read.only.held only.held;
-  printed = only.printed ∙ read.only.printed;
-  read_faults = only.read_faults ∙ read.faults;
-  print_faults = only.print_faults ∙ read.only.print_faults;
-}
 
 -- what was written is written since before it too
 pub AreWritten-behind : (outputs : List Output) (a m b : Outside) → HasRead a m
@@ -357,7 +364,7 @@ AreWritten-behind outputs a m b read written = record {
   whole = subst (λ (w : Option Files). Goes w b.written (AreWhole outputs)) read.only.written
       written.whole;
   faults = written.faults ∙ read.only.write_faults;
-  only = writes_behind a m b read written.only;
+  only = writes_both a m b (reads_alone a m read) written.only;
 }
 
 -- and so is what was cut
@@ -365,11 +372,11 @@ pub AreCut-behind : (outputs : List Output) (a m b : Outside) (e : ShelfError) �
     → AreCut outputs m b e
     → AreCut outputs a b e
 AreCut-behind outputs a m b e read cut = record {
-  may = subst (λ (w : Option Files). Goes w b.written (AllMayStand outputs)) read.only.written
-      cut.may;
+  begun = subst (λ (w : Option Files). Goes w b.written (BegunInOrder outputs)) read.only.written
+      cut.begun;
   cause = subst (λ (f : List ℕ → ℕ). HasCauseAmong outputs f b.write_faults e)
       read.only.write_faults cut.cause;
-  only = writes_behind a m b read cut.only;
+  only = writes_both a m b (reads_alone a m read) cut.only;
 }
 
 -- ---- outputs that go on

@@ -3,7 +3,7 @@ use Rattle.std.proofs.Common.{◌≡◌, ℕ, ◌≤◌, List, Option, Some, Non
 use Rattle.std.proofs.Common.{◌∙◌, sym}
 use Rattle.std.proofs.Math.Seq.{take-length}
 use Rattle.shelf.specs.Shelf.{Told, Narrows, Goes, Rose, Adds, AddsFront, HasRead, OnlyReads}
-use Rattle.shelf.specs.Shelf.{Outside}
+use Rattle.shelf.specs.Shelf.{OnlyWrites, OnlyWritesAndReads, Outside}
 
 -- what holds of each value holds where it is told
 pub told : {A : Type 0} {P : A → Type 0} (o : Option A) → ((x : A) → P x) → Told o P
@@ -68,6 +68,33 @@ pub read_both : (a b c : Outside) → HasRead a b → HasRead b c → HasRead a 
 read_both a b c first then = record {
   only = only_both a b c first.only then.only;
   faults = then.faults ∙ first.faults;
+}
+
+-- ---- writes, and reads between them
+
+pub writes_alone : (a b : Outside) → OnlyWrites a b → OnlyWritesAndReads a b
+writes_alone a b only = record {
+  held = narrows_by a.held b.held only.held;
+  printed = only.printed;
+  read_faults = only.read_faults;
+  print_faults = only.print_faults;
+}
+
+pub reads_alone : (a b : Outside) → HasRead a b → OnlyWritesAndReads a b
+reads_alone a b read = record {
+  held = read.only.held;
+  printed = read.only.printed;
+  read_faults = read.faults;
+  print_faults = read.only.print_faults;
+}
+
+pub writes_both : (a b c : Outside) → OnlyWritesAndReads a b → OnlyWritesAndReads b c
+    → OnlyWritesAndReads a c
+writes_both a b c first then = record {
+  held = narrows_then a.held b.held c.held first.held then.held;
+  printed = then.printed ∙ first.printed;
+  read_faults = then.read_faults ∙ first.read_faults;
+  print_faults = then.print_faults ∙ first.print_faults;
 }
 
 -- ---- a meaning that goes over into another

@@ -1,6 +1,5 @@
 use Rattle.std.proofs.Common.{◌∙◌, arith, add-one, subst, sym}
 use Rattle.shelf.specs.OnTheirWay.{AreApart}
-use Rattle.shelf.specs.Laws.Told.{narrows_then}
 use Rattle.shelf.proofs.OutputLists.{Moves, Stops, begun_at, finished_all, finished_more}
 use Rattle.shelf.proofs.OutputLists.{finished_stops, name_at, outputs_written}
 use Rattle.shelf.proofs.outputs.Outputs.finish.Goals as goal
@@ -65,7 +64,7 @@ loop-place-preserved g c =
 
 pub returns-in-Err-clause-tells : goal.returns-in-Err-clause-tells
 returns-in-Err-clause-tells g c =
-    narrows_then _ _ _ c.loop-place.invariant.tells c.in-Err.ensures.only.held
+    c.in-Err.ensures.only.held ∙ c.loop-place.invariant.tells
 
 pub returns-clause-nothing_waits : goal.returns-clause-nothing_waits
 returns-clause-nothing_waits g c =
