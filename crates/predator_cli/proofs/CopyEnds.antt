@@ -8,7 +8,7 @@ use Rattle.std.specs.Str.{bytes_eq}
 use Rattle.command_line.specs.Convert.{ConvertDemand}
 use Rattle.command_line.specs.Split.{SplitDemand}
 use Rattle.command_line.specs.Words.{Demand, convert, split, outputs as outputs_of}
-use Rattle.shelf.specs.Files.{AllMayStand, Output}
+use Rattle.shelf.specs.Files.{BegunInOrder, Output}
 use Rattle.shelf.specs.OnTheirWay.{IsNew}
 use Rattle.shelf.specs.Shelf.{Files, Goes, HasRead, Outside, Told, content}
 use Rattle.trace_files.specs.Laws.Copies.{trace_found, trace_unrefused}
@@ -158,16 +158,16 @@ module _ (d : Demand) (name : List ℕ) (text : Trace → List ℕ) (outputs : T
     -- ---- it gave up
 
     part_at : (files : Files) → ((t : Trace) → trace_of (content files name) ≡ Some t
-        → Goes a.written b.written (AllMayStand (outputs t)))
+        → Goes a.written b.written (BegunInOrder (outputs t)))
         → ((r : Refusal) → refusal_of any (content files name) ≡ Some r
         → Goes a.written b.written AreSame)
         → (r : Option Refusal) → refusal_of any (content files name) ≡ r
-        → Goes a.written b.written (AllMayStand (answer_of (Some d) files).outputs)
+        → Goes a.written b.written (BegunInOrder (answer_of (Some d) files).outputs)
     part_at files fronts stays None none =
         let found = trace_found (content files name) none in
-        own_outputs d files (λ outs. Goes a.written b.written (AllMayStand outs))
+        own_outputs d files (λ outs. Goes a.written b.written (BegunInOrder outs))
         (accepts files none)
-        (subst (λ (w : Work). Goes a.written b.written (AllMayStand w.outputs))
+        (subst (λ (w : Work). Goes a.written b.written (BegunInOrder w.outputs))
         (sym (work_is files found.0 found.1))
         (fronts found.0 found.1))
     part_at files fronts stays (Some r) is = same_stands (answer_of (Some d) files).outputs
@@ -188,7 +188,7 @@ module _ (d : Demand) (name : List ℕ) (text : Trace → List ℕ) (outputs : T
 
     module _ (fault : CopyFault) (failed : HasFailed name (outputs_of d) outputs a b fault) where
       part : Told b.held (λ files. Goes a.written b.written
-          (AllMayStand (answer_of (Some d) files).outputs))
+          (BegunInOrder (answer_of (Some d) files).outputs))
       part =
           told_both b.held (λ files fronts stays. part_at files fronts stays
           (refusal_of any (content files name)) refl)

@@ -9,9 +9,10 @@ use Rattle.command_files.specs.Readings.{IsAccepted, IsStopped, first_refusal}
 use Rattle.command_files.specs.Works.{Work, done_with, refused_with}
 use Rattle.command_files.specs.Statuses.{Kind, kind_of, done, refusal}
 use Rattle.command_files.specs.Statuses.{hides_no_memory}
-use Rattle.shelf.specs.Files.{AreWhole, Output, bytes_for}
+use Rattle.shelf.specs.Files.{AreWhole, Output}
 use Rattle.command_files.specs.declared.status.Status.{Status}
 use Rattle.command_files.specs.declared.status.Status.TheVariants as status
+use Rattle.shelf.specs.Laws.Files.{none_begun}
 use Rattle.shelf.specs.Laws.Told.{goes_same, narrows_by, narrows_same, narrows_then, only_none}
 use Rattle.shelf.specs.Laws.Told.{told, told_both, told_map, told_same}
 use Rattle.predator_cli.specs.Commands.{RepeatsReport, readings_of, work_of}
@@ -22,7 +23,7 @@ use Rattle.predator_cli.specs.Answer.{answer_of, are_copies, outputs}
 use Rattle.predator_cli.specs.Meets.{EndsAs, HasFailed, IsAnswered, IsCaused, IsFaulty}
 use Rattle.predator_cli.specs.Meets.{IsQuiet, IsWorked, Meets}
 use Rattle.predator_cli.specs.Meets.{Prints, ReadsInPeace}
-use Rattle.predator_cli.proofs.Standing.{may_stay, only_same_names}
+use Rattle.predator_cli.proofs.Standing.{only_same_names}
 use Rattle.predator_cli.proofs.FaultEnds.{quiet_after, starved, whole_later}
 
 -- ---- the command's own text
@@ -285,8 +286,8 @@ words_refused a = record {
 
 part_same : (asked : Option Demand) (held o : Option Files) → StandsInPart asked held o o
 part_same asked held o =
-    told held (λ files. goes_same _ o (λ before name. may_stay
-    (bytes_for (answer_of asked files).outputs name) (before name)))
+    told held (λ files. goes_same _ o (λ before. none_begun (answer_of asked files).outputs before
+    before (λ name. refl)))
 
 refused_same : (copies : Bool) (held o : Option Files) → StaysAtRefusal copies held o o
 refused_same false held o = goes_same AreSame o (λ before name. refl)

@@ -2,7 +2,6 @@
 use Rattle.std.proofs.Common.{◌≡◌, ℕ, List, [], ◌∷◌, Option, Some, None, Bool, true, false, ◌||◌}
 use Rattle.std.proofs.Common.{◌≤◌, map}
 use Rattle.std.proofs.Common.{arith, refl, sym, ap, subst, ◌∙◌, inl, inr}
-use Rattle.std.proofs.lemmas.Option.{none-some}
 use Rattle.std.specs.List.{list_any}
 use Rattle.std.specs.Option.{option_or}
 use Rattle.std.specs.Str.{bytes_eq}
@@ -10,12 +9,13 @@ use Rattle.shelf.specs.Shelf.{Files, Goes, Narrows, Outside, Told}
 use Rattle.shelf.specs.declared.shelf.ShelfError.{ShelfError}
 use Rattle.shelf.specs.declared.shelf.ShelfError.TheVariants.{Failed, NoMemory}
 use Rattle.command_line.specs.Words.{Demand, outputs as outputs_of}
-use Rattle.shelf.specs.Files.{AllMayStand, AreCut, AreWhole, AreWritten, MayStand, Output}
+use Rattle.shelf.specs.Files.{AreCut, AreWhole, AreWritten, BegunInOrder, Output}
 use Rattle.shelf.specs.Files.{RoseAmong, bytes_for}
 use Rattle.command_files.specs.Readings.{RoseAt, first_refusal}
 use Rattle.command_files.specs.Statuses.{status_of_writing}
 use Rattle.command_files.specs.Works.{Work}
 use Rattle.command_files.specs.declared.status.Status.{Status}
+use Rattle.shelf.specs.Laws.Files.{BegunInOrder-others}
 use Rattle.shelf.specs.Laws.Told.{goes_map, told, told_both, told_map, told_still}
 use Rattle.predator_cli.specs.Written.{OnlyAt}
 use Rattle.predator_cli.specs.Answer.{answer_of}
@@ -50,11 +50,6 @@ not_written (o ∷ outputs) name not_so =
     not_so in
     missed o.name o.bytes name outputs both.0 ∙ not_written outputs name both.1
 
-may_same : (bytes before now : Option (List ℕ)) → bytes ≡ None → MayStand bytes before now → now
-    ≡ before
-may_same None before now none may = may
-may_same (Some b) before now none may = absurd (none-some b (sym none))
-
 whole_only : (outputs : List Output) (a b : Outside) → Goes a.written b.written (AreWhole outputs)
     → OnlyAt (names_in outputs) a b
 whole_only outputs a b goes =
@@ -62,12 +57,12 @@ whole_only outputs a b goes =
     ∙ ap (λ x. option_or x (before name))
     (not_written outputs name not_so)) goes
 
-cut_only : (outputs : List Output) (a b : Outside) → Goes a.written b.written (AllMayStand outputs)
+cut_only : (outputs : List Output) (a b : Outside)
+    → Goes a.written b.written (BegunInOrder outputs)
     → OnlyAt (names_in outputs) a b
 cut_only outputs a b goes =
-    goes_map a.written b.written (λ before now may name not_so. may_same (bytes_for outputs name)
-    (before name) (now name)
-    (not_written outputs name not_so) (may name)) goes
+    goes_map a.written b.written (λ before now begun name not_so. BegunInOrder-others outputs before
+    now begun name (not_written outputs name not_so)) goes
 
 -- the faults of one of the outputs rose
 rose_among : (outputs : List Output) (before now : List ℕ → ℕ) → RoseAmong outputs before now
@@ -80,8 +75,7 @@ rose_among (o ∷ outputs) before now (inr rose) = inr (rose_among outputs befor
 pub written_cut : (outputs : List Output) (a b : Outside) → AreWritten outputs a b
     → AreCut outputs a b NoMemory
 written_cut outputs a b written = record {
-  may = goes_map a.written b.written (λ before now is. whole_stands outputs before now is)
-      written.whole;
+  begun = goes_map a.written b.written (whole_stands outputs) written.whole;
   cause = record { later = λ n. later_so n; failed = λ e. cc; quiet = λ e. written.faults };
   only = written.only;
 }
@@ -131,13 +125,13 @@ written_worked d w a b st text ready ends told_text again written = record {
 
 -- writing failed, or memory ran out
 cut_stands : (d : Demand) (w : Work) (a b : Outside) → IsToWrite d w b.held
-    → Goes a.written b.written (AllMayStand w.outputs)
+    → Goes a.written b.written (BegunInOrder w.outputs)
     → Told b.held (λ files. Goes a.written b.written
-    (AllMayStand (answer_of (Some d) files).outputs))
+    (BegunInOrder (answer_of (Some d) files).outputs))
 cut_stands d w a b ready cut =
     told_both b.held (λ files none is. own_outputs d files
-    (λ outputs. Goes a.written b.written (AllMayStand outputs)) none
-    (subst (λ (x : Work). Goes a.written b.written (AllMayStand x.outputs)) (sym is) cut))
+    (λ outputs. Goes a.written b.written (BegunInOrder outputs)) none
+    (subst (λ (x : Work). Goes a.written b.written (BegunInOrder x.outputs)) (sym is) cut))
     ready.accepts ready.works
 
 pub writing_cut : (d : Demand) (w : Work) (a b : Outside) (error : ShelfError)
@@ -156,8 +150,8 @@ writing_cut d w a b Failed ready cut =
       memory = refl;
       failed = record { reads = cut.only.read_faults; writes = rose_at };
       printable = told b.held (λ files. inr (inr (inr (refl, rose_at))));
-      writes = inl (rose_at, cut_stands d w a b ready cut.may);
-      only = subst (λ names. OnlyAt names a b) ready.names (cut_only w.outputs a b cut.may);
+      writes = inl (rose_at, cut_stands d w a b ready cut.begun);
+      only = subst (λ names. OnlyAt names a b) ready.names (cut_only w.outputs a b cut.begun);
       held = cut.only.held;
       printed = cut.only.printed;
       print_faults = cut.only.print_faults;
@@ -165,6 +159,6 @@ writing_cut d w a b Failed ready cut =
 writing_cut d w a b NoMemory ready cut =
     starved (Some d) a b
     (record { reads = cut.only.read_faults; writes = cut.cause.quiet (λ e. cc) })
-    (cut_stands d w a b ready cut.may)
-    (subst (λ names. OnlyAt names a b) ready.names (cut_only w.outputs a b cut.may)) cut.only.held
+    (cut_stands d w a b ready cut.begun)
+    (subst (λ names. OnlyAt names a b) ready.names (cut_only w.outputs a b cut.begun)) cut.only.held
     cut.only.printed cut.only.print_faults

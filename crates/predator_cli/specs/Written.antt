@@ -4,7 +4,7 @@ use Rattle.std.specs.List.{list_any}
 use Rattle.std.specs.Str.{bytes_eq}
 use Rattle.shelf.specs.Shelf.{Files, Goes, Outside, Rose, Told}
 use Rattle.command_line.specs.Words.{Demand}
-use Rattle.shelf.specs.Files.{AllMayStand, AreWhole}
+use Rattle.shelf.specs.Files.{AreWhole, BegunInOrder}
 use Rattle.command_files.specs.Readings.{RoseAt}
 use Rattle.command_files.specs.Statuses.{Kind, done, refusal, read_fault, write_fault, no_memory}
 use Rattle.predator_cli.specs.Answer.{answer_of, are_copies, outputs}
@@ -13,10 +13,11 @@ use Rattle.predator_cli.specs.Answer.{answer_of, are_copies, outputs}
 abbrev pub AreSame : Files → Files → Type 0
 AreSame before now = (name : List ℕ) → now name ≡ before name
 
--- each output may stand in part, where it is told what is held, and so what the outputs are
+-- The outputs are begun in their order, and each that is begun is a front of its bytes. So it is where
+-- it is told what is held, and so what the outputs are.
 abbrev pub StandsInPart : Option Demand → Option Files → Option Files → Option Files → Type 0
 StandsInPart asked held before now =
-    Told held (λ files. Goes before now (AllMayStand (answer_of asked files).outputs))
+    Told held (λ files. Goes before now (BegunInOrder (answer_of asked files).outputs))
 
 -- every output is whole, where that is told
 abbrev pub StandsWhole : Option Demand → Option Files → Option Files → Option Files → Type 0
@@ -35,8 +36,8 @@ abbrev pub StaysAtReadFault : Bool → Option Demand → Option Files → Option
 StaysAtReadFault false asked held before now = Goes before now AreSame
 StaysAtReadFault true asked held before now = StandsInPart asked held before now
 
--- At a fault of writing the writing of an output failed, and each may stand in part; or printing
--- failed and no writing did, and every output is whole.
+-- At a fault of writing the writing of an output failed, and the outputs may stand in part; or
+-- printing failed and no writing did, and every output is whole.
 abbrev pub StandsAtWriteFault : Option Demand → Outside → Outside → Type 0
 StandsAtWriteFault asked old new =
     (RoseAt (outputs asked) old.write_faults new.write_faults
@@ -45,7 +46,7 @@ StandsAtWriteFault asked old new =
     × StandsWhole asked new.held old.written new.written)
 
 -- Every output is whole where the work is done and where its text isn't printed, every file is as
--- it was at a refusal and at a fault of reading but of copies, and each output may stand in part
+-- it was at a refusal and at a fault of reading but of copies, and the outputs may stand in part
 -- where writing one failed and at want of memory.
 abbrev pub Writes : Option Demand → Outside → Outside → Kind → Type 0
 Writes asked old new done = StandsWhole asked new.held old.written new.written

@@ -117,10 +117,10 @@ pub fn predator<S: Shelf>(alloc: Global, words: &[String], shelf: &mut S) -> Sta
     ensures held { Narrows (S.outside shelf.old).held (S.outside shelf.new).held }
     // What stands in the files that are written: every output is whole where the work is done, and
     // where printing the command's own text failed, at which no number of faults of writing has
-    // risen. Each is as it was or a front of its bytes where writing one failed and at want of
-    // memory, and all are as they were at each other end. Copies may stand so at a fault of
-    // reading too, for their trace is read twice; and where it isn't told still what is held, also
-    // at a refusal.
+    // risen. Where writing one failed and at want of memory the first of them, in their order, are
+    // begun and each is a front of its bytes, and the others are as they were; all are as they were
+    // at each other end. Copies may stand so at a fault of reading too, for their trace is read
+    // twice; and where it isn't told still what is held, also at a refusal.
     ensures writes { Writes (demand_of (texts words.now))
         (S.outside shelf.old) (S.outside shelf.new) (kind_of result) }
     // Where a run is done, the replay of the trace that it wrote, under the same settings and

@@ -248,8 +248,9 @@ fn note_run<'a, S: Shelf, O: Observer>(
 /// budget of at most 2^36. There are at most 2^20 symbols. The observer was given nothing. No two
 /// files have one name.
 ///
-/// At an error each of the files is as it was, or a front of what it would be. `Failed` comes only
-/// where the faults of writing one of the names rose, `NoMemory` for want of memory.
+/// At an error the first files, in their order, are begun, each a front of what it would be, and the
+/// others are as they were. `Failed` comes only where the faults of writing one of the names rose,
+/// `NoMemory` for want of memory.
 pub fn record_run<S: Shelf, O: Observer>(
     alloc: Global,
     shelf: &mut S,

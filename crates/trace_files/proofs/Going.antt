@@ -24,7 +24,7 @@ pub record PutTo {A : Type 0} (waiting : A → List Waiting)
   pub outputs : (seen : List TraceRecord) (before : Outside) → has first seen
       → IsOutputs (waiting first) (files first seen) before old
       → IsOutputs (waiting now) (files first (seen ++ take i items)) before new
-  pub tells : Narrows old.held new.held
+  pub tells : new.held ≡ old.held
 
 module _ {A : Type 0} (waiting : A → List Waiting) (files : A → List TraceRecord → List Output)
     (has : A → List TraceRecord → Type 0)
@@ -37,7 +37,7 @@ module _ {A : Type 0} (waiting : A → List Waiting) (files : A → List TraceRe
       outputs = λ seen before h on. subst
           (λ (l : List TraceRecord). IsOutputs (waiting first) (files first l) before old)
           (sym (append-nil seen)) on;
-      tells = narrows_same old.held;
+      tells = refl;
     }
 
     -- more may come

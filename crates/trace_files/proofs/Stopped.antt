@@ -7,11 +7,13 @@ use Rattle.std.proofs.lemmas.Slice.Eq.{bytes_eq-Decides}
 use Rattle.std.specs.Str.{bytes_eq}
 use Rattle.shelf.specs.Shelf.{Files, Goes, HasRead, Narrows, OnlyReads, Outside, Rose}
 use Rattle.shelf.specs.Shelf.{Told, content}
-use Rattle.shelf.specs.Files.{Output, AllMayStand, AreWhole, AreWritten, GoOn, MayStand, bytes_for}
+use Rattle.shelf.specs.Files.{Output, AreWhole, AreWritten, BegunInOrder, GoOn, bytes_for}
 use Rattle.shelf.specs.OneFile.{Waiting}
 use Rattle.shelf.specs.OnTheirWay.{IsNew, IsOutputs}
-use Rattle.shelf.specs.Laws.Files.{AreCut-longer, goes_by, output_names}
-use Rattle.shelf.specs.Laws.Told.{narrows_then, only_none, told, told_both, told_map, told_still}
+use Rattle.shelf.specs.Laws.Files.{AreCut-longer, BegunInOrder-others, goes_by, none_begun}
+use Rattle.shelf.specs.Laws.Files.{output_names}
+use Rattle.shelf.specs.Laws.Told.{narrows_then, only_none, reads_alone, told, told_both, told_map}
+use Rattle.shelf.specs.Laws.Told.{goes_map, told_still, writes_both}
 use Rattle.trace_format.specs.declared.record.TraceRecord.{TraceRecord}
 use Rattle.trace_format.specs.Reading.{reading_of}
 use Rattle.trace_passes.specs.declared.passes.PassFault.{PassFault}
@@ -41,21 +43,14 @@ none_for (o ∷ outputs) name new =
       | inr is ↦ rw is (none_for outputs name new.1)
     ]
 
-stays : (bytes before now : Option (List ℕ)) → bytes ≡ None → MayStand bytes before now → now
-    ≡ before
-stays None before now none may = may
-stays (Some b) before now none may = absurd cc
-
 others_stay : (outputs : List Output) (before now : Outside) → Goes before.written now.written
-    (AllMayStand outputs)
+    (BegunInOrder outputs)
     → Goes before.written now.written (λ old new. (n : List ℕ) → IsNew n (output_names outputs)
     → new n ≡ old n)
-others_stay outputs before now may =
-    goes_by (AllMayStand outputs) (λ old new. (n : List ℕ) → IsNew n (output_names outputs) → new n
-    ≡ old n)
-    before.written now.written
-    (λ b n i j all name new. stays (bytes_for outputs name) (b name) (n name)
-    (none_for outputs name new) (all name)) may
+others_stay outputs before now begun =
+    goes_map before.written now.written
+    (λ b n some name new. BegunInOrder-others outputs b n some name (none_for outputs name new))
+    begun
 
 -- ---- within the second reading
 
@@ -77,14 +72,14 @@ module _ (held : Option Files) (name : List ℕ) (names : List (List ℕ))
         let some = files short.seen in
         let is = named short.seen in
         record {
-          fronts = told_map held (λ fs on t there. moved (AllMayStand (outputs t))
+          fronts = told_map held (λ fs on t there. moved (BegunInOrder (outputs t))
               (AreCut-longer some (outputs t) before short.last short.error
-              (on t there) short.cut).may) (goes short.seen short.first);
+              (on t there) short.cut).begun) (goes short.seen short.first);
           others = moved (λ old new. (n : List ℕ) → IsNew n names → new n ≡ old n)
               (subst (λ (l : List (List ℕ)). Goes before.written short.last.written
               (λ old new. (n : List ℕ) → IsNew n l → new n ≡ old n))
               is
-              (others_stay some before short.last short.cut.may));
+              (others_stay some before short.last short.cut.begun));
           cause = subst (λ (l : List (List ℕ)). HasCopyCause name l before now fault) is
               short.cause;
           held_stay = short.held_stay;
@@ -93,10 +88,6 @@ module _ (held : Option Files) (name : List ℕ) (names : List (List ℕ))
         }
 
 -- ---- within the first reading
-
-same_may : (bytes before now : Option (List ℕ)) → now ≡ before → MayStand bytes before now
-same_may None before now same = same
-same_may (Some b) before now same = inl same
 
 goes_same : (P : Files → Files → Type 0) (a b : Option Files) → b ≡ a → ((x : Files) → P x x)
     → Goes a b P
@@ -110,9 +101,8 @@ module _ (held : Option Files) (name : List ℕ) (old new : Outside) (only : Onl
       → HasCopyCause name names old new fault
       → HasStopped held name names outputs old new fault
   with_cause fault names outputs cause = record {
-    fronts = told held (λ fs t is. goes_same (AllMayStand (outputs t)) old.written new.written
-        only.written
-        (λ x n. same_may (bytes_for (outputs t) n) (x n) (x n) refl));
+    fronts = told held (λ fs t is. goes_same (BegunInOrder (outputs t)) old.written new.written
+        only.written (λ x. none_begun (outputs t) x x (λ n. refl)));
     others = goes_same (λ a b. (n : List ℕ) → IsNew n names → b n ≡ a n) old.written new.written
         only.written (λ x n other. refl);
     cause = cause;
@@ -183,12 +173,7 @@ module _ (old mid new : Outside) (read : HasRead old mid) where
   written_since outputs written = record {
     whole = since (AreWhole outputs) written.whole;
     faults = written.faults ∙ read.only.write_faults;
-    only = record {
-      held = narrow_since written.only.held;
-      printed = written.only.printed ∙ read.only.printed;
-      read_faults = written.only.read_faults ∙ read.faults;
-      print_faults = written.only.print_faults ∙ read.only.print_faults;
-    };
+    only = writes_both old mid new (reads_alone old mid read) written.only;
   }
 
   pub copied_since : (held : Option Files) (name : List ℕ) (outputs : Trace → List Output)
@@ -208,7 +193,7 @@ module _ (old mid new : Outside) (read : HasRead old mid) where
       → HasStopped held name names outputs mid new fault
       → HasStopped held name names outputs old new fault
   stopped_since held name names outputs fault stopped = record {
-    fronts = told_map held (λ fs on t there. since (AllMayStand (outputs t)) (on t there))
+    fronts = told_map held (λ fs on t there. since (BegunInOrder (outputs t)) (on t there))
         stopped.fronts;
     others = since (λ a b. (n : List ℕ) → IsNew n names → b n ≡ a n) stopped.others;
     cause = cause_since name names fault stopped.cause;

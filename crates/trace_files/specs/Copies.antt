@@ -3,7 +3,7 @@ use Rattle.std.specs.Prelude.{◌≡◌, ◌≢◌, ◌⊎◌, ◌≤◌, ℕ, �
 use Rattle.std.specs.Prelude.{if◌then◌else◌}
 use Rattle.std.specs.Option.{option_and_then, option_or}
 use Rattle.shelf.specs.Shelf.{Files, Goes, Narrows, Outside, Rose, Told, content}
-use Rattle.shelf.specs.Files.{Output, AllMayStand, AreWritten, one_file}
+use Rattle.shelf.specs.Files.{Output, AreWritten, BegunInOrder, one_file}
 use Rattle.shelf.specs.OnTheirWay.{IsNew}
 use Rattle.trace_format.specs.declared.fault.TraceFault.TheVariants as faults
 use Rattle.trace_format.specs.declared.record.Version.{Version}
@@ -141,13 +141,13 @@ pub record HasCopyCause (name : List ℕ) (outputs : List (List ℕ)) (before no
   pub read_quiet : fault ≢ ReadFault → now.read_faults ≡ before.read_faults
   pub write_quiet : fault ≢ WriteFault → now.write_faults ≡ before.write_faults
 
--- A copy gave up. Each output is as it was, or a front of its bytes where the trace is still told,
--- and each other file is as it was; it is known who is the cause.
+-- A copy gave up. Its outputs are begun in their order, each a front of its bytes, where the trace is
+-- still told, and each other file is as it was; it is known who is the cause.
 pub record HasStopped (held : Option Files) (name : List ℕ) (names : List (List ℕ))
     (outputs : Trace → List Output)
     (before now : Outside) (fault : CopyFault) : Type 0 where
   pub fronts : Told held (λ files. (t : Trace) → trace_of (content files name) ≡ Some t
-      → Goes before.written now.written (AllMayStand (outputs t)))
+      → Goes before.written now.written (BegunInOrder (outputs t)))
   pub others : Goes before.written now.written
       (λ old new. (n : List ℕ) → IsNew n names → new n ≡ old n)
   pub cause : HasCopyCause name names before now fault

@@ -94,7 +94,7 @@ fn put_all<S: Shelf, T: Target>(
         → IsOutputs (T.waiting target.old) (T.files target.old seen) before (S.outside shelf.old)
         → AreCut (T.files target.old (seen ++ take k items.now)) before
         (S.outside shelf.new) error)) }
-    ensures tells { Narrows (S.outside shelf.old).held (S.outside shelf.new).held }
+    ensures tells { (S.outside shelf.new).held ≡ (S.outside shelf.old).held }
 {
     for item in items {
         match target.put(shelf, item) {

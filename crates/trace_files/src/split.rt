@@ -1,7 +1,7 @@
 // A trace cut in two at an access.
 ghost use Rattle.std.specs.Prelude.{◌≡◌, ◌≢◌, ◌∷◌, ◌-◌, List, [], Err, None, Some, min};
 ghost use Rattle.std.specs.Prelude.{IfErr, IfOk, OnOk, length};
-ghost use Rattle.shelf.specs.Shelf.{HasRead, Narrows, Outside};
+ghost use Rattle.shelf.specs.Shelf.{HasRead, Outside};
 ghost use Rattle.shelf.specs.Files.{AreCut, AreWritten, Output};
 ghost use Rattle.shelf.specs.OnTheirWay.{AreBegun, IsOutputs, names_of, outputs_with};
 ghost use Rattle.trace_format.specs.declared.fault.TraceFault.TheVariants as trace_faults;
@@ -87,7 +87,7 @@ impl<'a> Splitting<'a> {
             → IsOutputs self.old.files outputs before (S.outside shelf.old)
             → AreCut (outputs_with (outputs_with outputs 0 (spell_ending first)) 1
             (spell_ending second)) before (S.outside shelf.new) error) }
-        ensures tells { Narrows (S.outside shelf.old).held (S.outside shelf.new).held }
+        ensures tells { (S.outside shelf.new).held ≡ (S.outside shelf.old).held }
     {
         let (first, second) = (TraceRecord::End(first), TraceRecord::End(second));
         match self
@@ -203,9 +203,10 @@ fn split_accepted<'a, S: Shelf>(
 ///
 /// The trace is read twice in pieces, and no more of it is kept than a piece has. The outputs are
 /// begun, the first and then the second, only once a first reading was accepted. At an error after
-/// that each is as it was, or a front of what it would be. `Refused` comes exactly where a pass
-/// refuses the trace, `ReadFault` only where the faults of reading its name rose, `WriteFault` only
-/// where those of writing an output rose. The condition is that the outputs have two names.
+/// that each is as it was, or a front of what it would be, and the second is as it was unless the
+/// first is begun. `Refused` comes exactly where a pass refuses the trace, `ReadFault` only where
+/// the faults of reading its name rose, `WriteFault` only where those of writing an output rose.
+/// The condition is that the outputs have two names.
 pub fn split_trace<S: Shelf>(
     alloc: Global,
     shelf: &mut S,

@@ -1,6 +1,6 @@
 // Where the records of a trace go.
 ghost use Rattle.std.specs.Prelude.{◌≡◌, ◌++◌, ◌∷◌, List, [], OnOk, IfErr};
-ghost use Rattle.shelf.specs.Shelf.{Narrows, Outside};
+ghost use Rattle.shelf.specs.Shelf.{Outside};
 ghost use Rattle.shelf.specs.Files.{Output, AreCut};
 ghost use Rattle.shelf.specs.OneFile.{Waiting};
 ghost use Rattle.shelf.specs.OnTheirWay.{IsOutputs};
@@ -39,5 +39,5 @@ pub(crate) trait Target {
             → IsOutputs (waiting self.old) (files self.old seen) before (S.outside shelf.old)
             → AreCut (files self.old (seen ++ item.now ∷ [])) before
             (S.outside shelf.new) error) }
-        ensures tells { Narrows (S.outside shelf.old).held (S.outside shelf.new).held };
+        ensures tells { (S.outside shelf.new).held ≡ (S.outside shelf.old).held };
 }

@@ -1,6 +1,6 @@
 // One trace on its way to the file of a name.
 ghost use Rattle.std.specs.Prelude.{◌≡◌, List, [], OnOk, IfErr, IfOk};
-ghost use Rattle.shelf.specs.Shelf.{Narrows, Outside};
+ghost use Rattle.shelf.specs.Shelf.{Outside};
 ghost use Rattle.shelf.specs.Files.{AreCut, AreWritten, Output};
 ghost use Rattle.shelf.specs.OnTheirWay.{AreBegun, IsOutputs, names_of};
 ghost use Rattle.trace_format.specs.declared.record.TraceRecord.{TraceRecord as Record};
@@ -83,7 +83,7 @@ impl<'a> TraceFile<'a> {
         ensures cut { IfErr result (λ error. (outputs : List Output) (before : Outside)
             → IsOutputs self.old.files outputs before (S.outside shelf.old)
             → AreCut outputs before (S.outside shelf.new) error) }
-        ensures tells { Narrows (S.outside shelf.old).held (S.outside shelf.new).held }
+        ensures tells { (S.outside shelf.new).held ≡ (S.outside shelf.old).held }
     {
         self.files.finish(shelf)
     }

@@ -1,7 +1,7 @@
 // The outputs of a call that writes traces.
 ghost use Rattle.std.specs.Prelude.{◌≡◌, ◌<◌, ◌+◌, ◌∷◌, ◌++◌, List, [], length};
 ghost use Rattle.std.specs.Prelude.{IfErr, IfOk, OnOk};
-ghost use Rattle.shelf.specs.Shelf.{Narrows, Outside};
+ghost use Rattle.shelf.specs.Shelf.{Outside};
 ghost use Rattle.shelf.specs.Files.{AreCut, AreWritten, Output};
 ghost use Rattle.shelf.specs.OnTheirWay.{AreBegun, IsNew, IsOutputs, names_of, outputs_with};
 ghost use Rattle.trace_format.specs.Rules.{IsGoodHeader, IsWritable};
@@ -63,7 +63,7 @@ impl<'a> TraceOutputs<'a> {
             → IsOutputs self.old outputs before (S.outside shelf.old)
             → AreCut (outputs ++ record { name = name.now; bytes = [] } ∷ []) before
             (S.outside shelf.new) error) }
-        ensures tells { Narrows (S.outside shelf.old).held (S.outside shelf.new).held }
+        ensures tells { (S.outside shelf.new).held ≡ (S.outside shelf.old).held }
     {
         self.outputs.begin(alloc, shelf, name)
     }
@@ -95,7 +95,7 @@ impl<'a> TraceOutputs<'a> {
             → AreCut (outputs ++ record
             { name = name.now; bytes = begun_with version header [] } ∷ [])
             before (S.outside shelf.new) error) }
-        ensures tells { Narrows (S.outside shelf.old).held (S.outside shelf.new).held }
+        ensures tells { (S.outside shelf.new).held ≡ (S.outside shelf.old).held }
     {
         match self.begin(alloc, shelf, name) {
             Ok(()) => {}
@@ -131,7 +131,7 @@ impl<'a> TraceOutputs<'a> {
             → IsOutputs self.old outputs before (S.outside shelf.old)
             → AreCut (outputs_with outputs place (spell_header writer.old.version header))
             before (S.outside shelf.new) error) }
-        ensures tells { Narrows (S.outside shelf.old).held (S.outside shelf.new).held }
+        ensures tells { (S.outside shelf.new).held ≡ (S.outside shelf.old).held }
     {
         self.piece.clear();
         match writer.header(header, &mut self.piece) {
@@ -166,7 +166,7 @@ impl<'a> TraceOutputs<'a> {
             → AreCut (outputs_with outputs place
             (spell_record writer.old.version writer.old.last item.now))
             before (S.outside shelf.new) error) }
-        ensures tells { Narrows (S.outside shelf.old).held (S.outside shelf.new).held }
+        ensures tells { (S.outside shelf.new).held ≡ (S.outside shelf.old).held }
     {
         self.piece.clear();
         match writer.item(item, &mut self.piece) {
@@ -194,7 +194,7 @@ impl<'a> TraceOutputs<'a> {
         ensures cut { IfErr result (λ error. (outputs : List Output) (before : Outside)
             → IsOutputs self.old outputs before (S.outside shelf.old)
             → AreCut (outputs_with outputs place bytes.now) before (S.outside shelf.new) error) }
-        ensures tells { Narrows (S.outside shelf.old).held (S.outside shelf.new).held }
+        ensures tells { (S.outside shelf.new).held ≡ (S.outside shelf.old).held }
     {
         self.outputs.put(shelf, place, bytes)
     }
@@ -212,7 +212,7 @@ impl<'a> TraceOutputs<'a> {
         ensures cut { IfErr result (λ error. (outputs : List Output) (before : Outside)
             → IsOutputs self.old outputs before (S.outside shelf.old)
             → AreCut outputs before (S.outside shelf.new) error) }
-        ensures tells { Narrows (S.outside shelf.old).held (S.outside shelf.new).held }
+        ensures tells { (S.outside shelf.new).held ≡ (S.outside shelf.old).held }
     {
         self.outputs.finish(shelf)
     }

@@ -3,7 +3,6 @@ use Rattle.std.proofs.lemmas.List.{take_all}
 use Rattle.std.proofs.lemmas.List.Elements.{All-get_or}
 use Rattle.shelf.specs.Files.{AreCut, Output}
 use Rattle.shelf.specs.OnTheirWay.{IsOutputs}
-use Rattle.shelf.specs.Laws.Told.{narrows_then}
 use Rattle.trace_format.specs.Rules.{IsWritable}
 use Rattle.trace_format.specs.declared.record.TraceRecord.{TraceRecord}
 use Rattle.trace_files.proofs.Going.{put_none, under_way}
@@ -49,12 +48,12 @@ loop-item-preserved g c =
           subst (λ (l : List TraceRecord). IsOutputs (g.T.Target.waiting c.put.new.self)
           (g.T.Target.files c.args.target.now l) before new)
           (more seen) (then (x.outputs seen before h on));
-      tells = narrows_then _ _ _ x.tells c.put.ensures.tells;
+      tells = c.put.ensures.tells ∙ x.tells;
     }
 
 pub returns-in-Err-clause-tells : goal.returns-in-Err-clause-tells
 returns-in-Err-clause-tells g c =
-    narrows_then _ _ _ c.loop-item.invariant.tells c.put.ensures.tells
+    c.put.ensures.tells ∙ c.loop-item.invariant.tells
 
 pub returns-in-Err-clause-cut : goal.returns-in-Err-clause-cut
 returns-in-Err-clause-cut g c =
