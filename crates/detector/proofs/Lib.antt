@@ -7,6 +7,7 @@ pub mod ChangeLaws
 pub mod CountLaws
 pub mod DueLaws
 pub mod FourPlaces
+pub mod HeldLaws
 pub mod InTimeLaws
 pub mod NamedLaws
 pub mod NextLaws

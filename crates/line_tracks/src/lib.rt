@@ -14,6 +14,7 @@
 //! on one line, and the verdict: whether a line's sharing is false, true or mixed.
 #![tactic(auto)]
 
+mod cell;
 mod history;
 mod kind_order;
 mod laws;
