@@ -12,6 +12,7 @@ pub mod InTimeLaws
 pub mod NamedLaws
 pub mod NextLaws
 pub mod OpenLaws
+pub mod OpenedLaws
 pub mod PageLaws
 pub mod PairLaws
 pub mod QuietLaws

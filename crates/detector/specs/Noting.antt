@@ -1,7 +1,8 @@
 -- The places of the tracks that may hold an address of a line, and what noting them makes of the
 -- tracks.
 use Rattle.std.specs.Prelude.{◌≡◌, ℕ, ◌-◌, ◌%◌, ◌<◌, ◌==◌, if◌then◌else◌, List, length, Option}
-use Rattle.std.specs.Prelude.{Some, None, option_and_then, slice_get, slice_set, IsTrue}
+use Rattle.std.specs.Prelude.{Some, None, option_and_then, slice_get, slice_set, IsTrue, Bool}
+use Rattle.std.specs.Prelude.{◌&&◌, is_some}
 use Rattle.std.specs.Option.{option_map_or}
 use Rattle.base.specs.Ranges.{holds_address}
 use Rattle.base.specs.Touch.{Touch}
@@ -26,6 +27,10 @@ places_between k here below = record {
 
 abbrev pub places : (ℕ → LineEntry) → ℕ → Places
 places entry_of k = places_between k (entry_of k) (entry_of (k - 1))
+
+-- whether the predicted lines of its pairs and of its even pair have all opened
+abbrev pub have_opened : Places → Bool
+have_opened p = is_some p.shifted && is_some p.below && is_some p.doubled
 
 -- the track at a place is noted if its range holds the address
 abbrev pub touched_at : ℕ → Touch → Option ℕ → List Kept → List Kept

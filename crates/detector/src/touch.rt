@@ -16,7 +16,7 @@ ghost use Rattle.detector.specs.Watch.{writes_after};
 
 use crate::dues::Dues;
 use crate::task::{Task, do_task};
-use crate::track_places::{note_places, places_between};
+use crate::track_places::{note_places, places_between, places_of};
 use crate::write_count::count;
 use crate::{LineEntry, LineIndex};
 use base::{Access, Kind, Layout, NoMemory, Steps};
@@ -117,7 +117,7 @@ fn touch_apart<I: LineIndex, L: Ledger>(
         }
         Kind::Write => {
             let task = task_of(&here, thresholds);
-            if task.is_due() {
+            if task.is_due_where(places_of(index, line).have_opened()) {
                 return do_task(index, tracks, layout, line, task, position, access, steps);
             }
             match count(index, line) {

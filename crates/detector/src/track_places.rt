@@ -20,6 +20,16 @@ pub struct Places {
     pub doubled: Place,
 }
 
+impl Places {
+    /// Whether the predicted lines of its pairs and of its even pair have all opened.
+    #[inline(always)]
+    pub fn have_opened(self) -> bool
+        ensures { result ≡ Noting.have_opened self }
+    {
+        self.shifted.is_some() && self.below.is_some() && self.doubled.is_some()
+    }
+}
+
 /// The places that the entries of a line and of the one below it name.
 #[inline(always)]
 pub fn places_of<I: LineIndex>(index: &I, line: u64) -> Places
