@@ -1,6 +1,6 @@
 -- A search opens nothing where all predicted lines of a line have opened.
 use Rattle.std.proofs.Common.{◌≡◌, ℕ, ◌-◌, ◌%◌, Bool, true, false, eqb, not, ◌&&◌, ◌||◌, List, [], ◌++◌}
-use Rattle.std.proofs.Common.{Option, None, map, refl, sym, ap, ◌∙◌, subst, inl, inr}
+use Rattle.std.proofs.Common.{Option, None, map, refl, sym, ap, ◌∙◌, inl, inr}
 use Rattle.std.proofs.lemmas.Bool.{cases_Bool, and_parts, or_parts}
 use Rattle.std.proofs.lemmas.List.{append-nil}
 use Rattle.std.specs.Prelude.{if◌then◌else◌, is_some}
@@ -18,7 +18,7 @@ use Rattle.detector.specs.declared.task.Task.{Task}
 use Rattle.detector.specs.Index.{IsNamed, names_in}
 use Rattle.detector.specs.Named.{track_named}
 use Rattle.detector.specs.Noting.{have_opened, places}
-use Rattle.detector.specs.Openings.{best_among, doubled_opens, nothing_opens, opened_tracks, openings}
+use Rattle.detector.specs.Openings.{doubled_opens, nothing_opens, opened_tracks, openings}
 use Rattle.detector.specs.Openings.{shifted_opens}
 use Rattle.detector.specs.Tasks.{IsTaskOf, task_opens, tracks_changed}
 use Rattle.detector.specs.Watch.{touched, tracks_after, watch_of}

@@ -1,5 +1,4 @@
-use Rattle.std.proofs.Common.{◌≡◌, Some, sym, ◌∙◌}
-use Rattle.std.specs.Prelude.{slice_get}
+use Rattle.std.proofs.Common.{sym, ◌∙◌}
 use Rattle.detector.proofs.TouchLaws.{slice_get-get_or_at}
 use Rattle.detector.proofs.UndoLaws.{touched-holds}
 use Rattle.detector.proofs.track_places.note_held.Goals as goal
