@@ -7,10 +7,12 @@ pub mod ChangeLaws
 pub mod CountLaws
 pub mod DueLaws
 pub mod FourPlaces
+pub mod HeldLaws
 pub mod InTimeLaws
 pub mod NamedLaws
 pub mod NextLaws
 pub mod OpenLaws
+pub mod OpenedLaws
 pub mod PageLaws
 pub mod PairLaws
 pub mod QuietLaws

@@ -106,7 +106,8 @@ doubled-can f g xs p k named times = record {
   in_time = λ i x e at. times i x at;
 }
 
-slice_get-get_or_at : (xs : List Kept) (i : ℕ) → i < length xs → (x : Kept)
+-- there is a track at each place below the length
+pub slice_get-get_or_at : (xs : List Kept) (i : ℕ) → i < length xs → (x : Kept)
     × (slice_get xs i ≡ Some x)
 slice_get-get_or_at [] i h = absurd (omega (arith, h))
 slice_get-get_or_at (x ∷ xs) zero h = (x, refl)

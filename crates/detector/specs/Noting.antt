@@ -1,7 +1,8 @@
 -- The places of the tracks that may hold an address of a line, and what noting them makes of the
 -- tracks.
 use Rattle.std.specs.Prelude.{◌≡◌, ℕ, ◌-◌, ◌%◌, ◌<◌, ◌==◌, if◌then◌else◌, List, length, Option}
-use Rattle.std.specs.Prelude.{Some, None, option_and_then, slice_get, slice_set}
+use Rattle.std.specs.Prelude.{Some, None, option_and_then, slice_get, slice_set, IsTrue, Bool}
+use Rattle.std.specs.Prelude.{◌&&◌, is_some}
 use Rattle.std.specs.Option.{option_map_or}
 use Rattle.base.specs.Ranges.{holds_address}
 use Rattle.base.specs.Touch.{Touch}
@@ -26,6 +27,10 @@ places_between k here below = record {
 
 abbrev pub places : (ℕ → LineEntry) → ℕ → Places
 places entry_of k = places_between k (entry_of k) (entry_of (k - 1))
+
+-- whether the predicted lines of its pairs and of its even pair have all opened
+abbrev pub have_opened : Places → Bool
+have_opened p = is_some p.shifted && is_some p.below && is_some p.doubled
 
 -- the track at a place is noted if its range holds the address
 abbrev pub touched_at : ℕ → Touch → Option ℕ → List Kept → List Kept
@@ -58,6 +63,18 @@ pub record CanTouchAll (xs : List Kept) (position : ℕ) (a : Touch) (p : Places
   pub doubled : CanTouch
       (touched_at position a p.below
       (touched_at position a p.shifted (touched_at position a p.own xs))) position p.doubled
+
+-- the range of the track at a place holds an address
+abbrev pub HoldsAt : List Kept → ℕ → Option ℕ → Type 0
+HoldsAt xs addr place = (i : ℕ) (x : Kept) → place ≡ Some i → slice_get xs i ≡ Some x
+    → IsTrue (holds_address x.range addr)
+
+-- the line's own track and the doubled one hold the address, as they are when they are noted
+pub record AreHeld (xs : List Kept) (position : ℕ) (a : Touch) (p : Places) : Type 0 where
+  pub own : HoldsAt xs a.addr p.own
+  pub doubled : HoldsAt
+      (touched_at position a p.below
+      (touched_at position a p.shifted (touched_at position a p.own xs))) a.addr p.doubled
 
 -- what undoes the note of the track at a place: nothing where it isn't noted
 abbrev pub undo_at : ℕ → Option ℕ → List Kept → Option Undo

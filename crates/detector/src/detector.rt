@@ -20,6 +20,7 @@ ghost use Rattle.detector.specs.Watch.{nothing_seen, searches_at, takes_memory, 
 
 use crate::LineIndex;
 use crate::adding::{add_saved, place_of, set_writes};
+use crate::dues::Dues;
 use crate::touch::touch;
 use base::{Access, Layout, NoMemory, Steps, Thresholds};
 use line_tracks::{History, LineKind, Shadow, Track, Tracks};
@@ -40,7 +41,7 @@ pub struct Detector<I: LineIndex> {
     tracks: Tracks,
     position: u64,
     layout: Layout,
-    thresholds: Thresholds,
+    thresholds: Dues,
 }
 
 impl<I: LineIndex> Model for Detector<I> {
@@ -104,7 +105,7 @@ impl<I: LineIndex> Detector<I> {
             tracks: Tracks::new(alloc),
             position,
             layout,
-            thresholds,
+            thresholds: Dues::of(thresholds),
         }
     }
 
@@ -140,7 +141,7 @@ impl<I: LineIndex> Detector<I> {
             &mut self.index,
             &mut self.tracks,
             self.layout,
-            self.thresholds,
+            self.thresholds.thresholds(),
             self.position,
             kind,
             shadow,
@@ -215,7 +216,7 @@ impl<I: LineIndex> Detector<I> {
         ensures value { result ≡ self.now.levels }
         ensures native { IsTrue (may_predict self.now.grid self.now.levels) }
     {
-        self.thresholds
+        self.thresholds.thresholds()
     }
 
     /// How often a line was written.

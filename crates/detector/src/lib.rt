@@ -13,6 +13,7 @@
 
 mod adding;
 mod detector;
+mod dues;
 mod laws;
 mod line_entry;
 mod line_index;

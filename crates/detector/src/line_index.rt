@@ -1,6 +1,6 @@
 // What every index of lines does, and what it means: a finite map from line numbers to entries.
 ghost use Rattle.std.specs.Prelude.{◌≡◌, ℕ, ◌<◌, ◌≤◌, ◌^◌, Bool, false, IfOk, OnErr, IfSome};
-ghost use Rattle.std.specs.Prelude.{IfNone, ◌-◌, is_some};
+ghost use Rattle.std.specs.Prelude.{IfNone, IsTrue, ◌-◌, is_some};
 ghost use Rattle.std.specs.Borrow.{sem};
 ghost use Rattle.detector.specs.Entries.{Entries, IsEntry, blank_entry, entry_at, get};
 ghost use Rattle.detector.specs.Lending.{LendsEntry};
@@ -26,6 +26,12 @@ pub trait LineIndex {
     fn below(&self, line: u64) -> Option<LineEntry>
         requires { line ≤ 2 ^ 30 }
         ensures placed { is_some result ≡ has_place self.now line }
+        ensures value { IfSome result (λ e. e ≡ entry_at (entries self.now) (line - 1)) };
+
+    /// The same, where it is known that both are found together: None says nothing of the line.
+    fn beside(&self, line: u64) -> Option<LineEntry>
+        requires { line ≤ 2 ^ 30 }
+        ensures placed { IfSome result (λ e. IsTrue (has_place self.now line)) }
         ensures value { IfSome result (λ e. e ≡ entry_at (entries self.now) (line - 1)) };
 
     /// Lends the entry of a line for writing; every other line keeps its own. `NoMemory` comes only

@@ -86,6 +86,10 @@ impl LineIndex for MapIndex {
         Some(self.peek(line.saturating_sub(1)))
     }
 
+    fn beside(&self, line: u64) -> Option<LineEntry> {
+        self.below(line)
+    }
+
     fn entry(&mut self, line: u64) -> Result<&mut LineEntry, NoMemory> {
         match self.make_place(line) {
             Ok(()) => match self.lines.get_mut(&line) {

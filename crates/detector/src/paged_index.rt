@@ -146,6 +146,15 @@ impl LineIndex for PagedIndex {
         Some(self.entry_below(line))
     }
 
+    // Of all lines but the first of a page, whose line below is on another one.
+    #[inline(always)]
+    fn beside(&self, line: u64) -> Option<LineEntry> {
+        if line % PAGE_LINES as u64 == 0 {
+            return None;
+        }
+        self.below(line)
+    }
+
     #[inline(always)]
     fn entry(&mut self, line: u64) -> Result<&mut LineEntry, NoMemory> {
         match self.make_place(line) {

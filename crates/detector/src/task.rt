@@ -1,6 +1,6 @@
 // A write at which a track may begin, or a predicted line may open.
 ghost use Rattle.std.specs.Prelude.{◌≡◌, ◌≢◌, ℕ, ◌+◌, ◌%◌, ◌≤◌, ◌<◌, ◌^◌, ◌-◌, ◌∷◌, []};
-ghost use Rattle.std.specs.Prelude.{◌++◌, ◌==◌, ◌||◌, IsOk, IsFalse, IsTrue, OnOk};
+ghost use Rattle.std.specs.Prelude.{◌++◌, ◌==◌, not, ◌&&◌, ◌||◌, IsOk, IsFalse, IsTrue, OnOk};
 ghost use Rattle.std.specs.Prelude.{OnErr, is_some};
 ghost use Rattle.std.specs.Prelude.{IfOk, None, Some, length, map, take, option_map, if◌then◌else◌};
 ghost use Rattle.detector.specs.Entries.{blank_entry, entry_at};
@@ -36,12 +36,12 @@ pub struct Task {
 }
 
 impl Task {
-    /// Whether it does anything.
+    /// Whether it may do anything: nothing opens where all predicted lines have opened.
     #[inline(always)]
-    pub fn is_due(self) -> bool
-        ensures { result ≡ (self.begins || self.searches) }
+    pub fn is_due_where(self, have_opened: bool) -> bool
+        ensures { result ≡ (self.begins || (self.searches && not have_opened)) }
     {
-        self.begins || self.searches
+        self.begins || (self.searches && !have_opened)
     }
 }
 

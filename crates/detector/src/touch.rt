@@ -1,8 +1,7 @@
 // One access: of the tracks that hold its address, and of its line's entry in the index.
-ghost use Rattle.std.specs.Prelude.{◌≡◌, ℕ, ◌+◌, ◌%◌, ◌==◌, ◌<◌, ◌≤◌, ◌^◌, false};
+ghost use Rattle.std.specs.Prelude.{◌≡◌, ℕ, ◌+◌, ◌||◌, ◌<◌, ◌≤◌, ◌^◌};
 ghost use Rattle.detector.specs.declared.line_entry.LineEntry.{LineEntry};
-ghost use Rattle.std.specs.Prelude.{map, IsOk, IsTrue, IsFalse, OnOk, OnErr, Some};
-ghost use Rattle.std.specs.Option.{option_map_or};
+ghost use Rattle.std.specs.Prelude.{map, IsOk, IsTrue, IsFalse, OnOk, OnErr};
 ghost use Rattle.base.specs.Lines.{Grid, is_layout, line_number};
 ghost use Rattle.detector.specs.Entries.{entry_at};
 ghost use Rattle.sharing_rules.specs.Listed.{may_predict};
@@ -11,28 +10,18 @@ ghost use Rattle.detector.specs.Index.{IsIndexed, IsReached};
 ghost use Rattle.detector.specs.Noting.{IsNotable, places};
 ghost use Rattle.detector.specs.Noting;
 ghost use Rattle.detector.specs.Tasks.{IsTaskOf, search_steps};
+ghost use Rattle.detector.specs.declared.task.Task.{Task as Doing};
 ghost use Rattle.detector.specs.Watch.{is_search, may_take_memory, touched, tracks_after, watch_of};
 ghost use Rattle.detector.specs.Watch.{writes_after};
 
+use crate::dues::Dues;
 use crate::task::{Task, do_task};
-use crate::track_places::{note_places, places_between};
+use crate::track_places::{note_places, places_between, places_of};
+use crate::write_count::count;
 use crate::{LineEntry, LineIndex};
-use base::{Access, Kind, Layout, NoMemory, Steps, Thresholds};
+use base::{Access, Kind, Layout, NoMemory, Steps};
 use line_tracks::Tracks;
 use std::sync::ledger::Ledger;
-
-// Whether a number is a multiple of another one that isn't 0, if one is given.
-fn is_multiple(n: u64, of: Option<u64>) -> bool
-    requires { (m : ℕ) → of ≡ Some m → 0 < m }
-    ensures { result ≡ option_map_or (λ m. n % m == 0) of false }
-{
-    match of {
-        // The usual threshold, by which no division is made.
-        Some(64) => n % 64 == 0,
-        Some(of) => n % of == 0,
-        None => false,
-    }
-}
 
 // Notes the tracks that hold the address of an access of a line with these entries.
 #[inline(always)]
@@ -58,25 +47,36 @@ fn note<L: Ledger>(
 
 // What a write of a line with this entry may do beside being noted.
 #[inline(always)]
-fn task_of(entry: &LineEntry, thresholds: &Thresholds) -> Task
+fn task_of(entry: &LineEntry, thresholds: &Dues) -> Task
     requires few { entry.now.writes < 2 ^ 40 }
     ensures { IsTaskOf entry.now thresholds.now result }
 {
     let writes = entry.writes + 1;
     let begins = writes == thresholds.tracking();
-    let searches = is_multiple(writes, thresholds.prediction());
+    let searches = thresholds.searches(writes);
     Task { begins, searches }
 }
 
-// `touch` of any line: the entries are looked up one by one, and a write is noted so that it can be
-// taken back. Few accesses come here: writes at which something is due, and those of a line that
-// has no place yet.
+// Whether it may do anything.
+#[inline(always)]
+fn is_due(entry: &LineEntry, thresholds: &Dues) -> bool
+    requires few { entry.now.writes < 2 ^ 40 }
+    ensures { (t : Doing) → IsTaskOf entry.now thresholds.now t
+        → result ≡ (t.begins || t.searches) }
+{
+    let writes = entry.writes + 1;
+    writes == thresholds.tracking() || thresholds.searches(writes)
+}
+
+// `touch` of any line: the entries are looked up one by one, and a write at which something is due
+// is noted so that it can be taken back. Few accesses come here: those writes, and accesses of a
+// line that has no place yet or begins a page.
 #[inline(never)]
 fn touch_apart<I: LineIndex, L: Ledger>(
     index: &mut I,
     tracks: &mut Tracks,
     layout: Layout,
-    thresholds: &Thresholds,
+    thresholds: &Dues,
     line: u64,
     position: u64,
     access: Access,
@@ -109,15 +109,24 @@ fn touch_apart<I: LineIndex, L: Ledger>(
         (is_search thresholds.now.prediction (counts_of (I.entries index.old)) line access) }
 {
     let here = index.peek(line);
+    let below = index.peek(line.saturating_sub(1));
     match access.kind() {
         Kind::Read => {
-            let below = index.peek(line.saturating_sub(1));
             note(tracks, line, here, below, position, access, steps);
             Ok(())
         }
         Kind::Write => {
             let task = task_of(&here, thresholds);
-            do_task(index, tracks, layout, line, task, position, access, steps)
+            if task.is_due_where(places_of(index, line).have_opened()) {
+                return do_task(index, tracks, layout, line, task, position, access, steps);
+            }
+            match count(index, line) {
+                Ok(()) => {
+                    note(tracks, line, here, below, position, access, steps);
+                    Ok(())
+                }
+                Err(refused) => Err(refused),
+            }
         }
     }
 }
@@ -132,7 +141,7 @@ pub fn touch<I: LineIndex, L: Ledger>(
     index: &mut I,
     tracks: &mut Tracks,
     layout: Layout,
-    thresholds: &Thresholds,
+    thresholds: &Dues,
     line: u64,
     position: u64,
     access: Access,
@@ -164,18 +173,16 @@ pub fn touch<I: LineIndex, L: Ledger>(
     ensures steps { steps.new ≤ steps.old + 4 + search_steps layout
         (is_search thresholds.now.prediction (counts_of (I.entries index.old)) line access) }
 {
-    // A line that has a place is found once, and the one below it with it.
-    match access.kind() {
-        Kind::Read => {
-            if let Some(below) = index.below(line) {
+    // Most lines are found once, and the one below with them.
+    if let Some(below) = index.beside(line) {
+        match access.kind() {
+            Kind::Read => {
                 let here = index.peek(line);
                 note(tracks, line, here, below, position, access, steps);
                 return Ok(());
             }
-        }
-        Kind::Write => {
-            if let Some(below) = index.below(line) {
-                if !task_of(&index.peek(line), thresholds).is_due() {
+            Kind::Write => {
+                if !is_due(&index.peek(line), thresholds) {
                     return match index.entry(line) {
                         Ok(entry) => {
                             entry.writes += 1;

@@ -1,7 +1,8 @@
 // Where the tracks stand that may hold an address of a line.
 ghost use Rattle.std.specs.Prelude.{◌≡◌, ◌+◌, ◌≤◌, ◌<◌, ◌^◌, is_some, if◌then◌else◌};
 ghost use Rattle.detector.specs.Entries.{entry_at};
-ghost use Rattle.detector.specs.Noting.{CanTouch, CanTouchAll, places, touched_at, touched_places};
+ghost use Rattle.detector.specs.Noting.{AreHeld, CanTouch, CanTouchAll, HoldsAt, places};
+ghost use Rattle.detector.specs.Noting.{touched_at, touched_places};
 ghost use Rattle.detector.specs.Noting;
 
 use crate::{LineEntry, LineIndex, Place};
@@ -17,6 +18,16 @@ pub struct Places {
     pub shifted: Place,
     pub below: Place,
     pub doubled: Place,
+}
+
+impl Places {
+    /// Whether the predicted lines of its pairs and of its even pair have all opened.
+    #[inline(always)]
+    pub fn have_opened(self) -> bool
+        ensures { result ≡ Noting.have_opened self }
+    {
+        self.shifted.is_some() && self.below.is_some() && self.doubled.is_some()
+    }
 }
 
 /// The places that the entries of a line and of the one below it name.
@@ -66,7 +77,28 @@ fn note_at<L: Ledger>(
     }
 }
 
-/// Notes the tracks at these places whose ranges hold the address, at most one step each.
+// Notes the track at a place, whose range holds the address.
+#[inline(always)]
+fn note_held<L: Ledger>(
+    tracks: &mut Tracks,
+    place: Place,
+    position: u64,
+    access: Access,
+    steps: &mut Steps<L>,
+)
+    requires can { CanTouch tracks.old position place }
+    requires held { HoldsAt tracks.old access.addr place }
+    requires early { position < 2 ^ 40 }
+    ensures tracks { tracks.new ≡ touched_at position access place tracks.old }
+    ensures steps { steps.new ≤ steps.old + (if is_some place then 1 else 0) }
+{
+    if let Some(place) = place.number() {
+        tracks.note(place, position, access, steps);
+    }
+}
+
+/// Notes the tracks at these places whose ranges hold the address, at most one step each. Of the
+/// line's own and of the doubled one it is known, and so not asked.
 #[inline(always)]
 pub fn note_places<L: Ledger>(
     tracks: &mut Tracks,
@@ -76,12 +108,13 @@ pub fn note_places<L: Ledger>(
     steps: &mut Steps<L>,
 )
     requires can { CanTouchAll tracks.old position access places }
+    requires held { AreHeld tracks.old position access places }
     requires early { position < 2 ^ 40 }
     ensures tracks { tracks.new ≡ touched_places position access places tracks.old }
     ensures steps { steps.new ≤ steps.old + 4 }
 {
-    note_at(tracks, places.own, position, access, steps);
+    note_held(tracks, places.own, position, access, steps);
     note_at(tracks, places.shifted, position, access, steps);
     note_at(tracks, places.below, position, access, steps);
-    note_at(tracks, places.doubled, position, access, steps);
+    note_held(tracks, places.doubled, position, access, steps);
 }

@@ -1,5 +1,7 @@
 -- The laws of the definitions, by what they are about.
+pub mod CellFields
 pub mod Few
+pub mod HistoryFields
 pub mod Kept
 pub mod Placed
 pub mod Quiet

@@ -1,3 +1,4 @@
+pub mod CellFields
 pub mod Entries
 pub mod HistoryFields
 pub mod HotRows
@@ -5,6 +6,7 @@ pub mod Kept
 pub mod KeptIn
 pub mod Laws
 pub mod Neighbours
+pub mod OwnerNumbers
 pub mod Placed
 pub mod Quiet
 pub mod RangeWords

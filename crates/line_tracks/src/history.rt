@@ -17,8 +17,9 @@ use std::marker::Model;
 /// Contracts see their numbers as a list, in the order in which they came.
 #[derive(Clone, Copy, PartialEq, Eq, Debug)]
 pub struct History {
-    first: Hart,
-    second: Option<Hart>,
+    // The number of the first, and 256 times one more than that of the second, if there is one: a
+    // hart is alone where this is its number.
+    both: u32,
 }
 
 impl Model for History {
@@ -33,6 +34,10 @@ impl Model for History {
     ghost invariant = { AreDistinct };
 
     ghost inverse = { fields_of };
+
+    ghost use Rattle.line_tracks.specs.Laws.HistoryFields.{fields_back};
+
+    ghost inverse_ok = { λ a h. fields_back a };
 }
 
 impl History {
@@ -41,8 +46,7 @@ impl History {
         ensures { result ≡ hart ∷ [] }
     {
         History {
-            first: hart,
-            second: None,
+            both: u32::from(hart.number()),
         }
     }
 
@@ -54,8 +58,7 @@ impl History {
             return None;
         }
         Some(History {
-            first,
-            second: Some(second),
+            both: u32::from(first.number()) + 256 * (u32::from(second.number()) + 1),
         })
     }
 
@@ -64,14 +67,17 @@ impl History {
         ensures value { slice_get self.now 0 ≡ Some result }
         ensures entries { AreEntries self.now }
     {
-        self.first
+        Hart::of_byte((self.both % 256) as u8)
     }
 
     /// The hart that came second: None exactly where there is one entry.
     pub fn second(&self) -> Option<Hart>
         ensures { result ≡ slice_get self.now 1 }
     {
-        self.second
+        if self.both / 256 == 0 {
+            return None;
+        }
+        Some(Hart::of_byte((self.both / 256 - 1) as u8))
     }
 
     /// A read by a hart: it enters where it is not there and there is one entry.
@@ -85,8 +91,9 @@ impl History {
             → self.old ≡ take 2 (arrivals inside t)
             → self.new ≡ take 2 (arrivals inside (t ++ a ∷ [])) }
     {
-        if self.second.is_none() && self.first != hart {
-            self.second = Some(hart);
+        let number = u32::from(hart.number());
+        if self.both / 256 == 0 && self.both != number {
+            self.both += 256 * (number + 1);
         }
     }
 
@@ -105,8 +112,7 @@ impl History {
             → self.old ≡ take 2 (arrivals (λ addr. line_of addr == r) t)
             → result ≡ is_held_by_another line_of t hart r }
     {
-        let is_other = self.first != hart;
-        let is_shared = self.second.is_some() || is_other;
+        let is_shared = self.both != u32::from(hart.number());
         *self = History::one(hart);
         is_shared
     }

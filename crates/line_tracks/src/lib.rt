@@ -9,11 +9,12 @@
 //! the simulated caches.
 //!
 //! A shadow is what was counted of each word of a range, without the accesses themselves: the
-//! reads, the writes and the owner of each 4 bytes, in at most 24 bytes. Over it stand the best hot
+//! reads, the writes and the owner of each 4 bytes, in 16 bytes. Over it stand the best hot
 //! pair of two neighbouring lines, the two words that would be shared falsely if they came to lie
 //! on one line, and the verdict: whether a line's sharing is false, true or mixed.
 #![tactic(auto)]
 
+mod cell;
 mod history;
 mod kind_order;
 mod laws;

@@ -1,6 +1,7 @@
 // The search: all pairs of words of two lines, one step each.
 ghost use Rattle.std.specs.Prelude.{◌≡◌, ℕ, ◌+◌, ◌*◌, ◌/◌, ◌<◌, ◌≤◌, ◌^◌, pos, ◌+ℤ◌, ◌≤ℤ◌, List};
 ghost use Rattle.std.specs.Prelude.{[], ◌++◌, filter, length, option_map, Some, None, IsNone, ◌↔◌};
+ghost use Rattle.std.specs.Prelude.{IsFalse};
 ghost use Rattle.sharing_rules.specs.Pairs.{best_pair_of, hot_pairs, all_pairs, is_hot_at};
 ghost use Rattle.sharing_rules.specs.Pairs.{score};
 ghost use Rattle.sharing_rules.specs.Search.{is_in, keep, row_pairs};
@@ -10,6 +11,7 @@ ghost use Rattle.sharing_rules.specs.Predicted.{best_between};
 ghost use Rattle.line_tracks.specs.Neighbours.{AreNeighbours, AreObservedWords, reach, pair_at};
 ghost use Rattle.line_tracks.specs.Neighbours.{pair_of, word_at};
 ghost use Rattle.line_tracks.specs.HotRows.{AreRows, best_of};
+ghost use Rattle.line_tracks.specs.RangeWords.{is_hot_place};
 
 use crate::Shadow;
 use crate::pair::Pair;
@@ -127,12 +129,37 @@ fn best_in_row<L: Ledger>(
         (ps ++ row_pairs i lines.now.count) }
     ensures cost { steps.new ≡ steps.old + lines.now.count }
 {
+    // Of most lines only some words are hot.
+    if !lines.lower.is_hot(i) {
+        return pass_by(lines, best, i, steps);
+    }
     let mut best = best;
     for j in 0..lines.count {
         steps.tick();
         if is_passing(lines, i, j) {
             best = Some(better(lines, best, i, j));
         }
+    }
+    best
+}
+
+// The same where word i isn't hot: no pair with it is, and nothing is looked at.
+fn pass_by<L: Ledger>(
+    lines: &Neighbours,
+    best: Option<(u32, u32)>,
+    i: u32,
+    steps: &mut Steps<L>,
+) -> Option<(u32, u32)>
+    requires cold { IsFalse (is_hot_place lines.now.lower.now.words i) }
+    ensures same { result ≡ best }
+    ensures best { (ps : List (ℕ × ℕ)) → best ≡ best_of lines.now.lower.now.words
+        lines.now.upper.now.words lines.now.within ps
+        → result ≡ best_of lines.now.lower.now.words lines.now.upper.now.words lines.now.within
+        (ps ++ row_pairs i lines.now.count) }
+    ensures cost { steps.new ≡ steps.old + lines.now.count }
+{
+    for _j in 0..lines.count {
+        steps.tick();
     }
     best
 }

@@ -11,6 +11,7 @@ ghost use Rattle.sharing_rules.specs.Places.{below};
 ghost use Rattle.line_tracks.specs.RangeWords.{AreWords, blank, is_hot_place, is_possible};
 ghost use Rattle.line_tracks.specs.RangeWords.{note_words, place_of, set_word};
 
+use crate::cell::Cell;
 use base::{Access, NoMemory, Range};
 use sharing_rules::Word;
 use std::alloc::Global;
@@ -23,7 +24,7 @@ use std::marker::Model;
 #[derive(Drop)]
 pub struct Shadow {
     range: Range,
-    words: Vec<Word>,
+    words: Vec<Cell>,
     total: u64,
 }
 
@@ -64,21 +65,10 @@ fn place_in(range: Range, addr: u32) -> usize
 
 // So many words that no one touched.
 #[tactic(auto, using(crate::specs::Laws::Words::map_below_same))]
-fn blank_words(alloc: Global, count: usize) -> Result<Vec<Word>, NoMemory>
+fn blank_words(alloc: Global, count: usize) -> Result<Vec<Cell>, NoMemory>
     ensures { IfOk result (λ words. words.items ≡ map (λ i. tally []) (below count)) }
 {
-    // Taken apart, so that the checker sees the owner's type where the list is made.
-    let Word {
-        reads,
-        writes,
-        owner,
-    } = Word::blank();
-    let word = Word {
-        reads,
-        writes,
-        owner,
-    };
-    Ok(vec![in alloc; word; count]?)
+    Ok(vec![in alloc; Cell::blank(); count]?)
 }
 
 impl Shadow {
@@ -127,7 +117,7 @@ impl Shadow {
     {
         let place = i as usize;
         let old = self.words[place];
-        self.words[place] = word;
+        self.words[place] = Cell::of(word);
         self.total = self.total - old.accesses() + word.accesses();
     }
 
@@ -157,7 +147,8 @@ impl Shadow {
         ensures possible { IsTrue (is_possible result) }
         ensures few { accesses result ≤ sum_by accesses self.now.words }
     {
-        self.words[i as usize]
+        let word = self.words[i as usize];
+        word.word()
     }
 
     /// How often its words were accessed together: at most 2^40 times.

@@ -1,6 +1,7 @@
 use Rattle.std.proofs.Common.{sym, ap, ◌∙◌, subst}
 use Rattle.detector.specs.declared.track_places.Places.{Places}
-use Rattle.detector.specs.Noting.{CanTouchAll, places, touched_places}
+use Rattle.detector.specs.Noting.{AreHeld, CanTouchAll, places, touched_places}
+use Rattle.detector.proofs.HeldLaws.{places-held}
 use Rattle.detector.proofs.TouchLaws.{places-can, places-touched}
 use Rattle.detector.proofs.touch.note.Goals as goal
 
@@ -11,6 +12,14 @@ note_places-requires-clause-can g c =
     (sym (c.places_between-places.ensures ∙ n.2))
     (places-can n.0 n.1 c.args.tracks.now c.args.position c.args.access c.args.line n.3.names
     n.3.in_time)
+
+pub note_places-requires-clause-held : goal.note_places-requires-clause-held
+note_places-requires-clause-held g c =
+    let n = c.requires.notable in
+    subst (λ (z : Places). AreHeld c.args.tracks.now c.args.position c.args.access z)
+    (sym (c.places_between-places.ensures ∙ n.2))
+    (places-held n.0 n.1 c.args.tracks.now c.args.position c.args.access c.args.line n.3.layout
+    n.3.line n.3.names)
 
 pub returns-clause-tracks : goal.returns-clause-tracks
 returns-clause-tracks g c =

@@ -1,4 +1,6 @@
-use Rattle.std.proofs.Common.{◌≡◌, ℕ, ◌+◌, ◌<◌, ◌≤◌, refl, sym, ap, ◌∙◌, arith}
+use Rattle.std.proofs.Common.{◌≡◌, ℕ, ◌+◌, ◌%◌, ◌<◌, ◌≤◌, ◌==◌, false, refl, sym, ap, ◌∙◌, arith}
+use Rattle.std.specs.Option.{option_map_or}
+use Rattle.detector.specs.declared.task.Task.{Task}
 use Rattle.std.proofs.lemmas.Bool.{or_parts}
 use Rattle.std.specs.Prelude.{is_ok}
 use Rattle.base.specs.Touch.{is_write}
@@ -6,7 +8,7 @@ use Rattle.detector.specs.Entries.{entry_at}
 use Rattle.detector.specs.declared.line_entry.LineEntry.{LineEntry}
 use Rattle.detector.specs.Counts.{counts_of}
 use Rattle.detector.specs.Noting.{places_between}
-use Rattle.detector.specs.Tasks.{counted}
+use Rattle.detector.specs.Tasks.{IsTaskOf, counted}
 use Rattle.detector.proofs.AfterLaws.{after-read, after-write, counts-read}
 use Rattle.detector.proofs.AfterLaws.{counts-write, first-written, notable}
 use Rattle.detector.proofs.AfterLaws.{one-more-fits, plain-indexed, read-indexed}
@@ -33,33 +35,33 @@ note-requires-clause-notable g c =
           c.requires.indexed refl c.requires.layout c.requires.line,
     )
 
-pub returns-in-Some-clause-tracks : goal.returns-in-Some-clause-tracks
-returns-in-Some-clause-tracks g c =
+pub returns-in-Read-clause-tracks : goal.returns-in-Read-clause-tracks
+returns-in-Read-clause-tracks g c =
     c.note.ensures.tracks ∙ after-read (g.I.LineIndex.entries c.args.index.now) c.args.tracks.now
     c.args.layout c.args.thresholds.now
     c.args.position c.args.line c.args.access (ap is_write (sym c.kind.ensures ∙ c.in-Read.is))
 
-pub returns-in-Some-clause-counts : goal.returns-in-Some-clause-counts
-returns-in-Some-clause-counts g c = counts-read
+pub returns-in-Read-clause-counts : goal.returns-in-Read-clause-counts
+returns-in-Read-clause-counts g c = counts-read
     (g.I.LineIndex.entries c.args.index.now) c.args.line c.args.access
     (ap is_write (sym c.kind.ensures ∙ c.in-Read.is))
 
-pub returns-in-Some-clause-indexed : goal.returns-in-Some-clause-indexed
-returns-in-Some-clause-indexed g c =
+pub returns-in-Read-clause-indexed : goal.returns-in-Read-clause-indexed
+returns-in-Read-clause-indexed g c =
     read-indexed (entry_at (g.I.LineIndex.entries c.args.index.now)) c.args.layout c.args.tracks.now
     c.note.new.tracks
     c.args.thresholds.now.tracking c.args.position c.args.access c.requires.indexed
     c.note.ensures.tracks
 
-pub returns-in-Some-clause-steps : goal.returns-in-Some-clause-steps
-returns-in-Some-clause-steps g c = steps-within c.note.new.steps
+pub returns-in-Read-clause-steps : goal.returns-in-Read-clause-steps
+returns-in-Read-clause-steps g c = steps-within c.note.new.steps
     (c.args.steps.now + 4) _ c.note.ensures.steps
 
-pub returns-in-Some-clause-known : goal.returns-in-Some-clause-known
-returns-in-Some-clause-known g c = λ none. refl
+pub returns-in-Read-clause-known : goal.returns-in-Read-clause-known
+returns-in-Read-clause-known g c = λ none. refl
 
-pub task_of-requires : goal.task_of-requires
-task_of-requires g c = record {
+pub is_due-requires : goal.is_due-requires
+is_due-requires g c = record {
   few = writes-few (entry_at (g.I.LineIndex.entries c.args.index.now)) c.args.layout
       c.args.tracks.now c.args.thresholds.now.tracking
       c.args.position c.args.line c.peek.result c.requires.indexed c.requires.early
@@ -79,8 +81,8 @@ note-requires-in-Ok-clause-notable g c =
     let f = entry_at (g.I.LineIndex.entries c.args.index.now) in (
       f,
       c.args.layout,
-      ap (λ x. places_between c.args.line x c.in-Some-below.below) c.in-Ok.ensures.value
-          ∙ ap (places_between c.args.line (f c.args.line)) c.in-Some-below.ensures.value,
+      ap (λ x. places_between c.args.line x c.in-Some.below) c.in-Ok.ensures.value
+          ∙ ap (places_between c.args.line (f c.args.line)) c.in-Some.ensures.value,
       notable f f c.args.layout c.args.tracks.now c.args.thresholds.now.tracking c.args.position
           c.args.line c.args.access
           c.requires.indexed refl c.requires.layout c.requires.line,
@@ -89,14 +91,20 @@ note-requires-in-Ok-clause-notable g c =
 pub returns-in-Ok-clause-tracks : goal.returns-in-Ok-clause-tracks
 returns-in-Ok-clause-tracks g c =
     let m = g.I.LineIndex.entries c.args.index.now in
-    let task = task-lent (entry_at m) c.args.line c.peek.result c.args.thresholds.now
-    c.task_of.result c.peek.ensures c.task_of.ensures in
-    let plain = or_parts c.task_of.result.begins c.task_of.result.searches
-    (sym c.is_due.ensures ∙ c.if-not-is_due.true) in
+    let task : Task = record {
+      begins = (entry_at m c.args.line).writes + 1 == c.args.thresholds.now.tracking;
+      searches = option_map_or (λ P. ((entry_at m c.args.line).writes + 1) % P == 0)
+          c.args.thresholds.now.prediction false;
+    } in
+    let is : IsTaskOf (entry_at m c.args.line) c.args.thresholds.now task =
+    record { begins = refl; searches = refl } in
+    let plain = or_parts task.begins task.searches
+    (sym (c.is_due.ensures task (task-lent (λ q. c.peek.result) c.args.line (entry_at m c.args.line)
+    c.args.thresholds.now task (sym c.peek.ensures) is)) ∙ c.if-not-is_due.true) in
     c.note-in-Ok.ensures.tracks
     ∙ after-write m c.args.tracks.now c.args.layout c.args.thresholds.now c.args.position c.args.line
-    c.args.access c.task_of.result
-    (ap is_write (sym c.kind.ensures ∙ c.in-Write.is)) task plain.0 plain.1
+    c.args.access task
+    (ap is_write (sym c.kind.ensures ∙ c.in-Write.is)) is plain.0 plain.1
 
 pub returns-in-Ok-clause-counts : goal.returns-in-Ok-clause-counts
 returns-in-Ok-clause-counts g c =

@@ -1,14 +1,22 @@
-use Rattle.std.proofs.Common.{◌+◌, ◌≤◌, refl, sym, ap, ◌∙◌, subst}
+use Rattle.std.proofs.Common.{◌≡◌, ℕ, ◌+◌, ◌<◌, ◌≤◌, refl, sym, ap, ◌∙◌, subst, arith}
+use Rattle.std.specs.Prelude.{false, not, ◌&&◌, ◌||◌}
+use Rattle.detector.specs.declared.track_places.Places.{Places}
+use Rattle.detector.specs.declared.line_entry.LineEntry.{LineEntry}
 use Rattle.std.proofs.lemmas.Result.{on_ok_weaker}
 use Rattle.base.specs.Touch.{is_write}
 use Rattle.detector.specs.Entries.{entry_at}
-use Rattle.detector.specs.Noting.{places_between}
+use Rattle.detector.specs.Noting.{have_opened, places, places_between}
+use Rattle.detector.proofs.OpenedLaws.{after-idle}
 use Rattle.detector.specs.Tasks.{search_steps}
 use Rattle.detector.proofs.AfterLaws.{after-read, after-task, counts-read}
+use Rattle.detector.proofs.AfterLaws.{first-written, plain-indexed}
 use Rattle.detector.proofs.AfterLaws.{counts-write, due-lent, native-grid, notable}
 use Rattle.detector.proofs.AfterLaws.{quiet, read-indexed}
 use Rattle.detector.proofs.AfterLaws.{searches-is, steps-within, task-lent, writes-few}
 use Rattle.detector.proofs.touch.touch_apart.Goals as goal
+
+never-written : (n : ℕ) → 0 < n → n ≡ 0 → ⊥
+never-written n some none = omega arith
 
 pub note-requires-clause-notable : goal.note-requires-clause-notable
 note-requires-clause-notable g c =
@@ -72,8 +80,8 @@ do_task-requires-clause-native g c =
     c.task_of-task.result c.requires.native
     c.task_of-task.ensures s
 
-pub returns-in-Write-clause-tracks : goal.returns-in-Write-clause-tracks
-returns-in-Write-clause-tracks g c =
+pub returns-then-is_due_where-clause-tracks : goal.returns-then-is_due_where-clause-tracks
+returns-then-is_due_where-clause-tracks g c =
     let m = g.I.LineIndex.entries c.args.index.now in
     let task = task-lent (entry_at m) c.args.line c.peek-here.result c.args.thresholds.now
     c.task_of-task.result c.peek-here.ensures c.task_of-task.ensures in
@@ -83,15 +91,15 @@ returns-in-Write-clause-tracks g c =
     (ap is_write (sym c.kind.ensures ∙ c.in-Write.is)) task)
     c.do_task.ensures.tracks
 
-pub returns-in-Write-clause-counts : goal.returns-in-Write-clause-counts
-returns-in-Write-clause-counts g c =
+pub returns-then-is_due_where-clause-counts : goal.returns-then-is_due_where-clause-counts
+returns-then-is_due_where-clause-counts g c =
     let m = g.I.LineIndex.entries c.args.index.now in
     on_ok_weaker c.do_task.result
     (λ e. counts-write m (g.I.LineIndex.entries c.do_task.new.index) c.args.line c.args.access
     (ap is_write (sym c.kind.ensures ∙ c.in-Write.is)) e) c.do_task.ensures.counts
 
-pub returns-in-Write-clause-indexed : goal.returns-in-Write-clause-indexed
-returns-in-Write-clause-indexed g c =
+pub returns-then-is_due_where-clause-indexed : goal.returns-then-is_due_where-clause-indexed
+returns-then-is_due_where-clause-indexed g c =
     let m = g.I.LineIndex.entries c.args.index.now in
     let task = task-lent (entry_at m) c.args.line c.peek-here.result c.args.thresholds.now
     c.task_of-task.result c.peek-here.ensures c.task_of-task.ensures in
@@ -100,8 +108,8 @@ returns-in-Write-clause-indexed g c =
     c.requires.indexed c.requires.some task in
     on_ok_weaker c.do_task.result (λ e. e c.args.thresholds.now.tracking due) c.do_task.ensures.indexed
 
-pub returns-in-Write-clause-known : goal.returns-in-Write-clause-known
-returns-in-Write-clause-known g c =
+pub returns-then-is_due_where-clause-known : goal.returns-then-is_due_where-clause-known
+returns-then-is_due_where-clause-known g c =
     λ none.
     let m = g.I.LineIndex.entries c.args.index.now in
     let task = task-lent (entry_at m) c.args.line c.peek-here.result c.args.thresholds.now
@@ -112,8 +120,8 @@ returns-in-Write-clause-known g c =
     task none in
     c.do_task.ensures.known q.begins q.written q.opens
 
-pub returns-in-Write-clause-steps : goal.returns-in-Write-clause-steps
-returns-in-Write-clause-steps g c =
+pub returns-then-is_due_where-clause-steps : goal.returns-then-is_due_where-clause-steps
+returns-then-is_due_where-clause-steps g c =
     let m = g.I.LineIndex.entries c.args.index.now in
     let task = task-lent (entry_at m) c.args.line c.peek-here.result c.args.thresholds.now
     c.task_of-task.result c.peek-here.ensures c.task_of-task.ensures in
@@ -122,3 +130,39 @@ returns-in-Write-clause-steps g c =
     (ap is_write (sym c.kind.ensures ∙
     c.in-Write.is)) task)
     c.do_task.ensures.steps
+
+pub returns-in-Ok-clause-tracks : goal.returns-in-Ok-clause-tracks
+returns-in-Ok-clause-tracks g c =
+    let m = g.I.LineIndex.entries c.args.index.now in
+    let task = task-lent (entry_at m) c.args.line c.peek-here.result c.args.thresholds.now
+    c.task_of-task.result c.peek-here.ensures c.task_of-task.ensures in
+    let idle : (c.task_of-task.result.begins || (c.task_of-task.result.searches && not
+    (have_opened (places (entry_at m) c.args.line)))) ≡ false =
+    ap (λ (p : Places). c.task_of-task.result.begins || (c.task_of-task.result.searches && not
+    (have_opened p))) (sym c.places_of.ensures)
+    ∙ ap (λ h. c.task_of-task.result.begins || (c.task_of-task.result.searches && not h))
+    (sym c.have_opened.ensures) ∙ sym c.is_due_where.ensures ∙ c.if-is_due_where.false in
+    c.note-in-Ok.ensures.tracks
+    ∙ after-idle m c.args.tracks.now c.args.layout c.args.thresholds.now c.args.position c.args.line
+    c.args.access c.task_of-task.result
+    (ap is_write (sym c.kind.ensures ∙ c.in-Write.is)) task c.requires.indexed.names idle
+
+pub returns-in-Ok-clause-indexed : goal.returns-in-Ok-clause-indexed
+returns-in-Ok-clause-indexed g c =
+    let m = g.I.LineIndex.entries c.args.index.now in
+    let n = g.I.LineIndex.entries c.count.new.index in
+    plain-indexed (entry_at m) (entry_at n) c.args.layout c.args.tracks.now c.note-in-Ok.new.tracks
+    c.args.thresholds.now.tracking
+    c.args.position c.args.line c.args.access c.requires.indexed c.in-Ok.ensures.each
+    c.note-in-Ok.ensures.tracks
+
+pub returns-in-Err-clause-known : goal.returns-in-Err-clause-known
+returns-in-Err-clause-known g c =
+    λ none.
+    let m = g.I.LineIndex.entries c.args.index.now in
+    let w = first-written m c.args.tracks.now c.args.layout c.args.thresholds.now c.args.position
+    c.args.line c.args.access (ap is_write
+    (sym c.kind.ensures ∙ c.in-Write.is)) none in
+    let zero : (entry_at m c.args.line).writes ≡ 0 =
+    ap (λ (e : LineEntry). e.writes) c.in-Err.ensures.blank in
+    absurd (never-written _ w zero)
