@@ -1,5 +1,5 @@
 -- Accesses that were put by, and noted one after another.
-use Rattle.std.proofs.Common.{◌≡◌, ◌∙◌, ℕ, ◌+◌, ◌<◌, ◌≤◌, List, [], ◌∷◌, ◌++◌, length, take, drop}
+use Rattle.std.proofs.Common.{◌≡◌, ◌∙◌, ℕ, suc, ◌+◌, ◌<◌, ◌≤◌, List, [], ◌∷◌, ◌++◌, length, take, drop}
 use Rattle.std.proofs.Common.{get_or, map, ap, append_assoc, arith, refl, subst, sym}
 use Rattle.std.specs.List.{All}
 use Rattle.std.proofs.lemmas.List.{append-nil, length-append, map-append, take-append-drop}
@@ -69,9 +69,9 @@ pub touched_output : (events : List RunEvent) (ts : List Touched) → AreTouches
     → output_in events ≡ []
 touched_output events ts touched = output-seen events ∙ ap output_in touched ∙ output-put ts
 
-touches-put : (ts : List Touched) → length (touches_among (touch_records ts)) ≡ length ts
-touches-put [] = refl
-touches-put (t ∷ ts) = ap (λ (n : ℕ). 1 + n) (touches-put ts)
+pub touches_put : (ts : List Touched) → length (touches_among (touch_records ts)) ≡ length ts
+touches_put [] = refl
+touches_put (t ∷ ts) = ap (λ (n : ℕ). suc n) (touches_put ts)
 
 -- and with one event more, its records, its bytes and how many accesses there are
 
@@ -91,7 +91,7 @@ pub touched_count : (events : List RunEvent) (ts : List Touched) → AreTouches 
 touched_count events ts touched =
     ap length (sym (touches-in events))
     ∙ ap (λ (l : List TraceRecord). length (touches_among l)) (touched_records events ts touched)
-    ∙ touches-put ts
+    ∙ touches_put ts
 
 touch-among : (e : RunEvent) → length (touches_among (record_in e)) ≡ length (touch_in e)
 touch-among quiet = refl
@@ -107,7 +107,7 @@ turn_count ts e =
     ≡ length (touches_among (touch_records ts)) + length (touches_among (record_in e)) =
     ap length (touches-among (touch_records ts) (record_in e))
     ∙ length-append (touches_among (touch_records ts)) (touches_among (record_in e)) in
-    omega (arith, all, touches-put ts, touch-among e)
+    omega (arith, all, touches_put ts, touch-among e)
 
 -- a run that begins so, with the event behind
 pub turn_led : (events : List RunEvent) (e : RunEvent) (rest : Run)
