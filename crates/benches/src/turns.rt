@@ -8,7 +8,7 @@ ghost use Rattle.std.specs.Prelude.{◌≡◌, ◌+◌, ◌*◌, ◌≤◌};
 use crate::turn_program::{CODE, program};
 use crate::{Words, number_or};
 use base::NoMemory;
-use guest::{Guest, RunSettings};
+use guest::{Guest, RunSettings, Touches};
 use hart_scheduler::Schedule;
 use program_files::Image;
 use rv32_decode::encode;
@@ -21,8 +21,8 @@ const STACK: u32 = 4096;
 
 // Makes turns until there are so many, or something is seen of one, or the run has ended, or memory
 // ran out, and says how many it made.
-fn run(steps: u64, guest: &mut Guest) -> u64 {
-    let _turn = guest.run_on(steps);
+fn run(steps: u64, guest: &mut Guest, touches: &mut Touches) -> u64 {
+    let _turn = guest.run_on(steps, touches);
     guest.steps()
 }
 
@@ -93,7 +93,8 @@ fn steps_of(alloc: Global, settings: RunSettings, running: u16, seed: u32) -> Re
     };
     let memory = memory_of(alloc, settings.harts, running)?;
     let mut guest = guest_of(alloc, memory, schedule, settings)?;
-    Ok(run(settings.budget, &mut guest))
+    let mut touches = Touches::new(alloc)?;
+    Ok(run(settings.budget, &mut guest, &mut touches))
 }
 
 pub(crate) fn bench<R: Print + AllocGlobal>(rt: &R, words: &mut Words) -> io::Result<()> {

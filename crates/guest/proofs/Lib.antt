@@ -11,7 +11,7 @@ pub mod LoneHart
 pub mod Mapped
 pub mod NextHart
 pub mod OwnAccesses
-pub mod QuietSteps
+pub mod PassedTurns
 pub mod RunSteps
 pub mod SoundChanges
 pub mod ThreadPlaces

@@ -98,12 +98,12 @@ own_step : (hart : ℕ) (x : Machine) → IsOwn hart (stepped hart x)
 unfolding stepped
 own_step hart x = own_fetch hart x (fetched x.memory x.state.pc)
 
-own_access : (hart : ℕ) (x y : Machine) (i : Instr) (a : Touch) → outcome (Next i (Some a)) y
+pub own_access : (hart : ℕ) (x y : Machine) (i : Instr) (a : Touch) → outcome (Next i (Some a)) y
     ≡ stepped hart x → a.hart ≡ hart
 own_access hart x y i a h = let P : Outcome → Type 0 = λ o. IsOwn hart o in subst P (sym h)
     (own_step hart x)
 
-own_below : (hart harts : ℕ) (x y : Machine) (i : Instr) (a : Touch) → outcome (Next i (Some a)) y
+pub own_below : (hart harts : ℕ) (x y : Machine) (i : Instr) (a : Touch) → outcome (Next i (Some a)) y
     ≡ stepped hart x → hart < harts
     → a.hart < harts
 own_below hart harts x y i a h below = rw (own_access hart x y i a h) below

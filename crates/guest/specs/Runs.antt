@@ -1,6 +1,6 @@
 -- Whole runs.
 use Rattle.std.specs.Prelude.{◌≡◌, ℕ, zero, suc, ◌-◌, ◌≤◌, List, [], ◌∷◌, ◌++◌, length, Option}
-use Rattle.std.specs.Prelude.{None, Some, replicate}
+use Rattle.std.specs.Prelude.{None, Some}
 use Rattle.base.specs.Touch.{Touch}
 use Rattle.base.specs.declared.ending.Ending.{Ending}
 use Rattle.base.specs.declared.ending.Outcome.{Outcome}
@@ -19,9 +19,9 @@ pub record Run : Type 0 where
 abbrev pub led_by : RunEvent → Run → Run
 led_by e r = record r { events = e ∷ r.events }
 
--- a run with so many steps in front of which nothing is seen
-abbrev pub led_quietly : ℕ → Run → Run
-led_quietly n r = record r { events = replicate n quiet ++ r.events }
+-- a run with steps in front of which these events are seen
+abbrev pub led_with : List RunEvent → Run → Run
+led_with events r = record r { events = events ++ r.events }
 
 -- the end at a configuration, with what was counted so far
 abbrev pub ending_with : Outcome → Config → Ending

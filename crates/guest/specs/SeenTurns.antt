@@ -1,5 +1,7 @@
 -- What a caller sees of a guest and of its turns.
-use Rattle.std.specs.Prelude.{◌≡◌, ℕ, ◌+◌, ◌<◌, ◌≤◌, ◌%◌, ◌^◌, Option, None, Some}
+use Rattle.std.specs.Prelude.{◌≡◌, ℕ, ◌+◌, ◌<◌, ◌≤◌, ◌%◌, ◌^◌, Option, None, Some, List, [], ◌∷◌}
+use Rattle.std.specs.Prelude.{◌++◌, length, map}
+use Rattle.std.specs.List.{All}
 use Rattle.base.specs.declared.ending.Ending.{Ending}
 use Rattle.base.specs.declared.ending.Outcome.{Outcome}
 use Rattle.base.specs.declared.ending.Outcome.TheVariants.{Exit, Budget, Deadlock, Trap}
@@ -7,13 +9,14 @@ use Rattle.base.specs.declared.ending.Outcome.TheVariants.{Part}
 use Rattle.rv32_hart.specs.Space.{Space, bytes_at, AllMapped}
 use Rattle.guest.specs.declared.turn.Event.{Event}
 use Rattle.guest.specs.declared.turn.Event.TheVariants.{Quiet, Touch, Alloc, Free, Output}
+use Rattle.guest.specs.declared.turn.Touched.{Touched}
 use Rattle.guest.specs.declared.turn.Turn.{Turn}
 use Rattle.guest.specs.declared.turn.Turn.TheVariants.{Ran, Ended}
 use Rattle.guest.specs.declared.setup.Setup.{Setup}
 use Rattle.guest.specs.Configs.{Config}
 use Rattle.guest.specs.GuestCalls.{RunEvent, quiet, touch, alloc, free, output, RunTurn, ran, over}
-use Rattle.guest.specs.Turns.{AreQuiet, turn_of}
-use Rattle.guest.specs.Runs.{Run, ending_with, led_by, ended_run, Progress, rest_of}
+use Rattle.guest.specs.Turns.{AreTurns, turn_of}
+use Rattle.guest.specs.Runs.{Run, ending_with, led_by, led_with, ended_run, Progress, rest_of}
 
 -- what is seen of a step that leaves this memory
 abbrev pub seen : Space → Event → RunEvent
@@ -50,23 +53,52 @@ abbrev pub Counts : Config → Turn → Config → Type 0
 Counts old (Ran e) new = (new.steps ≡ old.steps + 1) × (new.accesses ≡ old.accesses + accesses_in e)
 Counts old (Ended o) new = new.memory ≡ old.memory
 
--- some steps of which nothing is seen, none of them at so many steps or more
-pub record HasPassed (s : Setup) (until : ℕ) (c d : Config) : Type 0 where
-  pub quiet : ℕ
-  pub passed : AreQuiet s quiet c d
+-- the event of an access that was put by
+abbrev pub event_of : Touched → RunEvent
+event_of t = touch t.access t.pc
+
+-- the events but those of steps of which nothing is seen
+abbrev pub seen_in : RunEvent → List RunEvent
+seen_in quiet = []
+seen_in e = e ∷ []
+
+abbrev pub seen_among : List RunEvent → List RunEvent
+seen_among [] = []
+seen_among (e ∷ events) = seen_in e ++ seen_among events
+
+-- nothing is seen of these steps but these accesses, in their order
+abbrev pub AreTouches : List RunEvent → List Touched → Type 0
+AreTouches events touches = seen_among events ≡ map event_of touches
+
+-- some steps of which nothing is seen but these accesses, none of them at so many steps or more
+pub record HasPassed (s : Setup) (until : ℕ) (touches : List Touched) (c d : Config) : Type 0 where
+  pub events : List RunEvent
+  pub touched : AreTouches events touches
+  pub passed : AreTurns s events c d
   pub early : c.steps < until → d.steps < until
 
--- some steps of which nothing is seen, and then a turn with this answer
-pub record ComesTo (s : Setup) (c : Config) (turn : Turn) (d : Config) : Type 0 where
-  pub quiet : ℕ
+-- some such steps, and then a turn with this answer
+pub record ComesTo (s : Setup) (c : Config) (touches : List Touched) (turn : Turn) (d : Config) :
+    Type 0 where
+  pub events : List RunEvent
+  pub touched : AreTouches events touches
   pub before : Config
-  pub passed : AreQuiet s quiet c before
+  pub passed : AreTurns s events c before
   pub made : turn_seen turn d ≡ turn_of s before
 
--- the steps are counted, and the access of the last
-abbrev pub CountsOn : Config → Turn → Config → Type 0
-CountsOn old (Ran e) new = (old.steps < new.steps) × (new.accesses ≡ old.accesses + accesses_in e)
-CountsOn old (Ended o) new = (old.steps ≤ new.steps) × (new.accesses ≡ old.accesses)
+-- a run that begins with such steps, and then is this one
+pub record IsLedTo (whole : Run) (touches : List Touched) (rest : Run) : Type 0 where
+  pub events : List RunEvent
+  pub touched : AreTouches events touches
+  pub led : whole ≡ led_with events rest
+
+-- the steps are counted, and so are their accesses
+abbrev pub CountsOn : Config → List Touched → Turn → Config → Type 0
+CountsOn old touches (Ran e) new =
+    (old.steps < new.steps)
+    × (new.accesses ≡ old.accesses + length touches + accesses_in e)
+CountsOn old touches (Ended o) new =
+    (old.steps ≤ new.steps) × (new.accesses ≡ old.accesses + length touches)
 
 -- there are never more accesses than steps, nor more steps than the run may take
 pub record IsWithin (p : Progress) : Type 0 where
@@ -81,6 +113,10 @@ IsEndOf harts Budget = Unit {0}
 IsEndOf harts Deadlock = Unit {0}
 IsEndOf harts (Trap hart pc cause) = (hart < harts) × (pc < 2 ^ 32) × (pc % 4 ≡ 0)
 IsEndOf harts Part = ⊥
+
+-- each access is that of one of so many harts
+abbrev pub AreOfHarts : ℕ → List Touched → Type 0
+AreOfHarts harts touches = All (λ t. t.access.hart < harts) touches
 
 -- an access is that of one of so many harts; 1 to 4096 bytes are put out, which can be read in the
 -- memory

@@ -1,6 +1,6 @@
 -- One turn of a guest: it is judged whether the run is over, and else a hart makes one step.
-use Rattle.std.specs.Prelude.{◌≡◌, ℕ, zero, suc, ◌+◌, Bool, true, false, if◌then◌else◌, nat_lt}
-use Rattle.std.specs.Prelude.{List, map}
+use Rattle.std.specs.Prelude.{◌≡◌, ℕ, ◌+◌, Bool, true, false, if◌then◌else◌, nat_lt}
+use Rattle.std.specs.Prelude.{List, [], ◌∷◌, map}
 use Rattle.std.specs.Prelude.{Option, None, Some, slice_set}
 use Rattle.base.specs.Touch.{Touch}
 use Rattle.base.specs.declared.ending.Outcome.TheVariants.{Exit, Budget, Deadlock}
@@ -72,10 +72,11 @@ turn_unless s c None = turn_with s c (choice (runnable_in c) c.plan)
 unfoldable pub turn_of : Setup → Config → RunTurn
 turn_of s c = turn_unless s c (finished_code c.phases)
 
--- so many steps of which nothing is seen lead from one configuration to another
-abbrev pub AreQuiet : Setup → ℕ → Config → Config → Type 0
-AreQuiet s zero c d = c ≡ d
-AreQuiet s (suc n) c d = (x : Config) × AreQuiet s n c x × (turn_of s x ≡ ran quiet d)
+-- steps of which these events are seen lead from one configuration to another
+abbrev pub AreTurns : Setup → List RunEvent → Config → Config → Type 0
+AreTurns s [] c d = c ≡ d
+AreTurns s (e ∷ events) c d =
+    (x : Config) × (turn_of s c ≡ ran e x) × AreTurns s events x d
 
 -- whether a turn makes a block, which no turn does that ends the run
 abbrev pub is_block : RunEvent → Bool

@@ -1,15 +1,15 @@
 // A guest, and its turns.
-ghost use Rattle.std.specs.Prelude.{◌≡◌, ℕ, ◌+◌, ◌*◌, ◌<◌, ◌≤◌, ◌↔◌, ◌%◌, None, Ok, IfOk};
+ghost use Rattle.std.specs.Prelude.{◌≡◌, ◌+◌, ◌*◌, ◌<◌, ◌≤◌, ◌↔◌, ◌%◌, [], None, Ok, IfOk};
 ghost use Rattle.std.specs.Prelude.{IsOk, OnErr, IsFalse, IsTrue, IfSome, IsSome};
 ghost use Rattle.rv32_hart.specs.Space.{AllMapped, bytes_at};
 ghost use Rattle.guest.specs.LeastPlaces.{heap_over};
 ghost use Rattle.guest.specs.Configs.{first_config};
 ghost use Rattle.guest.specs.Turns.{makes_block, turn_of};
-ghost use Rattle.guest.specs.Runs.{IsShort, led_quietly, rest_of};
-ghost use Rattle.guest.specs.SeenTurns.{ComesTo, Counts, CountsOn, IsSeen, IsWithin, begun_with};
-ghost use Rattle.guest.specs.SeenTurns.{ending_after, turn_seen};
+ghost use Rattle.guest.specs.Runs.{IsShort, rest_of};
+ghost use Rattle.guest.specs.SeenTurns.{AreOfHarts, ComesTo, Counts, CountsOn, IsLedTo, IsSeen};
+ghost use Rattle.guest.specs.SeenTurns.{IsWithin, begun_with, ending_after, turn_seen};
 
-use crate::GuestHeap;
+use crate::{GuestHeap, Touches};
 use crate::configuration::Configuration;
 use crate::setup::{RunSettings, Setup};
 use crate::turn::{Event, Turn};
@@ -145,45 +145,51 @@ impl Guest {
         }
     }
 
-    /// Makes turns as `step` does, and answers the first of which something is seen: an event other
-    /// than `Quiet`, or the end. It also answers, as `Quiet`, a step behind which `until` steps or
-    /// more are made, so that a caller hears of a run of which nothing is seen for long.
+    /// Makes turns as `step` does, puts their accesses into `touches`, from an empty one on, and
+    /// answers the first turn of which something else is seen: an event other than `Quiet`, or the
+    /// end. An access for which there is no room is answered too, and so is a step behind which
+    /// `until` steps or more are made, so that a caller hears of a run of which nothing is seen for
+    /// long.
     ///
-    /// Once it has answered `Ended` it answers the same again, and all stays.
+    /// Once it has answered `Ended` it answers the same again, with no access, and all stays.
     ///
     /// NoMemory comes as it does from `step`. The steps before are made then, and the guest is at
     /// the turn that memory was wanted for.
-    pub fn run_on(&mut self, until: u64) -> Result<Turn, NoMemory>
-        // some steps of which nothing is seen, and then the turn of the definition
+    pub fn run_on(&mut self, until: u64, touches: &mut Touches) -> Result<Turn, NoMemory>
+        // some steps of which nothing is seen but these accesses, and then the turn of the
+        // definition
         ensures exact { self.old.ending ≡ None → IfOk result
-            (λ turn. ComesTo self.old.setup self.old.config turn self.new.config) }
+            (λ turn. ComesTo self.old.setup self.old.config touches.new turn self.new.config) }
         // once the run has ended, the same end again
         ensures again { IfSome self.old.ending (λ e. (result ≡ Ok (Turn.Ended e.outcome))
-            × (self.new ≡ self.old)) }
+            × (self.new ≡ self.old) × (touches.new ≡ [])) }
         // the run that was left begins with those steps and this turn, and goes on as the one that
         // is left now
         ensures run { IfOk result
-            (λ turn. (n : ℕ) × (rest_of self.old ≡ led_quietly n (begun_with turn self.new))) }
+            (λ turn. IsLedTo (rest_of self.old) touches.new (begun_with turn self.new)) }
         ensures setup { self.new.setup ≡ self.old.setup }
         ensures ending { IfOk result (λ turn. self.new.ending ≡ ending_after turn self.new.config) }
-        ensures counts { IfOk result (λ turn. CountsOn self.old.config turn self.new.config) }
+        ensures counts { IfOk result
+            (λ turn. CountsOn self.old.config touches.new turn self.new.config) }
         ensures within { IsWithin self.new }
         ensures seen { IfOk result (λ turn. IsSeen self.new.setup.harts turn self.new.config) }
+        ensures theirs { AreOfHarts self.new.setup.harts touches.new }
         // a step of which nothing is seen is answered only where so many are made, and no more are
         // made than that
         ensures quiet { result ≡ Ok (Turn.Ran Event.Quiet) → until ≤ self.new.config.steps }
         ensures until { self.old.config.steps < until → self.new.config.steps ≤ until }
         // where memory is refused, the run that was left begins with the steps before
         ensures refused { OnErr result
-            ((n : ℕ) × (rest_of self.old ≡ led_quietly n (rest_of self.new))) }
+            (IsLedTo (rest_of self.old) touches.new (rest_of self.new)) }
         ensures going { OnErr result (self.new.ending ≡ None) }
         // only a turn that makes a block takes memory, and the guest is at one
         ensures settled { OnErr result
             (IsTrue (makes_block (turn_of self.new.setup self.new.config))) }
     {
+        touches.clear();
         match self.ending {
             Some(ending) => Ok(Turn::Ended(ending.outcome)),
-            None => match self.config.run_on(&self.setup, until) {
+            None => match self.config.run_on(&self.setup, until, touches) {
                 Ok(Turn::Ran(event)) => Ok(Turn::Ran(event)),
                 Ok(Turn::Ended(outcome)) => {
                     self.ending = Some(self.config.ending(&outcome));

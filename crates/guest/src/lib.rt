@@ -7,7 +7,8 @@
 //! Its parts, each with files of its own:
 //!
 //! - the run: `guest`, over a `configuration` that `one_turn`, the steps of a hart on its own in
-//!   `ahead` and the calls of the environment in `guest_calls` change;
+//!   `ahead` and the calls of the environment in `guest_calls` change; accesses are kept in
+//!   `touches` for a caller to take many at once;
 //! - threads: each hart has one phase (`phase`), and `threads` has the calls by which harts start,
 //!   join, wait for, wake and end one another (`specs/ThreadCalls.antt`);
 //! - calls of functions: a [`CallList`] keeps the last 256 that a hart made and hasn't returned from
@@ -28,6 +29,7 @@ mod phase;
 mod setup;
 mod short_runs;
 mod threads;
+mod touches;
 mod turn;
 
 pub use call_list::CallList;
@@ -37,4 +39,5 @@ pub use phase::JoinEnd;
 pub use setup::RunSettings;
 pub use short_runs::runs_are_short;
 pub use threads::Threads;
-pub use turn::{Event, Turn};
+pub use touches::Touches;
+pub use turn::{Event, Touched, Turn};

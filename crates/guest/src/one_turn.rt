@@ -1,5 +1,5 @@
 // One turn of a configuration.
-ghost use Rattle.std.specs.Prelude.{◌≡◌, ◌↔◌, ℕ, ◌+◌, ◌<◌, ◌^◌, ◌≤◌, length};
+ghost use Rattle.std.specs.Prelude.{◌≡◌, ◌↔◌, ℕ, ◌+◌, ◌<◌, ◌^◌, ◌≤◌, [], length};
 ghost use Rattle.std.specs.Prelude.{IfOk, IsOk, OnOk, OnErr, IsFalse, IsTrue, Ok, None};
 ghost use Rattle.std.specs.Option.{option_map_or};
 ghost use Rattle.hart_scheduler.specs.Choices.{choice};
@@ -14,11 +14,12 @@ ghost use Rattle.guest.specs.Turns.{IsNext, chosen, hart_turn, made, makes_block
 ghost use Rattle.guest.specs.Turns.{runnable_in, turn_of};
 ghost use Rattle.guest.specs.ConfigInside.{config_of};
 ghost use Rattle.guest.specs.declared.setup.Setup.{Setup};
-ghost use Rattle.guest.specs.SeenTurns.{HasPassed, IsEndOf, IsSeen, turn_seen};
+ghost use Rattle.guest.specs.SeenTurns.{AreOfHarts, HasPassed, IsEndOf, IsSeen, turn_seen};
 
+use crate::Touches;
 use crate::configuration::Configuration;
 use crate::setup::Setup;
-use crate::turn::{Event, Turn};
+use crate::turn::{Event, Touched, Turn};
 use base::{Access, Ending, Hart, NoMemory, Outcome};
 use rv32_decode::Instr;
 use rv32_hart::{StepEnd, step};
@@ -185,21 +186,30 @@ impl Configuration {
         self.run(setup, hart)
     }
 
-    /// Turns until something is seen of one, or a step of which nothing is seen is the last of so
-    /// many.
+    /// Turns until something else than an access is seen of one, or a step of which nothing is seen
+    /// is the last of so many. The accesses are put into `touches`: one for which there is no room,
+    /// or which is the last of so many steps, is answered.
     ///
-    /// Such a step makes no answer: it has a way of its own through the loop.
-    pub fn run_on(&mut self, setup: &Setup, until: u64) -> Result<Turn, NoMemory>
+    /// A step of which nothing is seen, and one whose access is put by, make no answer: they have
+    /// ways of their own through the loop.
+    pub fn run_on(
+        &mut self,
+        setup: &Setup,
+        until: u64,
+        touches: &mut Touches,
+    ) -> Result<Turn, NoMemory>
         requires fits { Fits setup.now.harts (config_of self.old) }
         requires steps { self.old.steps ≤ setup.now.budget }
         requires accesses { self.old.accesses ≤ self.old.steps }
+        requires none { touches.old ≡ [] }
         ensures turn { IfOk result (λ turn. (x : Config)
-            × HasPassed setup.now until (config_of self.old) x
+            × HasPassed setup.now until touches.new (config_of self.old) x
             × (turn_seen turn (config_of self.new) ≡ turn_of setup.now x)) }
         ensures fits { Fits setup.now.harts (config_of self.new) }
         ensures seen { IfOk result (λ turn. IsSeen setup.now.harts turn (config_of self.new)) }
+        ensures theirs { AreOfHarts setup.now.harts touches.new }
         ensures passed { OnErr result
-            (HasPassed setup.now until (config_of self.old) (config_of self.new)) }
+            (HasPassed setup.now until touches.new (config_of self.old) (config_of self.new)) }
         ensures settled { OnErr result
             (IsTrue (makes_block (turn_of setup.now (config_of self.new)))) }
         ensures paused { result ≡ Ok (Turn.Ran Event.Quiet) → until ≤ self.new.steps }
@@ -212,7 +222,7 @@ impl Configuration {
             if self.is_spent(setup, hart) {
                 return Ok(Turn::Ended(Outcome::Budget));
             }
-            self.go_ahead(setup, hart, until);
+            self.go_ahead(setup, hart, until, touches);
             let pc = self.pc(hart);
             let state = &mut self.states[usize::from(hart.number())];
             match step(hart, state, &mut self.memory, &mut self.held) {
@@ -223,7 +233,11 @@ impl Configuration {
                     }
                 }
                 StepEnd::Next(instr, Some(access)) => {
-                    return Ok(self.go_on(hart, instr, pc, Some(access)));
+                    let turn = self.go_on(hart, instr, pc, Some(access));
+                    if self.steps >= until || !touches.has_room() {
+                        return Ok(turn);
+                    }
+                    touches.put(Touched { access, pc });
                 }
                 StepEnd::Call => {
                     let answer = self.call(setup, hart);

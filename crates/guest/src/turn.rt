@@ -30,6 +30,13 @@ pub enum Event {
     },
 }
 
+/// An access that a step made, by the instruction at `pc`.
+#[derive(Clone, Copy, PartialEq, Eq, Debug)]
+pub struct Touched {
+    pub access: Access,
+    pub pc: u32,
+}
+
 /// What a turn of a guest was.
 #[derive(Clone, Copy, PartialEq, Eq, Debug)]
 pub enum Turn {

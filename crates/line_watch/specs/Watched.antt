@@ -3,10 +3,15 @@ use Rattle.std.specs.Prelude.{ℕ, List, map}
 use Rattle.base.specs.Touch.{Touch}
 use Rattle.guest.specs.GuestCalls.{RunEvent}
 use Rattle.guest.specs.Runs.{Run, sited_in, sited_of}
+use Rattle.guest.specs.declared.turn.Touched.{Touched}
 use Rattle.takings.specs.declared.sited.Sited.{Sited}
 
 abbrev pub sited : Touch × ℕ → Sited
 sited p = record { access = p.0; pc = p.1 }
+
+-- of an access that was put by
+abbrev pub sited_touch : Touched → Sited
+sited_touch t = record { access = t.access; pc = t.pc }
 
 -- of a step, and of a whole run
 abbrev pub sited_at : RunEvent → List Sited

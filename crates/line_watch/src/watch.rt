@@ -1,5 +1,6 @@
 // A whole run, of which one line's takings are noted.
 ghost use Rattle.std.specs.Prelude.{◌≡◌, ℕ, ◌+◌, ◌<◌, ◌≤◌, ◌^◌, ◌++◌, [], IfOk, List, OnOk};
+ghost use Rattle.std.specs.Prelude.{length, map};
 ghost use Rattle.guest.specs.Runs.{rest_of};
 ghost use Rattle.guest.specs.SeenTurns.{accesses_in, seen};
 ghost use Rattle.rv32_hart.specs.Space.{Space};
@@ -7,10 +8,10 @@ ghost use Rattle.sharing_rules.specs.Lines.{Line};
 ghost use Rattle.takings.specs.Kept.{kept_of};
 ghost use Rattle.takings.specs.Text.{explain_text};
 ghost use Rattle.takings.specs.declared.sited.Sited.{Sited};
-ghost use Rattle.line_watch.specs.Watched.{sited_at, sited_run};
+ghost use Rattle.line_watch.specs.Watched.{sited_at, sited_run, sited_touch};
 
 use base::{Ending, NoMemory};
-use guest::{Event, Guest, Turn};
+use guest::{Event, Guest, Touched, Touches, Turn};
 use objects::ObjectTable;
 use sharing_rules::CacheLine;
 use std::alloc::Global;
@@ -43,8 +44,51 @@ fn note_event(explainer: &mut Explainer, event: Event) -> Result<(), NoMemory>
     }
 }
 
-// Runs a guest to its end, and notes each step of which something is seen.
-fn follow(guest: &mut Guest, explainer: &mut Explainer) -> Result<Ending, NoMemory>
+// Notes accesses, in their order.
+fn note_touches(explainer: &mut Explainer, touches: &[Touched]) -> Result<(), NoMemory>
+    requires { explainer.old.position + length touches.now ≤ 2 ^ 40 }
+    ensures noted { OnOk result ((l : Line) (start : ℕ) (u : List Sited)
+        → explainer.old ≡ kept_of l start u
+        → explainer.new ≡ kept_of l start (u ++ map sited_touch touches.now)) }
+    ensures position { OnOk result
+        (explainer.new.position ≡ explainer.old.position + length touches.now) }
+{
+    for place in 0..touches.len() {
+        let touched = touches[place];
+        match explainer.on_access(&touched.access, touched.pc) {
+            Ok(()) => {}
+            Err(fault) => return Err(fault),
+        }
+    }
+    Ok(())
+}
+
+// Notes accesses, and then what is seen of a step behind them.
+fn note_turn(
+    explainer: &mut Explainer,
+    touches: &[Touched],
+    event: Event,
+) -> Result<(), NoMemory>
+    requires { explainer.old.position + length touches.now < 2 ^ 40 }
+    ensures noted { OnOk result ((m : Space) (l : Line) (start : ℕ) (u : List Sited)
+        → explainer.old ≡ kept_of l start u → explainer.new ≡ kept_of l start
+        (u ++ (map sited_touch touches.now ++ sited_at (seen m event)))) }
+    ensures position { OnOk result (explainer.new.position
+        ≡ explainer.old.position + length touches.now + accesses_in event) }
+{
+    match note_touches(explainer, touches) {
+        Ok(()) => note_event(explainer, event),
+        Err(fault) => Err(fault),
+    }
+}
+
+// Runs a guest to its end, and notes each step of which something is seen. What the guest puts by
+// is of the steps before the last.
+fn follow(
+    guest: &mut Guest,
+    explainer: &mut Explainer,
+    touches: &mut Touches,
+) -> Result<Ending, NoMemory>
     requires budget { guest.old.setup.budget ≤ 2 ^ 36 }
     requires fresh { explainer.old.position ≡ 0 }
     ensures ending { IfOk result (λ ending. ending ≡ (rest_of guest.old).ending) }
@@ -53,12 +97,17 @@ fn follow(guest: &mut Guest, explainer: &mut Explainer) -> Result<Ending, NoMemo
 {
     'turns: loop {
         // (no run makes so many steps)
-        match guest.run_on(u64::MAX) {
-            Ok(Turn::Ran(event)) => match note_event(explainer, event) {
+        match guest.run_on(u64::MAX, touches) {
+            Ok(Turn::Ran(event)) => match note_turn(explainer, touches.all(), event) {
                 Ok(()) => {}
                 Err(fault) => return Err(fault),
             },
-            Ok(Turn::Ended(_)) => return Ok(guest.ending().unwrap()),
+            Ok(Turn::Ended(_)) => {
+                return match note_touches(explainer, touches.all()) {
+                    Ok(()) => Ok(guest.ending().unwrap()),
+                    Err(fault) => Err(fault),
+                };
+            }
             Err(fault) => return Err(fault),
         }
     }
@@ -82,7 +131,8 @@ pub fn explain_run(
         (sited_run (rest_of guest))) }
 {
     let mut explainer = Explainer::new(alloc, line, start);
-    let ending = follow(&mut guest, &mut explainer)?;
+    let mut touches = Touches::new(alloc)?;
+    let ending = follow(&mut guest, &mut explainer, &mut touches)?;
     let text = write_explain(alloc, &ending, objects, &explainer)?;
     Ok(Explained { ending, text })
 }

@@ -19,17 +19,16 @@ use Rattle.guest.specs.GuestCalls.{RunEvent, quiet, touch, alloc, free, output}
 use Rattle.guest.specs.Configs.{Config}
 use Rattle.guest.specs.SeenTurns.{accesses_in, seen}
 use Rattle.guest.specs.Runs.{Run, Progress, rest_of, led_by, ended_run, touch_in, touches_in}
-use Rattle.guest.specs.Runs.{bytes_in, led_quietly, output_in}
+use Rattle.guest.specs.Runs.{led_with, output_in}
 use Rattle.guest.specs.declared.turn.Event.{Event}
 use Rattle.guest.specs.declared.turn.Event.TheVariants.{Quiet, Touch as Touched, Alloc, Free}
 use Rattle.guest.specs.declared.turn.Event.TheVariants.{Output}
 use Rattle.run_recorder.specs.declared.run_file.RunFile.{RunFile}
 use Rattle.run_recorder.specs.Recorded.{outputs_for, record_in, records_in, records_of}
-use Rattle.run_recorder.specs.Recording.{AreCutAfter, AreNoted, HasStarted, led_with}
+use Rattle.run_recorder.specs.Recording.{AreCutAfter, AreNoted, HasStarted}
 use Rattle.run_recorder.proofs.Events.{cut_whole}
-use Rattle.run_recorder.proofs.Records.{output-append, output-more, records-append, records-more}
+use Rattle.run_recorder.proofs.Records.{output-append, records-append}
 use Rattle.run_recorder.proofs.Records.{touches-append, touches-among, touches-in}
-use Rattle.run_recorder.proofs.Records.{output-silent, records-silent, touches-silent}
 
 -- an observer that was given some records was given these too
 abbrev pub IsGivenOn : {A : Type 0} → (A → A → List TraceRecord → Type 0) → A → A → List TraceRecord
@@ -82,70 +81,6 @@ follows_start given start first files one outside begun = record {
   begun = begun;
 }
 
--- steps of which nothing is seen leave all that is noted
-pub follows_quietly : {A : Type 0} {given : A → A → List TraceRecord → Type 0}
-    {start guest : Progress} {whole : Run} (rest : Run) {first now : A} {files : List RunFile}
-    {one two : List Waiting} {old new : Outside}
-    → Follows given start guest whole first now files one two old new
-    → (n : ℕ) × (whole ≡ led_quietly n rest)
-    → Follows given start guest rest first now files one two old new
-follows_quietly {A} {given} {start} {guest} {whole} rest {first} {now} {files} {one} {two} {old}
-    {new} x (n, silent) =
-    let events : List RunEvent = x.events ++ replicate n quiet in
-    let records : records_in events ≡ records_in x.events = records-silent x.events n in
-    let puts : output_in events ≡ output_in x.events = output-silent x.events n in
-    record {
-      events = events;
-      given_on = subst (IsGivenOn given first now) (sym records) x.given_on;
-      good = subst (All (IsGoodRecord start.setup.harts)) (sym records) x.good;
-      noted = λ earlier before on.
-          subst (λ (l : List TraceRecord). AreNoted start.setup.harts (earlier ++ l)
-          (output_in events) files two before new)
-          (sym records)
-          (subst (λ (l : List ℕ). AreNoted start.setup.harts (earlier ++ records_in x.events) l
-          files two before new)
-          (sym puts) (x.noted earlier before on));
-      goes = x.goes ∙ ap (led_with x.events) silent
-          ∙ ap (λ (l : List RunEvent).
-          let r : Run = record { events = l; ending = rest.ending } in r)
-          (sym (append_assoc x.events (replicate n quiet) rest.events));
-      setup = x.setup;
-      early = rw (touches-silent x.events n) x.early;
-      count = x.count;
-      begun = x.begun;
-    }
-
-touches-seen : (d : Config) (e : Event) → length (touch_in (seen d.memory e)) ≡ accesses_in e
-touches-seen d Quiet = refl
-touches-seen d (Touched a pc) = refl
-touches-seen d (Alloc addr size sites) = refl
-touches-seen d (Free addr) = refl
-touches-seen d (Output addr len) = refl
-
--- what was seen, with one event more
-pub seen_longer : (events : List RunEvent) (e : RunEvent) (whole rest later : Run) → whole
-    ≡ led_with events rest
-    → rest ≡ led_by e later → whole ≡ led_with (events ++ e ∷ []) later
-seen_longer events e whole rest later goes turn =
-    goes ∙ ap (led_with events) turn ∙ ap
-    (λ (l : List RunEvent). let r : Run = record { events = l; ending = later.ending } in r)
-    (sym (append_assoc events (e ∷ []) later.events))
-
-pub more_early : (events : List RunEvent) (d : Config) (e : Event) (before after : ℕ)
-    → length (touches_in events) ≤ before
-    → after ≡ before + accesses_in e
-    → length (touches_in (events ++ seen d.memory e ∷ [])) ≤ after
-more_early events d e before after early counts =
-    let split : length (touches_in (events ++ seen d.memory e ∷ []))
-    ≡ length (touches_in events) + length
-    (touches_in (seen d.memory e ∷ [])) =
-    ap length (touches-append events (seen d.memory e ∷ [])) ∙ length-append (touches_in events)
-    (touches_in (seen d.memory e ∷ [])) in
-    let one : length (touches_in (seen d.memory e ∷ []))
-    ≡ accesses_in e = ap length (append-nil (touch_in (seen d.memory e))) ∙
-    touches-seen d e in
-    omega (arith, split, one, early, counts)
-
 -- more records are given
 pub given_more : {A : Type 0} (given : A → A → List TraceRecord → Type 0) (first now later : A)
     (xs ys : List TraceRecord)
@@ -155,16 +90,66 @@ given_more given first now later xs ys one two begun earlier so =
     subst (given begun later) (append_assoc earlier xs ys)
     (two begun (earlier ++ xs) (one begun earlier so))
 
--- an event has at most one access
-one_touch : (e : RunEvent) → length (touches_among (record_in e)) ≤ 1
-one_touch quiet = omega arith
-one_touch (touch a pc) = omega arith
-one_touch (alloc at size sites) = omega arith
-one_touch (free at) = omega arith
-one_touch (output at bytes) = omega arith
+-- some events more, all of which are noted
+pub follows_more : {A : Type 0} (given : A → A → List TraceRecord → Type 0)
+    (start guest after : Progress) (whole rest : Run) (first now later : A) (files : List RunFile)
+    (one two three : List Waiting) (old mid new : Outside) (events : List RunEvent)
+    → Follows given start guest whole first now files one two old mid
+    → whole ≡ led_with events rest → IsGivenOn given now later (records_in events)
+    → All (IsGoodRecord start.setup.harts) (records_in events)
+    → ((items : List TraceRecord) (put : List ℕ) (before : Outside)
+    → AreNoted start.setup.harts items put files two before mid
+    → AreNoted start.setup.harts (items ++ records_in events) (put ++ output_in events) files three
+    before new)
+    → after.setup ≡ guest.setup
+    → after.config.accesses ≡ guest.config.accesses + length (touches_in events)
+    → length three ≡ length two → AreBegun (waiting_names three) new
+    → Follows given start after rest first later files one three old new
+follows_more given start guest after whole rest first now later files one two three old mid new
+    events x led on good noted_on same accesses count begun =
+    let harts = start.setup.harts in
+    let records = records-append x.events events in
+    record {
+      events = x.events ++ events;
+      given_on = subst (IsGivenOn given first later) (sym records)
+          (given_more given first now later (records_in x.events) (records_in events) x.given_on
+          on);
+      good = subst (All (IsGoodRecord harts)) (sym records)
+          (All-append (IsGoodRecord harts) (records_in x.events) (records_in events) x.good good);
+      noted = λ earlier before is.
+          subst (λ (l : List TraceRecord). AreNoted harts l (output_in (x.events ++ events)) files
+          three before new)
+          (append_assoc earlier (records_in x.events) (records_in events)
+          ∙ ap (λ (l : List TraceRecord). earlier ++ l) (sym records))
+          (subst (λ (l : List ℕ). AreNoted harts
+          ((earlier ++ records_in x.events) ++ records_in events) l files three before new)
+          (sym (output-append x.events events))
+          (noted_on (earlier ++ records_in x.events) (output_in x.events) before
+          (x.noted earlier before is)));
+      goes = x.goes ∙ ap (led_with x.events) led
+          ∙ ap (λ (l : List RunEvent).
+          let r : Run = record { events = l; ending = rest.ending } in r)
+          (sym (append_assoc x.events events rest.events));
+      setup = same ∙ x.setup;
+      early =
+          let all : length (touches_in (x.events ++ events))
+          ≡ length (touches_in x.events) + length (touches_in events) =
+          ap length (touches-append x.events events)
+          ∙ length-append (touches_in x.events) (touches_in events) in
+          omega (arith, all, x.early, accesses);
+      count = count ∙ x.count;
+      begun = begun;
+    }
 
--- there is room for more records with at most one access after so few
-room_more : {A : Type 0} (begins : A → ℕ → Type 0) (given : A → A → List TraceRecord → Type 0)
+pub touches-seen : (d : Config) (e : Event) → length (touch_in (seen d.memory e)) ≡ accesses_in e
+touches-seen d Quiet = refl
+touches-seen d (Touched a pc) = refl
+touches-seen d (Alloc addr size sites) = refl
+touches-seen d (Free addr) = refl
+touches-seen d (Output addr len) = refl
+
+-- there is room for more records with so few accesses
+pub room_more : {A : Type 0} (begins : A → ℕ → Type 0) (given : A → A → List TraceRecord → Type 0)
     (first now : A)
     (events : List RunEvent) (more : List TraceRecord) → HasStarted begins given first
     → IsGivenOn given first now (records_in events)
@@ -190,15 +175,7 @@ room_more begins given first now events more start on few =
           omega (arith, all, front, few);
     }
 
--- for an event, and for the end
-pub room_for_event : {A : Type 0} (begins : A → ℕ → Type 0)
-    (given : A → A → List TraceRecord → Type 0) (first now : A)
-    (events : List RunEvent) (e : RunEvent) → HasStarted begins given first
-    → IsGivenOn given first now (records_in events)
-    → length (touches_in events) < 2 ^ 40 → HasRoom begins given now (record_in e)
-room_for_event begins given first now events e start on few =
-    room_more begins given first now events (record_in e) start on (omega (arith, one_touch e, few))
-
+-- and for the end
 pub room_for_end : {A : Type 0} (begins : A → ℕ → Type 0)
     (given : A → A → List TraceRecord → Type 0) (first now : A)
     (events : List RunEvent) (e : Ending) → HasStarted begins given first
@@ -218,43 +195,6 @@ pub same_end : (events : List RunEvent) (whole rest : Run) (e : Ending)
     → whole ≡ led_with events rest → rest ≡ ended_run e → e ≡ whole.ending
 same_end events whole rest e goes ends =
     sym (ap (λ (r : Run). r.ending) (goes ∙ ap (led_with events) ends))
-
-records_all : (earlier : List TraceRecord) (events : List RunEvent) (e : RunEvent)
-    → (earlier ++ records_in events) ++ record_in e ≡ earlier ++ records_in (events ++ e ∷ [])
-records_all earlier events e =
-    append_assoc earlier (records_in events) (record_in e)
-    ∙ ap (λ (l : List TraceRecord). earlier ++ l) (sym (records-more events e))
-
--- the files, with one event more
-pub noted_event : (harts : ℕ) (files : List RunFile) (waiting : List Waiting) (before now : Outside)
-    (earlier : List TraceRecord)
-    (events : List RunEvent) (e : RunEvent)
-    → AreNoted harts ((earlier ++ records_in events) ++ record_in e)
-    (output_in events ++ bytes_in e) files waiting before now
-    → AreNoted harts (earlier ++ records_in (events ++ e ∷ [])) (output_in (events ++ e ∷ [])) files
-    waiting before now
-noted_event harts files waiting before now earlier events e on =
-    subst (λ (l : List TraceRecord). AreNoted harts l (output_in (events ++ e ∷ [])) files waiting
-    before now)
-    (records_all earlier events e)
-    (subst (λ (l : List ℕ). AreNoted harts ((earlier ++ records_in events) ++ record_in e) l files
-    waiting before now)
-    (sym (output-more events e)) on)
-
-pub cut_event : (harts : ℕ) (files : List RunFile) (before now : Outside) (error : ShelfError)
-    (earlier : List TraceRecord)
-    (events : List RunEvent) (e : RunEvent)
-    → AreCutAfter harts ((earlier ++ records_in events) ++ record_in e)
-    (output_in events ++ bytes_in e) files before now error
-    → AreCutAfter harts (earlier ++ records_in (events ++ e ∷ [])) (output_in (events ++ e ∷ []))
-    files before now error
-cut_event harts files before now error earlier events e cut =
-    subst (λ (l : List TraceRecord). AreCutAfter harts l (output_in (events ++ e ∷ [])) files before
-    now error)
-    (records_all earlier events e)
-    (subst (λ (l : List ℕ). AreCutAfter harts ((earlier ++ records_in events) ++ record_in e) l
-    files before now error)
-    (sym (output-more events e)) cut)
 
 -- what is cut after some events is cut of the whole run
 pub cut_seen : (harts : ℕ) (symbols : List TraceRecord) (files : List RunFile)
@@ -297,12 +237,3 @@ cut_start harts symbols files whole before now e cut =
     cut_whole harts symbols files whole []
     (records_of symbols whole ++ records.End whole.ending ∷ []) [] (output_in whole.events)
     before now e refl refl cut
-
--- the records are good, with one event more
-pub good_more : (harts : ℕ) (events : List RunEvent) (e : RunEvent)
-    → All (IsGoodRecord harts) (records_in events)
-    → All (IsGoodRecord harts) (record_in e)
-    → All (IsGoodRecord harts) (records_in (events ++ e ∷ []))
-good_more harts events e good one =
-    subst (All (IsGoodRecord harts)) (sym (records-more events e))
-    (All-append (IsGoodRecord harts) (records_in events) (record_in e) good one)

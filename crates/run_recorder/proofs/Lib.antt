@@ -5,3 +5,4 @@ pub mod Kept
 pub mod Putting
 pub mod Records
 pub mod Symbols
+pub mod Touching

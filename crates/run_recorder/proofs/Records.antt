@@ -1,6 +1,6 @@
 -- The records of a run: one event more, and their accesses and bytes.
-use Rattle.std.proofs.Common.{◌≡◌, ℕ, zero, suc, List, [], ◌∷◌, ◌++◌, refl, sym, ap, ◌∙◌}
-use Rattle.std.proofs.Common.{append_assoc, replicate}
+use Rattle.std.proofs.Common.{◌≡◌, ℕ, List, [], ◌∷◌, ◌++◌, refl, sym, ap, ◌∙◌}
+use Rattle.std.proofs.Common.{append_assoc}
 use Rattle.std.specs.List.{flat_map}
 use Rattle.std.proofs.lemmas.Grind.{flat_map-append}
 use Rattle.std.proofs.lemmas.List.{append-nil}
@@ -46,40 +46,6 @@ pub output-more : (events : List RunEvent) (e : RunEvent) → output_in (events 
 output-more events e =
     output-append events (e ∷ []) ∙ ap (λ (l : List ℕ). output_in events ++ l)
     (append-nil (bytes_in e))
-
--- events of which nothing is seen
-
-no-records : (n : ℕ) → records_in (replicate n quiet) ≡ []
-no-records zero = refl
-no-records (suc n) = no-records n
-
-no-output : (n : ℕ) → output_in (replicate n quiet) ≡ []
-no-output zero = refl
-no-output (suc n) = no-output n
-
-no-touches : (n : ℕ) → touches_in (replicate n quiet) ≡ []
-no-touches zero = refl
-no-touches (suc n) = no-touches n
-
-pub records-silent : (events : List RunEvent) (n : ℕ) → records_in (events ++ replicate n quiet)
-    ≡ records_in events
-records-silent events n =
-    records-append events (replicate n quiet)
-    ∙ ap (λ (l : List TraceRecord). records_in events ++ l) (no-records n)
-    ∙ append-nil (records_in events)
-
-pub output-silent : (events : List RunEvent) (n : ℕ) → output_in (events ++ replicate n quiet)
-    ≡ output_in events
-output-silent events n =
-    output-append events (replicate n quiet)
-    ∙ ap (λ (l : List ℕ). output_in events ++ l) (no-output n) ∙ append-nil (output_in events)
-
-pub touches-silent : (events : List RunEvent) (n : ℕ) → touches_in (events ++ replicate n quiet)
-    ≡ touches_in events
-touches-silent events n =
-    touches-append events (replicate n quiet)
-    ∙ ap (λ (l : List ATouch). touches_in events ++ l) (no-touches n)
-    ∙ append-nil (touches_in events)
 
 touch-in : (e : RunEvent) → touches_among (record_in e) ≡ touch_in e
 touch-in quiet = refl

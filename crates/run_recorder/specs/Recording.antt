@@ -1,20 +1,21 @@
 -- How far the recording of a run has come.
-use Rattle.std.specs.Prelude.{◌≡◌, ℕ, List, [], ◌++◌}
+use Rattle.std.specs.Prelude.{◌≡◌, ℕ, List, [], ◌++◌, map}
 use Rattle.shelf.specs.Shelf.{Outside}
 use Rattle.shelf.specs.declared.shelf.ShelfError.{ShelfError}
 use Rattle.shelf.specs.Files.{AreCut}
 use Rattle.shelf.specs.OneFile.{Waiting}
 use Rattle.shelf.specs.OnTheirWay.{IsOutputs}
 use Rattle.trace_format.specs.declared.record.TraceRecord.{TraceRecord}
+use Rattle.trace_format.specs.declared.record.TraceRecord.TheVariants as records
 use Rattle.trace_format.specs.declared.record.Version.TheVariants.{One}
 use Rattle.trace_format.specs.Rules.{touches_in}
 use Rattle.trace_format.specs.Spelling.{spell_record}
 use Rattle.trace_format.specs.Writing.{begun_with}
-use Rattle.guest.specs.GuestCalls.{RunEvent}
 use Rattle.guest.specs.Configs.{Config}
 use Rattle.guest.specs.SeenTurns.{IsSeen, seen}
-use Rattle.guest.specs.Runs.{Run, bytes_in}
+use Rattle.guest.specs.Runs.{bytes_in}
 use Rattle.guest.specs.declared.turn.Event.{Event}
+use Rattle.guest.specs.declared.turn.Touched.{Touched}
 use Rattle.guest.specs.declared.turn.Turn.TheVariants.{Ran}
 use Rattle.run_recorder.specs.declared.run_file.Content.{Content}
 use Rattle.run_recorder.specs.declared.run_file.Content.TheVariants as content
@@ -42,6 +43,10 @@ records_told config event = record_in (seen config.memory event)
 unfoldable pub bytes_told : Config → Event → List ℕ
 bytes_told config event = bytes_in (seen config.memory event)
 
+-- the records of accesses
+abbrev pub touch_records : List Touched → List TraceRecord
+touch_records touches = map (λ t. records.Touch t.access) touches
+
 -- what is known of it
 unfoldable pub IsTold : ℕ → Event → Config → Type 0
 IsTold harts event config = IsSeen harts (Ran event) config
@@ -65,10 +70,6 @@ abbrev pub AreCutAfter : ℕ → List TraceRecord → List ℕ → List RunFile 
     → ShelfError → Type 0
 AreCutAfter harts items put files before now error =
     AreCut (outputs_of files (bytes_so_far harts items put)) before now error
-
--- a run that begins with these events
-abbrev pub led_with : List RunEvent → Run → Run
-led_with seen r = record { events = seen ++ r.events; ending = r.ending }
 
 -- an observer may begin with the first access of a run, and was given records without an access
 pub record HasStarted {A : Type 0} (begins : A → ℕ → Type 0) (given : A → A → List TraceRecord

@@ -9,6 +9,7 @@
 mod files;
 mod notes;
 mod run_file;
+mod touches;
 mod whole_run;
 
 pub use run_file::{Content, RunFile};

@@ -56,7 +56,8 @@ pub(crate) fn note_record<S: Shelf, O: Observer>(
 }
 
 // The record of an access, which is of an allowed size and place, as its hart says.
-fn touch_record(access: Access) -> TraceRecord
+#[inline(always)]
+pub(crate) fn touch_record(access: Access) -> TraceRecord
     ensures value { result ≡ records.Touch access }
     ensures good { (harts : ℕ) → access.hart < harts → IsGoodRecord harts result }
 {

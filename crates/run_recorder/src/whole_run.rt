@@ -18,10 +18,11 @@ ghost use Rattle.run_recorder.specs.Recorded.{outputs_of, records_in, trace_for}
 ghost use Rattle.run_recorder.specs.Recording.{AreCutAfter, AreNoted, HasStarted, bytes_so_far};
 
 use crate::files::begin;
-use crate::notes::{note_event, note_record};
+use crate::notes::note_record;
 use crate::run_file::RunFile;
+use crate::touches::{note_touches, note_turn};
 use base::{Ending, Outcome};
-use guest::{Guest, Turn};
+use guest::{Guest, Touches, Turn};
 use shelf::{RunShown, Shelf, ShelfError};
 use std::alloc::Global;
 use trace_files::TraceOutputs;
@@ -99,7 +100,7 @@ fn show_end<S: Shelf>(shelf: &mut S, guest: &Guest)
 }
 
 // Runs the guest to its end, and notes each step after the records that were noted before, which
-// have no access.
+// have no access. What the guest puts by is of the steps before the last.
 #[tactic(auto, unfolding(crate::specs::Recording::IsTold))]
 fn follow<S: Shelf, O: Observer>(
     shelf: &mut S,
@@ -107,6 +108,7 @@ fn follow<S: Shelf, O: Observer>(
     guest: &mut Guest,
     outputs: &mut TraceOutputs<'_>,
     observer: &mut O,
+    touches: &mut Touches,
 ) -> Result<Ending, ShelfError>
     requires paired { length outputs.old ≡ length files.now }
     requires budget { guest.old.setup.budget ≤ 2 ^ 36 }
@@ -136,20 +138,30 @@ fn follow<S: Shelf, O: Observer>(
 {
     show_steps(shelf, guest);
     'turns: loop {
-        match guest.run_on(next_shown(guest.steps())) {
-            Ok(Turn::Ran(event)) => match note_event(
-                shelf, files, outputs, observer, guest, event,
+        match guest.run_on(next_shown(guest.steps()), touches) {
+            Ok(Turn::Ran(event)) => match note_turn(
+                shelf,
+                files,
+                outputs,
+                observer,
+                guest,
+                touches.all(),
+                event,
             ) {
                 // (last in the loop, so that a step that nothing is seen of asks for no error)
                 Ok(()) => show_steps(shelf, guest),
                 Err(error) => return Err(error),
             },
             Ok(Turn::Ended(outcome)) => {
-                return Ok(Ending {
+                let ending = Ending {
                     outcome,
                     steps: guest.steps(),
                     accesses: guest.accesses(),
-                });
+                };
+                return match note_touches(shelf, files, outputs, observer, touches.all()) {
+                    Ok(()) => Ok(ending),
+                    Err(error) => Err(error),
+                };
             }
             Err(_) => return Err(ShelfError::NoMemory),
         }
@@ -198,6 +210,7 @@ fn note_run<'a, S: Shelf, O: Observer>(
     outputs: &mut TraceOutputs<'a>,
     observer: &mut O,
     symbols: &[TraceRecord],
+    touches: &mut Touches,
 ) -> Result<Ending, ShelfError>
     requires none { (outside : Outside) → IsOutputs outputs.old [] outside outside }
     requires apart { AreApart (names_of files.now) }
@@ -229,7 +242,7 @@ fn note_run<'a, S: Shelf, O: Observer>(
         Ok(()) => {}
         Err(error) => return Err(error),
     }
-    let ending = match follow(shelf, files, guest, outputs, observer) {
+    let ending = match follow(shelf, files, guest, outputs, observer, touches) {
         Ok(ending) => ending,
         Err(error) => return Err(error),
     };
@@ -283,6 +296,10 @@ pub fn record_run<S: Shelf, O: Observer>(
         (S.outside shelf.old) (S.outside shelf.new) error) }
 {
     let mut outputs = TraceOutputs::new(alloc);
+    let mut touches = match Touches::new(alloc) {
+        Ok(touches) => touches,
+        Err(_) => return Err(ShelfError::NoMemory),
+    };
     let ended = note_run(
         alloc,
         shelf,
@@ -291,6 +308,7 @@ pub fn record_run<S: Shelf, O: Observer>(
         &mut outputs,
         observer,
         symbols,
+        &mut touches,
     );
     show_end(shelf, &guest);
     ended

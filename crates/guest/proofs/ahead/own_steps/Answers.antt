@@ -1,14 +1,17 @@
-use Rattle.std.proofs.Common.{◌∙◌}
-use Rattle.guest.proofs.GoingAhead.{one_own}
+use Rattle.rv32_hart.specs.Effect.{machine}
+use Rattle.guest.proofs.GoingAhead.{stepped_all, stepped_none}
 use Rattle.guest.proofs.ahead.own_steps.Goals as goal
 
+pub loop-made-init : goal.loop-made-init
+loop-made-init c =
+    stepped_none c.args.hart (machine c.args.state.now c.args.memory.now c.args.held.now)
+    c.args.calls.now c.args.touches.now
+
 pub loop-made-preserved : goal.loop-made-preserved
-loop-made-preserved c = (
-  one_own c.args.hart c.args.memory.now c.args.held.now c.loop-made.made c.args.state.now
-      c.loop-made.state c.own_step.new.state c.args.calls.now c.loop-made.calls
-      c.note.new.self c.in-Some.instr c.loop-made.invariant.0
-      (rw (c.loop-made.invariant.1, c.loop-made.invariant.2) at c.in-Some.ensures.made)
-      (rw c.pc-pc.ensures.value at c.note.ensures),
-  c.own_step.ensures.memory ∙ c.loop-made.invariant.1,
-  c.own_step.ensures.held ∙ c.loop-made.invariant.2,
-)
+loop-made-preserved c =
+    stepped_all c.args.hart c.loop-made.made 1
+    (machine c.args.state.now c.args.memory.now c.args.held.now)
+    (machine c.loop-made.state c.loop-made.memory c.loop-made.held)
+    (machine c.one_step.new.state c.one_step.new.memory c.one_step.new.held) c.args.calls.now
+    c.loop-made.calls c.one_step.new.calls c.args.touches.now c.loop-made.touches
+    c.one_step.new.touches c.loop-made.invariant c.if-not-one_step.ensures.made

@@ -1,10 +1,8 @@
-use Rattle.std.proofs.Common.{◌≡◌}
-use Rattle.guest.specs.OwnSteps.{AreOwn}
+use Rattle.rv32_hart.specs.Effect.{machine}
+use Rattle.guest.specs.OwnSteps.{HasStepped}
 use Rattle.guest.proofs.ahead.own_steps.Given as goal
 
 abbrev pub invariant-loop-made : goal.invariant-loop-made
 invariant-loop-made l =
-    AreOwn l.hart l.initial.memory l.initial.held l.made l.initial.state l.initial.calls l.state
-    l.calls
-    × (l.memory ≡ l.initial.memory)
-    × (l.held ≡ l.initial.held)
+    HasStepped l.hart l.made (machine l.initial.state l.initial.memory l.initial.held)
+    l.initial.calls l.initial.touches (machine l.state l.memory l.held) l.calls l.touches

@@ -3,7 +3,7 @@ use Rattle.base.specs.declared.ending.Ending.{Ending}
 use Rattle.guest.specs.declared.turn.Turn.TheVariants.{Ran, Ended}
 use Rattle.guest.specs.ConfigInside.{config_of}
 use Rattle.guest.specs.SeenTurns.{IsEndOf}
-use Rattle.guest.proofs.QuietSteps.{behind, behind_refused, rest_came, rest_ended, rest_quiet}
+use Rattle.guest.proofs.PassedTurns.{behind, behind_refused, rest_came, rest_ended, rest_passed}
 use Rattle.guest.proofs.guest.Guest.run_on.Goals as goal
 
 pub invariant_of-self : goal.invariant_of-self
@@ -12,7 +12,7 @@ invariant_of-self c =
     let old = config_of c.self.inside.config in
     let new = config_of c.run_on.new.self in
     let t = rw c.in-Ok-Ran.field-0-is at c.in-Ok-Ran.ensures.turn in
-    let b = behind s c.args.until old t.0 (Ran c.in-Ok-Ran.event) new t.1
+    let b = behind s c.args.until old t.0 c.run_on.new.touches (Ran c.in-Ok-Ran.event) new t.1
     c.self.invariant.steps t.2 in
     record {
       fits = c.in-Ok-Ran.ensures.fits;
@@ -28,7 +28,7 @@ invariant_of-self-in-Ok-Ended c =
     let old = config_of c.self.inside.config in
     let new = config_of c.run_on.new.self in
     let t = rw c.in-Ok-Ended.field-0-is at c.in-Ok-Ended.ensures.turn in
-    let b = behind s c.args.until old t.0 (Ended c.in-Ok-Ended.outcome) new t.1
+    let b = behind s c.args.until old t.0 c.run_on.new.touches (Ended c.in-Ok-Ended.outcome) new t.1
     c.self.invariant.steps t.2 in
     record {
       fits = c.in-Ok-Ended.ensures.fits;
@@ -48,7 +48,7 @@ invariant_of-self-in-Err c =
     let old = config_of c.self.inside.config in
     let new = config_of c.run_on.new.self in
     let passed = c.in-Err.ensures.passed in
-    let b = behind_refused s c.args.until old new passed c.self.invariant.steps in
+    let b = behind_refused s c.args.until old new c.run_on.new.touches passed c.self.invariant.steps in
     record {
       fits = c.in-Err.ensures.fits;
       accesses = b.within c.self.invariant.accesses;
@@ -63,10 +63,16 @@ returns-in-Ok-Ran-clause-exact c =
     let old = config_of c.self.inside.config in
     let new = config_of c.run_on.new.self in
     let t = rw c.in-Ok-Ran.field-0-is at c.in-Ok-Ran.ensures.turn in
-    let b = behind s c.args.until old t.0 (Ran c.in-Ok-Ran.event) new t.1
+    let b = behind s c.args.until old t.0 c.run_on.new.touches (Ran c.in-Ok-Ran.event) new t.1
     c.self.invariant.steps t.2 in
     rw (← c.self.view_is)
-    (λ _. record { quiet = t.1.quiet; before = t.0; passed = t.1.passed; made = t.2 })
+    (λ _. record {
+      events = t.1.events;
+      touched = t.1.touched;
+      before = t.0;
+      passed = t.1.passed;
+      made = t.2;
+    })
 
 pub returns-in-Ok-Ran-clause-run : goal.returns-in-Ok-Ran-clause-run
 returns-in-Ok-Ran-clause-run c =
@@ -74,10 +80,10 @@ returns-in-Ok-Ran-clause-run c =
     let old = config_of c.self.inside.config in
     let new = config_of c.run_on.new.self in
     let t = rw c.in-Ok-Ran.field-0-is at c.in-Ok-Ran.ensures.turn in
-    let b = behind s c.args.until old t.0 (Ran c.in-Ok-Ran.event) new t.1
+    let b = behind s c.args.until old t.0 c.run_on.new.touches (Ran c.in-Ok-Ran.event) new t.1
     c.self.invariant.steps t.2 in
     rw (← c.self.view_is)
-    (rest_came s c.args.until old t.0 c.self.inside.ending c.in-Ok-Ran.event new
+    (rest_came s c.args.until old t.0 c.run_on.new.touches c.self.inside.ending c.in-Ok-Ran.event new
     c.in-None.is t.1 t.2 c.self.invariant.steps)
 
 pub returns-in-Ok-Ran-clause-counts : goal.returns-in-Ok-Ran-clause-counts
@@ -86,7 +92,7 @@ returns-in-Ok-Ran-clause-counts c =
     let old = config_of c.self.inside.config in
     let new = config_of c.run_on.new.self in
     let t = rw c.in-Ok-Ran.field-0-is at c.in-Ok-Ran.ensures.turn in
-    let b = behind s c.args.until old t.0 (Ran c.in-Ok-Ran.event) new t.1
+    let b = behind s c.args.until old t.0 c.run_on.new.touches (Ran c.in-Ok-Ran.event) new t.1
     c.self.invariant.steps t.2 in
     rw (← c.self.view_is) b.1
 
@@ -96,7 +102,7 @@ returns-in-Ok-Ran-clause-within c =
     let old = config_of c.self.inside.config in
     let new = config_of c.run_on.new.self in
     let t = rw c.in-Ok-Ran.field-0-is at c.in-Ok-Ran.ensures.turn in
-    let b = behind s c.args.until old t.0 (Ran c.in-Ok-Ran.event) new t.1
+    let b = behind s c.args.until old t.0 c.run_on.new.touches (Ran c.in-Ok-Ran.event) new t.1
     c.self.invariant.steps t.2 in
     record { accesses = b.0.within c.self.invariant.accesses; steps = b.0.room }
 
@@ -106,7 +112,7 @@ returns-in-Ok-Ran-clause-until c =
     let old = config_of c.self.inside.config in
     let new = config_of c.run_on.new.self in
     let t = rw c.in-Ok-Ran.field-0-is at c.in-Ok-Ran.ensures.turn in
-    let b = behind s c.args.until old t.0 (Ran c.in-Ok-Ran.event) new t.1
+    let b = behind s c.args.until old t.0 c.run_on.new.touches (Ran c.in-Ok-Ran.event) new t.1
     c.self.invariant.steps t.2 in
     rw (← c.self.view_is) b.0.bound
 
@@ -116,10 +122,16 @@ returns-in-Ok-Ended-clause-exact c =
     let old = config_of c.self.inside.config in
     let new = config_of c.run_on.new.self in
     let t = rw c.in-Ok-Ended.field-0-is at c.in-Ok-Ended.ensures.turn in
-    let b = behind s c.args.until old t.0 (Ended c.in-Ok-Ended.outcome) new t.1
+    let b = behind s c.args.until old t.0 c.run_on.new.touches (Ended c.in-Ok-Ended.outcome) new t.1
     c.self.invariant.steps t.2 in
     rw (← c.self.view_is)
-    (λ _. record { quiet = t.1.quiet; before = t.0; passed = t.1.passed; made = t.2 })
+    (λ _. record {
+      events = t.1.events;
+      touched = t.1.touched;
+      before = t.0;
+      passed = t.1.passed;
+      made = t.2;
+    })
 
 pub returns-in-Ok-Ended-clause-run : goal.returns-in-Ok-Ended-clause-run
 returns-in-Ok-Ended-clause-run c =
@@ -127,10 +139,10 @@ returns-in-Ok-Ended-clause-run c =
     let old = config_of c.self.inside.config in
     let new = config_of c.run_on.new.self in
     let t = rw c.in-Ok-Ended.field-0-is at c.in-Ok-Ended.ensures.turn in
-    let b = behind s c.args.until old t.0 (Ended c.in-Ok-Ended.outcome) new t.1
+    let b = behind s c.args.until old t.0 c.run_on.new.touches (Ended c.in-Ok-Ended.outcome) new t.1
     c.self.invariant.steps t.2 in
     rw (← c.self.view_is)
-    (rest_ended s c.args.until old t.0 c.self.inside.ending c.in-Ok-Ended.outcome new
+    (rest_ended s c.args.until old t.0 c.run_on.new.touches c.self.inside.ending c.in-Ok-Ended.outcome new
     c.in-None.is t.1 t.2 c.self.invariant.steps)
 
 pub returns-in-Ok-Ended-clause-counts : goal.returns-in-Ok-Ended-clause-counts
@@ -139,7 +151,7 @@ returns-in-Ok-Ended-clause-counts c =
     let old = config_of c.self.inside.config in
     let new = config_of c.run_on.new.self in
     let t = rw c.in-Ok-Ended.field-0-is at c.in-Ok-Ended.ensures.turn in
-    let b = behind s c.args.until old t.0 (Ended c.in-Ok-Ended.outcome) new t.1
+    let b = behind s c.args.until old t.0 c.run_on.new.touches (Ended c.in-Ok-Ended.outcome) new t.1
     c.self.invariant.steps t.2 in
     rw (← c.self.view_is) b.1
 
@@ -149,7 +161,7 @@ returns-in-Ok-Ended-clause-within c =
     let old = config_of c.self.inside.config in
     let new = config_of c.run_on.new.self in
     let t = rw c.in-Ok-Ended.field-0-is at c.in-Ok-Ended.ensures.turn in
-    let b = behind s c.args.until old t.0 (Ended c.in-Ok-Ended.outcome) new t.1
+    let b = behind s c.args.until old t.0 c.run_on.new.touches (Ended c.in-Ok-Ended.outcome) new t.1
     c.self.invariant.steps t.2 in
     record { accesses = b.0.within c.self.invariant.accesses; steps = b.0.room }
 
@@ -159,7 +171,7 @@ returns-in-Ok-Ended-clause-until c =
     let old = config_of c.self.inside.config in
     let new = config_of c.run_on.new.self in
     let t = rw c.in-Ok-Ended.field-0-is at c.in-Ok-Ended.ensures.turn in
-    let b = behind s c.args.until old t.0 (Ended c.in-Ok-Ended.outcome) new t.1
+    let b = behind s c.args.until old t.0 c.run_on.new.touches (Ended c.in-Ok-Ended.outcome) new t.1
     c.self.invariant.steps t.2 in
     rw (← c.self.view_is) b.0.bound
 
@@ -169,7 +181,7 @@ returns-in-Err-clause-within c =
     let old = config_of c.self.inside.config in
     let new = config_of c.run_on.new.self in
     let passed = c.in-Err.ensures.passed in
-    let b = behind_refused s c.args.until old new passed c.self.invariant.steps in
+    let b = behind_refused s c.args.until old new c.run_on.new.touches passed c.self.invariant.steps in
     record { accesses = b.within c.self.invariant.accesses; steps = b.room }
 
 pub returns-in-Err-clause-until : goal.returns-in-Err-clause-until
@@ -178,7 +190,7 @@ returns-in-Err-clause-until c =
     let old = config_of c.self.inside.config in
     let new = config_of c.run_on.new.self in
     let passed = c.in-Err.ensures.passed in
-    let b = behind_refused s c.args.until old new passed c.self.invariant.steps in
+    let b = behind_refused s c.args.until old new c.run_on.new.touches passed c.self.invariant.steps in
     rw (← c.self.view_is) b.bound
 
 pub returns-in-Err-clause-refused : goal.returns-in-Err-clause-refused
@@ -187,9 +199,7 @@ returns-in-Err-clause-refused c =
     let old = config_of c.self.inside.config in
     let new = config_of c.run_on.new.self in
     let passed = c.in-Err.ensures.passed in
-    let b = behind_refused s c.args.until old new passed c.self.invariant.steps in
-    rw (← c.self.view_is) (
-      passed.quiet,
-      rest_quiet s passed.quiet old new c.self.inside.ending c.in-None.is passed.passed
-          c.self.invariant.steps,
-    )
+    let b = behind_refused s c.args.until old new c.run_on.new.touches passed c.self.invariant.steps in
+    rw (← c.self.view_is)
+    (rest_passed s c.args.until old new c.run_on.new.touches c.self.inside.ending c.in-None.is passed
+    c.self.invariant.steps)

@@ -1,0 +1,104 @@
+// The accesses that a guest has made since it was last asked, and what is seen of the step behind
+// them.
+ghost use Rattle.std.specs.Prelude.{◌≡◌, ◌++◌, List, ℕ, IfErr, OnOk, length};
+ghost use Rattle.std.specs.List.{All};
+ghost use Rattle.shelf.specs.Shelf.{Outside};
+ghost use Rattle.shelf.specs.OnTheirWay.{AreBegun, names_of as waiting_names};
+ghost use Rattle.trace_format.specs.Rules.{IsGoodRecord};
+ghost use Rattle.trace_format.specs.declared.record.TraceRecord.{TraceRecord as ARecord};
+ghost use Rattle.trace_passes.specs.Rooms.{HasRoom};
+ghost use Rattle.guest.specs.SeenTurns.{AreOfHarts};
+ghost use Rattle.run_recorder.specs.Recording.{AreCutAfter, AreNoted, IsTold, bytes_told};
+ghost use Rattle.run_recorder.specs.Recording.{records_told, touch_records};
+
+use crate::notes::{note_event, note_record, touch_record};
+use crate::run_file::RunFile;
+use guest::{Event, Guest, Touched};
+use shelf::{Shelf, ShelfError};
+use trace_files::TraceOutputs;
+use trace_passes::Observer;
+
+// The accesses: the observer sees each, and the files get it.
+#[inline(always)]
+pub(crate) fn note_touches<S: Shelf, O: Observer>(
+    shelf: &mut S,
+    files: &[RunFile<'_>],
+    outputs: &mut TraceOutputs<'_>,
+    observer: &mut O,
+    touches: &[Touched],
+) -> Result<(), ShelfError>
+    requires paired { length outputs.old ≡ length files.now }
+    requires begun { AreBegun (waiting_names outputs.old) (S.outside shelf.old) }
+    requires room { HasRoom O.begins O.given observer.old (touch_records touches.now) }
+    ensures given { OnOk result ((begun : O) (earlier : List ARecord)
+        → O.given begun observer.old earlier → O.given begun observer.new
+        (earlier ++ touch_records touches.now)) }
+    ensures good { OnOk result ((harts : ℕ) → AreOfHarts harts touches.now
+        → All (IsGoodRecord harts) (touch_records touches.now)) }
+    ensures noted { OnOk result
+        ((harts : ℕ) (items : List ARecord) (put : List ℕ) (before : Outside)
+        → AreNoted harts items put files.now outputs.old before (S.outside shelf.old)
+        → AreNoted harts (items ++ touch_records touches.now) put files.now outputs.new before
+        (S.outside shelf.new)) }
+    ensures cut { IfErr result (λ error. (harts : ℕ) (items : List ARecord) (put : List ℕ)
+        (before : Outside)
+        → AreNoted harts items put files.now outputs.old before (S.outside shelf.old)
+        → AreCutAfter harts (items ++ touch_records touches.now) put files.now before
+        (S.outside shelf.new) error) }
+    ensures begun { OnOk result (AreBegun (waiting_names outputs.new) (S.outside shelf.new)) }
+    ensures count { length outputs.new ≡ length outputs.old }
+{
+    for place in 0..touches.len() {
+        let item = touch_record(touches[place].access);
+        match note_record(shelf, files, outputs, observer, &item) {
+            Ok(()) => {}
+            Err(error) => return Err(error),
+        }
+    }
+    Ok(())
+}
+
+// The accesses, and then what is seen of a step of the guest behind them.
+#[inline(always)]
+pub(crate) fn note_turn<S: Shelf, O: Observer>(
+    shelf: &mut S,
+    files: &[RunFile<'_>],
+    outputs: &mut TraceOutputs<'_>,
+    observer: &mut O,
+    guest: &Guest,
+    touches: &[Touched],
+    event: Event,
+) -> Result<(), ShelfError>
+    requires paired { length outputs.old ≡ length files.now }
+    requires begun { AreBegun (waiting_names outputs.old) (S.outside shelf.old) }
+    requires seen { IsTold guest.now.setup.harts event guest.now.config }
+    requires theirs { AreOfHarts guest.now.setup.harts touches.now }
+    requires room { HasRoom O.begins O.given observer.old
+        (touch_records touches.now ++ records_told guest.now.config event) }
+    ensures given { OnOk result ((begun : O) (earlier : List ARecord)
+        → O.given begun observer.old earlier
+        → O.given begun observer.new
+        (earlier ++ (touch_records touches.now ++ records_told guest.now.config event))) }
+    ensures good { OnOk result (All (IsGoodRecord guest.now.setup.harts)
+        (touch_records touches.now ++ records_told guest.now.config event)) }
+    ensures noted { OnOk result
+        ((harts : ℕ) (items : List ARecord) (put : List ℕ) (before : Outside)
+        → AreNoted harts items put files.now outputs.old before (S.outside shelf.old)
+        → AreNoted harts
+        (items ++ (touch_records touches.now ++ records_told guest.now.config event))
+        (put ++ bytes_told guest.now.config event) files.now outputs.new before
+        (S.outside shelf.new)) }
+    ensures cut { IfErr result (λ error. (harts : ℕ) (items : List ARecord) (put : List ℕ)
+        (before : Outside)
+        → AreNoted harts items put files.now outputs.old before (S.outside shelf.old)
+        → AreCutAfter harts
+        (items ++ (touch_records touches.now ++ records_told guest.now.config event))
+        (put ++ bytes_told guest.now.config event) files.now before (S.outside shelf.new) error) }
+    ensures begun { OnOk result (AreBegun (waiting_names outputs.new) (S.outside shelf.new)) }
+    ensures count { length outputs.new ≡ length outputs.old }
+{
+    match note_touches(shelf, files, outputs, observer, touches) {
+        Ok(()) => note_event(shelf, files, outputs, observer, guest, event),
+        Err(error) => Err(error),
+    }
+}
