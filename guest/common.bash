@@ -94,8 +94,8 @@ c_string() {
 }
 
 # FOLDER FLAG ..: compiles the kit for programs with a C library: start.o and the parts, which are taken as they are wanted. The package's
-# archives stand beside them without debug information, and so do empty ones for the names by which a program asks for what is in any case
-# there, as -lpthread.
+# archives stand beside them without debug information and without `system`, which is refused, and so do empty ones for the names by which a
+# program asks for what is in any case there, as -lpthread.
 make_kit() {
     local into=$1 it
     shift
@@ -108,7 +108,7 @@ make_kit() {
         make_part "$it" "$into/parts/$(basename "${it%.*}").o" "$@"
     done
     for it in "$(library_set)/libc.a" "$(library_set)/libm.a" "$(compiler_set)/libgcc.a"; do
-        llvm-objcopy --strip-debug "$it" "$into/${it##*/}"
+        llvm-objcopy --strip-debug --redefine-sym system=predator_no_system "$it" "$into/${it##*/}"
     done
     for it in c m pthread rt atomic gcc; do
         printf '!<arch>\n' >"$into/named/lib$it.a"

@@ -235,7 +235,7 @@ printf 'extern void *const all[];\nint main(int count, char **words) { (void)wor
 builds "all names at run time, linked" "$cc" at_run.o wants.c -o wants.elf
 # (names that the C library has, over others that it hasn't)
 wanted=$(printf '%s\n' $names $(grep -v '^#' "$here/clib/missing.txt" | tr ' ' '\n' | grep -v '^PREDATOR_NO_') |
-    grep -v -x -E 'fopen|freopen|remove|system|tmpfile|mkstemp')
+    grep -v -x -E 'fopen|freopen|remove|tmpfile|mkstemp')
 {
     for it in $wanted; do echo "void $it(void);"; done
     echo 'void *volatile all[] = {'

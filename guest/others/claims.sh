@@ -51,11 +51,11 @@ refused() {
     told "$what" $?
 }
 
-# ran WHAT PROGRAM END LINE [WORD ..]: it ends by exit with this code, or as a deadlock, and puts out a line that has this text. `put` is all
-# that it put out.
+# ran WHAT PROGRAM END LINE [WORD ..]: it ends by exit with this code, or as a deadlock or by its budget, and puts out a line that has this text.
+# `put` is all that it put out.
 ran() {
     local what=$1 elf=$2 end="exit $3" line=$4
-    [ "$3" != deadlock ] || end=deadlock
+    [[ $3 == [0-9]* ]] || end=$3
     shift 4
     : >put
     printf 'quantum = 10\nmemory = 67108864\n%s' "${MORE:-}" >settings
@@ -94,6 +94,32 @@ viewed() {
     printf 'quantum = 10\nmemory = 67108864\n' >settings
     "$predator" view run --settings settings "$@" >said 2>&1
     [ $? = "$wanted" ] && grep -q -F -e "$text" said
+    told "$what" $?
+}
+
+# said WHAT PATTERN: a line of what the last run or refusal said is as the pattern says.
+said() {
+    grep -q -x -E -e "$2" said
+    told "$1" $?
+}
+
+# told_apart WHAT PROGRAM LINE [WORD ..]: without --output, what it puts out goes to standard error, and the report is that of the run before.
+told_apart() {
+    local what=$1 elf=$2 line=$3
+    shift 3
+    sed '/^end$/q' said >report
+    "$predator" run --settings settings "$elf" "$@" 2>said | cmp - report && grep -q -F -e "$line" said
+    told "$what" $?
+}
+
+# missed WHAT PATTERN SITE PROGRAM [WORD ..]: on a line with misses stands an object as the pattern says, whose first call site is as said.
+missed() {
+    local what=$1 object=$2 site=$3 elf=$4
+    shift 4
+    printf 'quantum = 10\nmemory = 67108864\n' >settings
+    "$predator" run --settings settings --trace trace --output put "$elf" "$@" >said 2>&1
+    "$predator" misses trace >misses 2>&1
+    awk -v object="$object" -v site="$site" 'is_it && $1 == "site" && $3 ~ site { found = 1 } { is_it = $0 ~ object } END { exit !found }' misses
     told "$what" $?
 }
 
@@ -186,12 +212,13 @@ claim_cxx() {
 
 # The allocators ask the kit itself for memory, by sbrk or by mmap; `blocks` are large enough for both.
 bash_malloc() {
-    local bash=$fetched/bash words=(-w -include stdint.h -DHAVE_UNISTD_H -DHAVE_STRING_H -DHAVE_STDLIB_H -DHAVE_MMAP -DHAVE_DECL_SBRK=1)
+    local bash=$fetched/bash what=$1 words=(-w -include stdint.h -DHAVE_UNISTD_H -DHAVE_STRING_H -DHAVE_STDLIB_H -DHAVE_MMAP -DHAVE_DECL_SBRK=1)
     # (as its configure would have them)
     words+=(-DSIZEOF_LONG=4 -Du_bits16_t=uint16_t -Du_bits32_t=uint32_t -Dbits64_t=int64_t)
-    built "$1: bash's malloc is built" "$cc" $lines "${words[@]}" -I "$bash/lib/malloc" -I "$bash/include" -I "$bash" \
-        "$here/claims/blocks.c" "$bash/lib/malloc/malloc.c" -o bash_malloc.elf
-    ran "$1: bash's malloc runs" bash_malloc.elf 0 whole
+    shift
+    built "$what: bash's malloc is built" "$cc" $lines "${words[@]}" -I "$bash/lib/malloc" -I "$bash/include" -I "$bash" \
+        "$here/claims/blocks.c" "$bash/lib/malloc/malloc.c" "$@" -o bash_malloc.elf
+    ran "$what: bash's malloc runs" bash_malloc.elf 0 whole
 }
 
 claim_sbrk() {
@@ -205,6 +232,19 @@ claim_sbrk() {
     ! llvm-nm dlmalloc-own.elf | grep -q predator_keeps_sizes
     told "sbrk: dlmalloc as malloc has the kit's place" $?
     bash_malloc sbrk
+}
+
+# How much sbrk has to give: what it usually has, and what a program says.
+claim_break() {
+    local it more=("$here/claims/break.c") dlmalloc
+    dlmalloc=(-DMALLOC=dlmalloc -DREALLOC=dlrealloc -DFREE=dlfree -DUSE_DL_PREFIX -DUSE_LOCKS "$allocators/dlmalloc/src/dlmalloc.c")
+    for it in 4194304 1048576; do
+        [ $it = 4194304 ] || more+=(-DBREAK=$it)
+        built "sbrk of $it bytes: dlmalloc is built" "$cc" $lines -w "$here/claims/blocks.c" "${dlmalloc[@]}" "${more[@]}" -o dlmalloc-break.elf
+        ran "sbrk of $it bytes: dlmalloc" dlmalloc-break.elf 0 "sbrk: $it bytes in all"
+        bash_malloc "sbrk of $it bytes" "${more[@]}"
+        ran "sbrk of $it bytes: bash's malloc" bash_malloc.elf 0 "sbrk: $it bytes in all"
+    done
 }
 
 claim_mmap() {
@@ -231,6 +271,14 @@ liburcu() {
     done
 }
 
+# urcu WHAT STEP_TIME FOLDER PROGRAM WORD ..: a program of liburcu's tests, linked anew with words for the linker.
+urcu() {
+    local what=$1 step=$2 folder=urcu/tests/$3 program=$4
+    shift 4
+    rm -f "$folder/$program"
+    built "$what" env STEP_TIME="$step" make -s -C "$folder" "${tools[@]}" LDFLAGS="$*" "$program"
+}
+
 # munmap of a part of a mapping, which keeps it. (valgrind's program unmaps each page by itself, and expects the place again.)
 claim_munmap() {
     local words=($lines -w "$here/claims/blocks.c" "$here/claims/parts.c" -Wl,--wrap=mmap,--wrap=munmap)
@@ -245,10 +293,38 @@ claim_munmap() {
     ran "munmap: valgrind's map_unmap finds its mapping kept" map_unmap.elf 134 "FAIL i=1: m2="
 }
 
-# The number of blocks that a run makes.
+# The number of blocks that a run makes, and how many of them the report knows as the program has them, where 16 bytes stand before each. (A word
+# for the linker makes the two programs ones that use realloc.)
 claim_blocks() {
-    built "blocks: valgrind's heap is built" "$cc" $lines -O1 -w "$valgrind/perf/heap.c" "$here/claims/many.c" -Wl,--wrap=malloc -o heap.elf
-    MORE="budget = 1000000000" ran "blocks: valgrind's heap gets 2^20" heap.elf 0 "malloc: 1048576 blocks, then none, 0 otherwise"
+    local wrap=-Wl,--wrap=malloc
+    built "blocks: valgrind's heap is built" "$cc" $lines -O1 -w "$valgrind/perf/heap.c" "$here/claims/many.c" $wrap -o heap.elf
+    MORE="budget = 1000000000" ran "blocks: valgrind's heap gets 2^20" heap.elf 0 "malloc: 1048576 blocks, then none"
+    holds "blocks: valgrind's heap gets no other one" "malloc: refused 1951424 times, 0 otherwise" 1
+    liburcu
+    built "blocks: what counts them is built" "$cc" -c $lines "$here/claims/many.c" -o many.o
+    urcu "blocks: liburcu's test_urcu_wfq is built" 10000 benchmark test_urcu_wfq $wrap "$out/many.o"
+    MORE="budget = 1000000000" ran "blocks: liburcu's test_urcu_wfq gets 2^20" urcu/tests/benchmark/test_urcu_wfq 0 \
+        "malloc: 1048576 blocks, then none" -- 0 1 2000
+    holds "blocks: liburcu's test_urcu_wfq gets no other one" " times, 0 otherwise" 1
+    wrap+=,-u,realloc
+    built "fronts: valgrind's heap is built" "$cc" $lines -O1 -w "$valgrind/perf/heap.c" "$here/claims/fronts.c" $wrap -o fronts-heap.elf
+    fronts "fronts: valgrind's heap" fronts-heap.elf
+    built "fronts: what looks at them is built" "$cc" -c $lines "$here/claims/fronts.c" -o fronts.o
+    urcu "fronts: liburcu's test_urcu_wfq is built" 10000 benchmark test_urcu_wfq $wrap "$out/fronts.o"
+    fronts "fronts: liburcu's test_urcu_wfq" urcu/tests/benchmark/test_urcu_wfq -- 0 1 2000
+}
+
+# fronts WHAT PROGRAM [WORD ..]: of two blocks that it puts out the first stands in the report as the program has it, and the second with the 16
+# bytes before it.
+fronts() {
+    local what=$1 elf=$2 it
+    shift 2
+    MORE="budget = 1000000000" ran "$what" "$elf" 0 "malloc: block" "$@"
+    mapfile -t it < <(sed -n 's/^malloc: block at \(0x[0-9a-f]*\), \([0-9]*\) bytes$/\1 \2/p' put)
+    [ ${#it[@]} = 2 ] && grep -q "^object block $(printf '0x%08x %d' ${it[0]}) born" said &&
+        grep -q "^object block $(printf '0x%08x %d' $((${it[1]% *} - 16)) $((${it[1]#* } + 16))) born" said &&
+        ! grep -q "^object block $(printf '0x%08x %d' ${it[1]}) born" said
+    told "$what: 2^19 of its blocks are known as they are" $?
 }
 
 claim_harts() {
@@ -256,10 +332,12 @@ claim_harts() {
     built "harts: kt_for with nine threads is built" "$cc" $lines -DTHREADS=9 -I "$fetched/minimap2" "$fetched/minimap2/kthread.c" \
         "$here/kt_for.c" -o kt_for-9.elf
     ran "harts: kt_for says at once what would help" kt_for-9.elf 0 "$told"
+    said "harts: and so does the line behind its report" "predator: no hart was free for the last thread .*\`harts\` is 8, .*"
     MORE="harts = 16" ran "harts: kt_for with that" kt_for-9.elf 0 ""
     ! grep -q pthread_create put
     told "harts: nothing is told then" $?
     ran "harts: liburcu's qsbr says at once what would help" "$studies/urcu_qsbr.elf" 1 "$told" -- 8 1 1
+    said "harts: and so does the line behind liburcu's report" "predator: no hart was free for the last thread .*\`harts\` is 8, .*"
     MORE="harts = 16" ran "harts: liburcu's qsbr with that" "$studies/urcu_qsbr.elf" 0 "nr_readers   8" -- 8 1 1
 }
 
@@ -271,12 +349,41 @@ claim_clock() {
         "$here/xz.c" "$studies/xz/src/liblzma/.libs/liblzma.a" -o xz-timed.elf
     ran "clock: liblzma comes back in time, again and again" xz-timed.elf 0 "several turns"
     ran "clock: liburcu's benchmark ends by it" "$studies/urcu_qsbr.elf" 0 "testdur    1" -- 2 1 1
+    cp put first
+    ran "clock: liburcu's benchmark once more" "$studies/urcu_qsbr.elf" 0 "" -- 2 1 1
+    cmp put first >said 2>&1
+    told "clock: it counts the same in its second" $?
+    ran "clock: liblzma once more" xz-timed.elf 0 ""
+    cp put first
+    ran "clock: liblzma a third time" xz-timed.elf 0 ""
+    cmp put first >said 2>&1
+    told "clock: it takes as many turns" $?
 }
 
 claim_words() {
     ran "words: liburcu's benchmark" "$studies/urcu_qsbr.elf" 0 "nr_readers   3" -- 3 1 1
     ran "words: Concurrency Kit's test" "$studies/ck_ring.elf" 0 "" -- 3 1 16
     ran "words: Concurrency Kit's test asks for more of them" "$studies/ck_ring.elf" 1 "Usage: validate" -- 3
+    # (the words stand behind the others of explain and of view run too; and in a copy of the file)
+    viewed "words: liburcu's benchmark by view run" 0 "outcome exit 0" "$studies/urcu_qsbr.elf" -- 3 1 1
+    viewed "words: Concurrency Kit's test by view run" 3 "outcome exit 1" "$studies/ck_ring.elf" -- 3
+    explained "words: liburcu's benchmark by explain" "$studies/urcu_qsbr.elf" -- 3 1 1
+    explained "words: Concurrency Kit's test by explain" "$studies/ck_ring.elf" -- 3 1 16
+    built "words: liburcu's benchmark has a copy" "$here/../words.py" "$studies/urcu_qsbr.elf" urcu-words.elf 3 1 1
+    ran "words: that copy" urcu-words.elf 0 "nr_readers   3"
+    built "words: Concurrency Kit's test has a copy" "$here/../words.py" "$studies/ck_ring.elf" ck-words.elf 3
+    ran "words: this copy" ck-words.elf 1 "Usage: validate"
+}
+
+# explained WHAT PROGRAM [WORD ..]: `explain` of the first line of its report with these words has the count that is listed.
+explained() {
+    local what=$1 elf=$2 line
+    shift 2
+    printf 'quantum = 10\nreport = 1\n' >settings
+    mapfile -t line < <("$predator" run --settings settings --output put "$elf" "$@" 2>/dev/null | sed -n '/^line observed/{s///;p;q;}' | tr ' ' '\n' | sed '/^$/d')
+    "$predator" explain --settings settings "$elf" "${line[0]}" "${line[1]}" "${line[3]}" "$@" >said 2>&1
+    grep -q "^line .* count ${line[5]}$" said
+    told "$what" $?
 }
 
 # What reads files is refused where it is called, with the reason; and at run time where the build says so.
@@ -317,6 +424,21 @@ END
     built "refusals: valgrind's pth_cancel_locked for a run" "$cc" $lines "${words[@]}" -DPREDATOR_REFUSE_AT_RUN \
         "$valgrind/drd/tests/pth_cancel_locked.c" -o pth_cancel_locked.elf
     ran "refusals: valgrind's pth_cancel_locked as it runs" pth_cancel_locked.elf 134 "can't be had: a hart can't be ended by another one"
+}
+
+# Addresses of what can't be had, which a program keeps: the linker refuses these. (SQLite keeps those of a system's calls in a table; the two
+# calls that it makes itself are taken out.)
+claim_addresses() {
+    glibc_checks
+    built "addresses: glibc's tst-compat-forwarder-mod is built" "$cc" -c "${glibc_words[@]}" "$glibc/nptl/tst-compat-forwarder-mod.c" -o forwarder.o
+    refused "addresses: of system, in glibc's tst-compat-forwarder" "error: 'system' can't be had: there is one process, and no other" \
+        "$cc" "${glibc_words[@]}" "$glibc/nptl/tst-compat-forwarder.c" forwarder.o glibc.a -o no.elf
+    sed -e 's/return open(zFile, flags, mode);/return -1;/' -e 's/^ *utimes(zLockFile, NULL);//' "$studies/sqlite3/sqlite3.c" >sqlite3.c
+    built "addresses: SQLite is built" "$cc" -c $lines -O0 -w -DSQLITE_THREADSAFE=1 -DSQLITE_OMIT_LOAD_EXTENSION=1 sqlite3.c -o sqlite3.o
+    refused "addresses: of files, in SQLite's table" "error: 'unlink' can't be had: there are no files but an empty stdin, stdout and stderr" \
+        "$cc" $lines -I "$studies/sqlite3" "$here/sqlite.c" sqlite3.o -o no.elf
+    [ "$(grep -c "aSyscall" said)" = 11 ]
+    told "addresses: SQLite's are eleven" $?
 }
 
 # Functions in headers, which nobody calls in one program, and which are refused in another that calls them.
@@ -381,13 +503,18 @@ claim_poll() {
     liburcu
     built "poll: what looks at it is built" "$cc" -c $lines "$here/claims/poll.c" -o poll.o
     built "poll: liburcu's tap is built" make -s -C urcu/tests/utils "${tools[@]}" libtap.a
-    built "poll: liburcu's rcutorture is built" env STEP_TIME=200 make -B -s -C urcu/tests/regression "${tools[@]}" \
-        LDFLAGS="-Wl,--wrap=poll $out/poll.o" rcutorture_urcu_bp
+    urcu "poll: liburcu's rcutorture is built" 200 regression rcutorture_urcu_bp -Wl,--wrap=poll "$out/poll.o"
     ran "poll: liburcu's rcutorture" urcu/tests/regression/rcutorture_urcu_bp 0 "ok 1 - perftest readers: 3" -- 3 perf
     holds "poll: liburcu's rcutorture waits until the time is over" "poll: waited, 0 early" 1
     built "poll: valgrind's badpoll is built" env STEP_TIME=2000 "$cc" $lines -w "$valgrind/memcheck/tests/badpoll.c" poll.o -Wl,--wrap=poll \
         -o badpoll.elf
     ran "poll: valgrind's badpoll waits until the time is over" badpoll.elf 0 "poll: waited, 0 early"
+    built "poll: what takes its time away is built" "$cc" -c $lines -DFOR_EVER "$here/claims/poll.c" -o poll-for_ever.o
+    urcu "poll: liburcu's rcutorture for ever is built" 200 regression rcutorture_urcu_bp -Wl,--wrap=poll "$out/poll-for_ever.o"
+    ran "poll: liburcu's rcutorture for ever" urcu/tests/regression/rcutorture_urcu_bp 134 "poll: no file becomes ready" -- 3 perf
+    built "poll: valgrind's badpoll for ever is built" "$cc" $lines -w "$valgrind/memcheck/tests/badpoll.c" poll-for_ever.o -Wl,--wrap=poll \
+        -o badpoll.elf
+    ran "poll: valgrind's badpoll for ever" badpoll.elf 134 "poll: no file becomes ready"
 }
 
 claim_barriers() {
@@ -469,6 +596,32 @@ claim_bare() {
         built "bare: ${it%%/*}'s ${it##*/} is built" env PICOLIBC=/nowhere "$here/../build.sh" "${it##*/}.elf" "$fetched/$it.c" -- $lines -w
         ran "bare: ${it%%/*}'s ${it##*/}" "${it##*/}.elf" 0 ""
     done
+}
+
+# predator.h alone, without a library: a counter of Concurrency Kit's, and a sum of gnulib's.
+claim_small() {
+    ck
+    built "small: a counter of Concurrency Kit's is built" "$here/../build.sh" small-ck.elf "$here/claims/small.c" -- $lines -w -DCK -I ck/include
+    built "small: a sum of gnulib's is built" "$here/../build.sh" small-gnulib.elf "$here/claims/small.c" "$fetched/gnulib/lib/hash-pjw-bare.c" \
+        -- $lines -w -D_GL_ATTRIBUTE_PURE= -I . -I "$fetched/gnulib/lib"
+    ran "small: the counter" small-ck.elf 5 "counted 2000"
+    ran "small: the sum" small-gnulib.elf 5 "counted 1114"
+    ! llvm-nm small-ck.elf small-gnulib.elf | grep -q -E " (exit|printf|__libc_init_array)$"
+    told "small: neither has a library" $?
+}
+
+# float, double and division of 64 bits, in programs that check what comes out.
+claim_floats() {
+    local it tests=$fetched/gnulib/tests
+    built "floats: valgrind's fbench is built" "$cc" $lines -O1 -w "$valgrind/perf/fbench.c" -lm -o fbench.elf
+    ran "floats: valgrind's fbench" fbench.elf 0 "No errors in results." -- 20
+    for it in modf float strtoull; do
+        built "floats: gnulib's test-$it is built" "$cc" $lines -O1 -w -D_GL_UNUSED= -I . -I "$tests" -idirafter "$fetched/gnulib/lib" \
+            "$tests/test-$it.c" "$tests/randomd.c" -lm -o "test-$it.elf"
+        ran "floats: gnulib's test-$it" "test-$it.elf" 0 ""
+    done
+    llvm-nm test-strtoull.elf | grep -q __udivdi3
+    told "floats: gnulib's test-strtoull divides by a function" $?
 }
 
 # A variable that is put apart, by a word before it: NAME is 256 bytes and more from any other.
@@ -569,6 +722,27 @@ claim_sharing() {
     shown "sharing: it has no such line" ck_pr.h 102 0
 }
 
+# useless QUANTUM PROGRAM: how many useless misses its run has.
+useless() {
+    printf 'quantum = %d\n' "$1" >settings
+    "$predator" run --settings settings --trace trace --output put "$2" >said 2>&1
+    "$predator" misses trace | sed -n 's/^total .* useless //p'
+}
+
+# Turns of one step and of ten: mostly those of one have more useless misses, but not where harts go in step.
+claim_worst() {
+    local it one ten
+    for it in kt_for ck_anderson ck_ring rte_ring-together; do
+        one=$(useless 1 "$studies/$it.elf")
+        ten=$(useless 10 "$studies/$it.elf")
+        case $it in
+            kt_for | ck_anderson) ((one > ten)) ;;
+            *) ((0 < one && one < ten)) ;;
+        esac
+        told "turns: of $it, $one useless misses with one step and $ten with ten" $?
+    done
+}
+
 # A test of sharing by make, as guest/README.md has it; and by ctest, for projects that CMake builds and for kt_for, which it finds.
 claim_checks() {
     local it
@@ -611,6 +785,61 @@ claim_signals() {
             "$tests/test-$it.c" -o "test-$it.elf"
         ran "signals: gnulib's test-$it" "test-$it.elf" 0 ""
     done
+}
+
+# locked WHAT PROGRAM [WORD ..]: of its first mutex, which it puts out and nobody else wants, each call is a read and a write of its word, and for
+# each two calls there are three reads of its kind.
+locked() {
+    local what=$1 elf=$2
+    shift 2
+    ran "$what" "$elf" 0 "mutex: 0x" "$@"
+    "$predator" run --settings settings --trace trace --output put "$elf" "$@" >/dev/null 2>&1
+    python3 - "$here/../../tools" $(sed -n 's/^mutex: \(0x[0-9a-f]*\), \([0-9]*\) times$/\1 \2/p' put) >said 2>&1 <<'END'
+import sys
+sys.path.insert(0, sys.argv[1])
+from traces import accesses
+mutex, times = int(sys.argv[2], 16), int(sys.argv[3])
+with open("trace", "rb") as file:
+    seen = [(addr - mutex, is_write) for _, addr, is_write in accesses(file.read()) if 0 <= addr - mutex < 16]
+counts = [seen.count((at, is_write)) for at in (0, 4) for is_write in (False, True)]
+print(times, counts)
+sys.exit(times == 0 or counts[:3] != [times, times, times // 2 * 3] or len(seen) != sum(counts))
+END
+    told "$what: reads and writes of its mutex" $?
+}
+
+# What a report sees of a mutex that nobody else wants.
+claim_locks() {
+    local wrap=-Wl,--wrap=pthread_mutex_lock,--wrap=pthread_mutex_unlock
+    built "locks: a program of SQLite's is built" env STEP_TIME=10000 "$cc" $lines -I "$studies/sqlite3" "$here/claims/clock.c" \
+        "$studies/sqlite3.o" "$here/claims/locks.c" $wrap -o locks.elf
+    locked "locks: SQLite" locks.elf
+    liburcu
+    built "locks: what counts them is built" "$cc" -c $lines "$here/claims/locks.c" -o locks.o
+    urcu "locks: liburcu's test_urcu_mb is built" 20000 benchmark test_urcu_mb $wrap "$out/locks.o"
+    locked "locks: liburcu" urcu/tests/benchmark/test_urcu_mb -- 0 1 1
+}
+
+# What a program's report says of the kit's blocks, and where its words go.
+claim_listed() {
+    missed "listed: the slots of Concurrency Kit's lock are a block of their size, made by main" "^object block 0x[0-9a-f]+ 448 " "^main$" \
+        "$studies/ck_anderson.elf"
+    missed "listed: what SQLite's own malloc asks for" "^object block " "^sqlite3MemMalloc$" "$studies/sqlite.elf"
+    missed "listed: liburcu's variables of each thread" "^object block " "^thread_locals$" "$studies/urcu_qsbr.elf"
+    built "listed: valgrind's tls_threads is built" "$cc" $lines -w -DHAVE_TLS -I . "$valgrind/helgrind/tests/tls_threads.c" -o tls_threads.elf
+    missed "listed: valgrind's variables of each thread" "^object block " "^thread_locals$" tls_threads.elf
+    ran "output: liburcu's benchmark" "$studies/urcu_qsbr.elf" 0 "nr_readers   3" -- 3 1 1
+    told_apart "output: to standard error, where no file is named" "$studies/urcu_qsbr.elf" "nr_readers   3" -- 3 1 1
+    ran "output: kt_for" "$studies/kt_for.elf" 0 ""
+    told_apart "output: of kt_for" "$studies/kt_for.elf" "$(head -n 1 put)"
+}
+
+# A run that is longer than its budget.
+claim_budget() {
+    MORE="budget = 100000" ran "budget: liburcu's benchmark" "$studies/urcu_qsbr.elf" budget "" -- 3 1 1
+    said "budget: so many steps" "steps 100000"
+    MORE="budget = 100000" ran "budget: kt_for" "$studies/kt_for.elf" budget ""
+    said "budget: as many" "steps 100000"
 }
 
 # Waits that nobody ends. (The lock is the caller's own; and the barrier is for ten threads.)
@@ -718,8 +947,9 @@ claim_cmake() {
     told "CMake: zstd's library, by build.sh" $?
 }
 
-(($# > 0)) || set -- bare mmap munmap blocks sbrk free alone places cxx harts processors clock timed words refusals unused threads \
-    barriers cleanup once spin semaphores c11 kinds detached waits poll wide files signals deadlocks ends sharing checks configure cmake
+(($# > 0)) || set -- bare small floats mmap munmap blocks sbrk break free alone places cxx harts processors clock timed words listed \
+    refusals addresses unused threads barriers cleanup once spin semaphores c11 kinds locks detached waits poll wide files signals deadlocks \
+    budget ends sharing worst checks configure cmake
 for claim; do
     if ! declare -F "claim_$claim" >/dev/null; then
         echo "claims.sh: $claim is no claim" >&2

@@ -140,7 +140,10 @@ def block(lines):
 
 def commit():
     words = ["git", "-C", TOP, "describe", "--always", "--dirty", "--abbrev=12"]
-    ran = subprocess.run(words, stdout=subprocess.PIPE, text=True, check=False)
+    try:
+        ran = subprocess.run(words, stdout=subprocess.PIPE, text=True, check=False)
+    except FileNotFoundError:
+        return "unknown"
     return ran.stdout.strip() or "unknown"
 
 

@@ -12,8 +12,10 @@ void *__wrap_malloc(size_t size)
 {
     errno = 0;
     void *block = __real_malloc(size);
-    if (block == NULL)
-        *(errno == ENOMEM ? &refused : &other) += 1;
+    if (block == NULL && errno == ENOMEM && refused++ == 0)
+        printf("malloc: %u blocks, then none\n", blocks);
+    else if (block == NULL)
+        other += errno != ENOMEM;
     else
         *(refused == 0 ? &blocks : &later) += 1;
     return block;
@@ -21,5 +23,5 @@ void *__wrap_malloc(size_t size)
 
 __attribute__((destructor)) static void tell(void)
 {
-    printf("malloc: %u blocks, then %s, %u otherwise\n", blocks, refused > 0 ? "none" : "still some", later + other);
+    printf("malloc: refused %u times, %u otherwise\n", refused, later + other);
 }

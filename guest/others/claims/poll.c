@@ -1,5 +1,5 @@
 // Each `poll` with a time that the program calls, for which the linker takes this one (--wrap): does it come back once the time is over, and
-// not before? How many did stands in a line at the program's end.
+// not before? How many did stands in a line at the program's end. With FOR_EVER it has no time.
 #include <poll.h>
 #include <stdatomic.h>
 #include <stdio.h>
@@ -19,6 +19,9 @@ static long long nanoseconds(void)
 
 int __wrap_poll(struct pollfd *files, nfds_t count, int time)
 {
+#ifdef FOR_EVER
+    time = -1;
+#endif
     long long end = nanoseconds() + time * 1000000LL;
     int ready = __real_poll(files, count, time);
     if (time > 0)
