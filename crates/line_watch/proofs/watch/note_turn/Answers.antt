@@ -1,6 +1,6 @@
-use Rattle.std.proofs.Common.{◌≡◌, ◌+◌, ◌∙◌, ap, append_assoc, arith, length, map}
+use Rattle.std.proofs.Common.{◌∙◌, ap, append_assoc, map}
 use Rattle.std.proofs.lemmas.Result.{on_ok_weaker}
-use Rattle.guest.specs.SeenTurns.{accesses_in, seen}
+use Rattle.guest.specs.SeenTurns.{seen}
 use Rattle.takings.specs.Kept.{kept_of}
 use Rattle.line_watch.specs.Watched.{sited_at, sited_touch}
 use Rattle.line_watch.proofs.watch.note_turn.Goals as goal
