@@ -18,7 +18,7 @@ use Rattle.guest.specs.declared.turn.Event.TheVariants.{Quiet}
 use Rattle.guest.specs.Configs.{Config, Fits}
 use Rattle.guest.specs.GuestCalls.{RunEvent, quiet, touch, alloc, free, output, ran}
 use Rattle.guest.specs.Turns.{AreTurns, makes_block, turn_of}
-use Rattle.guest.specs.Runs.{Run, ended_run, ending_with, led_by, led_with, rest_with, run_of}
+use Rattle.guest.specs.Runs.{ended_run, ending_with, led_by, led_with, rest_with, run_of}
 use Rattle.guest.specs.Runs.{touch_in, touches_in}
 use Rattle.guest.specs.SeenTurns.{AreOfHarts, AreTouches, CountsOn, HasPassed, IsLedTo, accesses_in}
 use Rattle.guest.specs.SeenTurns.{event_of, seen, seen_among, seen_in, turn_seen}

@@ -9,10 +9,10 @@ ghost use Rattle.guest.specs.Runs.{IsShort, rest_of};
 ghost use Rattle.guest.specs.SeenTurns.{AreOfHarts, ComesTo, Counts, CountsOn, IsLedTo, IsSeen};
 ghost use Rattle.guest.specs.SeenTurns.{IsWithin, begun_with, ending_after, turn_seen};
 
-use crate::{GuestHeap, Touches};
 use crate::configuration::Configuration;
 use crate::setup::{RunSettings, Setup};
 use crate::turn::{Event, Turn};
+use crate::{GuestHeap, Touches};
 use base::{Ending, NoMemory};
 use hart_scheduler::Schedule;
 use program_files::Image;

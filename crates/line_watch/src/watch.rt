@@ -64,11 +64,7 @@ fn note_touches(explainer: &mut Explainer, touches: &[Touched]) -> Result<(), No
 }
 
 // Notes accesses, and then what is seen of a step behind them.
-fn note_turn(
-    explainer: &mut Explainer,
-    touches: &[Touched],
-    event: Event,
-) -> Result<(), NoMemory>
+fn note_turn(explainer: &mut Explainer, touches: &[Touched], event: Event) -> Result<(), NoMemory>
     requires { explainer.old.position + length touches.now < 2 ^ 40 }
     ensures noted { OnOk result ((m : Space) (l : Line) (start : ℕ) (u : List Sited)
         → explainer.old ≡ kept_of l start u → explainer.new ≡ kept_of l start

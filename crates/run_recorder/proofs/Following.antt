@@ -1,6 +1,6 @@
 -- A run, as far as it is recorded.
-use Rattle.std.proofs.Common.{◌≡◌, ℕ, ◌≤◌, ◌<◌, ◌+◌, ◌^◌, List, [], ◌∷◌, ◌++◌, length, refl, sym}
-use Rattle.std.proofs.Common.{ap, ◌∙◌, subst, append_assoc, replicate, arith}
+use Rattle.std.proofs.Common.{◌≡◌, ℕ, ◌≤◌, ◌+◌, ◌^◌, List, [], ◌∷◌, ◌++◌, length, refl, sym}
+use Rattle.std.proofs.Common.{ap, ◌∙◌, subst, append_assoc, arith}
 use Rattle.std.specs.List.{All}
 use Rattle.std.proofs.lemmas.List.{append-nil, length-append}
 use Rattle.std.proofs.lemmas.List.Elements.{All-append, All-nil}
@@ -15,16 +15,16 @@ use Rattle.trace_format.specs.declared.record.TraceRecord.{TraceRecord}
 use Rattle.trace_format.specs.declared.record.TraceRecord.TheVariants as records
 use Rattle.trace_format.specs.Rules.{IsGoodRecord, touches_in as touches_among, last_position}
 use Rattle.trace_passes.specs.Rooms.{HasRoom}
-use Rattle.guest.specs.GuestCalls.{RunEvent, quiet, touch, alloc, free, output}
+use Rattle.guest.specs.GuestCalls.{RunEvent}
 use Rattle.guest.specs.Configs.{Config}
 use Rattle.guest.specs.SeenTurns.{accesses_in, seen}
-use Rattle.guest.specs.Runs.{Run, Progress, rest_of, led_by, ended_run, touch_in, touches_in}
+use Rattle.guest.specs.Runs.{Run, Progress, rest_of, ended_run, touch_in, touches_in}
 use Rattle.guest.specs.Runs.{led_with, output_in}
 use Rattle.guest.specs.declared.turn.Event.{Event}
 use Rattle.guest.specs.declared.turn.Event.TheVariants.{Quiet, Touch as Touched, Alloc, Free}
 use Rattle.guest.specs.declared.turn.Event.TheVariants.{Output}
 use Rattle.run_recorder.specs.declared.run_file.RunFile.{RunFile}
-use Rattle.run_recorder.specs.Recorded.{outputs_for, record_in, records_in, records_of}
+use Rattle.run_recorder.specs.Recorded.{outputs_for, records_in, records_of}
 use Rattle.run_recorder.specs.Recording.{AreCutAfter, AreNoted, HasStarted}
 use Rattle.run_recorder.proofs.Events.{cut_whole}
 use Rattle.run_recorder.proofs.Records.{output-append, records-append}

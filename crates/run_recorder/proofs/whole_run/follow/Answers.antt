@@ -1,10 +1,10 @@
-use Rattle.std.proofs.Common.{◌≡◌, ◌<◌, ◌≤◌, ◌+◌, ◌^◌, ◌∙◌, ◌++◌, ℕ, List, length, ap}
+use Rattle.std.proofs.Common.{◌≡◌, ◌+◌, ◌∙◌, ◌++◌, ℕ, List, length, ap}
 use Rattle.std.proofs.Common.{arith, refl, subst, sym}
 use Rattle.std.specs.List.{All}
 use Rattle.base.specs.declared.ending.Ending.{Ending}
 use Rattle.guest.specs.GuestCalls.{RunEvent}
 use Rattle.guest.specs.SeenTurns.{IsWithin, accesses_in, seen}
-use Rattle.guest.specs.Runs.{ended_run, ending_with, led_by, output_in, rest_of, touches_in}
+use Rattle.guest.specs.Runs.{ended_run, ending_with, output_in, rest_of}
 use Rattle.guest.specs.declared.setup.Setup.{Setup}
 use Rattle.shelf.specs.declared.shelf.ShelfError.TheVariants.{NoMemory}
 use Rattle.shelf.specs.Laws.Files.{IsOutputs-cut}

@@ -1,5 +1,4 @@
 use Rattle.std.proofs.Common.{◌∙◌, arith}
-use Rattle.rv32_hart.specs.Effect.{machine}
 use Rattle.guest.specs.ConfigInside.{config_of}
 use Rattle.guest.proofs.GoingAhead.{few_put, gone_none, gone_own}
 use Rattle.guest.proofs.configuration.Configuration.go_own.Goals as goal
