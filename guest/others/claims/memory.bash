@@ -45,6 +45,10 @@ claim_mmap() {
     bash_malloc mmap
     liburcu
     ran "mmap: liburcu's bp runs" urcu/tests/benchmark/test_urcu_bp 0 "SUMMARY" -- 4 1 1
+    missed "mmap: liburcu's mapping is a block" "^object block 0x[0-9a-f]+ 4096 " "^urcu_bp_register$" urcu/tests/benchmark/test_urcu_bp -- 4 1 1
+    built "mmap: mimalloc in seven threads is built" "$cc" $lines -w -DNDEBUG -DMALLOC=mi_malloc -DFREE=mi_free -I "$here/.." \
+        -I "$allocators/mimalloc/include" "$here/../allocators/workload.c" "$allocators/mimalloc/src/static.c" -o mimalloc-threads.elf
+    missed "mmap: mimalloc's mapping is a block" "^object block 0x[0-9a-f]+ 4194304 " "^mi_os_mem_alloc$" mimalloc-threads.elf
 }
 
 # munmap of a part of a mapping, which keeps it. (valgrind's program unmaps each page by itself, and expects the place again.)
@@ -175,4 +179,12 @@ claim_free() {
         built "free: valgrind's $it is built" "$cc" $lines -O0 -w "$valgrind/memcheck/tests/$it.c" -o "$it.elf"
         ran "free: valgrind's $it ends" "$it.elf" 134 "$no"
     done
+    # (addresses that are no multiple of 4, and lie outside of memory or in it)
+    built "free: valgrind's badfree is built" "$cc" $lines -O0 -w "$valgrind/memcheck/tests/badfree.c" -o badfree.elf
+    viewed "free: valgrind's badfree is stopped by a trap" 3 "outcome trap hart 0" --fail-above 1000000 badfree.elf
+    liburcu
+    built "free: what leads astray is built" "$cc" -c $lines "$here/claims/astray.c" -o astray.o
+    urcu "free: liburcu's test_urcu_wfq is built" 10000 benchmark test_urcu_wfq -Wl,--wrap=free "$out/astray.o"
+    viewed "free: liburcu's test_urcu_wfq is stopped by a trap" 3 "outcome trap hart 0" --fail-above 1000000 \
+        urcu/tests/benchmark/test_urcu_wfq -- 0 1 1
 }
