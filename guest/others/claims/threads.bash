@@ -177,8 +177,8 @@ claim_signals() {
     done
 }
 
-# locked WHAT PROGRAM [WORD ..]: of its first mutex, which it puts out and nobody else wants, each call is a read and a write of its word, and for
-# each two calls there are three reads of its kind.
+# locked WHAT PROGRAM [WORD ..]: of its first mutex, which it puts out and nobody else wants, a call that locks is a read and a write of its word, one
+# that releases a write, and for each two calls there are three reads of its kind.
 locked() {
     local what=$1 elf=$2
     shift 2
@@ -193,7 +193,7 @@ with open("trace", "rb") as file:
     seen = [(addr - mutex, is_write) for _, addr, is_write in accesses(file.read()) if 0 <= addr - mutex < 16]
 counts = [seen.count((at, is_write)) for at in (0, 4) for is_write in (False, True)]
 print(times, counts)
-sys.exit(times == 0 or counts[:3] != [times, times, times // 2 * 3] or len(seen) != sum(counts))
+sys.exit(times == 0 or counts[:3] != [times // 2, times, times // 2 * 3] or len(seen) != sum(counts))
 END
     told "$what: reads and writes of its mutex" $?
 }
