@@ -109,6 +109,43 @@ fn follow(
     }
 }
 
+// The same, with room for what the guest puts by.
+fn watch_all(
+    alloc: Global,
+    guest: &mut Guest,
+    explainer: &mut Explainer,
+) -> Result<Ending, NoMemory>
+    requires budget { guest.old.setup.budget ≤ 2 ^ 36 }
+    requires fresh { explainer.old.position ≡ 0 }
+    ensures ending { IfOk result (λ ending. ending ≡ (rest_of guest.old).ending) }
+    ensures noted { OnOk result ((l : Line) (start : ℕ) → explainer.old ≡ kept_of l start []
+        → explainer.new ≡ kept_of l start (sited_run (rest_of guest.old))) }
+{
+    let mut touches = Touches::new(alloc)?;
+    follow(guest, explainer, &mut touches)
+}
+
+// Runs a guest to its end, and tells what is noted of it. (It owns neither: a function that owns
+// both and may fail twice takes minutes to prove.)
+fn tell(
+    alloc: Global,
+    guest: &mut Guest,
+    explainer: &mut Explainer,
+    objects: &ObjectTable,
+) -> Result<Explained, NoMemory>
+    requires budget { guest.old.setup.budget ≤ 2 ^ 36 }
+    requires fresh { explainer.old.position ≡ 0 }
+    ensures ending { IfOk result (λ explained. explained.ending ≡ (rest_of guest.old).ending) }
+    ensures text { IfOk result (λ explained. (l : Line) (start : ℕ)
+        → explainer.old ≡ kept_of l start [] → explained.text.items
+        ≡ explain_text (rest_of guest.old).ending objects.now.symbols l start
+        (sited_run (rest_of guest.old))) }
+{
+    let ending = watch_all(alloc, guest, explainer)?;
+    let text = write_explain(alloc, &ending, objects, explainer)?;
+    Ok(Explained { ending, text })
+}
+
 /// Runs a guest to its end, and tells of the takings of a line above a start, with the functions of
 /// a program. The guest has a budget of at most 2^36.
 ///
@@ -127,8 +164,5 @@ pub fn explain_run(
         (sited_run (rest_of guest))) }
 {
     let mut explainer = Explainer::new(alloc, line, start);
-    let mut touches = Touches::new(alloc)?;
-    let ending = follow(&mut guest, &mut explainer, &mut touches)?;
-    let text = write_explain(alloc, &ending, objects, &explainer)?;
-    Ok(Explained { ending, text })
+    tell(alloc, &mut guest, &mut explainer, objects)
 }
