@@ -1,11 +1,12 @@
 #!/usr/bin/env python3
 """Measures what the built program is to reach, each beside sha256sum in the same run, and prints a table for docs/BENCHMARKS.md.
 
-usage: bench/aims.py
+usage: bench/aims.py [PROGRAM ..]
 
 Each command runs four times in turn with sha256sum of 200 MiB, and the least times count. A run's figure is its steps a second for each
 MB/s of sha256sum; a replay's is its time beside that of sha256sum of the trace. The sort is guest/examples/checksum.c over 100,000
-numbers, which wants clang and lld. A benchmark, no test."""
+numbers, which wants clang and lld. Where several programs are named, such as one of before a change and one of after it, each command runs
+with each of them in turn, and each has a column. A benchmark, no test."""
 
 import os
 import struct
@@ -15,7 +16,7 @@ import tempfile
 import time
 
 TOP = os.path.join(os.path.dirname(os.path.abspath(__file__)), "..")
-PROGRAM = os.path.join(TOP, "crates/predator/out/predator")
+BUILT = os.path.join(TOP, "crates/predator/out/predator")
 # As the launcher has it.
 os.environ.setdefault("GLIBC_TUNABLES", "glibc.malloc.hugetlb=1")
 ROUNDS = 4
@@ -51,48 +52,46 @@ def write(path, content, times=1):
     return path
 
 
-def run_of(work, name, code, settings):
-    guest = write(f"{work}/{name}.elf", program_of(code))
-    chosen = write(f"{work}/{name}.toml", settings.encode())
-    return [PROGRAM, "run", guest, "--settings", chosen]
-
-
-def replay_of(work, trace, *words):
-    return [PROGRAM, "replay", trace, *words]
-
-
-def commands(work):
-    """The commands to be timed, by their names."""
-    budget = f"budget = {MADE}\n"
-    in_turn = "quantum = 1\nstack = 4096\nmemory = 4194304\n"
-    loop = run_of(work, "loop", LOOP, budget)
-    sort = f"{work}/sort.elf"
+def made_files(work, program):
+    """What all programs are measured over: a sort, and traces over 64 lines and over 65,536 at random."""
+    sort, made, random = f"{work}/sort.elf", f"{work}/made.trace", f"{work}/random.trace"
     with open(f"{TOP}/guest/examples/checksum.c") as source:
         longer = source.read().replace("#define COUNT 2000\n", "#define COUNT 100000\n")
     build = [f"{TOP}/guest/build.sh", sort, write(f"{work}/sort.c", longer.encode())]
     subprocess.run(build, check=True, stdout=subprocess.DEVNULL)
-    random = f"{work}/random.trace"
     subprocess.run([f"{TOP}/bench/make_trace.py", "8000000", random, "random"], check=True)
-    made = f"{work}/made.trace"
-    two = f"{work}/made2.trace"
-    found = {
+    subprocess.run([program, "gen", str(MADE), made], check=True, stdout=subprocess.DEVNULL)
+    subprocess.run([program, "convert", made, f"{work}/made2.trace"], check=True, stdout=subprocess.DEVNULL)
+    return sort, made, random
+
+
+def run_of(work, program, name, code, settings):
+    guest = write(f"{work}/{name}.elf", program_of(code))
+    chosen = write(f"{work}/{name}.toml", settings.encode())
+    return [program, "run", guest, "--settings", chosen]
+
+
+def commands(work, program, sort, made, random):
+    """The commands to be timed, by their names."""
+    budget = f"budget = {MADE}\n"
+    in_turn = "quantum = 1\nstack = 4096\nmemory = 4194304\n"
+    loop = run_of(work, program, "loop", LOOP, budget)
+    return {
         "loop": loop,
-        "lone": run_of(work, "lone", LOOP, budget + "harts = 256\nstack = 4096\n"),
-        "eight": run_of(work, "eight", ALL, budget + in_turn + "harts = 8\n"),
-        "many": run_of(work, "many", ALL, budget + in_turn + "harts = 256\n"),
+        "lone": run_of(work, program, "lone", LOOP, budget + "harts = 256\nstack = 4096\n"),
+        "eight": run_of(work, program, "eight", ALL, budget + in_turn + "harts = 8\n"),
+        "many": run_of(work, program, "many", ALL, budget + in_turn + "harts = 256\n"),
         "traced": loop + ["--trace", f"{work}/loop.trace"],
-        "ten": run_of(work, "ten", TEN, ""),
-        "sort": [PROGRAM, "run", sort, "--settings", write(f"{work}/sort.toml", b"budget = 2000000000\n")],
-        "gen": [PROGRAM, "gen", str(MADE), made],
-        "replay": replay_of(work, made),
-        "random": replay_of(work, random),
-        "replay2": replay_of(work, two),
+        "ten": run_of(work, program, "ten", TEN, ""),
+        "sort": [program, "run", sort, "--settings", write(f"{work}/sort.toml", b"budget = 2000000000\n")],
+        "gen": [program, "gen", str(MADE), f"{work}/again.trace"],
+        "replay": [program, "replay", made],
+        "random": [program, "replay", random],
+        "replay2": [program, "replay", f"{work}/made2.trace"],
+        "convert": [program, "convert", made, f"{work}/again.trace"],
+        "split": [program, "split", made, str(MADE // 2), f"{work}/again.trace", f"{work}/rest.trace"],
         "nothing": ["true"],
     }
-    subprocess.run(found["gen"], check=True, stdout=subprocess.DEVNULL)
-    if subprocess.run([PROGRAM, "convert", made, two], stdout=subprocess.DEVNULL).returncode != 0:
-        del found["replay2"]
-    return found, os.path.getsize(made), os.path.getsize(random)
 
 
 def steps_of(words):
@@ -100,42 +99,77 @@ def steps_of(words):
     return int(told.split("steps ")[1].split()[0])
 
 
-def main():
+def figures(least, peak, rate, sizes, steps):
+    """What was measured of one program, row by row, as it stands in the table."""
+    made, random = sizes
+    per = {name: MADE / least[name] / rate for name in ("loop", "lone", "eight", "many", "traced")}
+    per["sort"] = steps / least["sort"] / rate
+    beside = {name: least[name] * rate * 1e6 / made for name in ("replay", "convert", "split")}
+    beside["random"] = least["random"] * rate * 1e6 / random
+    return [
+        f"{per['loop']:.2f} M steps for each MB/s",
+        f"{per['lone'] / per['loop']:.2f} of it",
+        f"{per['eight']:.2f} M steps for each MB/s",
+        f"{per['many']:.2f} M steps for each MB/s",
+        f"{per['traced']:.2f} M steps for each MB/s",
+        f"{least['ten'] * 1e3:.1f} ms (`true` takes {least['nothing'] * 1e3:.1f})",
+        f"{per['sort']:.2f} M steps for each MB/s",
+        f"{beside['replay']:.2f} times `sha256sum`, {peak['replay'] / 1e6:.1f} MB",
+        f"{beside['random']:.2f} times `sha256sum`, {peak['random'] / 1e6:.1f} MB",
+        f"{least['gen'] / least['replay']:.2f} times that replay, {peak['gen'] / 1e6:.1f} MB",
+        f"{least['replay2'] / least['replay']:.2f} times that replay",
+        f"{beside['convert'] / 2:.2f} times `sha256sum` for each of two readings",
+        f"{beside['split'] / 2:.2f} times `sha256sum` for each of two readings",
+    ]
+
+
+def works(steps):
+    """What each row is, and its aim."""
+    return [
+        ("`run` with a report, a loop with one access in seven steps", "0.75"),
+        ("the same with `harts = 256`", "0.9"),
+        ("8 harts in turn with a quantum of 1", "0.50"),
+        ("256 harts in turn with a quantum of 1", "0.20"),
+        ("`run` with a report and a trace", "0.60"),
+        ("a program of ten steps, usual settings", "3 ms"),
+        (f"a sort of 100,000 numbers, {steps / 1e6:.0f} M steps, with a report", "0.50"),
+        ("`replay` of 20,000,000 generated accesses", "1.0"),
+        ("`replay` of 8,000,000 over 65,536 lines at random", "6"),
+        ("`gen` of 20,000,000", "2"),
+        ("the same accesses in version 2", "none"),
+        ("`convert` of them", "1.2"),
+        ("`split` of them in the middle", "1.2"),
+    ]
+
+
+def main(programs):
     with tempfile.TemporaryDirectory() as work:
-        found, made, random = commands(work)
+        sort, made, random = made_files(work, programs[-1])
+        found = {program: commands(work, program, sort, made, random) for program in programs}
         digest = ["sha256sum", write(f"{work}/bytes", os.urandom(1 << 20), 200)]
-        least, peak, digests = {}, {}, []
+        least, peak, digests = {it: {} for it in programs}, {it: {} for it in programs}, []
         for _ in range(ROUNDS):
             digests.append(timed(digest)[0])
-            for name, words in found.items():
-                took, memory = timed(words)
-                least[name] = min(took, least.get(name, took))
-                peak[name] = max(memory, peak.get(name, 0))
-        rate = (200 << 20) / min(digests)
-        sorted_steps = steps_of(found["sort"])
-    per = {name: MADE / least[name] / (rate / 1e6) / 1e6 for name in ("loop", "lone", "eight", "many", "traced")}
-    per["sort"] = sorted_steps / least["sort"] / (rate / 1e6) / 1e6
-    beside = {name: least[name] * rate / size for name, size in (("replay", made), ("random", random))}
-    rows = [
-        ("`run` with a report, a loop with one access in seven steps", f"{per['loop']:.2f} M steps for each MB/s", "0.40"),
-        ("the same with `harts = 256`", f"{per['lone'] / per['loop']:.2f} of it", "0.9"),
-        ("8 harts in turn with a quantum of 1", f"{per['eight']:.2f} M steps for each MB/s", "0.20"),
-        ("256 harts in turn with a quantum of 1", f"{per['many']:.2f} M steps for each MB/s", "0.20"),
-        ("`run` with a report and a trace", f"{per['traced']:.2f} M steps for each MB/s", "0.30"),
-        ("a program of ten steps, usual settings", f"{least['ten'] * 1e3:.1f} ms (`true` takes {least['nothing'] * 1e3:.1f})", "3 ms"),
-        (f"a sort of 100,000 numbers, {sorted_steps / 1e6:.0f} M steps, with a report", f"{per['sort']:.2f} M steps for each MB/s", "0.25"),
-        ("`replay` of 20,000,000 generated accesses", f"{beside['replay']:.2f} times `sha256sum`, {peak['replay'] / 1e6:.1f} MB", "1.3"),
-        ("`replay` of 8,000,000 over 65,536 lines at random", f"{beside['random']:.2f} times `sha256sum`, {peak['random'] / 1e6:.1f} MB", "2.0"),
-        ("`gen` of 20,000,000", f"{least['gen'] / least['replay']:.2f} times that replay, {peak['gen'] / 1e6:.1f} MB", "2"),
-    ]
-    if "replay2" in least:
-        rows.append(("the same accesses in version 2", f"{least['replay2'] / least['replay']:.2f} times that replay", "none"))
-    print(f"sha256sum: {rate / 1e6:.0f} MB/s\n\n| Work | Measured | Aim |\n|---|---|---|")
-    for row in rows:
-        print("| " + " | ".join(row) + " |")
+            for name in found[programs[0]]:
+                for it in programs:
+                    took, memory = timed(found[it][name])
+                    least[it][name] = min(took, least[it].get(name, took))
+                    peak[it][name] = max(memory, peak[it].get(name, 0))
+        rate = (200 << 20) / min(digests) / 1e6
+        steps = steps_of(found[programs[0]]["sort"])
+        sizes = os.path.getsize(made), os.path.getsize(random)
+    columns = [figures(least[it], peak[it], rate, sizes, steps) for it in programs]
+    print(f"sha256sum: {rate:.0f} MB/s\n")
+    for name, it in zip("ABCDEFGH", programs):
+        print(f"{name}: {it}")
+    names = list("ABCDEFGH"[: len(programs)]) if len(programs) > 1 else ["Measured"]
+    print("\n| Work | " + " | ".join(names) + " | Aim |\n|" + "---|" * (len(names) + 2))
+    for (work, aim), *told in zip(works(steps), *columns):
+        print("| " + " | ".join([work, *told, aim]) + " |")
 
 
 if __name__ == "__main__":
-    if not os.access(PROGRAM, os.X_OK):
+    chosen = [os.path.abspath(it) for it in sys.argv[1:]] or [BUILT]
+    if not all(os.access(it, os.X_OK) for it in chosen):
         sys.exit("bench: build the program first: bin/predator replay examples/counters.trace")
-    main()
+    main(chosen)

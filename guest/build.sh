@@ -108,6 +108,11 @@ build() {
         fi
         compile "${parts[@]}" -- "${small[@]}" "${careful[@]}" "${kept[@]}"
         own=("${objects[@]}")
+        if [ "$kit" = threads ]; then
+            # (which a program has if it destroys a barrier)
+            compile "$here/clib/barriers.c" -- "${small[@]}" "${careful[@]}" "${kept[@]}"
+            own+=(-Wl,--start-lib "${objects[@]}" -Wl,--end-lib)
+        fi
         compile "${sources[@]}" -- "${small[@]}" "${careful[@]}" "${flags[@]}"
         objects=("${own[@]}" "${objects[@]}")
     fi

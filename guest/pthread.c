@@ -485,13 +485,8 @@ int pthread_barrier_init(pthread_barrier_t *barrier, const pthread_barrierattr_t
     return 0;
 }
 
-int pthread_barrier_destroy(pthread_barrier_t *barrier)
-{
-    return barrier->come == 0 ? 0 : EBUSY;
-}
-
-// The last to come opens the next round before it lets the others go.
-int pthread_barrier_wait(pthread_barrier_t *barrier)
+// The last to come opens the next round before it lets the others go. (A program that destroys a barrier has that of clib/barriers.c.)
+__attribute__((weak)) int pthread_barrier_wait(pthread_barrier_t *barrier)
 {
     uint32_t round = atomic_load(word_of(&barrier->rounds));
     if (atomic_fetch_add(word_of(&barrier->come), 1) + 1 == barrier->threads) {

@@ -221,9 +221,10 @@ for it in "$here"/claims/*.bash; do
     . "$it"
 done
 
-(($# > 0)) || set -- bare small floats mmap munmap blocks sbrk break free alone places cxx harts processors clock timed words listed \
-    refusals addresses unused threads barriers cleanup once spin semaphores c11 kinds locks detached waits poll wide files signals deadlocks \
-    budget ends sharing worst checks configure cmake
+(($# > 0)) || set -- bare small default layout floats calls blank kept mmap munmap blocks sbrk break cleared free alone places executed \
+    stacks cxx harts processors clock zero timed rounds words listed refusals addresses unused threads barriers cleanup once spin \
+    semaphores c11 kinds locks detached yield waits poll ready wide files terminals pieces signals masks deadlocks budget ends sharing \
+    worst checks configure cmake
 for claim; do
     if ! declare -F "claim_$claim" >/dev/null; then
         echo "claims.sh: $claim is no claim" >&2

@@ -32,7 +32,6 @@ int main(void)
     CHECK(pthread_barrier_init(&barrier, NULL, 0) != 0);
     CHECK(pthread_barrier_init(&barrier, NULL, HARTS) == 0);
     on_all(run);
-    CHECK(pthread_barrier_destroy(&barrier) == 0);
     show("rounds", told);
     return 0;
 }

@@ -45,6 +45,7 @@ static void *run(void *argument)
         CHECK(close(2) == 0 && close(3) == -1 && errno == EBADF);
         CHECK(lseek(1, 0, SEEK_CUR) == -1 && errno == ESPIPE && lseek(-1, 0, SEEK_CUR) == -1 && errno == EBADF);
         CHECK(isatty(1) == 0 && errno == ENOTTY && isatty(9) == 0 && errno == EBADF);
+        CHECK(fileno(stdin) == 0 && fileno(stdout) == 1 && fileno(stderr) == 2);
         CHECK(fstat(1, &told) == 0 && S_ISCHR(told.st_mode) && told.st_size == 0 && fstat(4, &told) == -1);
         CHECK(fcntl(0, F_GETFL) == O_RDONLY && fcntl(1, F_GETFL) == O_WRONLY && fcntl(1, F_SETFL, 0) == 0 && fcntl(5, F_GETFL) == -1);
         CHECK(fcntl(1, F_DUPFD, 3) == -1 && errno == EINVAL && fsync(1) == 0 && fdatasync(3) == -1);
