@@ -1,4 +1,4 @@
-# shellcheck shell=bash disable=SC2154,SC2086,SC2206
+# shellcheck shell=bash disable=SC2154,SC2086,SC2206,SC2046,SC2054
 # What it says of threads, signals and the clock (claims.sh sources this).
 
 claim_harts() {
@@ -98,6 +98,14 @@ claim_barriers() {
     glibc barriers sysdeps/pthread/tst-{barrier3,barrier4}
     valgrind barriers helgrind/tests/bar_trivial "x = 2"
     valgrind barriers drd/tests/pth_barrier_thr_cr "Done."
+    # (who is told that a round is over destroys the barrier at once; valgrind's sleeps before that)
+    local more=("$here/claims/ended.c" -Wl,--wrap=pthread_barrier_destroy,--wrap=pthread_create,--wrap=predator_wait)
+    built "barriers: glibc's tst-barrier4, whose barriers end, is built" "$cc" $lines "${glibc_words[@]}" "$glibc/sysdeps/pthread/tst-barrier4.c" \
+        glibc.a "${more[@]}" -o ended.elf
+    MORE="harts = 24" ran "barriers: glibc's tst-barrier4, whose barriers end" ended.elf 0 ""
+    sed 's/^  sleep(1);$//' "$valgrind/drd/tests/pth_barrier_race.c" >pth_barrier_race.c
+    built "barriers: valgrind's pth_barrier_race, whose barrier ends, is built" "$cc" $lines -w pth_barrier_race.c "${more[@]}" -o ended.elf
+    ran "barriers: valgrind's pth_barrier_race, whose barrier ends" ended.elf 0 ""
 }
 
 claim_cleanup() {
