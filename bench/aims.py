@@ -3,7 +3,7 @@
 
 usage: bench/aims.py [PROGRAM ..]
 
-Each command runs four times in turn with sha256sum of 200 MiB, and the least times count. A run's figure is its steps a second for each
+Each command runs eight times in turn with sha256sum of 200 MiB, and the least times count. A run's figure is its steps a second for each
 MB/s of sha256sum; a replay's is its time beside that of sha256sum of the trace. The sort is guest/examples/checksum.c over 100,000
 numbers, which wants clang and lld. Where several programs are named, such as one of before a change and one of after it, each command runs
 with each of them in turn, and each has a column. A benchmark, no test."""
@@ -19,7 +19,7 @@ TOP = os.path.join(os.path.dirname(os.path.abspath(__file__)), "..")
 BUILT = os.path.join(TOP, "crates/predator/out/predator")
 # As the launcher has it.
 os.environ.setdefault("GLIBC_TUNABLES", "glibc.malloc.hugetlb=1")
-ROUNDS = 4
+ROUNDS = 8
 MADE = 20_000_000
 
 # lui t0, 0x10; ten additions; lw t1, 1024(t0); sw t1, 1028(t0); j -48
@@ -40,7 +40,7 @@ def program_of(code):
 def timed(words):
     """Seconds, and the most bytes of memory: not less than those of this script, some 12 MB."""
     begin = time.monotonic()
-    child = subprocess.Popen(words, stdout=subprocess.DEVNULL)
+    child = subprocess.Popen(words, stdout=subprocess.DEVNULL, stderr=subprocess.DEVNULL)
     _, _, usage = os.wait4(child.pid, 0)
     return time.monotonic() - begin, usage.ru_maxrss * 1024
 
@@ -102,8 +102,8 @@ def steps_of(words):
 def figures(least, peak, rate, sizes, steps):
     """What was measured of one program, row by row, as it stands in the table."""
     made, random = sizes
-    per = {name: MADE / least[name] / rate for name in ("loop", "lone", "eight", "many", "traced")}
-    per["sort"] = steps / least["sort"] / rate
+    per = {name: MADE / least[name] / 1e6 / rate for name in ("loop", "lone", "eight", "many", "traced")}
+    per["sort"] = steps / least["sort"] / 1e6 / rate
     beside = {name: least[name] * rate * 1e6 / made for name in ("replay", "convert", "split")}
     beside["random"] = least["random"] * rate * 1e6 / random
     return [
