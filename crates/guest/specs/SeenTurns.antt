@@ -114,6 +114,15 @@ IsEndOf harts Deadlock = Unit {0}
 IsEndOf harts (Trap hart pc cause) = (hart < harts) × (pc < 2 ^ 32) × (pc % 4 ≡ 0)
 IsEndOf harts Part = ⊥
 
+-- a turn is a step that makes an access
+abbrev pub MakesAccess : Turn → Type 0
+MakesAccess (Ran Quiet) = ⊥
+MakesAccess (Ran (Touch a pc)) = Unit {0}
+MakesAccess (Ran (Alloc addr size sites)) = ⊥
+MakesAccess (Ran (Free addr)) = ⊥
+MakesAccess (Ran (Output addr len)) = ⊥
+MakesAccess (Ended o) = ⊥
+
 -- each access is that of one of so many harts
 abbrev pub AreOfHarts : ℕ → List Touched → Type 0
 AreOfHarts harts touches = All (λ t. t.access.hart < harts) touches

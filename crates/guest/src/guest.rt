@@ -1,13 +1,13 @@
 // A guest, and its turns.
 ghost use Rattle.std.specs.Prelude.{◌≡◌, ◌+◌, ◌*◌, ◌<◌, ◌≤◌, ◌↔◌, ◌%◌, [], None, Ok, IfOk};
-ghost use Rattle.std.specs.Prelude.{IsOk, OnErr, IsFalse, IsTrue, IfSome, IsSome};
+ghost use Rattle.std.specs.Prelude.{IsOk, OnErr, IsFalse, IsTrue, IfSome, IsSome, length};
 ghost use Rattle.rv32_hart.specs.Space.{AllMapped, bytes_at};
 ghost use Rattle.guest.specs.LeastPlaces.{heap_over};
 ghost use Rattle.guest.specs.Configs.{first_config};
 ghost use Rattle.guest.specs.Turns.{makes_block, turn_of};
 ghost use Rattle.guest.specs.Runs.{IsShort, rest_of};
 ghost use Rattle.guest.specs.SeenTurns.{AreOfHarts, ComesTo, Counts, CountsOn, IsLedTo, IsSeen};
-ghost use Rattle.guest.specs.SeenTurns.{IsWithin, begun_with, ending_after, turn_seen};
+ghost use Rattle.guest.specs.SeenTurns.{IsWithin, MakesAccess, begun_with, ending_after, turn_seen};
 
 use crate::configuration::Configuration;
 use crate::setup::{RunSettings, Setup};
@@ -178,6 +178,9 @@ impl Guest {
         // made than that
         ensures quiet { result ≡ Ok (Turn.Ran Event.Quiet) → until ≤ self.new.config.steps }
         ensures until { self.old.config.steps < until → self.new.config.steps ≤ until }
+        // an access is answered only where there is no room for it, or where so many are made
+        ensures room { IfOk result (λ turn. MakesAccess turn → self.new.config.steps < until
+            → 256 ≤ length touches.new) }
         // where memory is refused, the run that was left begins with the steps before
         ensures refused { OnErr result
             (IsLedTo (rest_of self.old) touches.new (rest_of self.new)) }

@@ -14,7 +14,8 @@ ghost use Rattle.guest.specs.Turns.{IsNext, chosen, hart_turn, made, makes_block
 ghost use Rattle.guest.specs.Turns.{runnable_in, turn_of};
 ghost use Rattle.guest.specs.ConfigInside.{config_of};
 ghost use Rattle.guest.specs.declared.setup.Setup.{Setup};
-ghost use Rattle.guest.specs.SeenTurns.{AreOfHarts, HasPassed, IsEndOf, IsSeen, turn_seen};
+ghost use Rattle.guest.specs.SeenTurns.{AreOfHarts, HasPassed, IsEndOf, IsSeen, MakesAccess};
+ghost use Rattle.guest.specs.SeenTurns.{turn_seen};
 
 use crate::Touches;
 use crate::configuration::Configuration;
@@ -213,6 +214,8 @@ impl Configuration {
         ensures settled { OnErr result
             (IsTrue (makes_block (turn_of setup.now (config_of self.new)))) }
         ensures paused { result ≡ Ok (Turn.Ran Event.Quiet) → until ≤ self.new.steps }
+        ensures room { IfOk result (λ turn. MakesAccess turn → self.new.steps < until
+            → 256 ≤ length touches.new) }
     {
         'turns: loop {
             let hart = match self.next_hart() {

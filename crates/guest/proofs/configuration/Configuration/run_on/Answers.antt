@@ -13,7 +13,8 @@ use Rattle.guest.proofs.GoingAhead.{passing_ahead}
 use Rattle.guest.proofs.OwnAccesses.{own_below, own_seen}
 use Rattle.guest.proofs.PassedTurns.{passing_on, passing_start, passing_touch, quiet_answer, step_one}
 use Rattle.guest.proofs.PassedTurns.{taken}
-use Rattle.guest.proofs.TurnAnswers.{fits-either, if_ok-map, on_err-map, on_ok-if}
+use Rattle.guest.proofs.TurnAnswers.{fits-either, if_ok-map, no_access_seen, on_err-map}
+use Rattle.guest.proofs.TurnAnswers.{on_ok-if}
 use Rattle.guest.proofs.configuration.Configuration.run_on.Goals as goal
 
 pub turns-init : goal.turns-init
@@ -258,6 +259,11 @@ returns-then-not-is_quiet-clause-fits c =
 pub returns-then-not-is_quiet-clause-seen : goal.returns-then-not-is_quiet-clause-seen
 returns-then-not-is_quiet-clause-seen c =
     if_ok-map c.call-answer.result _ _ (λ turn h. h c.args.setup.now.harts)
+    c.call-answer.ensures.seen
+
+pub returns-then-not-is_quiet-clause-room : goal.returns-then-not-is_quiet-clause-room
+returns-then-not-is_quiet-clause-room c =
+    no_access_seen c.call-answer.result (config_of c.call-answer.new.self) _
     c.call-answer.ensures.seen
 
 pub turns-smaller : goal.turns-smaller
