@@ -296,7 +296,19 @@ fits_chosen h c f = record {
   plan = harts_after (choice (runnable_in c) c.plan) (runnable_in c) c.plan ∙ f.plan;
 }
 
--- after a call that comes behind a step, which keeps the number of reservations
+-- after a step, which keeps the number of reservations
+pub fits_stepped : (h place : ℕ) (c : Config) (new : Registers) (m : Space)
+    (held : List (Option ℕ)) → length held ≡ length c.held → Fits h c
+    → Fits h (record c { states = set c.states place new; memory = m; held = held })
+fits_stepped h place c new m held same f = record {
+  states = length-set c.states place new ∙ f.states;
+  held = same ∙ f.held;
+  phases = f.phases;
+  calls = f.calls;
+  plan = f.plan;
+}
+
+-- after a call that comes behind one
 pub fits_called : (h hart place : ℕ) (s : Setup) (c : Config) (new : Registers) (m : Space)
     (held : List (Option ℕ)) (t : Turn) (d : Config)
     → turn_seen t d ≡ call_turn s hart
@@ -305,11 +317,4 @@ pub fits_called : (h hart place : ℕ) (s : Setup) (c : Config) (new : Registers
     → Fits h c → Fits h d
 fits_called h hart place s c new m held t d e same f =
     fits_seen h hart s (record c { states = set c.states place new; memory = m; held = held }) t d e
-    (record {
-      states = length-set c.states place new ∙ f.states;
-      held = same ∙ f.held;
-      phases =
-          f.phases;
-      calls = f.calls;
-      plan = f.plan;
-    })
+    (fits_stepped h place c new m held same f)

@@ -20,7 +20,8 @@ use Rattle.guest.specs.GuestCalls.{RunEvent, quiet, touch, alloc, free, output, 
 use Rattle.guest.specs.Turns.{AreTurns, makes_block, turn_of}
 use Rattle.guest.specs.Runs.{ended_run, ending_with, led_by, led_with, rest_with, run_of}
 use Rattle.guest.specs.Runs.{touch_in, touches_in}
-use Rattle.guest.specs.SeenTurns.{AreOfHarts, AreTouches, CountsOn, HasPassed, IsLedTo, accesses_in}
+use Rattle.guest.specs.SeenTurns.{AreOfHarts, AreTouches, ComesTo, CountsOn, HasPassed, IsLedTo}
+use Rattle.guest.specs.SeenTurns.{accesses_in}
 use Rattle.guest.specs.SeenTurns.{event_of, seen, seen_among, seen_in, turn_seen}
 use Rattle.guest.proofs.RunSteps.{rest_ran, run_over, run_ran}
 use Rattle.guest.proofs.TurnCounts.{at-most-one, touches-seen}
@@ -305,6 +306,38 @@ pub behind : (s : Setup) (until : ℕ) (c x : Config) (touches : List Touched) (
 behind s until c x touches t d h room turn =
     let counts : Passed s h.events c x = turns_count s h.events c x h.passed room in
     counted-on s until c x touches t d h room (rw turn (turn_one s x counts.room))
+
+-- what was made, and what is known behind it
+pub record Came (s : Setup) (until : ℕ) (c : Config) (touches : List Touched) (t : Turn)
+    (d : Config) : Type 0 where
+  pub before : Config
+  pub passed : HasPassed s until touches c before
+  pub made : turn_seen t d ≡ turn_of s before
+  pub known : Behind s until c d
+  pub counts : CountsOn c touches t d
+
+pub came : (s : Setup) (until : ℕ) (c : Config) (touches : List Touched) (t : Turn) (d : Config)
+    → ((x : Config) × HasPassed s until touches c x × (turn_seen t d ≡ turn_of s x))
+    → c.steps ≤ s.budget → Came s until c touches t d
+came s until c touches t d turn room =
+    let b = behind s until c turn.0 touches t d turn.1 room turn.2 in
+    record {
+      before = turn.0;
+      passed = turn.1;
+      made = turn.2;
+      known = b.0;
+      counts = b.1;
+    }
+
+pub comes_to : (s : Setup) (until : ℕ) (c : Config) (touches : List Touched) (t : Turn)
+    (d : Config) → Came s until c touches t d → ComesTo s c touches t d
+comes_to s until c touches t d x = record {
+  events = x.passed.events;
+  touched = x.passed.touched;
+  before = x.before;
+  passed = x.passed.passed;
+  made = x.made;
+}
 
 pub behind_refused : (s : Setup) (until : ℕ) (c d : Config) (touches : List Touched)
     → HasPassed s until touches c d → c.steps ≤ s.budget
