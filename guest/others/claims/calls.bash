@@ -272,16 +272,18 @@ claim_default() {
 
 # Neither the heap nor a stack can be executed: who begins there is stopped.
 claim_executed() {
-    local it wrap=-Wl,--wrap=pthread_create
+    local it wrap=-Wl,--wrap=pthread_create trap="outcome trap hart 1 pc 0x[0-9a-f]+ fetch-outside,.*"
     liburcu
     for it in HEAP STACK; do
         built "executed: kt_for with threads in the ${it,,} is built" "$cc" $lines -D$it -I "$fetched/minimap2" \
             "$fetched/minimap2/kthread.c" "$here/kt_for.c" "$here/claims/jumps.c" $wrap -o jumps.elf
         viewed "executed: kt_for is stopped in the ${it,,}" 3 "outcome trap hart 1" --fail-above 1000000 jumps.elf
+        said "executed: by a fetch in kt_for" "$trap"
         built "executed: what leads to the ${it,,} is built" "$cc" -c $lines -D$it "$here/claims/jumps.c" -o jumps.o
         urcu "executed: liburcu's test_urcu_bp with threads there is built" 20000 benchmark test_urcu_bp $wrap "$out/jumps.o"
         viewed "executed: liburcu's test_urcu_bp is stopped in the ${it,,}" 3 "outcome trap hart 1" --fail-above 1000000 \
             urcu/tests/benchmark/test_urcu_bp -- 4 1 1
+        said "executed: by a fetch in liburcu's test_urcu_bp" "$trap"
     done
 }
 
