@@ -2,7 +2,7 @@
 _predator() {
     local word=${COMP_WORDS[COMP_CWORD]} before=${COMP_WORDS[COMP_CWORD - 1]} options
     if ((COMP_CWORD == 1)); then
-        mapfile -t COMPREPLY < <(compgen -W "run replay check split gen convert sweep caches place misses explain view campaign native help --help --version" -- "$word")
+        mapfile -t COMPREPLY < <(compgen -W "run replay check split gen convert sweep caches place misses explain view campaign native help --help --version --prove" -- "$word")
         return
     fi
     case ${COMP_WORDS[1]} in
@@ -24,7 +24,7 @@ _predator() {
             return
             ;;
         native)
-            local records="--built --quantum --all --marked --most --trace --table --report --settings --size --shift --mend --help"
+            local records="--built --quantum --all --marked --most --trace --table --report --settings --size --shift --mend --build --help"
             case $word in
                 -*) mapfile -t COMPREPLY < <(compgen -W "$records" -- "$word") ;;
                 *) mapfile -t COMPREPLY < <(compgen -c -f -- "$word") ;;

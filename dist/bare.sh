@@ -1,0 +1,74 @@
+#!/usr/bin/env bash
+# Tries the package on a bare Debian: one made by mmdebstrap that has nothing but the package and what it names, and no kit. An ordinary user
+# gives README's first commands there. An older Debian must say why the program can't run there.
+#
+#     dist/bare.sh [FOLDER]      (keeps the system in FOLDER, and takes it from there the next time)
+#
+# It fetches some 700 MB from a Debian mirror, and ends with 77 where there is none or where it isn't root. The last line is `N passed, M failed`.
+set -u
+top=$(cd "$(dirname "$(readlink -f "$0")")/.." && pwd)
+. "$top/bin/sources.bash"
+skip() { echo "$*"; exit 77; }
+[ "$UID" = 0 ] || skip "only root makes a bare system"
+command -v mmdebstrap >/dev/null || skip "mmdebstrap isn't installed"
+work=$(mktemp -d)
+system=${1:-$work/system}
+trap 'umount "$system/proc" "$work/old/proc" 2>/dev/null; rm -rf "$work"' EXIT
+passed=0 failed=0
+"$top/bin/release" "$work/packages" >/dev/null || skip "there is no package to try"
+
+make() { # FOLDER SUITE
+    mmdebstrap --quiet --variant=minbase "$2" "$1" >"$work/log" 2>&1 || { tail -n 3 "$work/log"; skip "no $2 could be made: is there a mirror?"; }
+}
+inside() { chroot "$system" env -i PATH=/usr/sbin:/usr/bin:/sbin:/bin LANG=C.UTF-8 DEBIAN_FRONTEND=noninteractive "$@"; }
+# A user's call, in the user's own folder.
+call() { inside runuser -u user -- sh -c "cd && $1" >"$work/out" 2>"$work/said" </dev/null; }
+
+# try WHAT STATUS TEXT CALL: the call ends so, and prints or says the text.
+try() {
+    local status
+    call "$4"
+    status=$?
+    if [ "$status" = "$2" ] && cat "$work/out" "$work/said" | grep -q -F -e "$3"; then
+        passed=$((passed + 1))
+    else
+        failed=$((failed + 1))
+        echo "$1: status $status, not $2, or no '$3':"
+        head -n 5 "$work/out" "$work/said"
+    fi
+}
+
+[ -d "$system/usr" ] || make "$system" bookworm
+mount -t proc proc "$system/proc" 2>/dev/null || skip "/proc can't be mounted"
+cp "$work/packages/"*.deb "$system/root/predator.deb"
+{
+    inside apt-get update
+    inside apt-get install -y /root/predator.deb
+    inside apt-get install -y --no-install-recommends clang lld picolibc-riscv64-unknown-elf gcc libc6-dev valgrind libc6-dbg snakemake man-db
+    inside useradd -m user
+} >"$work/log" 2>&1 || { tail -n 5 "$work/log"; skip "the packages couldn't be installed: is there a mirror?"; }
+
+share=/usr/share/predator
+try "the version" 0 "came with the release" "predator --version"
+try "the report" 0 "count 4007" "predator run $share/guest/built/counters.elf"
+try "the view" 0 "counters.c:13 (count) takes the line" "predator view run $share/guest/built/counters.elf"
+try "the picture" 0 "counters" "predator view run $share/guest/built/counters.elf --html page.html && grep -c counters page.html && cat page.html"
+try "a guest's build" 0 "count" "cp $share/guest/examples/counters.c . && $share/guest/build.sh my.elf counters.c && predator run my.elf"
+try "the recorders, before they are built" 126 "predator native --build" "predator native -- /bin/true"
+try "the recorders' build" 0 "built" "predator native --build"
+try "a program of this machine" 0 "counters" "gcc -g -O1 -pthread $share/native/tries/counters.c -o counters && predator native --report r -- ./counters && cat r"
+try "a campaign" 0 "counters" "predator campaign $share/campaign/plans/first.yaml --to first && cat first/*"
+try "the manual page" 0 "find false sharing" "man predator | cat"
+try "the completion" 0 "explain" "bash -c '. /usr/share/bash-completion/completions/predator; COMP_WORDS=(predator ex) COMP_CWORD=1; _predator; echo \${COMPREPLY[@]}'"
+inside "$share/native/build" >"$work/log" 2>&1
+inside apt-get remove -y predator >"$work/log" 2>&1
+try "what removing leaves" 0 "nothing" "find / -xdev -path '*predator*' ! -path '/home/*' ! -path '/var/lib/dpkg/*' ! -path '/root/*' 2>/dev/null | grep . || echo nothing"
+
+make "$work/old" bullseye
+cp "$work/packages/"*.tar.gz "$work/old/tmp/predator.tar.gz"
+system=$work/old
+inside useradd -m user >/dev/null 2>&1
+try "an older C library" 126 "needs version 2.34 or later of the GNU C library" \
+    "tar -xzf /tmp/predator.tar.gz && predator-*/bin/predator run predator-*/share/predator/guest/built/counters.elf"
+echo "$passed passed, $failed failed"
+[ "$failed" = 0 ]
