@@ -1,8 +1,11 @@
 # Completion of the words of predator, for bash.
 _predator() {
     local word=${COMP_WORDS[COMP_CWORD]} before=${COMP_WORDS[COMP_CWORD - 1]} options
+    # commands.toml: names
+    local commands="run replay check split gen convert sweep caches place misses explain view campaign native" own="--help --version --prove"
+    # (so far)
     if ((COMP_CWORD == 1)); then
-        mapfile -t COMPREPLY < <(compgen -W "run replay check split gen convert sweep caches place misses explain view campaign native help --help --version --prove" -- "$word")
+        mapfile -t COMPREPLY < <(compgen -W "$commands help $own" -- "$word")
         return
     fi
     case ${COMP_WORDS[1]} in
@@ -32,30 +35,45 @@ _predator() {
             return
             ;;
         help)
-            mapfile -t COMPREPLY < <(compgen -W "run replay check split gen convert sweep caches place misses explain view campaign native" -- "$word")
+            mapfile -t COMPREPLY < <(compgen -W "$commands" -- "$word")
             return
             ;;
+        *) ;;
+    esac
+    case ${COMP_WORDS[1]} in
+    # commands.toml: options
         run) options="--settings --set --schedule --trace --output" ;;
         replay) options="--settings --set --size --shift --save --resume" ;;
         check) options="--settings --set" ;;
+        split) options="" ;;
+        gen) options="" ;;
+        convert) options="" ;;
+        sweep) options="--size" ;;
         caches) options="--size --sets --ways" ;;
+        place) options="--size" ;;
         misses) options="--size --shift" ;;
         explain) options="--settings --set --schedule" ;;
-        split | gen | convert) options="" ;;
-        sweep | place) options="--size" ;;
+    # (so far)
         *) return ;;
     esac
+    local known
     case $before in
-        --size) mapfile -t COMPREPLY < <(compgen -W "4 8 16 32 64 128 256 512 1024" -- "$word") ;;
-        --sets) mapfile -t COMPREPLY < <(compgen -W "1 2 4 8 16 32 64 128 256 512 1024" -- "$word") ;;
-        --shift | --ways | --set) ;;
+    # commands.toml: values
+        --size) known="4 8 16 32 64 128 256 512 1024" ;;
+        --shift) known="" ;;
+        --sets) known="1 2 4 8 16 32 64 128 256 512 1024" ;;
+        --ways) known="" ;;
+        --set) known= ;;
+    # (so far)
         *)
             if [[ $word == -* ]]; then
                 mapfile -t COMPREPLY < <(compgen -W "$options --help" -- "$word")
             else
                 mapfile -t COMPREPLY < <(compgen -f -- "$word")
             fi
+            return
             ;;
     esac
+    mapfile -t COMPREPLY < <(compgen -W "$known" -- "$word")
 }
 complete -o filenames -F _predator predator

@@ -1,9 +1,6 @@
 #!/usr/bin/env python3
 """Runs the commands of the documents and compares what they print with what stands there: check_docs.py [--renew] [FILE ..].
 
-Without a FILE it also compares the lines of usage in the page of help, the manual page, the completion and docs/FORMATS.md with those
-of the crates, and the exit statuses there with those of the crates and the launcher, which needs no built program; --usage does that alone.
-
 A command is an indented line that begins with `$ `, and what it is to print are the lines of the same block behind it. All commands
 of a document run in one folder, which has what stands at the top of the repository. A command that lacks a tool of this machine
 (named in brackets behind `#`, as `# [valgrind]`; `# [view]` wants the packages of view/) is left out. In the manual page commands stand
@@ -21,14 +18,6 @@ TOP = os.path.abspath(os.path.join(os.path.dirname(os.path.abspath(__file__)), "
 FILES = ["README.md", "docs/GUIDE.md", "docs/VIEW.md", "docs/CAMPAIGNS.md", "guest/README.md", "examples/README.md", "docs/FORMATS.md", "docs/STUDIES.md"]
 BLOCK = "    "
 MANUAL = "docs/predator.1"
-# What the cases print of usage.
-USAGE = "crates/worked_runs/data/usage.txt"
-# The exit status of each way to end.
-NUMBERS = "crates/command_files/specs/Numbers.antt"
-# What the launcher answers, and no crate.
-LAUNCHED = ("predator --", "predator view", "predator campaign", "predator native")
-# Crates whose texts are copies: tests, and cases that are written by hand.
-COPIES = ("_tests", "worked_runs")
 
 
 def run(command, work):
@@ -100,89 +89,14 @@ def check_manual(renew):
     return wrong
 
 
-def usage_of_crates():
-    """The lines of usage, without their heads, as the crates have them."""
-    found = []
-    for crate in sorted(os.listdir(os.path.join(TOP, "crates"))):
-        folder = os.path.join(TOP, "crates", crate, "src")
-        for name in sorted(os.listdir(folder)) if os.path.isdir(folder) and not crate.endswith(COPIES) else ():
-            for text in re.findall(r'"(?:[^"\\]|\\.)*"', read(f"crates/{crate}/src/{name}")):
-                found += re.findall(r"usage: (predator [a-z]+ [^\\\"]+)", text)
-    return found
-
-
-def usage_of_manual():
-    synopsis = re.search(r"^\.SH SYNOPSIS\n(.*?)^\.SH", read(MANUAL), re.MULTILINE | re.DOTALL)[1]
-    lines = re.sub(r"^\.(?:B|I|RB|IR) ", "", synopsis.replace("\\-", "-"), flags=re.MULTILINE).replace("[ ", "[").replace(" ]", "]")
-    return [" ".join(it.split()) for it in lines.split(".br\n")]
-
-
-def usage_of_completion():
-    """What completes, as (command, options), and the words that may stand first."""
-    text = read("bin/predator.bash")
-    first = re.search(r'compgen -W "([^"]*)"', text)[1].split()
-    arms = re.findall(r'^\s+([a-z |]+)\) options="([^"]*)"', text, re.MULTILINE)
-    return first, {name: options.split() for names, options in arms for name in names.split(" | ")}
-
-
-def check_usage():
-    """Whether each place that tells how commands are called tells the same."""
-    wanted, wrong = usage_of_crates(), 0
-    places = {
-        "bin/help.txt": re.findall(r"^  (predator [a-z]+ .*)$", read("bin/help.txt"), re.MULTILINE),
-        MANUAL: [it for it in usage_of_manual() if not it.startswith(LAUNCHED)],
-        "docs/FORMATS.md": re.findall(r"^    (predator [a-z]+ [A-Z].*)$", read("docs/FORMATS.md"), re.MULTILINE),
-    }
-    if os.path.exists(os.path.join(TOP, USAGE)):
-        places[USAGE] = re.findall(r"^usage: (.*)$", read(USAGE), re.MULTILINE)
-    for name, lines in places.items():
-        if sorted(lines) != sorted(wanted):
-            wrong += 1
-            print(f"{name}: the lines of usage are other ones than in the crates:", *sorted({*lines} ^ {*wanted}), sep="\n  ")
-    first, options = usage_of_completion()
-    # `--set` stands beside `--settings` in no line of usage.
-    commands = {it.split()[1]: re.findall(r"--[a-z]+", it.replace("[--settings F]", "[--settings F] [--set KEY=N]")) for it in wanted}
-    if options != commands or not {*commands} <= {*first}:
-        wrong += 1
-        print("bin/predator.bash: it completes", first, options)
-    print(f"usage: {len(wanted)} lines, {wrong} places wrong")
-    return wrong + (not wanted)
-
-
-def numbers_in(name, first, last, form):
-    """The numbers that fit a form, in the part of a file between two texts, each of which begins a line."""
-    part = re.search(rf"^{first}\n(.*?)^{last}", read(name), re.MULTILINE | re.DOTALL)[1]
-    return re.findall(r"\d+", " ".join(re.findall(form, part, re.MULTILINE)))
-
-
-def check_statuses():
-    """Whether each place that lists the exit statuses has those of the program and of its launcher, once each."""
-    wanted = re.findall(r"^number_of .* = (\d+)$", read(NUMBERS), re.MULTILINE)
-    wanted += {*re.findall(r"\bexit (12[67])\b", read("bin/predator"))}
-    places = {
-        "bin/help.txt": ("Exit status:", "$", r"^  (\d+) "),
-        MANUAL: (r"\.SH EXIT STATUS", r"\.SH", r"^\.TP\n\.BR? (.*)$"),
-        "docs/FORMATS.md": (r"\| Exit status [^\n]*", "$", r"^\| ([\d, ]+) \|"),
-    }
-    wrong = 0
-    for name, part in places.items():
-        found = numbers_in(name, *part)
-        if sorted(found) != sorted(wanted):
-            wrong += 1
-            print(f"{name}: it lists the exit statuses", *found, "and not", *sorted(wanted, key=int))
-    print(f"statuses: {len(wanted)}, {wrong} places wrong")
-    return wrong
-
-
 def main(words):
     if "--help" in words or "-h" in words:
         print(__doc__)
         return 0
     names = [it for it in words if not it.startswith("--")]
-    wrong, renew = 0 if names else check_usage() + check_statuses(), "--renew" in words
-    if "--usage" not in words:
-        wrong += 0 if names else check_manual(renew)
-        wrong += sum(check(it, renew) for it in names or [it for it in FILES if os.path.exists(os.path.join(TOP, it))])
+    renew = "--renew" in words
+    wrong = 0 if names else check_manual(renew)
+    wrong += sum(check(it, renew) for it in names or [it for it in FILES if os.path.exists(os.path.join(TOP, it))])
     return 1 if wrong else 0
 
 

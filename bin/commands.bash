@@ -1,0 +1,7 @@
+# What the launcher knows of the program's commands.
+
+# How many words stand before those of a PROGRAM's own `main`, and which options name files that are written.
+# commands.toml: words
+declare -A names_before=([run]=1 [explain]=4)
+written_options=(--trace --output --save)
+# (so far)

@@ -1,0 +1,299 @@
+#!/usr/bin/env python3
+"""Writes what documents and scripts repeat of commands.toml, and compares both with the program.
+
+usage: tools/commands.py [--renew | --calls FILE]
+
+Without a word it says which places differ from commands.toml, and where commands.toml differs from the crates: in the lines of usage and the exit
+statuses, and with the built program (PREDATOR_PROGRAM, or what bin/predator runs) in the ranges of the settings. --renew writes the places anew.
+--calls TRACE, or PROGRAM, prints a call of each command that reads such a file, with IT in its place, for tries."""
+
+import os
+import re
+import subprocess
+import sys
+import textwrap
+import tomllib
+from collections.abc import Callable, Iterator
+from typing import Any
+
+TOP = os.path.abspath(os.path.join(os.path.dirname(os.path.abspath(__file__)), ".."))
+WIDTH = 137
+# Where the crates say how the program is called, and which exit statuses it has.
+NUMBERS = "crates/command_files/specs/Numbers.antt"
+USAGE = "crates/worked_runs/data/usage.txt"
+# Crates that repeat lines of usage, to test them.
+COPIES = ("_tests",)
+LAUNCHER = ("--help", "--version", "--prove")
+Row = dict[str, Any]
+
+
+def read(name: str) -> str:
+    with open(os.path.join(TOP, name), encoding="utf-8") as file:
+        return file.read()
+
+
+def known() -> dict[str, list[Row]]:
+    """The tables of commands.toml."""
+    return tomllib.loads(read("commands.toml"))
+
+
+def flat(text: str) -> str:
+    """A text without its ends of lines."""
+    return " ".join(text.split())
+
+
+def plain(text: str) -> str:
+    return re.sub(r"\b_([A-Z]+)_", r"\1", flat(text))
+
+
+def options_of(command: Row) -> list[str]:
+    """The options of a command, with `--set` beside `--settings`, which the line of usage leaves out."""
+    return re.findall(r"--[a-z]+", command["usage"].replace("[--settings F]", "[--settings F] [--set]"))
+
+
+def names_of(command: Row) -> list[str]:
+    """The words of a command that are no options."""
+    return re.findall(r"\S+", re.sub(r"\[?--[a-z]+ [A-Z]+\]?", "", command["usage"]))
+
+
+# The page of help.
+
+
+def column(width: int, name: str, text: str) -> str:
+    lines = textwrap.wrap(text, WIDTH - width - 2, break_long_words=False, break_on_hyphens=False)
+    return f"  {name:{width}}" + ("\n" + " " * (width + 2)).join(lines) + "\n"
+
+
+def help_parts(table: dict[str, list[Row]]) -> dict[str, str]:
+    """The parts of the page of help, by their titles."""
+    usage = "".join(f"  predator {it['name']} {it['usage']}\n" for it in table["command"])
+    return {
+        "Usage": usage + f"  predator {' | '.join(LAUNCHER)}\n",
+        "Commands": "".join(column(9, it["name"], plain(it["does"])) for it in table["command"]),
+        "Beside the program": "".join(column(9, it["name"], plain(it["does"])) for it in table["beside"]),
+        "Options": "".join(column(15, f"{it['name']} {it['value']}", plain(it["does"])) for it in table["option"]),
+        "Exit status": "".join(column(5, str(it["number"]), plain(it["comes"])) for it in table["status"]),
+    }
+
+
+def renew_help(text: str, table: dict[str, list[Row]]) -> str:
+    for title, part in help_parts(table).items():
+        text = re.sub(rf"(?<=^{title}:\n)(?:  .*\n)+", part.replace("\\", r"\\"), text, flags=re.MULTILINE)
+    return text
+
+
+# The manual page.
+
+
+def roff(text: str) -> str:
+    """A text for the manual page, in lines of a modest length."""
+    text = flat(text).replace("\\", "\\e")
+    text = re.sub(r"`([^`]+)`", lambda it: "\\fB" + it[1].replace("-", "\\-") + "\\fP", text)
+    text = re.sub(r"\b_([A-Z]+)_", r"\\fI\1\\fP", text).replace(" --", " \\-\\-")
+    lines = textwrap.wrap(text, 120, break_long_words=False, break_on_hyphens=False)
+    return "\n".join("\\&" + it if it[:1] in ".'" else it for it in lines) + "\n"
+
+
+def sentence(row: Row) -> str:
+    return row["does"] + (". " + row["more"] if "more" in row else ".")
+
+
+def synopsis(command: Row) -> str:
+    found = [f".B predator {command['name']}"]
+    for word in re.findall(r"\[--[a-z]+ [A-Z]+\]|--[a-z]+ [A-Z]+|[A-Z ]+[A-Z](?![a-z])|[A-Z]", command["usage"]):
+        name, _, value = word.strip("[] ").partition(" ")
+        if word.startswith("["):
+            found += [".RB [ " + name.replace("-", "\\-"), f".IR {value} ]"]
+        elif word.startswith("--"):
+            found += [".B " + name.replace("-", "\\-"), f".I {value}"]
+        else:
+            found.append(f".I {word.strip()}")
+    return "\n".join(found)
+
+
+def manual_parts(table: dict[str, list[Row]]) -> dict[str, str]:
+    """The parts of the manual page, by the names of their marks."""
+    own = [f".B predator {it['name']}\n" + roff(it["synopsis"]).rstrip() for it in table["beside"]]
+    own.append(".B predator " + "\n|\n.B ".join(it.replace("-", "\\-") for it in LAUNCHER))
+    options = (".TP\n.BI " + it["name"].replace("-", "\\-") + f' " {it["value"]}"\n' + roff(sentence(it)) for it in table["option"])
+    statuses = (f".TP\n.B {it['number']}\n" + roff(f"{it['comes'][0].upper()}{it['comes'][1:]}. It prints {it['printed']}.") for it in table["status"])
+    keys = ",\n".join(f"`{it['key']}` ({it['is']}: {values(it)}, usually {it['usual']})" for it in table["setting"])
+    return {
+        "synopsis": "\n.br\n".join([*map(synopsis, table["command"]), *own]) + "\n",
+        "commands": "".join(f".TP\n.B {it['name']}\n" + roff(sentence(it)) for it in [*table["command"], *table["beside"]]),
+        "options": "".join(options),
+        "statuses": "".join(statuses),
+        "settings": roff(keys + "."),
+    }
+
+
+# Pages of Markdown.
+
+
+def values(setting: Row) -> str:
+    """Which values a key may have, in words."""
+    if "only" in setting:
+        *first, last = setting["only"]
+        return ", ".join(map(str, first)) + f" or {last}"
+    least = f"`{setting['least']}`" if isinstance(setting["least"], str) else setting["least"]
+    return f"{least} to {setting['greatest']}" + (f", a multiple of {setting['step']}" if "step" in setting else "")
+
+
+def format_parts(table: dict[str, list[Row]]) -> dict[str, str]:
+    """The parts of docs/FORMATS.md, by the names of their marks."""
+    keys = [f"| `{it['key']}`{it.get('also', '')} | {values(it)} | {it['usual']}{it.get('usually', '')} |" for it in table["setting"]]
+    statuses = [f"| {it['number']} | {plain(it['comes'])} | {plain(it['printed'])} |" for it in table["status"]]
+    return {
+        "usage": "".join(f"    predator {it['name']} {it['usage']}\n" for it in table["command"]),
+        "settings": "\n".join(["| Key | Values | Usual |", "|---|---|---|", *keys]) + "\n",
+        "statuses": "\n".join(["| Exit status | Comes where | Printed |", "|---|---|---|", *statuses]) + "\n",
+    }
+
+
+# Scripts.
+
+
+def completion_parts(table: dict[str, list[Row]]) -> dict[str, str]:
+    """The parts of the completion, by the names of their marks."""
+    names = " ".join(it["name"] for it in [*table["command"], *table["beside"]])
+    arms = [f"        {it['name']}) options=\"{' '.join(options_of(it))}\" ;;" for it in table["command"]]
+    complete = [f"        {it['name']}) known=\"{' '.join(map(str, it['values']))}\" ;;" for it in table["option"] if "values" in it]
+    complete += ["        --set) known= ;;"]
+    return {
+        "names": f'    local commands="{names}" own="{" ".join(LAUNCHER)}"\n',
+        "options": "\n".join(arms) + "\n",
+        "values": "\n".join(complete) + "\n",
+    }
+
+
+def launcher_parts(table: dict[str, list[Row]]) -> dict[str, str]:
+    """What the launcher knows, by the name of its mark."""
+    counts = " ".join(f"[{it['name']}]={len(names_of(it))}" for it in table["command"] if it.get("main"))
+    outputs = " ".join(it["name"] for it in table["option"] if it.get("writes"))
+    return {"words": f"declare -A names_before=({counts})\nwritten_options=({outputs})\n"}
+
+
+def marked(begin: str, end: str, parts: Callable[[dict[str, list[Row]]], dict[str, str]]) -> Callable[[str, dict[str, list[Row]]], str]:
+    """Writes parts between two lines each, the first of which has the part's name."""
+
+    def renew(text: str, table: dict[str, list[Row]]) -> str:
+        for name, part in parts(table).items():
+            before, mark, rest = text.partition(begin.format(name) + "\n")
+            if end not in rest:
+                raise SystemExit(f"there is no part '{begin.format(name)}'")
+            text = before + mark + part + rest[rest.index(end) :]
+        return text
+
+    return renew
+
+
+def renew_usage(_: str, table: dict[str, list[Row]]) -> str:
+    return "".join(f"usage: predator {it['name']} {it['usage']}\n" for it in table["command"])
+
+
+PLACES = {
+    "bin/help.txt": renew_help,
+    "docs/predator.1": marked('.\\" commands.toml: {}', '.\\" (so far)', manual_parts),
+    "docs/FORMATS.md": marked("<!-- commands.toml: {} -->", "<!-- (so far) -->", format_parts),
+    "bin/predator.bash": marked("    # commands.toml: {}", "    # (so far)", completion_parts),
+    "bin/commands.bash": marked("# commands.toml: {}", "# (so far)", launcher_parts),
+    USAGE: renew_usage,
+}
+
+
+# What the program says.
+
+
+def usage_of_crates() -> list[str]:
+    """The lines of usage, without their heads, as the crates have them."""
+    found: list[str] = []
+    for crate in sorted(os.listdir(os.path.join(TOP, "crates"))):
+        folder = os.path.join(TOP, "crates", crate, "src")
+        for name in sorted(os.listdir(folder)) if os.path.isdir(folder) and not crate.endswith(COPIES) else ():
+            for text in re.findall(r'"(?:[^"\\]|\\.)*"', read(f"crates/{crate}/src/{name}")):
+                found += re.findall(r"usage: (predator [a-z]+ [^\\\"]+)", text)
+    return found
+
+
+def number(text: int | str) -> int:
+    """A bound, which is a number or spelled as 2^32 - 1."""
+    powers = re.sub(r"(\d+)\^(\d+)", lambda it: str(int(it[1]) ** int(it[2])), str(text))
+    return sum(int(it.replace(" ", "")) for it in re.findall(r"-? ?\d+", powers))
+
+
+def bounds(setting: Row, usual: dict[str, int]) -> Iterator[tuple[int, bool]]:
+    """Values of a key beside its bounds, each with whether it is allowed."""
+    if "only" in setting:
+        for it in setting["only"]:
+            yield from ((it - 1, False), (it, True), (it + 1, False))
+        return
+    least, greatest, step = usual.get(setting["least"], setting["least"]), number(setting["greatest"]), setting.get("step", 1)
+    yield from ((it, True) for it in (least, greatest))
+    yield from ((it, False) for it in (least - step, greatest + step) if it >= 0)
+    if step > 1:
+        yield least + 1, False
+
+
+def check_settings(program: str, table: dict[str, list[Row]]) -> Iterator[str]:
+    """Where the program's ranges are others than those of commands.toml."""
+    usual = {it["key"]: it["usual"] for it in table["setting"]}
+    for setting in table["setting"]:
+        for value, is_allowed in bounds(setting, usual):
+            words = [program, "check", os.path.join(TOP, "guest/built/apart.elf"), "--set", f"{setting['key']}={value}"]
+            ran = subprocess.run(words, capture_output=True, text=True, stdin=subprocess.DEVNULL)
+            if (ran.stdout != f"predator: settings OutOfRange {setting['key']}\n") != is_allowed:
+                yield f"commands.toml: the program {'refuses' if is_allowed else 'takes'} {setting['key']} = {value}"
+
+
+def differences(table: dict[str, list[Row]], program: str | None) -> Iterator[str]:
+    """All places that differ, in words."""
+    for name, renew in PLACES.items():
+        if read(name) != renew(read(name), table):
+            yield f"{name}: it differs from commands.toml; tools/commands.py --renew writes it"
+    usage = [f"predator {it['name']} {it['usage']}" for it in table["command"]]
+    for line in sorted({*usage} ^ {*usage_of_crates()}):
+        yield f"commands.toml and the crates have other lines of usage: {line}"
+    numbers = {int(it) for it in re.findall(r"^number_of .* = (\d+)$", read(NUMBERS), re.MULTILINE)}
+    own = {it["number"] for it in table["status"] if it.get("own") != "launcher"}
+    for it in sorted(numbers ^ own):
+        yield f"commands.toml and the crates have other exit statuses: {it}"
+    options = {it["name"] for it in table["option"]}
+    for command in table["command"]:
+        for it in {*options_of(command)} - options:
+            yield f"commands.toml: {command['name']} has an option {it} that isn't described"
+    if program:
+        yield from check_settings(program, table)
+
+
+def calls(table: dict[str, list[Row]], kind: str) -> list[str]:
+    """A call of each command that reads a file of a kind, with IT in its place."""
+    return [" ".join("IT" if word == kind else word for word in it["call"]) for it in table["command"] if kind in it.get("reads", ())]
+
+
+def main(words: list[str]) -> int:
+    table = known()
+    if words[:1] == ["--calls"] and len(words) == 2:
+        print("\n".join(calls(table, words[1])))
+        return 0
+    if words == ["--renew"]:
+        for name, renew in PLACES.items():
+            text = renew(read(name), table)
+            with open(os.path.join(TOP, name), "w", encoding="utf-8") as file:
+                file.write(text)
+        return 0
+    if words:
+        print(__doc__)
+        return 0 if words == ["--help"] else 1
+    launcher = os.path.join(TOP, "bin/predator")
+    words = [launcher, "check", os.path.join(TOP, "guest/built/apart.elf")]
+    is_there = subprocess.run(words, capture_output=True, env={**os.environ, "PREDATOR_BUILD": "no"}).returncode == 0
+    program = launcher if is_there else None
+    wrong = list(differences(table, program))
+    print(*wrong, sep="\n", end="\n" if wrong else "")
+    also = "" if program else ", and without the program's ranges, since it isn't built"
+    print(f"commands: {len(PLACES)} places and {len(table['command'])} commands, {len(wrong)} differences{also}")
+    return 1 if wrong else 0
+
+
+if __name__ == "__main__":
+    sys.exit(main(sys.argv[1:]))
