@@ -446,26 +446,7 @@ C
     prints "lone variables" "outcome exit 0"
 
     # A hole of 16 bytes low in the heap stays free while blocks that don't fit there are made behind it.
-    cat >hole.c <<'C'
-#include "predator.h"
-static void *shown(void *block)
-{
-    print_number((uintptr_t)block);
-    print("\n");
-    return block;
-}
-int main(void)
-{
-    void *low = shown(predator_alloc(8));
-    shown(predator_alloc(169));
-    predator_free(low);
-    for (int i = 1; i < 4000; i++)
-        shown(predator_alloc(169));
-    shown(predator_alloc(8));
-    return 0;
-}
-C
-    try "a build of a low hole" 0 "$here/build.sh" hole.elf hole.c
+    try "a build of a low hole" 0 "$here/build.sh" hole.elf "$here/tries/hole.c"
     try "where its heap begins" 0 "$predator" check hole.elf
     local heap
     heap=$(sed -n 's/^heap \(0x[0-9a-f]*\) .*/\1/p' out)
