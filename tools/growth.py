@@ -4,9 +4,9 @@ other, and names each call whose cost grew by more than six.
 
 usage: tools/growth.py PROGRAM [--all] [--by WAY] [--times K] [NAME ..]
 
-The traces stand in made_traces.py and the guests in made_guests.py, each with what it is and the commands that it is made for. Words behind
-PROGRAM choose those whose name has one of them, as `symbols` or `guest:`. With --all each one goes through every command that takes it, which
-takes some minutes, and with --times K all are K times as large.
+The traces stand in made_traces.py and the guests in made_guests.py, each with what it is and the commands that it is made for. Words
+behind PROGRAM choose those whose name has one of them, as `symbols` or `guest:`. With --all each one goes through every command that takes
+it, which takes some minutes. With --times K all are K times as large, as far as they may be.
 
 A cost is a number of machine instructions, counted by perf, or where the machine doesn't let it by valgrind (cachegrind); where there is
 neither, it is processor time, the least of three calls, of cases that are four times as large. WAY is perf, valgrind or time, and chooses
@@ -38,8 +38,9 @@ LISTED = "tracking=1,report=1"
 
 
 class Way(NamedTuple):
-    """How a cost is counted: the words before those of a call, where a file takes the place of FILE, and what is read of that file; how many
-    calls are made, of which the least counts, and how many at a time; how large cases are; and below which cost a call does too little."""
+    """How a cost is counted: the words before those of a call, where a file takes the place of FILE, and what is read of that file; how
+    many calls are made, of which the least counts, and how many at a time; how large cases are; and below which cost a call does too
+    little."""
 
     name: str
     words: tuple[str, ...]
@@ -85,8 +86,6 @@ def settings_of(made: Made) -> list[str]:
 
 
 def listed(made: Made) -> list[tuple[str, int]]:
-    if made.lines < 0:
-        return [("line observed", made.lines), ("line shifted", made.lines // 2), ("line doubled", made.lines // 4)]
     return [(f"lines {made.lines}", 1), ("object", made.objects), ("site", made.sites)]
 
 
@@ -97,7 +96,7 @@ def replay(trace: str, made: Made) -> Call:
 def replay_words(trace: str, made: Made) -> Call:
     """Under lines that begin elsewhere."""
     words = ["replay", trace, *settings_of(made), "--size", "64", "--shift", "32"]
-    return Call(words, [("layout 64 32", 1), ("line", -abs(made.lines) // 2)])
+    return Call(words, [("layout 64 32", 1), ("line", -(made.lines // 2))])
 
 
 def replay_save(trace: str, made: Made) -> Call:
@@ -115,7 +114,7 @@ def replay_resume(trace: str, made: Made) -> Call:
 
 
 def misses(trace: str, made: Made) -> Call:
-    return Call(["misses", trace], listed(made) if made.lines >= 0 else [(f"accesses {made.accesses}", 1)])
+    return Call(["misses", trace], [(f"accesses {made.accesses}", 1)] if made.settings else listed(made))
 
 
 def sweep(trace: str, made: Made) -> Call:
@@ -139,9 +138,14 @@ def split(trace: str, made: Made) -> Call:
     return Call(["split", trace, str(half), f"{trace}.first", f"{trace}.second"], [(f"split {half} {made.accesses - half}", 1)])
 
 
+def generate(trace: str, made: Made) -> Call:
+    """As many accesses."""
+    return Call(["gen", str(made.accesses), f"{trace}.made"], [(f"generated {made.accesses}", 1)])
+
+
 OF_TRACES: dict[str, Callable[[str, Made], Call]] = {
     "replay": replay, "replay--size": replay_words, "replay--save": replay_save, "replay--resume": replay_resume, "misses": misses,
-    "sweep": sweep, "caches": caches, "place": place, "convert": convert, "split": split,
+    "sweep": sweep, "caches": caches, "place": place, "convert": convert, "split": split, "gen": generate,
 }
 
 
@@ -197,8 +201,7 @@ class Case:
     """What a call takes, of any size, in files of its own."""
 
     def __init__(self, made: TraceCase | GuestCase, folder: str) -> None:
-        self.made, self.folder = made, folder
-        self.name, self.size = made.name, made.size
+        self.made, self.folder, self.name = made, folder, made.name
         self.lock = threading.Lock()
         self.kept: dict[int, tuple[str, Made | Guest]] = {}
 
@@ -221,7 +224,7 @@ class Case:
     def commands(self, wants_all: bool) -> list[str]:
         if not wants_all:
             return self.made.commands.split()
-        return list(OF_TRACES if isinstance(self.made, TraceCase) else OF_GUESTS)
+        return [it for it in (OF_TRACES if isinstance(self.made, TraceCase) else OF_GUESTS) if it not in self.made.never.split()]
 
 
 # ---- What calls cost.
@@ -309,9 +312,10 @@ class Measures:
         """The cost of a command of next to nothing, under the settings of a case."""
         key = command, made.settings
         if key not in self.nothing:
-            small = TraceCase("nothing", made_traces.symbols_apart, 1, "") if command in OF_TRACES else GuestCase("nothing", made_guests.ends, 1, "")
-            folder = tempfile.mkdtemp(dir=self.folder)
-            case = Case(small._replace(make=lambda n: small.make(n)._replace(settings=made.settings)), folder)
+            make = made_traces.symbols_apart if command in OF_TRACES else made_guests.ends
+            kind = TraceCase if command in OF_TRACES else GuestCase
+            small = kind("nothing", lambda n: make(n)._replace(settings=made.settings), 1, "")
+            case = Case(small, tempfile.mkdtemp(dir=self.folder))
             self.nothing[key] = self.pool.submit(self.of_size, case, command, 1)
         return self.nothing[key]
 
@@ -323,9 +327,10 @@ class Measures:
         """One after the other, as they are there."""
         asked = []
         for case, command in chosen:
-            size = case.size * times
+            size = min(case.made.size * times, case.made.most // 4)
             nothing = self.of_nothing(command, case.of_size(size)[1])
-            asked.append((f"{command}, {case.name}", nothing, *(self.pool.submit(self.of_size, case, command, it) for it in (size, 4 * size))))
+            sizes = [self.pool.submit(self.of_size, case, command, it) for it in (size, 4 * size)]
+            asked.append((f"{command}, {case.name}", nothing, *sizes))
         for what, *costs in asked:
             yield self.row(what, *(it.result() for it in costs))
 
@@ -362,7 +367,7 @@ def main() -> int:
     reader.add_argument("--all", action="store_true")
     reader.add_argument("--by", choices=list(WAYS))
     reader.add_argument("--times", type=int, default=1)
-    words = reader.parse_args()
+    words = reader.parse_intermixed_args()
     program = os.path.abspath(words.program)
     with tempfile.TemporaryDirectory() as folder:
         way = way_of(words.by, program, folder)

@@ -13,9 +13,9 @@ WORKER = CODE + 4
 
 
 class Guest(NamedTuple):
-    """A program, its settings, and its outcome as a report has it; how many lines of what `run`, `explain` and `check` print begin with what,
-    or, where the number is negative, at least how many; a schedule and a file of settings; and the status. `explain` is asked about the line
-    at DATA."""
+    """A program, its settings, and its outcome as a report has it; how many lines of what `run`, `explain` and `check` print begin with
+    what, or, where the number is negative, at least how many; a schedule and a file of settings; and the status. `explain` is asked about
+    the line at DATA."""
 
     program: bytes
     settings: str = ""
@@ -320,9 +320,7 @@ def noted_wide(n: int) -> Guest:
 def stores(n: int) -> Code:
     """So many stores, one behind the other, by two harts."""
     code = Code()
-    code.set("a0", DATA + 4)
-    code.call("spawn", CODE + 4 * 12, "a0")
-    code.set("s3", "a0")
+    code.call("spawn", CODE + 4 * 12, DATA + 4)
     code.set("a0", DATA)
     while len(code.words) < 12:
         code.addi("zero", "zero", 0)
@@ -522,12 +520,15 @@ def strings(n: int) -> Guest:
 
 
 class GuestCase(NamedTuple):
-    """A guest of two sizes, of which this is the lesser one, and the commands that it is made for."""
+    """A guest of two sizes, of which `size` is the lesser one, and the commands that it is made for; the greatest size that it may have;
+    and commands whose text of it is a square."""
 
     name: str
     make: Callable[[int], Guest]
     size: int
     commands: str
+    most: int = 1 << 16
+    never: str = ""
 
 
 CASES = [
@@ -541,7 +542,7 @@ CASES = [
     GuestCase("guest: blocks at one place", one_place, 4096, "run"),
     GuestCase("guest: noted blocks", noted, 2048, "run run--trace"),
     GuestCase("guest: noted blocks at one place", noted_at_one_place, 4096, "run"),
-    GuestCase("guest: noted blocks, more and wider", noted_wide, 1024, "run"),
+    GuestCase("guest: noted blocks, more and wider", noted_wide, 1024, "run", 1 << 13),
     GuestCase("guest: lines", lines, 4096, "run run--trace explain"),
     GuestCase("guest: symbols", symbols, 2048, "run check"),
     GuestCase("guest: functions", functions, 1024, "run"),
@@ -552,21 +553,21 @@ CASES = [
     GuestCase("guest: turns of 256 harts", turns, 8192, "run"),
     GuestCase("guest: drawn turns of 256 harts", drawn_turns, 8192, "run"),
     GuestCase("guest: much output", prints, 8192, "run run--output"),
-    GuestCase("program file: segments", segments, 8192, "check"),
+    GuestCase("program file: segments", segments, 8192, "check", 65535),
     GuestCase("program file: names in one", names_of_one, 4096, "check"),
-    GuestCase("program file: large", large, 1 << 22, "check run"),
-    GuestCase("schedule: two in turn", schedule, 1 << 18, "run"),
-    GuestCase("schedule: harts that can't run", schedule_of_others, 1 << 18, "run"),
-    GuestCase("schedule: empty lines", schedule_of_nothing, 1 << 18, "run"),
-    GuestCase("schedule: refused", schedule_refused, 1 << 18, "run"),
-    GuestCase("settings: comments and blanks", comments, 1 << 14, "check"),
-    GuestCase("settings: keys", keys, 1 << 14, "check"),
-    GuestCase("settings: a long key", long_key, 1 << 14, "check"),
-    GuestCase("settings: tables", tables, 1 << 14, "check"),
-    GuestCase("settings: tables in a table", tables_in_tables, 1 << 14, "check"),
-    GuestCase("settings: arrays of tables", arrays_of_tables, 1 << 14, "check"),
-    GuestCase("settings: dotted keys", dotted, 1 << 14, "check"),
-    GuestCase("settings: a long array", arrays, 1 << 14, "check"),
-    GuestCase("settings: arrays in arrays", arrays_in_arrays, 1 << 14, "check"),
-    GuestCase("settings: a long string", strings, 1 << 14, "check"),
+    GuestCase("program file: large", large, 1 << 22, "check run", 1 << 24),
+    GuestCase("schedule: two in turn", schedule, 1 << 18, "run", 1 << 20),
+    GuestCase("schedule: harts that can't run", schedule_of_others, 1 << 18, "run", 1 << 20),
+    GuestCase("schedule: empty lines", schedule_of_nothing, 1 << 18, "run", 1 << 20),
+    GuestCase("schedule: refused", schedule_refused, 1 << 18, "run", 1 << 20),
+    GuestCase("settings: comments and blanks", comments, 1 << 14, "check", 1 << 16),
+    GuestCase("settings: keys", keys, 1 << 14, "check", 1 << 16),
+    GuestCase("settings: a long key", long_key, 1 << 14, "check", 1 << 16),
+    GuestCase("settings: tables", tables, 1 << 14, "check", 1 << 16),
+    GuestCase("settings: tables in a table", tables_in_tables, 1 << 14, "check", 1 << 16),
+    GuestCase("settings: arrays of tables", arrays_of_tables, 1 << 14, "check", 1 << 16),
+    GuestCase("settings: dotted keys", dotted, 1 << 14, "check", 1 << 16),
+    GuestCase("settings: a long array", arrays, 1 << 14, "check", 1 << 16),
+    GuestCase("settings: arrays in arrays", arrays_in_arrays, 1 << 14, "check", 1 << 16),
+    GuestCase("settings: a long string", strings, 1 << 14, "check", 1 << 16),
 ]

@@ -13,8 +13,8 @@ SITES = (0, 0, 0, 0)
 
 
 class Made(NamedTuple):
-    """A trace: how many harts and accesses it has; how many lines are listed with `tracking` and `report` of 1 and the settings here, or, if
-    that is negative, at least how many; how many lines of objects and of sites stand below them; and a name for `place`."""
+    """A trace: how many harts and accesses it has; how many lines are listed with `tracking` and `report` of 1 and the settings here; how
+    many lines of objects and of sites stand below them; and a name for `place`."""
 
     trace: bytes
     harts: int
@@ -269,7 +269,8 @@ def lines_apart(n: int) -> Made:
 
 
 def borders(n: int) -> Made:
-    """The words at each border are used by two harts, so that shifted and doubled lines are predicted there."""
+    """The words at each border are used by two harts, each line by one: a shifted line is predicted at each border, and a doubled one of
+    each two lines."""
     it = Trace()
     for i in range(n):
         for _ in range(4):
@@ -280,7 +281,7 @@ def borders(n: int) -> Made:
             it.touch(i % 2, LINES + LINE * i)
             it.touch(i % 2, LINES + LINE * i + 60)
             it.touch((i + 1) % 2, LINES + LINE * (i + 1))
-    return it.made(-n, settings="prediction=1")
+    return it.made(n + n // 2, settings="prediction=1")
 
 
 def harts(n: int) -> Made:
@@ -304,12 +305,15 @@ def large_object(n: int) -> Made:
 
 
 class TraceCase(NamedTuple):
-    """A trace of two sizes, of which this is the lesser one, and the commands that it is made for. The others take it with --all."""
+    """A trace of two sizes, of which `size` is the lesser one, and the commands that it is made for; the greatest size that it may have;
+    and commands whose text of it is a square."""
 
     name: str
     make: Callable[[int], Made]
     size: int
     commands: str
+    most: int = 1 << 20
+    never: str = ""
 
 
 OBJECTS = "replay misses"
@@ -330,9 +334,9 @@ CASES = [
     TraceCase("blocks wide", blocks_wide, 2048, OBJECTS),
     TraceCase("blocks under one", blocks_under_one, 2048, OBJECTS),
     TraceCase("blocks at one place", blocks_at_one_place, 2048, f"{SAVED} misses"),
-    TraceCase("blocks dead before", blocks_before, 1024, "replay"),
-    TraceCase("lines", lines, 4096, f"{SAVED} replay--size misses sweep caches convert split"),
-    TraceCase("lines apart", lines_apart, 4096, f"{SAVED} misses sweep caches"),
+    TraceCase("blocks dead before", blocks_before, 1024, "replay", never="misses"),
+    TraceCase("lines", lines, 4096, f"{SAVED} replay--size misses sweep caches convert split gen"),
+    TraceCase("lines apart", lines_apart, 4096, f"{SAVED} misses sweep caches", 60000),
     TraceCase("predictions at each border", borders, 1024, SAVED),
     TraceCase("256 harts on a line", harts, 16384, "replay misses sweep caches"),
     TraceCase("a large object", large_object, 16384, "place replay"),
