@@ -445,6 +445,16 @@ C
     try "lone variables" 0 "$predator" run alone.elf
     prints "lone variables" "outcome exit 0"
 
+    # A hole of 16 bytes low in the heap stays free while blocks that don't fit there are made behind it.
+    try "a build of a low hole" 0 "$here/build.sh" hole.elf "$here/tries/hole.c"
+    try "where its heap begins" 0 "$predator" check hole.elf
+    local heap
+    heap=$(sed -n 's/^heap \(0x[0-9a-f]*\) .*/\1/p' out)
+    try "a low hole" 0 "$predator" run hole.elf --output o
+    prints "a low hole" "outcome exit 0"
+    { echo $((heap)) && seq $((heap + 16)) 176 $((heap + 16 + 176 * 3999)) && echo $((heap)); } >places
+    try "the blocks behind a low hole, and the one in it" 0 cmp o places
+
     # Nine harts of eight; of which one more starts once another one is free; and 257 of 256.
     cat >nine.c <<'C'
 #include "predator.h"

@@ -1,0 +1,387 @@
+#!/usr/bin/env python3
+"""Looks for anything that grows as a square: gives the commands of the program made traces and guests of two sizes, one four times the
+other, and names each call whose cost grew by more than six.
+
+usage: tools/growth.py PROGRAM [--all] [--by WAY] [--times K] [NAME ..]
+
+The traces stand in made_traces.py and the guests in made_guests.py, each with what it is and the commands that it is made for. Words
+behind PROGRAM choose those whose name has one of them, as `symbols` or `guest:`. With --all each one goes through every command that takes
+it, which takes some minutes. With --times K all are K times as large, as far as they may be.
+
+A cost is a number of machine instructions, counted by perf, or where the machine doesn't let it by valgrind (cachegrind); where there is
+neither, it is processor time, the least of three calls, of cases that are four times as large. WAY is perf, valgrind or time, and chooses
+one. What the same call of next to nothing costs is taken off before. What each call printed is compared with what the case is made for:
+a case that isn't what it should be, or does too little to tell, is a fault. The status is 1 where a call is named or a case has a fault."""
+
+import argparse
+import os
+import re
+import shutil
+import signal
+import subprocess
+import sys
+import tempfile
+import threading
+from concurrent.futures import Future, ThreadPoolExecutor
+from typing import Callable, Iterator, NamedTuple
+
+import made_guests
+import made_traces
+from made_guests import DATA, Guest, GuestCase
+from made_traces import Made, TraceCase, rest_of
+
+# The size grows by 4, and a cost by no more than this.
+MOST = 6.0
+# A call may take so many seconds.
+LONGEST = 120
+LISTED = "tracking=1,report=1"
+
+
+class Way(NamedTuple):
+    """How a cost is counted: the words before those of a call, where a file takes the place of FILE, and what is read of that file; how
+    many calls are made, of which the least counts, and how many at a time; how large cases are; and below which cost a call does too
+    little."""
+
+    name: str
+    words: tuple[str, ...]
+    form: str
+    calls: int
+    at_a_time: int
+    times: int
+    least: float
+    unit: str
+
+
+PROCESSORS = len(os.sched_getaffinity(0))
+CACHEGRIND = ("valgrind", "--tool=cachegrind", "--cache-sim=no", "--branch-sim=no", "--cachegrind-out-file=/dev/null", "--log-file=FILE")
+WAYS = {
+    "perf": Way("machine instructions, by perf", ("perf", "stat", "-x,", "-e", "instructions:u", "-o", "FILE", "--"),
+                r"(?m)^(\d+),", 1, PROCESSORS, 1, 2e6, "M"),
+    "valgrind": Way("machine instructions, by valgrind", CACHEGRIND, r"I\s+refs:\s+([\d,]+)", 1, PROCESSORS, 1, 2e6, "M"),
+    "time": Way("processor time, the least of three calls", (), "", 3, 1, 4, 0.04, "s"),
+}
+
+
+class Call(NamedTuple):
+    """A call: its words; how many lines of what it prints begin with what, or, where the number is negative, at least how many; its status;
+    and the words of a call before it."""
+
+    words: list[str]
+    begins: list[tuple[str, int]]
+    status: int = 0
+    before: list[str] = []
+
+
+class Cost(NamedTuple):
+    """What a call cost, if it came to its end, and what is wrong with it."""
+
+    cost: float | None
+    fault: str = ""
+
+
+# ---- The calls of a trace. Each gets the place of the trace and what it is.
+
+def settings_of(made: Made) -> list[str]:
+    return ["--set", ",".join(filter(None, [LISTED, made.settings]))]
+
+
+def listed(made: Made) -> list[tuple[str, int]]:
+    return [(f"lines {made.lines}", 1), ("object", made.objects), ("site", made.sites)]
+
+
+def replay(trace: str, made: Made) -> Call:
+    return Call(["replay", trace, *settings_of(made)], listed(made))
+
+
+def replay_words(trace: str, made: Made) -> Call:
+    """Under lines that begin elsewhere."""
+    words = ["replay", trace, *settings_of(made), "--size", "64", "--shift", "32"]
+    return Call(words, [("layout 64 32", 1), ("line", -(made.lines // 2))])
+
+
+def replay_save(trace: str, made: Made) -> Call:
+    call = replay(trace, made)
+    return call._replace(words=[*call.words, "--save", f"{trace}.saved"])
+
+
+def replay_resume(trace: str, made: Made) -> Call:
+    """Goes on behind the whole trace with one of no access."""
+    with open(f"{trace}.rest", "wb") as file:
+        file.write(rest_of(made))
+    whole = replay(trace, made)
+    words = ["replay", f"{trace}.rest", *settings_of(made), "--resume", f"{trace}.state"]
+    return Call(words, whole.begins, before=[*whole.words, "--save", f"{trace}.state"])
+
+
+def misses(trace: str, made: Made) -> Call:
+    return Call(["misses", trace], [(f"accesses {made.accesses}", 1)] if made.settings else listed(made))
+
+
+def sweep(trace: str, made: Made) -> Call:
+    return Call(["sweep", trace, "--size", "64"], [(f"accesses {made.accesses}", 1), ("shift", 16)])
+
+
+def caches(trace: str, made: Made) -> Call:
+    return Call(["caches", trace, "--size", "64", "--sets", "64", "--ways", "8"], [(f"accesses {made.accesses}", 1)])
+
+
+def place(trace: str, made: Made) -> Call:
+    return Call(["place", trace, made.object], [(f"place {made.object}", 1), ("end", 1)])
+
+
+def convert(trace: str, made: Made) -> Call:
+    return Call(["convert", trace, f"{trace}.other"], [(f"convert 2 {made.accesses}", 1)])
+
+
+def split(trace: str, made: Made) -> Call:
+    half = made.accesses // 2
+    return Call(["split", trace, str(half), f"{trace}.first", f"{trace}.second"], [(f"split {half} {made.accesses - half}", 1)])
+
+
+def generate(trace: str, made: Made) -> Call:
+    """As many accesses."""
+    return Call(["gen", str(made.accesses), f"{trace}.made"], [(f"generated {made.accesses}", 1)])
+
+
+OF_TRACES: dict[str, Callable[[str, Made], Call]] = {
+    "replay": replay, "replay--size": replay_words, "replay--save": replay_save, "replay--resume": replay_resume, "misses": misses,
+    "sweep": sweep, "caches": caches, "place": place, "convert": convert, "split": split, "gen": generate,
+}
+
+
+# ---- The calls of a guest.
+
+def options_of(program: str, guest: Guest) -> list[str]:
+    words = ["--set", guest.settings] if guest.settings else []
+    if guest.file:
+        with open(f"{program}.settings", "wb") as file:
+            file.write(guest.file)
+        words += ["--settings", f"{program}.settings"]
+    return words
+
+
+def run(program: str, guest: Guest) -> Call:
+    words = ["run", program, *options_of(program, guest)]
+    if guest.schedule:
+        with open(f"{program}.schedule", "wb") as file:
+            file.write(guest.schedule)
+        words += ["--schedule", f"{program}.schedule"]
+    ended = [(f"outcome {guest.outcome}", 1)] if guest.status in (0, 10) else []
+    return Call(words, [*ended, *guest.run], guest.status)
+
+
+def run_trace(program: str, guest: Guest) -> Call:
+    call = run(program, guest)
+    return call._replace(words=[*call.words, "--trace", f"{program}.trace"])
+
+
+def run_output(program: str, guest: Guest) -> Call:
+    call = run(program, guest)
+    return call._replace(words=[*call.words, "--output", f"{program}.output"])
+
+
+def explain(program: str, guest: Guest) -> Call:
+    words = ["explain", program, str(DATA), "64", "0", *options_of(program, guest)]
+    return Call(words, [(f"line 0x{DATA:08x}", 1), *guest.explained], guest.status)
+
+
+def check(program: str, guest: Guest) -> Call:
+    ended = [] if guest.status == 4 else [("entry 0x00010000", 1)]
+    return Call(["check", program, *options_of(program, guest)], [*ended, *guest.checked], 4 if guest.status == 4 else 0)
+
+
+OF_GUESTS: dict[str, Callable[[str, Guest], Call]] = {
+    "run": run, "run--trace": run_trace, "run--output": run_output, "explain": explain, "check": check,
+}
+
+
+# ---- The cases.
+
+class Case:
+    """What a call takes, of any size, in files of its own."""
+
+    def __init__(self, made: TraceCase | GuestCase, folder: str) -> None:
+        self.made, self.folder, self.name = made, folder, made.name
+        self.lock = threading.Lock()
+        self.kept: dict[int, tuple[str, Made | Guest]] = {}
+
+    def of_size(self, size: int) -> tuple[str, Made | Guest]:
+        """The place of the file, which is made once, and what it is."""
+        with self.lock:
+            if size not in self.kept:
+                made = self.made.make(size)
+                content = "trace" if isinstance(made, Made) else "program"
+                path = os.path.join(self.folder, f"{re.sub('[^a-z0-9]+', '_', self.name)}.{size}")
+                with open(path, "wb") as file:
+                    file.write(getattr(made, content))
+                self.kept[size] = path, made._replace(**{content: b""})
+            return self.kept[size]
+
+    def call(self, command: str, size: int) -> Call:
+        path, made = self.of_size(size)
+        return (OF_TRACES if isinstance(made, Made) else OF_GUESTS)[command](path, made)
+
+    def commands(self, wants_all: bool) -> list[str]:
+        if not wants_all:
+            return self.made.commands.split()
+        return [it for it in (OF_TRACES if isinstance(self.made, TraceCase) else OF_GUESTS) if it not in self.made.never.split()]
+
+
+# ---- What calls cost.
+
+def lacks(text: str, begins: list[tuple[str, int]]) -> str:
+    """The first of the beginnings of lines of which there are more or fewer than there should be."""
+    found = text.split("\n")
+    for begin, wanted in begins:
+        number = sum(it == begin or it.startswith(begin + " ") for it in found)
+        if number != wanted and not number >= -wanted > 0:
+            return f"{number} lines begin with '{begin[:60]}', and not {abs(wanted)}{' or more' if wanted < 0 else ''}"
+    return ""
+
+
+def spent(words: list[str], out: str) -> tuple[float, int | None]:
+    """The processor time of a call and its status, none where it takes too long. What it prints goes to a file."""
+    with open(out, "wb") as file:
+        child = subprocess.Popen(words, stdin=subprocess.DEVNULL, stdout=file, stderr=subprocess.DEVNULL)
+    killer = threading.Timer(LONGEST, child.kill)
+    killer.start()
+    _, status, usage = os.wait4(child.pid, 0)
+    killer.cancel()
+    child.returncode = os.waitstatus_to_exitcode(status)
+    return usage.ru_utime + usage.ru_stime, None if child.returncode == -signal.SIGKILL else child.returncode
+
+
+def once(way: Way, program: str, call: Call, out: str) -> Cost:
+    """What a call costs, made once."""
+    cost, status = spent([*(it.replace("FILE", f"{out}.count") for it in way.words), program, *call.words], out)
+    if status is None:
+        return Cost(None)
+    with open(out, encoding="latin-1") as file:
+        lack = lacks(file.read(), call.begins)
+    if status != call.status or lack:
+        return Cost(None, lack if status == call.status else f"it ended with {status}, and not {call.status}")
+    if not way.form:
+        return Cost(cost)
+    with open(f"{out}.count", encoding="latin-1") as file:
+        found = re.search(way.form, file.read())
+    return Cost(float(found[1].replace(",", ""))) if found else Cost(None, "its instructions weren't counted")
+
+
+def counted(way: Way, program: str, call: Call, out: str) -> Cost:
+    """What a call costs, the least of as many as the way wants."""
+    if call.before:
+        subprocess.run([program, *call.before], stdin=subprocess.DEVNULL, stdout=subprocess.DEVNULL, stderr=subprocess.DEVNULL, check=False)
+    costs = [once(way, program, call, out)]
+    while costs[-1].cost is not None and len(costs) < way.calls:
+        costs.append(once(way, program, call, out))
+    if costs[-1].cost is None:
+        return costs[-1]
+    return min(costs)
+
+
+def way_of(name: str | None, program: str, folder: str) -> Way:
+    """The way that is wanted, or the first one that works here."""
+    for it in [name] if name else list(WAYS):
+        way = WAYS[it]
+        if not way.words or shutil.which(way.words[0]) and not once(way, program, Call([], [], 1), os.path.join(folder, it)).fault:
+            return way
+    sys.exit(f"growth.py: {name} can't be had here")
+
+
+class Row(NamedTuple):
+    """A command and a case, with what the two sizes cost beyond next to nothing, and what is wrong with it."""
+
+    what: str
+    lesser: float
+    greater: float | None
+    fault: str
+
+    def growth(self) -> float:
+        return float("inf") if self.greater is None else self.greater / max(self.lesser, 1e-9)
+
+
+class Measures:
+    """The costs of cases, each call in a thread of its own."""
+
+    def __init__(self, program: str, way: Way, folder: str) -> None:
+        self.program, self.way, self.folder = program, way, folder
+        self.pool = ThreadPoolExecutor(way.at_a_time)
+        self.nothing: dict[tuple[str, str], Future[Cost]] = {}
+
+    def of_nothing(self, command: str, made: Made | Guest) -> Future[Cost]:
+        """The cost of a command of next to nothing, under the settings of a case."""
+        key = command, made.settings
+        if key not in self.nothing:
+            make = made_traces.symbols_apart if command in OF_TRACES else made_guests.ends
+            kind = TraceCase if command in OF_TRACES else GuestCase
+            small = kind("nothing", lambda n: make(n)._replace(settings=made.settings), 1, "")
+            case = Case(small, tempfile.mkdtemp(dir=self.folder))
+            self.nothing[key] = self.pool.submit(self.of_size, case, command, 1)
+        return self.nothing[key]
+
+    def of_size(self, case: Case, command: str, size: int) -> Cost:
+        out = os.path.join(case.folder, f"{command}.{size}.{re.sub('[^a-z0-9]+', '_', case.name)}.out")
+        return counted(self.way, self.program, case.call(command, size), out)
+
+    def rows(self, chosen: list[tuple[Case, str]], times: int) -> Iterator[Row]:
+        """One after the other, as they are there."""
+        asked = []
+        for case, command in chosen:
+            size = min(case.made.size * times, case.made.most // 4)
+            nothing = self.of_nothing(command, case.of_size(size)[1])
+            sizes = [self.pool.submit(self.of_size, case, command, it) for it in (size, 4 * size)]
+            asked.append((f"{command}, {case.name}", nothing, *sizes))
+        for what, *costs in asked:
+            yield self.row(what, *(it.result() for it in costs))
+
+    def row(self, what: str, nothing: Cost, lesser: Cost, greater: Cost) -> Row:
+        fault = nothing.fault or lesser.fault or greater.fault
+        if fault or nothing.cost is None or lesser.cost is None:
+            return Row(what, 0, None, fault or f"it takes more than {LONGEST} s")
+        if greater.cost is None:
+            return Row(what, lesser.cost - nothing.cost, None, "")
+        if greater.cost - nothing.cost < self.way.least:
+            fault = f"it does too little to tell: {greater.cost - nothing.cost} and {nothing.cost} for next to nothing"
+        return Row(what, lesser.cost - nothing.cost, greater.cost - nothing.cost, fault)
+
+
+def chosen(words: argparse.Namespace, folder: str) -> list[tuple[Case, str]]:
+    cases = [Case(it, folder) for it in [*made_traces.CASES, *made_guests.CASES]]
+    wanted = [it for it in cases if not words.names or any(name in it.name for name in words.names)]
+    return [(case, command) for case in wanted for command in case.commands(words.all)]
+
+
+def shown(row: Row, unit: str) -> str:
+    if row.fault:
+        return f"{row.what}: {row.fault}"
+    by = 1 if unit == "s" else 1e6
+    if row.greater is None:
+        return f"{row.what}: {row.lesser / by:.2f} {unit}, and then more than {LONGEST} s"
+    return f"{row.what}: {row.lesser / by:.2f} and {row.greater / by:.2f} {unit}, {row.growth():.1f} times"
+
+
+def main() -> int:
+    reader = argparse.ArgumentParser(description=__doc__, formatter_class=argparse.RawDescriptionHelpFormatter)
+    reader.add_argument("program")
+    reader.add_argument("names", nargs="*")
+    reader.add_argument("--all", action="store_true")
+    reader.add_argument("--by", choices=list(WAYS))
+    reader.add_argument("--times", type=int, default=1)
+    words = reader.parse_intermixed_args()
+    program = os.path.abspath(words.program)
+    with tempfile.TemporaryDirectory() as folder:
+        way = way_of(words.by, program, folder)
+        named, faults, count = [], [], 0
+        for row in Measures(program, way, folder).rows(chosen(words, folder), words.times * way.times):
+            count += 1
+            print(shown(row, way.unit), flush=True)
+            faults += [row] if row.fault else []
+            named += [row] if not row.fault and row.growth() > MOST else []
+    print(f"{count} calls, by {way.name}: {len(named)} grew by more than {MOST:g} where the size grew by 4, {len(faults)} have a fault")
+    for row in [*faults, *named]:
+        print(shown(row, way.unit))
+    return 1 if named or faults or not count else 0
+
+
+if __name__ == "__main__":
+    sys.exit(main())

@@ -1,0 +1,343 @@
+"""Traces that growth.py makes, of any size: what stands in each, and what the commands must say of it. By docs/FORMATS.md alone."""
+
+import random
+import struct
+from typing import Callable, NamedTuple
+
+from traces import FUNCTION, OBJECT
+
+LINE = 64
+# Where lines, functions and the like lie.
+LINES, CODE, ELSEWHERE = 0x100000, 0x10000, 0xF0000000
+SITES = (0, 0, 0, 0)
+
+
+class Made(NamedTuple):
+    """A trace: how many harts and accesses it has; how many lines are listed with `tracking` and `report` of 1 and the settings here; how
+    many lines of objects and of sites stand below them; and a name for `place`."""
+
+    trace: bytes
+    harts: int
+    accesses: int
+    lines: int
+    objects: int = 0
+    sites: int = 0
+    object: str = ""
+    settings: str = ""
+
+
+class Trace:
+    """A trace of version 1 that is being made."""
+
+    def __init__(self, harts: int = 8, first: int = 0) -> None:
+        self.bytes = bytearray(struct.pack("<8sQHH", b"PRDTRC01", first, harts, 0))
+        self.harts = harts
+        self.accesses = 0
+
+    def touch(self, hart: int, addr: int, writes: bool = True) -> None:
+        self.bytes += struct.pack("<BHIB", 1 + writes, hart, addr, 4)
+        self.accesses += 1
+
+    def share(self, addr: int) -> None:
+        """Two harts take the line at an address from each other, for words of their own."""
+        for hart in (0, 1, 0):
+            self.touch(hart, addr + 4 * hart)
+
+    def symbol(self, kind: int, addr: int, size: int, name: bytes) -> None:
+        self.bytes += struct.pack("<BBIIH", 5, kind, addr, size, len(name)) + name
+
+    def alloc(self, addr: int, size: int, sites: tuple[int, int, int, int] = SITES) -> None:
+        self.bytes += struct.pack("<BII4I", 3, addr, size, *sites)
+
+    def free(self, addr: int) -> None:
+        self.bytes += struct.pack("<BI", 4, addr)
+
+    def made(self, lines: int, objects: int = 0, sites: int = 0, object: str = "", settings: str = "") -> Made:
+        end = struct.pack("<B8xQQ", 6, self.accesses, self.accesses)
+        return Made(bytes(self.bytes) + end, self.harts, self.accesses, lines, objects, sites, object, settings)
+
+
+def shuffled(n: int) -> list[int]:
+    """The numbers below n, always in the same order."""
+    numbers = list(range(n))
+    random.Random(1).shuffle(numbers)
+    return numbers
+
+
+def rest_of(made: Made) -> bytes:
+    """The trace without an access that goes on behind another one."""
+    return Trace(made.harts, made.accesses).made(0).trace
+
+
+# ---- Symbols.
+
+def symbols_apart(n: int) -> Made:
+    """Each on a line of its own."""
+    it = Trace()
+    for i in range(n):
+        it.symbol(OBJECT, LINES + LINE * i, 8, b"symbol%d" % i)
+    for i in range(n):
+        it.share(LINES + LINE * i)
+    return it.made(n, objects=n, object=f"symbol{n - 1}")
+
+
+def symbols_shuffled(n: int) -> Made:
+    """The same, neither told nor used in the order of their addresses; each reaches over three lines."""
+    it = Trace()
+    for i in shuffled(n):
+        it.symbol(OBJECT, LINES + LINE * i, 3 * LINE, b"symbol%d" % i)
+    for i in shuffled(n):
+        it.share(LINES + LINE * (i + 2))
+    return it.made(n, objects=3 * n - 3, object="symbol0")
+
+
+def symbols_nested(n: int) -> Made:
+    """A tree of them, as structures in structures: each but those of one line holds two others."""
+    it = Trace()
+    objects, length = 0, n // 2
+    while length > 0:
+        for i in range(0, n // 2, length):
+            it.symbol(OBJECT, LINES + LINE * i, LINE * length, b"node%d.%d" % (i, length))
+            objects += length
+        length //= 2
+    for i in range(n // 2):
+        it.share(LINES + LINE * i)
+    return it.made(n // 2, objects=objects, object="node0.1")
+
+
+def symbols_under_one(n: int) -> Made:
+    """One lies over all the others."""
+    it = Trace()
+    it.symbol(OBJECT, LINES, LINE * n + 4, b"all")
+    for i in range(n):
+        it.symbol(OBJECT, LINES + LINE * i, 8, b"part%d" % i)
+    for i in range(n):
+        it.share(LINES + LINE * i)
+    return it.made(n, objects=2 * n, object="all")
+
+
+def symbols_equal(n: int) -> Made:
+    """Told four times each, and those of every eighth line begin at one place."""
+    it = Trace()
+    for i in range(4 * n):
+        place = i % n
+        it.symbol(OBJECT, LINES + LINE * (place // 8), 8 + place % 8, b"symbol%d" % i)
+    for i in range(n):
+        it.share(LINES + LINE * i)
+    return it.made(n, objects=n, object="symbol0")
+
+
+def symbols_at_one_place(n: int) -> Made:
+    """All of them begin at one line, which is listed, and so are as many lines where none is."""
+    it = Trace()
+    for i in range(n):
+        it.symbol(OBJECT, LINES, 8 + 4 * i, b"symbol%d" % i)
+    it.share(LINES)
+    for i in range(n):
+        it.share(ELSEWHERE + LINE * i)
+    return it.made(n + 1, objects=n, object=f"symbol{n - 1}")
+
+
+def names_long(n: int) -> Made:
+    """Symbols apart, with names of 1024 bytes that aren't printed as they are."""
+    it = Trace()
+    for i in range(n):
+        it.symbol(OBJECT, LINES + LINE * i, 8, b"%06d" % i + b"\xff" * 1018)
+        it.share(LINES + LINE * i)
+    return it.made(n, objects=n)
+
+
+# ---- Functions and call sites.
+
+def functions(n: int) -> Made:
+    """Blocks on lines of their own, each with four sites in four functions."""
+    it = Trace()
+    for i in range(n):
+        it.symbol(FUNCTION, CODE + 16 * i, 16, b"function%d" % i)
+    for i in range(n):
+        sites = tuple(CODE + 16 * ((i + k * n // 4) % n) + 8 for k in range(4))
+        it.alloc(LINES + LINE * i, 48, sites)
+    for i in range(n):
+        it.share(LINES + LINE * i)
+    return it.made(n, objects=n, sites=4 * n, object=f"0x{LINES:x}")
+
+
+def functions_nested(n: int) -> Made:
+    """The same with one function around all of them, which comes last, and sites that no function holds."""
+    it = Trace()
+    for i in range(n):
+        it.symbol(FUNCTION, CODE + 16 * i, 8, b"function%d" % i)
+    it.symbol(FUNCTION, CODE, 16 * n + 8, b"all")
+    for i in shuffled(n):
+        it.alloc(LINES + LINE * i, 48, (CODE + 16 * i, CODE + 16 * i + 8, CODE + 16 * n + 8, 1))
+        it.share(LINES + LINE * i)
+    return it.made(n, objects=n, sites=4 * n, object=f"0x{LINES:x}")
+
+
+# ---- Blocks.
+
+def blocks_apart(n: int) -> Made:
+    """Each on a line of its own, and freed in the order of making."""
+    return blocks_freed(n, list(range(n)))
+
+
+def blocks_reversed(n: int) -> Made:
+    """The same, freed from the last one on."""
+    return blocks_freed(n, list(range(n))[::-1])
+
+
+def blocks_shuffled(n: int) -> Made:
+    """The same, freed at random."""
+    return blocks_freed(n, shuffled(n))
+
+
+def blocks_freed(n: int, order: list[int]) -> Made:
+    it = Trace()
+    for i in range(n):
+        it.alloc(LINES + LINE * i, 48)
+        it.share(LINES + LINE * i)
+    for i in order:
+        it.free(LINES + LINE * i)
+    return it.made(n, objects=n, object=f"0x{LINES:x}")
+
+
+def blocks_wide(n: int) -> Made:
+    """Each reaches over eight lines, on which seven others live."""
+    it = Trace()
+    for i in range(n):
+        it.alloc(LINES + LINE * i, 8 * LINE)
+    for i in range(n):
+        it.share(LINES + LINE * i)
+    for i in shuffled(n):
+        it.free(LINES + LINE * i)
+    objects = sum(min(i + 1, 8) for i in range(n))
+    return it.made(n, objects=objects, object=f"0x{LINES:x}")
+
+
+def blocks_under_one(n: int) -> Made:
+    """One lives as long as all the others, and lies over them."""
+    it = Trace()
+    it.alloc(LINES - LINE, LINE * (n + 2))
+    for i in range(n):
+        it.alloc(LINES + LINE * i, 48)
+        it.share(LINES + LINE * i)
+        it.free(LINES + LINE * i)
+    it.free(LINES - LINE)
+    return it.made(n, objects=2 * n, object=f"0x{LINES - LINE:x}")
+
+
+def blocks_at_one_place(n: int) -> Made:
+    """Many lives at one address, and as many lines elsewhere."""
+    it = Trace()
+    for i in range(n):
+        it.alloc(LINES, 48)
+        it.share(LINES)
+        it.free(LINES)
+        it.share(ELSEWHERE + LINE * i)
+    return it.made(n + 1, objects=n)
+
+
+def blocks_before(n: int) -> Made:
+    """Each lies over all lines, and is dead before they are used."""
+    it = Trace()
+    for _ in range(n):
+        it.alloc(LINES, LINE * n)
+        it.touch(0, ELSEWHERE)
+        it.free(LINES)
+    for i in range(n):
+        it.share(LINES + LINE * i)
+    return it.made(n)
+
+
+# ---- Lines and accesses.
+
+def lines(n: int) -> Made:
+    """Next to each other, in any order, and taken twice to eight times."""
+    it = Trace()
+    for i in shuffled(n):
+        for _ in range(1 + i % 4):
+            it.share(LINES + LINE * i)
+    return it.made(n)
+
+
+def lines_apart(n: int) -> Made:
+    """Each on 64 KiB of its own."""
+    it = Trace()
+    for i in range(n):
+        it.share(LINES + (i << 16))
+    return it.made(n)
+
+
+def borders(n: int) -> Made:
+    """The words at each border are used by two harts, each line by one: a shifted line is predicted at each border, and a doubled one of
+    each two lines."""
+    it = Trace()
+    for i in range(n):
+        for _ in range(4):
+            it.touch(i % 2, LINES + LINE * i)
+            it.touch(i % 2, LINES + LINE * i + 60)
+    for i in range(n):
+        for _ in range(2):
+            it.touch(i % 2, LINES + LINE * i)
+            it.touch(i % 2, LINES + LINE * i + 60)
+            it.touch((i + 1) % 2, LINES + LINE * (i + 1))
+    return it.made(n + n // 2, settings="prediction=1")
+
+
+def harts(n: int) -> Made:
+    """256 harts on one line, which read and write it."""
+    it = Trace(256)
+    for i in range(n):
+        hart = i * 89 % 256
+        it.touch(hart, LINES + 4 * (i % 16), i % 64 == 0)
+    return it.made(1)
+
+
+def large_object(n: int) -> Made:
+    """A block of so many words, each of which one of 256 harts uses, and many use some."""
+    it = Trace(256)
+    it.alloc(LINES, 4 * n)
+    for i in range(n):
+        it.touch(i * 89 % 256, LINES + 4 * i)
+        if i % 16 == 0:
+            it.touch((i + 1) % 256, LINES + 4 * i)
+    return it.made(n // 16, objects=n // 16, object=f"0x{LINES:x}")
+
+
+class TraceCase(NamedTuple):
+    """A trace of two sizes, of which `size` is the lesser one, and the commands that it is made for; the greatest size that it may have;
+    and commands whose text of it is a square."""
+
+    name: str
+    make: Callable[[int], Made]
+    size: int
+    commands: str
+    most: int = 1 << 20
+    never: str = ""
+
+
+OBJECTS = "replay misses"
+SAVED = "replay replay--save replay--resume"
+CASES = [
+    TraceCase("symbols apart", symbols_apart, 2048, f"{SAVED} misses place convert split"),
+    TraceCase("symbols in any order, over three lines each", symbols_shuffled, 2048, OBJECTS),
+    TraceCase("symbols nested", symbols_nested, 4096, OBJECTS),
+    TraceCase("symbols under one", symbols_under_one, 2048, OBJECTS),
+    TraceCase("symbols equal, or at one place by eights", symbols_equal, 2048, f"{SAVED} misses"),
+    TraceCase("symbols at one place", symbols_at_one_place, 2048, OBJECTS),
+    TraceCase("symbols with long names", names_long, 512, "replay convert"),
+    TraceCase("functions", functions, 1024, f"{OBJECTS} place"),
+    TraceCase("functions nested", functions_nested, 1024, OBJECTS),
+    TraceCase("blocks apart", blocks_apart, 4096, f"{SAVED} misses place convert split"),
+    TraceCase("blocks freed in reverse", blocks_reversed, 4096, "replay"),
+    TraceCase("blocks freed at random", blocks_shuffled, 4096, "replay"),
+    TraceCase("blocks wide", blocks_wide, 2048, OBJECTS),
+    TraceCase("blocks under one", blocks_under_one, 2048, OBJECTS),
+    TraceCase("blocks at one place", blocks_at_one_place, 2048, f"{SAVED} misses"),
+    TraceCase("blocks dead before", blocks_before, 1024, "replay", never="misses"),
+    TraceCase("lines", lines, 4096, f"{SAVED} replay--size misses sweep caches convert split gen"),
+    TraceCase("lines apart", lines_apart, 4096, f"{SAVED} misses sweep caches", 60000),
+    TraceCase("predictions at each border", borders, 1024, SAVED),
+    TraceCase("256 harts on a line", harts, 16384, "replay misses sweep caches"),
+    TraceCase("a large object", large_object, 16384, "place replay"),
+]
