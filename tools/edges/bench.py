@@ -79,7 +79,7 @@ class Bench:
 
     def inputs(self) -> dict[str, tuple[int, ...]]:
         """Of each file that is none of the outputs what changes when it is written, or is another one."""
-        found = {}
+        found: dict[str, tuple[int, ...]] = {}
         for it in os.scandir("."):
             known = it.stat(follow_symlinks=False)
             found[it.name] = (known.st_ino, known.st_size, known.st_mtime_ns, known.st_mode)
@@ -87,6 +87,8 @@ class Bench:
 
     def environment(self, how: dict[str, str]) -> dict[str, str]:
         own = {it: word for it, word in os.environ.items() if not it.startswith("EDGES_")}
+        # (large pages, as the launcher asks for them)
+        own = {"GLIBC_TUNABLES": "glibc.malloc.hugetlb=1"} | own
         return own | {"LC_ALL": "C", "LD_PRELOAD": self.shim, "EDGES_LOG": self.log} | self.planted | how
 
     def call(self, case: Case, how: dict[str, str] | None = None, is_new: bool = False) -> Ending:

@@ -272,7 +272,7 @@ def refused_cases() -> list[Case]:
     both, state = (("t", b""), ("o", b"")), (("s", b""),)
     return [
         Case(("gen", "03", "f"), 1, usage(), (), (("f", b""),)),
-        Case(("run", "script", *outputs), 2, b"predator: elf BadMagic\n", ("script",), both),
+        Case(("run", "script", *outputs), 2, b"predator: elf TooShort\n", ("script",), both),
         Case(("run", "small.elf", "--schedule", "bad", *outputs), 3, b"predator: schedule BadLine 1\n", ("small.elf", "bad"), both),
         Case(("run", "small.elf", "--settings", "bad", *outputs), 4, b"predator: settings OutOfRange harts\n", ("bad",), both),
         Case(("replay", "bad", "--save", "s"), 5, b"predator: trace Truncated 10\n", ("bad",), state),

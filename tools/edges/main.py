@@ -194,6 +194,14 @@ def try_last_pieces(bench: Bench) -> None:
         bench.count("as it is", "", case.words, faults_of(case, ending, good_end(case)))
 
 
+def try_first_outputs(bench: Bench) -> None:
+    for case in (it for it in bench.writing() if len(it.writes) > 1):
+        calls = bench.call(case).calls
+        first = next(at for at, it in enumerate(calls, 1) if it.call == "ftruncate")
+        ending = bench.call(case, How("EIO", errno.EIO).told(first) | {"EDGES_NAME": case.writes[1][0]})
+        bench.count("ftruncate", "EIO", case.words, faults_of(case, ending, wanted_of(case, calls, first, How("EIO", errno.EIO))))
+
+
 def try_good(bench: Bench) -> None:
     for case in bench.cases:
         told = {"EDGES_NAME": case.writes[-1][0]} if case.writes else {}
@@ -213,7 +221,7 @@ PLANTS = {
     "print": ("a text that is cut at 64 KiB", try_good),
     "full": ("an output that is cut on a full disk", try_rooms),
     "early": ("an output that is begun before the inputs are read", try_good),
-    "order": ("a second output that is begun before the first", try_good),
+    "order": ("a second output that is begun before the first", try_first_outputs),
     "writing": ("an input that is opened for writing", try_good),
     "kept": ("a file that isn't closed", try_good),
     "behind": ("a line behind the report", try_good),
@@ -226,11 +234,11 @@ PLANTS = {
 
 def try_plants(bench: Bench) -> None:
     """Plants each mistake, and counts whether it is found."""
-    for word, (what, tries) in PLANTS.items():
+    for word, (what, find) in PLANTS.items():
         planted = Bench(bench.program, bench.work, bench.shim, {"EDGES_PLANT": word})
-        tries(planted)
-        first = planted.failed[0].splitlines()[0] if planted.failed else ""
-        print(f"planted: {what}: {'found, as ' + first[:150] if first else 'NOT FOUND'}")
+        find(planted)
+        first = " ".join(planted.failed[0].split()[1:]) if planted.failed else ""
+        print(f"planted: {what}: {'found: ' + first[:140] if first else 'NOT FOUND'}")
         bench.count("planted", word, (what,), [] if first else ["it isn't found"])
 
 

@@ -76,12 +76,19 @@ def try_case(bench: Bench, what: str, how: str, case: Case) -> None:
 
 # ---- The status of each end, and the words.
 
+def try_commands(bench: Bench) -> None:
+    """No command is left out."""
+    lines = files.usage().decode().splitlines()
+    left = {it.split()[2] for it in lines} ^ {it.words[0] for it in bench.cases}
+    bench.count("main", "commands", sorted(left), [f"{it} isn't tried, or is no command" for it in left])
+
+
 def ends() -> Iterator[tuple[int, str, bytes]]:
     """A call for each status that there is, and what it prints."""
     run = ("64 0", "16 64 100")
     yield 0, "check plain.elf", files.printed_by_case("programs.case", "check p")
     yield 1, "", files.usage()
-    yield 2, "check script", b"predator: elf BadMagic\n"
+    yield 2, "check script", b"predator: elf TooShort\n"
     yield 3, "run plain.elf --schedule bad", b"predator: schedule BadLine 1\n"
     yield 4, "check plain.elf --settings bad", b"predator: settings OutOfRange harts\n"
     yield 5, "misses bad", b"predator: trace Truncated 10\n"
@@ -123,8 +130,8 @@ def try_dash(bench: Bench) -> None:
     put("-", b"no trace")
     bench.kept = bench.inputs()
     for case in (it for it in once if not it.piped):
-        words, reads = (case.words[0], "-", *case.words[2:]), (*case.reads[:-1], "/dev/stdin")
-        try_case(bench, "main", "-", case._replace(words=words, reads=reads, piped=case.reads[-1]))
+        piped = case._replace(words=(case.words[0], "-", *case.words[2:]), reads=(*case.reads[:-1], "/dev/stdin"), piped=case.reads[-1])
+        try_case(bench, "main", "-", piped)
     remove("-")
     bench.kept = bench.inputs()
     for words in ("replay - --size 64", "misses -", "caches - --size 64 --sets 64 --ways 64", "sweep - --size 8"):
@@ -140,7 +147,7 @@ def try_files_of_that_name(bench: Bench) -> None:
     for words, name in ((f"split - {files.CUT} a b", "made"), ("convert - c", "made"), ("place - pair", "pair"), ("check -", "plain.elf"),
                         ("run - --trace t --output o", "long.elf")):
         like = next(it for it in bench.cases if it.words[0] == words.split()[0] and name in it.reads)
-        reads = tuple("-" if it == name else it for it in like.reads)
+        reads = tuple("-" if other == name else other for other in like.reads)
         shutil.copy(name, "-")
         bench.kept = bench.inputs()
         try_case(bench, "main", "-", like._replace(words=tuple(words.split()), reads=reads, piped="bad", again="-" if like.again else ""))
@@ -238,11 +245,14 @@ def try_outputs_by_link(bench: Bench) -> None:
     """What is written under a link goes into the file that it leads to, and the link stays."""
     words = ["convert", "made", "link"]
     whole = next(it for it in bench.cases if it.words[:2] == ("convert", "made")).writes[0][1]
-    for make, what in ((os.link, "a hard link"), (os.symlink, "a symbolic link")):
+    for what in ("a hard link", "a symbolic link"):
         put("led", OLDER)
-        make("led", "link")
+        if what == "a hard link":
+            os.link("led", "link")
+        else:
+            os.symlink("led", "link")
         found = Ended(bench, words).faults(0, files.lines(f"convert 2 {files.MADE}"), b"") + other_bytes("led", whole)
-        is_link = os.path.samefile("led", "link") and os.path.islink("link") == (make is os.symlink)
+        is_link = os.path.samefile("led", "link") and os.path.islink("link") == (what == "a symbolic link")
         bench.count("names", f"an output by {what}", words, found + ([] if is_link else ["the link is another file"]))
         remove("led", "link")
 
@@ -394,8 +404,8 @@ def try_full_disk(bench: Bench) -> bool:
     return may
 
 
-TRIES = (try_statuses, try_words, try_dash, try_files_of_that_name, try_names_by_case, try_same_names, try_links, try_outputs_by_link,
-         try_closed_streams, try_full_output, try_output_as_file, try_text_into_file, try_full_pipes, try_fifos)
+TRIES = (try_commands, try_statuses, try_words, try_dash, try_files_of_that_name, try_names_by_case, try_same_names, try_links,
+         try_outputs_by_link, try_closed_streams, try_full_output, try_output_as_file, try_text_into_file, try_full_pipes, try_fifos)
 
 
 def try_all(bench: Bench) -> None:
