@@ -142,7 +142,7 @@ class Bench:
     def count(self, call: str, how: str, words: Sequence[str], faults: Sequence[Fault]) -> None:
         self.tried[call, how] += 1
         if faults:
-            self.failed.append(f"FAILED: {' '.join(words)}:\n" + "".join(f"    {it}\n" for it in faults))
+            self.failed.append(f"FAILED: {' '.join(words)} [{call} {how}]:\n" + "".join(f"    {it}\n" for it in faults))
 
     def closing(self) -> str:
         """How many tries passed and failed, and how many there were of each call and errno."""

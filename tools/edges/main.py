@@ -2,6 +2,7 @@
 """Tries the built program over a system that fails.
 
 usage: tools/edges/main.py PROGRAM [--long] [--planted]
+       tools/edges/main.py PROGRAM --open
 
 Each call of the program is made as it is, and then again for each call of the system that it makes about files: that one fails with an
 errno that it can have, or moves fewer bytes than it was asked to. between.c stands between the program and the C library for that; cc
@@ -22,6 +23,8 @@ print and write, worked out apart from the program.
 The short form takes some of the errnos in turn, and of calls that are alike the first two and the last; --long takes all. With --planted
 between.c makes mistakes in the program's name, one kind after another, and each must be found. So what is shown is that such a mistake
 would be seen; the program itself isn't changed.
+
+--open tries what one would expect and the program doesn't do, and nothing else: it fails as long as that is so.
 
 A write that the system answers and then loses can't be told from a good one. It ends with 1 where anything is wrong. The last line counts
 the tries by call and errno."""
@@ -157,7 +160,7 @@ def try_call(bench: Bench, case: Case, calls: list[Call], number: int, how: How,
     ending = bench.call(case, how.told(number), is_new)
     found = faults_of(case, ending, wanted_of(case, calls, number, how))
     it = calls[number - 1]
-    bench.count(it.call, how.name, (*case.words, f"(call {number}: {it.call} {it.name}: {how.name})"), found)
+    bench.count(it.call, how.name, (*case.words, f"(call {number}, of {it.name})"), found)
 
 
 def try_room(bench: Bench, case: Case) -> None:
@@ -251,12 +254,15 @@ def built(work: str) -> str:
 
 def main(words: list[str]) -> int:
     programs = [it for it in words if not it.startswith("-")]
-    if len(programs) != 1 or any(it.startswith("-") and it not in ("--long", "--planted") for it in words):
+    if len(programs) != 1 or any(it.startswith("-") and it not in ("--long", "--planted", "--open") for it in words):
         print(__doc__)
         return 0 if words in (["--help"], ["-h"]) else 1
     with tempfile.TemporaryDirectory() as work:
         bench = Bench(os.path.abspath(programs[0]), work, built(work), {})
-        try_all(bench, "--long" in words)
+        if "--open" in words:
+            tries.try_open(bench)
+        else:
+            try_all(bench, "--long" in words)
         if "--planted" in words:
             try_plants(bench)
         for it in bench.failed:

@@ -1,8 +1,10 @@
 """Tries what needs no failing call: the status of each end, words, names of files, streams and full disks. main.py has them made."""
 
+import errno
 import os
 import resource
 import shutil
+import socket
 import subprocess
 from typing import Callable, Iterator, Sequence
 
@@ -402,6 +404,27 @@ def try_full_disk(bench: Bench) -> bool:
                 bench.count("streams", "a disk of 16 KiB", case.words, fill(bench, mount, case))
     os.rmdir("disk")
     return may
+
+
+# ---- What one would expect, and the program doesn't do.
+
+def try_open(bench: Bench) -> None:
+    """Standard input is opened anew as /dev/stdin: a file is read from its front though some of it was read before, and a socket isn't
+    read. A read that a signal interrupts isn't made anew."""
+    case = next(it for it in bench.cases if it.words == ("misses", "-"))
+    put("behind", b"12345" + (content(case.piped) or b""))
+    with open("behind", "rb", buffering=0) as file:
+        file.read(5)
+        bench.count("open", "the rest of a file", case.words, Ended(bench, case.words, stdin=file).faults(0, case.printed, b""))
+    remove("behind")
+    ours, theirs = socket.socketpair()
+    with ours, theirs:
+        ours.sendall(content(case.piped) or b"")
+        ours.shutdown(socket.SHUT_WR)
+        bench.count("open", "a socket", case.words, Ended(bench, case.words, stdin=theirs).faults(0, case.printed, b""))
+    first = next(at for at, it in enumerate(bench.call(case).calls, 1) if it.call == "read")
+    ending = bench.call(case, {"EDGES_AT": str(first), "EDGES_ERROR": str(errno.EINTR)})
+    bench.count("open", "a read that is interrupted", case.words, faults_of(case, ending, good_end(case)))
 
 
 TRIES = (try_commands, try_statuses, try_words, try_dash, try_files_of_that_name, try_names_by_case, try_same_names, try_links,
