@@ -231,7 +231,7 @@ def writing_cases() -> list[Case]:
         Case(("run", "long.elf", "--trace", "t", "--output", "o"), 0, plain, ("long.elf",), (("t", LONG.trace), ("o", LONG.output))),
         Case(tuple(all_words), 0, small, ("settings", "small.elf", "schedule"), (("t", SMALL.trace), ("o", SMALL.output))),
         Case(("run", "long.elf", "--trace", "t"), 0, plain, ("long.elf",), (("t", LONG.trace),), LONG.output + b"\n"),
-        Case(("run", "small.elf", "--output", "o", "--set", "budget=5"), 10, report("budget", 5, 0, "64 0", "16 64 100"), ("small.elf",),
+        Case(("run", "small.elf", "--output", "o", "--set", "budget=5"), 10, report("budget", 5, 1, "64 0", "16 64 100"), ("small.elf",),
              (("o", b""),), b"predator: `budget` in the settings allows more steps, up to 68719476736\n"),
         Case(("gen", str(MADE), "f"), 0, printed_by_case("gen.case", f"gen {MADE} f"), (), (("f", trace(made(MADE))),)),
         Case(("gen", "0", "f"), 0, printed_by_case("gen.case", "gen 0 f"), (), (("f", trace([])),)),
@@ -267,20 +267,28 @@ def printing_cases() -> list[Case]:
 
 
 def refused_cases() -> list[Case]:
-    """Calls that are refused, and so write nothing."""
+    """Calls that are refused, and so write nothing. What is said of it may be worded anew; then it is to be so here."""
     outputs = ("--trace", "t", "--output", "o")
     both, state = (("t", b""), ("o", b"")), (("s", b""),)
-    return [
-        Case(("gen", "03", "f"), 1, usage(), (), (("f", b""),)),
-        Case(("run", "script", *outputs), 2, b"predator: elf TooShort\n", ("script",), both),
-        Case(("run", "small.elf", "--schedule", "bad", *outputs), 3, b"predator: schedule BadLine 1\n", ("small.elf", "bad"), both),
-        Case(("run", "small.elf", "--settings", "bad", *outputs), 4, b"predator: settings OutOfRange harts\n", ("bad",), both),
-        Case(("replay", "bad", "--save", "s"), 5, b"predator: trace Truncated 10\n", ("bad",), state),
-        Case(("split", "bad", "3", "a", "b"), 5, b"predator: trace Truncated 10\n", ("bad",), (("a", b""), ("b", b"")), again="bad"),
-        Case(("convert", "script", "c"), 5, b"predator: trace Truncated 10\n", ("script",), (("c", b""),), again="script"),
-        Case(("replay", "short", "--resume", "bad", "--save", "s"), 6, b"predator: state BadState 0\n", ("bad",), state),
-        Case(("place", "pair", "none"), 13, b"predator: place NoObject\n", ("pair",), again="pair"),
+    cut = "it ends after 10 bytes, before the trace does: write or copy it again"
+    none = "no object symbol of the trace has this name, nor was exactly one block made at that address"
+    rows = [
+        (("gen", "03", "f"), 1, usage(), (), (("f", b""),), "'03' has a leading zero: N is a whole number up to 1000000000"),
+        (("run", "script", *outputs), 2, b"predator: elf TooShort\n", ("script",), both,
+         "script: a script: guest/build.sh builds for RV32IMA"),
+        (("run", "small.elf", "--schedule", "bad", *outputs), 3, b"predator: schedule BadLine 1\n", ("small.elf", "bad"), both,
+         "bad: line 1 isn't a hart, one space and a count, as `0 500`"),
+        (("run", "small.elf", "--settings", "bad", *outputs), 4, b"predator: settings OutOfRange harts\n", ("bad",), both,
+         "bad: `harts` is a whole number from 1 to 256"),
+        (("replay", "bad", "--save", "s"), 5, b"predator: trace Truncated 10\n", ("bad",), state, f"bad: {cut}"),
+        (("split", "bad", "3", "a", "b"), 5, b"predator: trace Truncated 10\n", ("bad",), (("a", b""), ("b", b"")), f"bad: {cut}"),
+        (("convert", "script", "c"), 5, b"predator: trace Truncated 10\n", ("script",), (("c", b""),), f"script: {cut}"),
+        (("replay", "short", "--resume", "bad", "--save", "s"), 6, b"predator: state BadState 0\n", ("bad",), state,
+         "bad: not a saved state, or only part of one: byte 0 is wrong"),
+        (("place", "pair", "none"), 13, b"predator: place NoObject\n", ("pair",), (), none),
     ]
+    made_of = [Case(*row[:5], said=f"predator: {row[5]}\n".encode()) for row in rows]
+    return [it._replace(again=it.reads[0]) if it.words[0] in ("split", "convert", "place") else it for it in made_of]
 
 
 def cases() -> list[Case]:

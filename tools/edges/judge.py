@@ -23,16 +23,17 @@ def good_end(case: Case) -> Wanted:
     return Wanted(case.status, case.printed, False, b"", "stay" if case.refuses() else "whole")
 
 
-def is_said(case: Case, said: bytes, line: bytes | None) -> bool:
-    """Whether this is what a call says with such a fault: before it what is shown of a run until then, and behind it the advice of a
-    refusal."""
-    if line is None:
+def is_said(case: Case, ending: Ending, wanted: Wanted) -> bool:
+    """Whether a call says what it is to say: what it shows of a run until then, the fault, and behind that the advice of a refusal."""
+    if wanted.line is None:
         return True
-    if not line:
-        return said == case.said or (case.refuses() and said.startswith(b"predator: ") and said.count(b"\n") == 1)
-    shown, found, advice = said.partition(line)
+    if not wanted.line:
+        return ending.said == case.said
+    shown, found, advice = ending.said.partition(wanted.line)
+    if case.refuses():
+        return bool(found) and not shown and advice == (case.said if wanted.status == case.status else b"")
     is_shown = case.said.startswith(shown) or (shown.endswith(b"\n") and case.said.startswith(shown[:-1]))
-    return bool(found) and is_shown and (not advice or (case.refuses() and advice.count(b"\n") == 1))
+    return bool(found) and is_shown and not advice
 
 
 def faults_of_outputs(case: Case, ending: Ending, outputs: str) -> Iterator[Fault]:
@@ -59,7 +60,7 @@ def faults_of(case: Case, ending: Ending, wanted: Wanted) -> list[Fault]:
     is_right = wanted.printed.startswith(ending.printed) if wanted.is_front else wanted.printed == ending.printed
     if not is_right:
         found.append(f"it printed {ending.printed[:60]!r}.., {len(ending.printed)} bytes, and wanted are {wanted.printed[:60]!r}..")
-    if not is_said(case, ending.said, wanted.line):
+    if not is_said(case, ending, wanted):
         found.append(f"it said {ending.said[-200:]!r}, and wanted is {wanted.line!r}")
     return found
 

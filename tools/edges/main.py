@@ -179,11 +179,15 @@ def try_room(bench: Bench, case: Case) -> None:
         bench.count("write", "a full disk", (*case.words, f"(room for {room} bytes)"), found)
 
 
+def try_rooms(bench: Bench) -> None:
+    for case in bench.writing():
+        try_room(bench, case)
+
+
 def try_all(bench: Bench, is_long: bool) -> None:
     for case in bench.cases:
         try_case(bench, case, is_long)
-        if case.writes and not case.refuses():
-            try_room(bench, case)
+    try_rooms(bench)
     tries.try_all(bench)
 
 
@@ -210,11 +214,6 @@ def try_good(bench: Bench) -> None:
         told = {"EDGES_NAME": case.writes[-1][0]} if case.writes else {}
         ending = bench.call(case, told)
         bench.count("as it is", "", case.words, faults_of(case, ending, good_end(case)))
-
-
-def try_rooms(bench: Bench) -> None:
-    for case in bench.writing():
-        try_room(bench, case)
 
 
 PLANTS = {
