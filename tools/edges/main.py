@@ -235,7 +235,9 @@ PLANTS = {
 
 
 def try_plants(bench: Bench) -> None:
-    """Plants each mistake, and counts whether it is found."""
+    """Plants each mistake, and counts whether it is found. Without one there is nothing to be found."""
+    for find in (try_last_pieces, try_first_outputs, try_good):
+        find(bench)
     for word, (what, find) in PLANTS.items():
         planted = Bench(bench.program, bench.work, bench.shim, {"EDGES_PLANT": word})
         find(planted)

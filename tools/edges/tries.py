@@ -2,6 +2,7 @@
 
 import errno
 import os
+import pty
 import resource
 import shutil
 import socket
@@ -281,6 +282,18 @@ def try_closed_streams(bench: Bench) -> None:
             bench.count("streams", f"without {' '.join(map(str, numbers))}", case.words, found + unwritten(case) + bench.changed())
 
 
+def try_terminals(bench: Bench) -> None:
+    """With a terminal for standard error all is as without one."""
+    for case in (it for it in bench.cases if not it.piped and len(it.said) < PAGE):
+        ours, theirs = pty.openpty()
+        ended = Ended(bench, case.words, stderr=theirs)
+        os.close(theirs)
+        said = os.read(ours, PAGE).replace(b"\r\n", b"\n") if case.said else b""
+        os.close(ours)
+        found = ended.faults(case.status, case.printed, None) + ([] if said == case.said else [f"it said {said!r}"])
+        bench.count("streams", "a terminal", case.words, found + unwritten(case) + bench.changed())
+
+
 def try_full_output(bench: Bench) -> None:
     """What can't be printed is a fault, and each output is whole."""
     for case in (it for it in bench.cases if not it.refuses() and not it.piped):
@@ -428,7 +441,8 @@ def try_open(bench: Bench) -> None:
 
 
 TRIES = (try_commands, try_statuses, try_words, try_dash, try_files_of_that_name, try_names_by_case, try_same_names, try_links,
-         try_outputs_by_link, try_closed_streams, try_full_output, try_output_as_file, try_text_into_file, try_full_pipes, try_fifos)
+         try_outputs_by_link, try_closed_streams, try_terminals, try_full_output, try_output_as_file, try_text_into_file, try_full_pipes,
+         try_fifos)
 
 
 def try_all(bench: Bench) -> None:
