@@ -109,6 +109,11 @@ def with_little_memory() -> None:
     resource.setrlimit(resource.RLIMIT_AS, (LITTLE, LITTLE))
 
 
+def with_small_files() -> None:
+    resource.setrlimit(resource.RLIMIT_CORE, (0, 0))
+    resource.setrlimit(resource.RLIMIT_FSIZE, (DISK, DISK))
+
+
 def try_statuses(bench: Bench) -> None:
     """The process ends with the status of the call, whichever that is."""
     for status, words, printed in ends():
@@ -423,7 +428,7 @@ def try_full_disk(bench: Bench) -> bool:
 
 def try_open(bench: Bench) -> None:
     """Standard input is opened anew as /dev/stdin: a file is read from its front though some of it was read before, and a socket isn't
-    read. A read that a signal interrupts isn't made anew."""
+    read. A read that a signal interrupts isn't made anew. A limit on the size of files (`ulimit -f`) ends the process by a signal."""
     case = next(it for it in bench.cases if it.words == ("misses", "-"))
     put("behind", b"12345" + (content(case.piped) or b""))
     with open("behind", "rb", buffering=0) as file:
@@ -438,6 +443,10 @@ def try_open(bench: Bench) -> None:
     first = next(at for at, it in enumerate(bench.call(case).calls, 1) if it.call == "read")
     ending = bench.call(case, {"EDGES_AT": str(first), "EDGES_ERROR": str(errno.EINTR)})
     bench.count("open", "a read that is interrupted", case.words, faults_of(case, ending, good_end(case)))
+    words = ["convert", "made", "c"]
+    ended = Ended(bench, words, preexec_fn=with_small_files)
+    bench.count("open", "a limit on files", words, ended.faults(8, WRITE_FAULT, fault_line("c", "File too large")))
+    remove("c")
 
 
 TRIES = (try_commands, try_statuses, try_words, try_dash, try_files_of_that_name, try_names_by_case, try_same_names, try_links,
