@@ -20,9 +20,9 @@ builds it. What is wanted after each:
 tries.py tries what needs no failing call: names of files, streams, full disks, and what `main` does. files.py has what each call is to
 print and write, worked out apart from the program.
 
-The short form takes some of the errnos in turn, and of calls that are alike the first two and the last; --long takes all. With --planted
-between.c makes mistakes in the program's name, one kind after another, and each must be found. So what is shown is that such a mistake
-would be seen; the program itself isn't changed.
+The short form takes EINTR and some of the other errnos in turn, and of calls that are alike the first two and the last; --long takes all.
+With --planted between.c makes mistakes in the program's name, one kind after another, and each must be found. So what is shown is that such
+a mistake would be seen; the program itself isn't changed.
 
 --open tries what one would expect and the program doesn't do, and nothing else: it fails as long as that is so.
 
@@ -121,11 +121,12 @@ def wanted_of(case: Case, calls: list[Call], number: int, how: How) -> Wanted:
 
 
 def hows_of(it: Call, number: int, is_long: bool) -> Iterator[How]:
-    """In which ways a call goes wrong: the short form takes the first of the errnos that it may have, and two others in turn."""
+    """In which ways a call goes wrong: in the short form with the first errno that it may have, with EINTR, and with two others in turn."""
     names = ERRORS[it.call].split()
     if not is_long:
-        names = names[:1] + [names[1 + (number + by) % (len(names) - 1)] for by in (0, len(names) // 2)]
-    for name in dict.fromkeys(names):
+        others = [name for name in names[1:] if name != "EINTR"]
+        names = names[:1] + ["EINTR"] * ("EINTR" in names) + [others[(number + by) % len(others)] for by in (0, len(others) // 2)]
+    for name in names:
         yield How(name, getattr(errno, name))
     for share in SHARES.get(it.call, ()):
         if it.asked > 1 or share == "none":

@@ -128,8 +128,11 @@ def try_words(bench: Bench) -> None:
     outputs = (("t", SMALL.trace), ("o", SMALL.output))
     text = report("exit 0", SMALL.steps, 3, "64 0", "1 64 1")
     try_case(bench, "main", "words", Case((*many.split(), "--", "small.elf"), 0, text, ("settings", "small.elf", "schedule"), outputs))
-    for words in (f"{many} small.elf more", "check plain.elf" + " more" * 100, "run small.elf" + " --set=quantum=3" * 20):
-        try_case(bench, "main", "words", Case(tuple(words.split()), 1, files.usage(), (), outputs))
+    more, twice = "unexpected argument 'more' found", "the argument '--set <set>' cannot be used multiple times"
+    for words, why in ((f"{many} small.elf more", more), ("check plain.elf" + " more" * 100, more),
+                       ("run small.elf" + " --set=quantum=3" * 20, twice)):
+        said = f"predator: {why}\n".encode()
+        try_case(bench, "main", "words", Case(tuple(words.split()), 1, files.usage(), (), outputs, said))
 
 
 def try_dash(bench: Bench) -> None:
