@@ -268,6 +268,23 @@ def try_outputs_by_link(bench: Bench) -> None:
         remove("led", "link")
 
 
+def with_mask() -> None:
+    os.umask(0o027)
+
+
+def try_modes(bench: Bench) -> None:
+    """A new output may be read and written by whom the mask leaves, and an older one stays the file that it is, with its rights."""
+    for case in bench.writing():
+        found = Ended(bench, case.words, preexec_fn=with_mask).faults(case.status, case.printed, case.said)
+        found += [f"{name} has other rights" for name, _ in case.writes if os.stat(name).st_mode & 0o777 != 0o640]
+        was = {name: os.stat(name).st_ino for name, _ in case.writes}
+        for name in was:
+            os.chmod(name, 0o604)
+        found += Ended(bench, case.words).faults(case.status, case.printed, case.said)
+        found += [f"{name} is another file" for name in was if (os.stat(name).st_ino, os.stat(name).st_mode & 0o777) != (was[name], 0o604)]
+        bench.count("names", "rights", case.words, found + unwritten(case) + bench.changed())
+
+
 # ---- Streams.
 
 def closing(*numbers: int) -> Callable[[], None]:
@@ -453,8 +470,8 @@ def try_open(bench: Bench) -> None:
 
 
 TRIES = (try_commands, try_statuses, try_words, try_dash, try_files_of_that_name, try_names_by_case, try_same_names, try_links,
-         try_outputs_by_link, try_closed_streams, try_terminals, try_full_output, try_output_as_file, try_text_into_file, try_full_pipes,
-         try_fifos)
+         try_outputs_by_link, try_modes, try_closed_streams, try_terminals, try_full_output, try_output_as_file, try_text_into_file,
+         try_full_pipes, try_fifos)
 
 
 def try_all(bench: Bench) -> None:
