@@ -1,0 +1,295 @@
+"""The files that tools/edges/main.py has the program read, and what it is to print and write of each, by docs/FORMATS.md and the cases of
+crates/worked_runs/data. None of it is taken from the program."""
+
+import os
+import struct
+from typing import Iterable, NamedTuple
+
+DATA = os.path.join(os.path.dirname(os.path.abspath(__file__)), "..", "..", "crates", "worked_runs", "data")
+Touch = tuple[int, str, int]
+# Pieces in which a run's program puts out its bytes, and the bytes of the last one.
+PIECES, REST = 16, 1
+# How many words it writes, how many lines the traces have, and how many accesses one has that is made, and cut behind so many of them:
+# what is printed or written has more than 64 KiB.
+WRITES, LINES, MADE, CUT = 9000, 1500, 20000, 9000
+STATE = bytes.fromhex(
+    "50524453544130310400000000000000010000000000000000000000000000000800000000000000020000000000000001000000000000000100000000000000"
+    "001000000000000001000000000000000002030005000000001000000000000000000000000000000000000000000000010000000000000001000000000000"
+    "00feff000000000000000000000000000000000000"
+)
+
+
+class Case(NamedTuple):
+    """A call, and what it is to do: how it ends, what it prints and says, which files it reads, and what it writes, in their order."""
+
+    words: tuple[str, ...]
+    status: int
+    printed: bytes
+    reads: tuple[str, ...]
+    writes: tuple[tuple[str, bytes], ...] = ()
+    said: bytes = b""
+    # the trace that is read more than once, and the file that is standard input
+    again: str = ""
+    piped: str = ""
+
+    def refuses(self) -> bool:
+        return self.status in (1, 2, 3, 4, 5, 6, 13)
+
+
+def lines(*texts: str) -> bytes:
+    return "".join(f"{it}\n" for it in texts).encode()
+
+
+def printed_by_case(name: str, words: str) -> bytes:
+    """What a case says that a call prints."""
+    with open(os.path.join(DATA, name), encoding="utf-8") as file:
+        rows = file.read().split("\n")
+    at = rows.index(f"$ {words}") + 1
+    end = next(it for it in range(at, len(rows)) if not rows[it].startswith("|"))
+    return lines(*(it[2:] for it in rows[at:end]))
+
+
+def header(harts: int = 8, first: int = 0, version: int = 1) -> bytes:
+    return struct.pack("<8sQHH", f"PRDTRC0{version}".encode(), first, harts, 0)
+
+
+def ending(accesses: int, steps: int | None = None, outcome: int = 0) -> bytes:
+    return struct.pack("<BBBHIQQ", 6, outcome, 0, 0, 0, accesses if steps is None else steps, accesses)
+
+
+def records(touches: Iterable[Touch]) -> bytes:
+    return b"".join(struct.pack("<BHIB", 1 if kind == "R" else 2, hart, addr, 4) for hart, kind, addr in touches)
+
+
+def trace(touches: list[Touch], before: bytes = b"") -> bytes:
+    return header() + before + records(touches) + ending(len(touches))
+
+
+def symbol(addr: int, size: int, name: bytes) -> bytes:
+    return struct.pack("<BBIIH", 5, 1, addr, size, len(name)) + name
+
+
+def converted(touches: list[Touch]) -> bytes:
+    """The trace of these accesses in version 2."""
+    made, last = bytearray(header(version=2)), 0
+    for hart, kind, addr in touches:
+        number = addr - last
+        told, last = (2 * number if number >= 0 else -2 * number - 1), addr
+        made += bytes((0x14 if kind == "R" else 0x24, hart))
+        while told >= 128:
+            made.append(told & 127 | 128)
+            told >>= 7
+        made.append(told)
+    return bytes(made) + ending(len(touches))
+
+
+def halves(touches: list[Touch], at: int) -> tuple[bytes, bytes]:
+    """What is written of these accesses where they are cut."""
+    first = header() + records(touches[:at]) + ending(at, 0, 4)
+    return first, header(first=at) + records(touches[at:]) + ending(len(touches) - at, len(touches))
+
+
+def made(count: int) -> list[Touch]:
+    """The accesses of the made trace."""
+    found, state = [], 1
+    for _ in range(count):
+        state = (state * 6364136223846793005 + 1442695040888963407) % 2**64
+        bits = state >> 32
+        addr = 0x10000 + 64 * (bits >> 3 & 63) + 32 * (bits >> 9 & 1) + 4 * (bits & 7)
+        found.append((bits & 7, "W" if bits >> 10 & 3 else "R", addr))
+    return found
+
+
+def fought(count: int) -> list[Touch]:
+    """Two harts write neighbouring words of a line in turn, twice; so they do with each of some lines that lie apart."""
+    return [(hart, "W", 0x100000 + 128 * line + 4 * hart) for line in range(count) for hart in (0, 1, 0, 1)]
+
+
+def report(outcome: str, steps: int, accesses: int, layout: str, thresholds: str, rows: Iterable[str] = (), count: int = 0) -> bytes:
+    return lines("predator report 1", f"outcome {outcome}", f"steps {steps}", f"accesses {accesses}", f"layout {layout}",
+                 f"thresholds {thresholds}", f"lines {count}", *rows, "end")
+
+
+def fought_report(count: int) -> bytes:
+    rows = []
+    for line in range(count):
+        base = 0x100000 + 128 * line
+        rows.append(f"line observed {base:#010x} 64 start {4 * line} count 3 verdict false")
+        rows += [f"word {base + 4 * hart:#010x} reads 0 writes 2 hart {hart}" for hart in (0, 1)]
+    return report("exit 0", 4 * count, 4 * count, "64 0", "1 none 1", rows, count)
+
+
+def fought_misses(count: int) -> bytes:
+    rows = [f"line {0x100000 + 128 * line:#010x} cold 2 useful 0 useless 2" for line in range(count)]
+    total = f"total cold {2 * count} useful 0 useless {2 * count}"
+    return lines("misses 64 0", f"accesses {4 * count}", f"lines {count}", *rows, total, "end")
+
+
+def fought_caches(count: int) -> bytes:
+    rows = [f"line {0x100000 + 128 * line:#010x} bounded 3 unbounded 3 evicted 0" for line in range(count)]
+    total = f"total bounded {3 * count} unbounded {3 * count} evicted 0"
+    return lines("caches 64 64 64", f"accesses {4 * count}", f"lines {count}", *rows, total, "end")
+
+
+def written_state(count: int) -> bytes:
+    """The state of a trace in which hart 0 writes so many words, each of which is a line, and whose tracking begins at the first write."""
+    told = struct.pack("<8sIIQQH6xQQQ", b"PRDSTA01", 4, 0, 1, 0, 8, count, count, count)
+    told += b"".join(struct.pack("<QQ", 0x100000 + 4 * it, 1) for it in range(count))
+    for it in range(count):
+        told += struct.pack("<BBHHHqQQQQHH", 0, 1, 0, 0xFFFF, 0, 0x100000 + 4 * it, it, 0, 0, 1, 0, 0)
+    return told + bytes(16)
+
+
+# ---- A program for a run: it writes a word over and over, puts out bytes, and exits.
+
+def _add(rd: int, rs: int, number: int) -> int:
+    return (number & 0xFFF) << 20 | rs << 15 | rd << 7 | 0x13
+
+
+def _upper(rd: int, number: int) -> int:
+    return (number & 0xFFFFF) << 12 | rd << 7 | 0x37
+
+
+def _back_unless_zero(rs: int, words: int) -> int:
+    by = -4 * words
+    return (by >> 12 & 1) << 31 | (by >> 5 & 0x3F) << 25 | rs << 15 | 1 << 12 | (by >> 1 & 15) << 8 | (by >> 11 & 1) << 7 | 0x63
+
+
+def _number(rd: int, number: int) -> list[int]:
+    low = (number + 0x800 & 0xFFF) - 0x800
+    return [_upper(rd, number - low >> 12), _add(rd, rd, low)]
+
+
+def _put_out(count: int) -> list[int]:
+    return [_add(17, 0, 64), _add(10, 0, 1), _upper(11, 0x10), *_number(12, count), 0x73]
+
+
+class Guest(NamedTuple):
+    """A program, how many steps it makes, its trace, and what it puts out."""
+
+    file: bytes
+    steps: int
+    trace: bytes
+    output: bytes
+
+
+def guest(writes: int, pieces: int, rest: int, code: int = 0) -> Guest:
+    """A program that writes the word at 0x11000 so often, and puts out so many pieces of 4096 bytes and then the rest."""
+    store = 5 << 20 | 6 << 15 | 2 << 12 | 0x23
+    words = [_upper(6, 0x11), *_number(5, writes), store, _add(5, 5, -1), _back_unless_zero(5, 2)]
+    steps = 3 + 3 * writes
+    if pieces:
+        words += [*_number(8, pieces), *_put_out(4096), _add(8, 8, -1), _back_unless_zero(8, 7)]
+        steps += 2 + 8 * pieces
+    if rest:
+        words += _put_out(rest)
+        steps += 6
+    words += [_add(17, 0, 93), _add(10, 0, code), 0x73]
+    steps += 3
+    text = struct.pack(f"<{len(words)}I", *words)
+    head = struct.pack("<4sBBB9xHHIIIIIHHHHHH", b"\x7fELF", 1, 1, 1, 2, 243, 1, 0x10000, 52, 0, 0, 52, 32, 1, 40, 0, 0)
+    head += struct.pack("<8I", 1, 84, 0x10000, 0, len(text), 0x2000, 7, 4)
+    piece = text.ljust(4096, b"\0")
+    told = header() + records([(0, "W", 0x11000)] * writes) + struct.pack("<BBBHIQQ", 6, 0, 0, 0, code, steps, writes)
+    return Guest(head + text, steps, told, piece * pieces + piece[:rest])
+
+
+LONG, SMALL = guest(WRITES, PIECES, REST), guest(3, 0, REST)
+
+
+def _data(name: str) -> bytes:
+    with open(os.path.join(DATA, name), "rb") as file:
+        return file.read()
+
+
+def usage() -> bytes:
+    return _data("usage.txt")
+
+
+def files() -> dict[str, bytes]:
+    """The files that calls read."""
+    pair, fights = [(0, "W", 0x1000), (1, "W", 0x1004), (0, "W", 0x1000)], fought(LINES)
+    return {
+        "long.elf": LONG.file, "small.elf": SMALL.file, "plain.elf": _data("plain.elf"), "adds.elf": _data("adds_bytes.elf"),
+        "waits.elf": _data("waits_for_ever.elf"), "traps.elf": _data("traps.elf"),
+        "settings": b"tracking = 1\nreport = 1\n", "schedule": b"0 5\n",
+        "made": trace(made(MADE)), "fought": trace(fights), "short": trace(made(200)), "pair": trace(pair, symbol(0x1000, 8, b"pair")),
+        "taken": trace([(0, "W", 0x1000), (1, "W", 0x1000), (1, "W", 0x2000), (0, "W", 0x1000)]),
+        "turns": trace(pair + [(1, "W", 0x1004)]), "written": trace([(0, "W", 0x100000 + 4 * it) for it in range(LINES)]),
+        "state": STATE, "rest": header(first=2) + ending(0), "bad": b"harts = 0\n", "script": b"#!/bin/sh\n",
+    }
+
+
+def writing_cases() -> list[Case]:
+    """Calls that write, most of them more than one piece."""
+    first, second = halves(made(MADE), CUT)
+    plain = report("exit 0", LONG.steps, WRITES, "64 0", "16 64 100")
+    small = report("exit 0", SMALL.steps, 3, "64 0", "1 64 1")
+    short, all_words = made(200), "run small.elf --settings settings --schedule schedule --set quantum=3 --trace t --output o".split()
+    kept = report("exit 0", LINES, LINES, "4 0", "1 none 1")
+    return [
+        Case(("run", "long.elf", "--trace", "t", "--output", "o"), 0, plain, ("long.elf",), (("t", LONG.trace), ("o", LONG.output))),
+        Case(tuple(all_words), 0, small, ("settings", "small.elf", "schedule"), (("t", SMALL.trace), ("o", SMALL.output))),
+        Case(("run", "long.elf", "--trace", "t"), 0, plain, ("long.elf",), (("t", LONG.trace),), LONG.output + b"\n"),
+        Case(("run", "small.elf", "--output", "o", "--set", "budget=5"), 10, report("budget", 5, 1, "64 0", "16 64 100"), ("small.elf",),
+             (("o", b""),), b"predator: `budget` in the settings allows more steps, up to 68719476736\n"),
+        Case(("gen", str(MADE), "f"), 0, printed_by_case("gen.case", f"gen {MADE} f"), (), (("f", trace(made(MADE))),)),
+        Case(("gen", "0", "f"), 0, printed_by_case("gen.case", "gen 0 f"), (), (("f", trace([])),)),
+        Case(("split", "made", str(CUT), "a", "b"), 0, lines(f"split {CUT} {MADE - CUT}"), ("made",), (("a", first), ("b", second)),
+             again="made"),
+        Case(("split", "short", "0", "a", "b"), 0, b"split 0 200\n", ("short",), tuple(zip("ab", halves(short, 0))), again="short"),
+        Case(("convert", "made", "c"), 0, lines(f"convert 2 {MADE}"), ("made",), (("c", converted(made(MADE))),), again="made"),
+        Case(("replay", "written", "--size", "4", "--settings", "settings", "--save", "s"), 0, kept, ("settings", "written"),
+             (("s", written_state(LINES)),)),
+        Case(("replay", "rest", "--size", "4", "--set", "tracking=1", "--resume", "state", "--save", "s"), 0,
+             report("exit 0", 0, 2, "4 0", "1 none 100"), ("state", "rest"), (("s", STATE),)),
+    ]
+
+
+def printing_cases() -> list[Case]:
+    """Calls that write nothing. Three of them print more than 64 KiB."""
+    replay = ("--size", "64", "--settings", "settings")
+    caches = ("--size", "64", "--sets", "64", "--ways", "64")
+    explain = ("explain", "adds.elf", "0x00011000", "64", "0", "--set", "quantum=1")
+    shown = report("exit 0", SMALL.steps, 3, "64 0", "16 64 100")
+    return [
+        Case(("replay", "fought", *replay), 0, fought_report(LINES), ("settings", "fought")),
+        Case(("replay", "-", *replay), 0, fought_report(LINES), ("settings", "/dev/stdin"), piped="fought"),
+        Case(("misses", "fought"), 0, fought_misses(LINES), ("fought",)),
+        Case(("misses", "-"), 0, printed_by_case("misses.case", "misses t"), ("/dev/stdin",), piped="turns"),
+        Case(("caches", "fought", *caches), 0, fought_caches(LINES), ("fought",)),
+        Case(("sweep", "pair", "--size", "8"), 0, printed_by_case("sweep.case", "sweep t --size 8"), ("pair",)),
+        Case(("place", "pair", "pair"), 0, printed_by_case("place.case", "place t pair"), ("pair",), again="pair"),
+        Case(("check", "plain.elf"), 0, printed_by_case("programs.case", "check p"), ("plain.elf",)),
+        Case(explain, 0, printed_by_case("explain.case", "explain p 0x00011000 64 0 --settings one"), ("adds.elf",)),
+        Case(("run", "small.elf"), 0, shown, ("small.elf",), said=SMALL.output + b"\n"),
+    ]
+
+
+def refused_cases() -> list[Case]:
+    """Calls that are refused, and so write nothing. What is said of it may be worded anew; then it is to be so here."""
+    outputs = ("--trace", "t", "--output", "o")
+    both, state = (("t", b""), ("o", b"")), (("s", b""),)
+    cut = "it ends after 10 bytes, before the trace does: write or copy it again"
+    none = "no object symbol of the trace has this name, nor was exactly one block made at that address"
+    rows = [
+        (("gen", "03", "f"), 1, usage(), (), (("f", b""),), "'03' has a leading zero: N is a whole number up to 1000000000"),
+        (("run", "script", *outputs), 2, b"predator: elf TooShort\n", ("script",), both,
+         "script: a script: guest/build.sh builds for RV32IMA"),
+        (("run", "small.elf", "--schedule", "bad", *outputs), 3, b"predator: schedule BadLine 1\n", ("small.elf", "bad"), both,
+         "bad: line 1 isn't a hart, one space and a count, as `0 500`"),
+        (("run", "small.elf", "--settings", "bad", *outputs), 4, b"predator: settings OutOfRange harts\n", ("bad",), both,
+         "bad: `harts` is a whole number from 1 to 256"),
+        (("replay", "bad", "--save", "s"), 5, b"predator: trace Truncated 10\n", ("bad",), state, f"bad: {cut}"),
+        (("split", "bad", "3", "a", "b"), 5, b"predator: trace Truncated 10\n", ("bad",), (("a", b""), ("b", b"")), f"bad: {cut}"),
+        (("convert", "script", "c"), 5, b"predator: trace Truncated 10\n", ("script",), (("c", b""),), f"script: {cut}"),
+        (("replay", "short", "--resume", "bad", "--save", "s"), 6, b"predator: state BadState 0\n", ("bad",), state,
+         "bad: not a saved state, or only part of one: byte 0 is wrong"),
+        (("place", "pair", "none"), 13, b"predator: place NoObject\n", ("pair",), (), none),
+    ]
+    made_of = [Case(*row[:5], said=f"predator: {row[5]}\n".encode()) for row in rows]
+    return [it._replace(again=it.reads[0]) if it.words[0] in ("split", "convert", "place") else it for it in made_of]
+
+
+def cases() -> list[Case]:
+    return writing_cases() + printing_cases() + refused_cases()

@@ -1,0 +1,113 @@
+"""Judges how a call of the program ended: what it printed, said and wrote, and which calls of the system it made."""
+
+import collections
+import os
+from typing import Iterator, NamedTuple
+
+from bench import Call, Ending, Fault
+from files import Case
+
+
+class Wanted(NamedTuple):
+    """How a call ends where one of its calls of the system went wrong. Of what is printed a front may be enough. `line` is the fault that
+    is said, and None where whatever is said will do. Outputs are `whole`, `begun` in their order, or as they `stay`."""
+
+    status: int
+    printed: bytes
+    is_front: bool
+    line: bytes | None
+    outputs: str
+
+
+def good_end(case: Case) -> Wanted:
+    return Wanted(case.status, case.printed, False, b"", "stay" if case.refuses() else "whole")
+
+
+def is_said(case: Case, ending: Ending, wanted: Wanted) -> bool:
+    """Whether a call says what it is to say: what it shows of a run until then, the fault, and behind that the advice of a refusal."""
+    if wanted.line is None:
+        return True
+    if not wanted.line:
+        return ending.said == case.said
+    shown, found, advice = ending.said.partition(wanted.line)
+    if case.refuses():
+        return bool(found) and not shown and advice == (case.said if wanted.status == case.status else b"")
+    is_shown = case.said.startswith(shown) or (shown.endswith(b"\n") and case.said.startswith(shown[:-1]))
+    return bool(found) and is_shown and not advice
+
+
+def faults_of_outputs(case: Case, ending: Ending, outputs: str) -> Iterator[Fault]:
+    """What is wrong with the outputs: they are begun in their order, and of each a front stands."""
+    is_before = True
+    for name, whole in case.writes:
+        now = ending.files[name]
+        is_same = now == ending.before[name]
+        if outputs == "whole" and now != whole:
+            yield f"{name} isn't whole: {None if now is None else len(now)} bytes of {len(whole)}"
+        if outputs == "stay" and not is_same:
+            yield f"{name} was written"
+        if outputs == "begun" and not is_same and (now is None or not whole.startswith(now)):
+            yield f"{name} is no front of what it is to be"
+        if outputs == "begun" and not is_same and not is_before:
+            yield f"{name} is begun, and the output before it isn't"
+        is_before = not is_same
+
+
+def faults_of(case: Case, ending: Ending, wanted: Wanted) -> list[Fault]:
+    found = list(ending.faults) + faults_of_calls(case, ending) + list(faults_of_outputs(case, ending, wanted.outputs))
+    if ending.status != wanted.status:
+        found.append(f"status {ending.status}, and {wanted.status} is wanted")
+    is_right = wanted.printed.startswith(ending.printed) if wanted.is_front else wanted.printed == ending.printed
+    if not is_right:
+        found.append(f"it printed {ending.printed[:60]!r}.., {len(ending.printed)} bytes, and wanted are {wanted.printed[:60]!r}..")
+    if not is_said(case, ending, wanted):
+        found.append(f"it said {ending.said[-200:]!r}, and wanted is {wanted.line!r}")
+    return found
+
+
+def faults_of_opening(case: Case, it: Call, ended: set[str], begun: list[str]) -> Iterator[Fault]:
+    """What is wrong with how a file is opened: an input is opened for reading alone, an output once, after the inputs were read to their
+    ends, and to be written as it stands."""
+    outputs = dict(case.writes)
+    how = it.asked & ~(os.O_CLOEXEC | os.O_NOCTTY | os.O_LARGEFILE)
+    if it.name not in outputs:
+        if how != os.O_RDONLY:
+            yield f"{it.name} is opened with {it.asked:#o}, and is no output"
+        if it.name not in case.reads and it.name != os.devnull:
+            yield f"{it.name} is opened, and no file of the call"
+        return
+    if how != os.O_WRONLY | os.O_CREAT:
+        yield f"{it.name} is opened with {it.asked:#o}"
+    if it.name in begun:
+        yield f"{it.name} is opened twice"
+    yield from (f"{it.name} is opened before {name} was read to its end" for name in case.reads if name not in ended)
+
+
+def faults_of_calls(case: Case, ending: Ending) -> list[Fault]:
+    """What is wrong with the calls of the system that were made, by what was written down of them."""
+    found: list[Fault] = []
+    outputs, ended, opened = dict(case.writes), set[str](), list[str]()
+    emptied, handed = list[str](), collections.Counter[str]()
+    still: dict[int, str] = {}
+    for it in ending.calls:
+        if it.call == "open" and it.answer >= 0:
+            found += faults_of_opening(case, it, ended, opened)
+            still[it.answer] = it.name
+            opened.append(it.name)
+        elif it.call == "close" and still.pop(it.fd, None) is None:
+            found.append(f"{it.fd} is closed, and isn't open")
+        elif it.call == "read" and it.answer == 0:
+            ended.add(it.name)
+        elif it.call == "ftruncate" and it.answer == 0:
+            emptied.append(it.name)
+            found += [] if emptied == list(outputs)[: len(emptied)] else [f"the outputs are begun as {emptied}"]
+        elif it.call == "write":
+            handed[it.name] += max(it.answer, 0)
+            if it.name not in ("<1>", "<2>") and it.name not in emptied:
+                found.append(f"{it.name} is written, and wasn't emptied")
+    found += [f"{name} isn't closed" for name in still.values()]
+    if handed["<1>"] != len(ending.printed):
+        found.append(f"{handed['<1>']} bytes were answered as printed, and {len(ending.printed)} are there")
+    found += [f"{handed[name]} bytes were answered as written to {name}, and {len(ending.files[name] or b'')} are there"
+              for name in emptied if name in outputs and len(ending.files[name] or b"") != handed[name]]
+    return found

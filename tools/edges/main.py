@@ -1,0 +1,277 @@
+#!/usr/bin/env python3
+"""Tries the built program over a system that fails.
+
+usage: tools/edges/main.py PROGRAM [--long] [--planted]
+       tools/edges/main.py PROGRAM --open
+
+Each call of the program is made as it is, and then again for each call of the system that it makes about files: that one fails with an
+errno that it can have, or moves fewer bytes than it was asked to. between.c stands between the program and the C library for that; cc
+builds it. What is wanted after each:
+
+- the exit status, all that is printed, and the fault on standard error are those that docs/FORMATS.md tells;
+- each output is as it was, a front of what it is to be, or whole, and whole where the work is done. It has the bytes that were handed over
+  in writes that the system answered, and no others;
+- no other file is changed or made, and nothing is left open or running;
+- an input is opened for reading alone, and an output once, as it stands, after the inputs were read to their ends and the output before it
+  was emptied;
+- a call that a signal interrupts (EINTR) is made anew, but for a read, which fails then; so is what moved fewer bytes;
+- an error of a close changes nothing. That of a write to standard error, or of asking what the streams are, changes nothing else.
+
+tries.py tries what needs no failing call: names of files, streams, full disks, and what `main` does. files.py has what each call is to
+print and write, worked out apart from the program.
+
+The short form takes EINTR and some of the other errnos in turn, and of calls that are alike the first two and the last; --long takes all.
+With --planted between.c makes mistakes in the program's name, one kind after another, and each must be found. So what is shown is that such
+a mistake would be seen; the program itself isn't changed.
+
+--open tries what one would expect and the program doesn't do, and nothing else: it fails as long as that is so.
+
+A write that the system answers and then loses can't be told from a good one. It ends with 1 where anything is wrong. The last line counts
+the tries by call and errno."""
+
+import collections
+import errno
+import os
+import subprocess
+import sys
+import tempfile
+from typing import Iterator, NamedTuple
+
+import tries
+from bench import Bench, Call
+from files import Case
+from judge import Wanted, faults_of, good_end
+
+# Which errnos a call may have. A close is made anyway, and its error is passed over.
+ERRORS = {
+    "open": "EACCES EINTR EIO ENOENT ENOMEM EMFILE ENFILE EISDIR ELOOP ENXIO EPERM ENOSPC EROFS EDQUOT ETXTBSY EOVERFLOW",
+    "read": "EIO EINTR ENOMEM EAGAIN EISDIR EBADF EINVAL ESTALE ETIMEDOUT",
+    "write": "ENOSPC EIO EINTR ENOMEM EDQUOT EFBIG EAGAIN EPIPE EPERM EBADF ESTALE",
+    "lseek": "ESPIPE EINVAL EOVERFLOW ENXIO EBADF",
+    "ftruncate": "EIO EINTR EPERM EINVAL EFBIG EROFS ENOSPC",
+    "statx": "EACCES EIO ENOMEM ENOENT EBADF EOVERFLOW ESTALE",
+    "close": "EIO EINTR ENOSPC EDQUOT EBADF",
+}
+SHARES = {"read": ("less", "half", "one"), "write": ("less", "half", "one", "none")}
+# Which calls are made anew where a signal interrupts them.
+TRIED_ANEW = ("open", "write", "ftruncate", "close")
+READ_ONCE = "a pipe or a terminal can be read once; write it to a file first"
+NO_BYTE = "failed to write whole buffer"
+READ_FAULT, WRITE_FAULT, NO_MEMORY = b"predator: read fault\n", b"predator: write fault\n", b"predator: no memory\n"
+
+
+class How(NamedTuple):
+    """How a call goes wrong: with an errno, which may last, or with a share of the bytes."""
+
+    name: str
+    error: int = 0
+    share: str = ""
+    lasts: bool = False
+
+    def told(self, number: int) -> dict[str, str]:
+        told = {"EDGES_AT": str(number), "EDGES_ERROR": str(self.error), "EDGES_SHARE": self.share}
+        return told | ({"EDGES_LASTS": "1"} if self.lasts else {})
+
+
+def part_of(case: Case, calls: list[Call], number: int) -> str:
+    """What a call of the system is for: to `read`, to `write`, to `print`, to tell whether a file can be read again (`again`), or
+    something on which nothing hangs (`aside`)."""
+    it = calls[number - 1]
+    text = max(at for at, other in enumerate(calls, 1) if other.call == "write" and other.name == "<1>")
+    if it.call == "close" or it.name == "<2>" or number > text or (it.call == "statx" and it.fd < 0):
+        return "aside"
+    if it.name == "<1>":
+        return "print"
+    is_first_seek = it.call == "lseek" and not any(other.call == "lseek" and other.name == it.name for other in calls[: number - 1])
+    if it.name in dict(case.writes):
+        return "aside" if is_first_seek else "write"
+    if is_first_seek:
+        return "again" if it.name == case.again else "aside"
+    return "read"
+
+
+def reason_of(it: Call, part: str, how: How) -> str:
+    """Why the call fails, as it is said, and nothing where it is to be made anew or where fewer bytes are no fault."""
+    if part == "again":
+        return READ_ONCE
+    if how.share:
+        return NO_BYTE if how.share == "none" else ""
+    return "" if how.error == errno.EINTR and it.call in TRIED_ANEW else os.strerror(how.error)
+
+
+def wanted_of(case: Case, calls: list[Call], number: int, how: How) -> Wanted:
+    it, part = calls[number - 1], part_of(case, calls, number)
+    reason = "" if part == "aside" else reason_of(it, part, how)
+    outputs = "stay" if case.refuses() else "whole"
+    if not reason:
+        is_lost = part == "aside" and (it.name == "<2>" or case.refuses())
+        return Wanted(case.status, case.printed, False, None if is_lost else b"", outputs)
+    called = {"<1>": "standard output", "/dev/stdin": "standard input"}.get(it.name, it.name)
+    line = f"predator: {called}: {reason}\n".encode()
+    wants_memory = how.error == errno.ENOMEM and part != "again"
+    if part == "print":
+        status = 9 if wants_memory else case.status if case.refuses() else 8
+        return Wanted(status, case.printed, True, line, outputs)
+    printed = NO_MEMORY if wants_memory else WRITE_FAULT if part == "write" else READ_FAULT
+    if how.lasts:
+        printed, line = b"", line + f"predator: standard output: {reason}\n".encode()
+    is_begun = any(other.call == "open" and other.name in dict(case.writes) for other in calls[: number - 1])
+    status = 9 if wants_memory else 8 if part == "write" else 7
+    return Wanted(status, printed, False, line, "begun" if part == "write" or is_begun else "stay")
+
+
+def hows_of(it: Call, number: int, is_long: bool) -> Iterator[How]:
+    """In which ways a call goes wrong: in the short form with the first errno that it may have, with EINTR, and with two others in turn."""
+    names = ERRORS[it.call].split()
+    if not is_long:
+        others = [name for name in names[1:] if name != "EINTR"]
+        names = names[:1] + ["EINTR"] * ("EINTR" in names) + [others[(number + by) % len(others)] for by in (0, len(others) // 2)]
+    for name in names:
+        yield How(name, getattr(errno, name))
+    for share in SHARES.get(it.call, ()):
+        if it.asked > 1 or share == "none":
+            yield How(share, share=share)
+
+
+def chosen(calls: list[Call], is_long: bool) -> Iterator[int]:
+    """The numbers of the calls that are to go wrong: all, or of those that are alike the first two and the last."""
+    alike = collections.defaultdict(list)
+    for number, it in enumerate(calls, 1):
+        alike[it.call, it.name].append(number)
+    for numbers in alike.values():
+        yield from numbers if is_long else dict.fromkeys(numbers[:2] + numbers[-1:])
+
+
+def try_case(bench: Bench, case: Case, is_long: bool) -> None:
+    """Tries a call as it is, and with each of its calls of the system going wrong."""
+    good = bench.call(case)
+    bench.count("as it is", "", case.words, faults_of(case, good, good_end(case)))
+    bench.count("as it is", "new", case.words, faults_of(case, bench.call(case, is_new=True), good_end(case)))
+    for number in chosen(good.calls, is_long):
+        it = good.calls[number - 1]
+        for how in hows_of(it, number, is_long):
+            try_call(bench, case, good.calls, number, how, False)
+            if is_long and case.writes:
+                try_call(bench, case, good.calls, number, how, True)
+        if part_of(case, good.calls, number) in ("read", "write", "print") and not case.refuses():
+            try_call(bench, case, good.calls, number, How("EIO for ever", errno.EIO, lasts=True), False)
+
+
+def try_call(bench: Bench, case: Case, calls: list[Call], number: int, how: How, is_new: bool) -> None:
+    ending = bench.call(case, how.told(number), is_new)
+    found = faults_of(case, ending, wanted_of(case, calls, number, how))
+    it = calls[number - 1]
+    bench.count(it.call, how.name, (*case.words, f"(call {number}, of {it.name})"), found)
+
+
+def try_room(bench: Bench, case: Case) -> None:
+    """Tries a call on a disk that has room for so many bytes: what fits is taken, and then there is no space."""
+    whole = [len(content) for _, content in case.writes]
+    for room in sorted({0, 1, whole[0] // 2, whole[0] - 1, whole[0], sum(whole) - 1, sum(whole)}):
+        ending = bench.call(case, {"EDGES_ROOM": str(room)}, is_new=True)
+        if room >= sum(whole):
+            found = faults_of(case, ending, good_end(case))
+        else:
+            line = next((f"predator: {name}: {os.strerror(errno.ENOSPC)}\n".encode() for name, _ in case.writes
+                         if ending.said.endswith(f"predator: {name}: {os.strerror(errno.ENOSPC)}\n".encode())), b"no line")
+            found = faults_of(case, ending, Wanted(8, WRITE_FAULT, False, line, "begun"))
+            if sum(len(it or b"") for it in ending.files.values()) != room:
+                found.append(f"the outputs have other than {room} bytes together")
+        bench.count("write", "a full disk", (*case.words, f"(room for {room} bytes)"), found)
+
+
+def try_rooms(bench: Bench) -> None:
+    for case in bench.writing():
+        try_room(bench, case)
+
+
+def try_all(bench: Bench, is_long: bool) -> None:
+    for case in bench.cases:
+        try_case(bench, case, is_long)
+    try_rooms(bench)
+    tries.try_all(bench)
+
+
+# ---- Mistakes that are planted: each try must find something wrong.
+
+def try_last_pieces(bench: Bench) -> None:
+    for case in bench.writing():
+        calls = bench.call(case).calls
+        last = max(at for at, it in enumerate(calls, 1) if it.call == "write" and it.name in dict(case.writes))
+        ending = bench.call(case, {"EDGES_AT": str(last)})
+        bench.count("as it is", "", case.words, faults_of(case, ending, good_end(case)))
+
+
+def try_first_outputs(bench: Bench) -> None:
+    for case in (it for it in bench.writing() if len(it.writes) > 1):
+        calls = bench.call(case).calls
+        first = next(at for at, it in enumerate(calls, 1) if it.call == "ftruncate")
+        ending = bench.call(case, How("EIO", errno.EIO).told(first) | {"EDGES_NAME": case.writes[1][0]})
+        bench.count("ftruncate", "EIO", case.words, faults_of(case, ending, wanted_of(case, calls, first, How("EIO", errno.EIO))))
+
+
+def try_good(bench: Bench) -> None:
+    for case in bench.cases:
+        told = {"EDGES_NAME": case.writes[-1][0]} if case.writes else {}
+        ending = bench.call(case, told)
+        bench.count("as it is", "", case.words, faults_of(case, ending, good_end(case)))
+
+
+PLANTS = {
+    "part": ("a last piece of which a byte is lost", try_last_pieces),
+    "tail": ("the tail of an older file that stays", try_good),
+    "byte": ("a piece of one byte that is lost", try_good),
+    "print": ("a text that is cut at 64 KiB", try_good),
+    "full": ("an output that is cut on a full disk", try_rooms),
+    "early": ("an output that is begun before the inputs are read", try_good),
+    "order": ("a second output that is begun before the first", try_first_outputs),
+    "writing": ("an input that is opened for writing", try_good),
+    "kept": ("a file that isn't closed", try_good),
+    "behind": ("a line behind the report", try_good),
+    "status": ("a status that is always 0", tries.try_statuses),
+    "words": ("words behind the twelfth that are dropped", tries.try_words),
+    "case": ("names that differ by case as one file", tries.try_names_by_case),
+    "dash": ("a trace that is standard input, looked for as a file", tries.try_dash),
+}
+
+
+def try_plants(bench: Bench) -> None:
+    """Plants each mistake, and counts whether it is found. Without one there is nothing to be found."""
+    for find in (try_last_pieces, try_first_outputs, try_good):
+        find(bench)
+    for word, (what, find) in PLANTS.items():
+        planted = Bench(bench.program, bench.work, bench.shim, {"EDGES_PLANT": word})
+        find(planted)
+        first = " ".join(planted.failed[0].split()[1:]) if planted.failed else ""
+        print(f"planted: {what}: {'found: ' + first[:140] if first else 'NOT FOUND'}")
+        bench.count("planted", word, (what,), [] if first else ["it isn't found"])
+
+
+def built(work: str) -> str:
+    """The library that stands between the program and the C library."""
+    source, shim = os.path.join(os.path.dirname(os.path.abspath(__file__)), "between.c"), os.path.join(work, "between.so")
+    subprocess.run(["cc", "-Wall", "-Wextra", "-Werror", "-O1", "-shared", "-fPIC", "-o", shim, source, "-ldl"], check=True)
+    return shim
+
+
+def main(words: list[str]) -> int:
+    programs = [it for it in words if not it.startswith("-")]
+    if len(programs) != 1 or any(it.startswith("-") and it not in ("--long", "--planted", "--open") for it in words):
+        print(__doc__)
+        return 0 if words in (["--help"], ["-h"]) else 1
+    with tempfile.TemporaryDirectory() as work:
+        bench = Bench(os.path.abspath(programs[0]), work, built(work), {})
+        if "--open" in words:
+            tries.try_open(bench)
+        else:
+            try_all(bench, "--long" in words)
+        if "--planted" in words:
+            try_plants(bench)
+        for it in bench.failed:
+            print(it)
+        print(bench.closing())
+        return 1 if bench.failed else 0
+
+
+if __name__ == "__main__":
+    sys.exit(main(sys.argv[1:]))
