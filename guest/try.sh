@@ -225,6 +225,13 @@ fails() {
     says "$what" "$line"
 }
 
+# calls ARRAY KIND: the calls of all commands that read or write a file of a kind, with IT in its place.
+calls() {
+    local -n into=$1
+    mapfile -t into < <(python3 "$top/tools/commands.py" --calls "$2")
+    [ ${#into[@]} != 0 ] || { echo "there is no call for $2"; failed=$((failed + 1)); }
+}
+
 # refused STATUS FILE WORDS ..: within ten seconds each of these calls, with the file in the place of IT, ends so, and says one line.
 refused() {
     local status=$1 file=$2 words
@@ -292,7 +299,15 @@ try_shown() {
 
 # Pipes, and files that are missing, closed, endless or full.
 try_streams() {
-    local once="a pipe or a terminal can be read once; write it to a file first"
+    local once="a pipe or a terminal can be read once; write it to a file first" words
+    local -a programs traces twice settings schedules states written
+    calls programs PROGRAM
+    calls traces TRACE
+    calls twice twice
+    calls settings --settings
+    calls schedules --schedule
+    calls states --resume
+    calls written written
     "$predator" gen 40000 made >/dev/null
     "$predator" run programs/counters.elf --trace run.trace --output run.output >report 2>/dev/null
     "$predator" replay made >wanted
@@ -313,7 +328,7 @@ try_streams() {
     try "the trace through the pipe" 0 bash -c 'sleep 1; cmp through3 run.trace'
     cp made ./-
     try "a file of that name" 0 "$predator" replay ./-
-    for words in "split IT 3 a b" "convert IT a" "place IT counters"; do
+    for words in "${twice[@]}"; do
         rm -f a b
         # shellcheck disable=SC2016
         try "$words of a pipe" 7 bash -c 'cat made | "$0" '"${words/IT//dev/stdin}" "$predator"
@@ -325,35 +340,29 @@ try_streams() {
     fails "a folder as settings" 7 "programs: Is a directory" "$predator" replay made --settings programs
     : >nothing
     # What is empty, endless, missing, or there and can't be read, in the place of each file that a command reads.
-    local it words
+    local it
     for it in nothing /dev/null /dev/zero; do
-        refused 2 $it "run IT" "check IT" "explain IT 0x00011000 64 0"
-        refused 5 $it "replay IT" "sweep IT --size 64" "caches IT --size 64 --sets 4 --ways 2" "misses IT" "place IT x" "split IT 3 a b" \
-            "convert IT a"
+        refused 2 $it "${programs[@]}"
+        refused 5 $it "${traces[@]}"
         try "$it gives nothing" 1 test -e a
     done
-    refused 6 nothing "replay made --resume IT"
-    refused 6 /dev/null "replay made --resume IT"
+    refused 6 nothing "${states[@]}"
+    refused 6 /dev/null "${states[@]}"
     # A state is held whole, so an endless one ends where memory does.
     try "an endless state" 9 timeout 60 bash -c 'ulimit -v 1000000; exec "$0" replay made --resume /dev/zero' "$predator"
     prints "an endless state" "predator: no memory"
     for it in missing programs /proc/self/mem; do
-        refused 7 $it "run IT" "check IT" "explain IT 0x00011000 64 0" "replay IT" "sweep IT --size 64" \
-            "caches IT --size 64 --sets 4 --ways 2" "misses IT" "place IT x" "split IT 3 a b" "convert IT a" "replay made --resume IT" \
-            "run programs/counters.elf --settings IT" "replay made --settings IT" "check programs/counters.elf --settings IT" \
-            "run programs/counters.elf --schedule IT" "explain programs/counters.elf 0x00011000 64 0 --schedule IT"
+        refused 7 $it "${programs[@]}" "${traces[@]}" "${settings[@]}" "${schedules[@]}" "${states[@]}"
     done
-    refused 4 /dev/zero "run programs/counters.elf --settings IT" "replay made --settings IT" "check programs/counters.elf --settings IT" \
-        "explain programs/counters.elf 0x00011000 64 0 --settings IT"
-    refused 3 /dev/zero "run programs/counters.elf --schedule IT" "explain programs/counters.elf 0x00011000 64 0 --schedule IT"
+    refused 4 /dev/zero "${settings[@]}"
+    refused 3 /dev/zero "${schedules[@]}"
     refused 7 /dev/fd/9 "replay IT" "run programs/counters.elf --settings IT" "replay made --resume IT"
     for it in nothing /dev/null; do
         try "$it as settings" 0 timeout 10 "$predator" replay made --settings $it
         try "$it as a schedule" 0 timeout 10 "$predator" run programs/counters.elf --schedule $it
     done
     # What is full, and an input stays as it was.
-    for words in "run programs/counters.elf --trace IT" "run programs/counters.elf --output IT" "gen 40000 IT" "replay made --save IT" \
-        "convert made IT" "split made 3 IT b" "split made 20000 a IT"; do
+    for words in "${written[@]}"; do
         # (the words apart)
         # shellcheck disable=SC2086
         fails "$words of /dev/full" 8 "/dev/full: No space left on device" "$predator" ${words/IT//dev/full}

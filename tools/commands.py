@@ -1,11 +1,12 @@
 #!/usr/bin/env python3
 """Writes what documents and scripts repeat of commands.toml, and compares both with the program.
 
-usage: tools/commands.py [--renew | --calls FILE]
+usage: tools/commands.py [--renew | --calls KIND]
 
 Without a word it says which places differ from commands.toml, and where commands.toml differs from the crates: in the lines of usage and the exit
 statuses, and with the built program (PREDATOR_PROGRAM, or what bin/predator runs) in the ranges of the settings. --renew writes the places anew.
---calls TRACE, or PROGRAM, prints a call of each command that reads such a file, with IT in its place, for tries."""
+--calls prints, for the tries, the calls of all commands that read a TRACE or a PROGRAM, read one `twice`, have an option as --settings, or have
+files `written`, with IT in the place of that file."""
 
 import os
 import re
@@ -21,6 +22,8 @@ WIDTH = 137
 # Where the crates say how the program is called, and which exit statuses it has.
 NUMBERS = "crates/command_files/specs/Numbers.antt"
 USAGE = "crates/worked_runs/data/usage.txt"
+# What refuses memory to each command.
+MEMORY = "guest/refuse_memory.py"
 # Crates that repeat lines of usage, to test them.
 COPIES = ("_tests",)
 LAUNCHER = ("--help", "--version", "--prove")
@@ -261,13 +264,33 @@ def differences(table: dict[str, list[Row]], program: str | None) -> Iterator[st
     for command in table["command"]:
         for it in {*options_of(command)} - options:
             yield f"commands.toml: {command['name']} has an option {it} that isn't described"
+    for command in table["command"]:
+        if f'("{command["name"]}", ' not in read(MEMORY):
+            yield f"{MEMORY}: it has no call of {command['name']}"
     if program:
         yield from check_settings(program, table)
 
 
+def call(command: Row, **others: str) -> list[str]:
+    """A command's call, with the files of the tries, or others, in the place of its names."""
+    files = {"PROGRAM": "programs/counters.elf", "TRACE": "made", "NAME": "counters", "A": "a", "B": "b", **others}
+    return [files.get(word, word) for word in command["call"]]
+
+
 def calls(table: dict[str, list[Row]], kind: str) -> list[str]:
-    """A call of each command that reads a file of a kind, with IT in its place."""
-    return [" ".join("IT" if word == kind else word for word in it["call"]) for it in table["command"] if kind in it.get("reads", ())]
+    """Calls with IT in the place of a file: of each command that reads a PROGRAM or a TRACE, that reads one twice, that has an option, or, for each
+    file that it writes, of one that writes."""
+    found: list[list[str]] = []
+    written = [it["name"] for it in table["option"] if it.get("writes")]
+    for command in table["command"]:
+        if kind.startswith("--"):
+            found += [[*call(command), kind, "IT"] for it in options_of(command) if it == kind]
+        elif kind == "written":
+            found += [call(command, **{it: "IT"}) for it in command.get("writes", ())]
+            found += [[*call(command), it, "IT"] for it in options_of(command) if it in written]
+        else:
+            found += [call(command, **{it: "IT"}) for it in command.get("twice" if kind == "twice" else "reads", ()) if kind in ("twice", it)]
+    return [" ".join(it) for it in found]
 
 
 def main(words: list[str]) -> int:
