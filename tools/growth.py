@@ -57,8 +57,8 @@ PROCESSORS = len(os.sched_getaffinity(0))
 CACHEGRIND = ("valgrind", "--tool=cachegrind", "--cache-sim=no", "--branch-sim=no", "--cachegrind-out-file=/dev/null", "--log-file=FILE")
 WAYS = {
     "perf": Way("machine instructions, by perf", ("perf", "stat", "-x,", "-e", "instructions:u", "-o", "FILE", "--"),
-                r"(?m)^(\d+),", 1, PROCESSORS, 1, 2e6, "M"),
-    "valgrind": Way("machine instructions, by valgrind", CACHEGRIND, r"I\s+refs:\s+([\d,]+)", 1, PROCESSORS, 1, 2e6, "M"),
+                r"(?m)^(\d+),", 1, PROCESSORS, 1, 1e5, "M"),
+    "valgrind": Way("machine instructions, by valgrind", CACHEGRIND, r"I\s+refs:\s+([\d,]+)", 1, PROCESSORS, 1, 1e5, "M"),
     "time": Way("processor time, the least of three calls", (), "", 3, 1, 4, 0.04, "s"),
 }
 
