@@ -16,6 +16,7 @@ a case that isn't what it should be, or does too little to tell, is a fault. The
 import argparse
 import os
 import re
+import resource
 import shutil
 import signal
 import subprocess
@@ -32,8 +33,8 @@ from made_traces import Made, TraceCase, rest_of
 
 # The size grows by 4, and a cost by no more than this.
 MOST = 6.0
-# A call may take so many seconds.
-LONGEST = 120
+# A call may take so many seconds of a processor.
+LONGEST = 40
 LISTED = "tracking=1,report=1"
 
 
@@ -56,8 +57,8 @@ PROCESSORS = len(os.sched_getaffinity(0))
 CACHEGRIND = ("valgrind", "--tool=cachegrind", "--cache-sim=no", "--branch-sim=no", "--cachegrind-out-file=/dev/null", "--log-file=FILE")
 WAYS = {
     "perf": Way("machine instructions, by perf", ("perf", "stat", "-x,", "-e", "instructions:u", "-o", "FILE", "--"),
-                r"(?m)^(\d+),", 1, PROCESSORS, 1, 2e6, "M"),
-    "valgrind": Way("machine instructions, by valgrind", CACHEGRIND, r"I\s+refs:\s+([\d,]+)", 1, PROCESSORS, 1, 2e6, "M"),
+                r"(?m)^(\d+),", 1, PROCESSORS, 1, 1e5, "M"),
+    "valgrind": Way("machine instructions, by valgrind", CACHEGRIND, r"I\s+refs:\s+([\d,]+)", 1, PROCESSORS, 1, 1e5, "M"),
     "time": Way("processor time, the least of three calls", (), "", 3, 1, 4, 0.04, "s"),
 }
 
@@ -96,7 +97,7 @@ def replay(trace: str, made: Made) -> Call:
 def replay_words(trace: str, made: Made) -> Call:
     """Under lines that begin elsewhere."""
     words = ["replay", trace, *settings_of(made), "--size", "64", "--shift", "32"]
-    return Call(words, [("layout 64 32", 1), ("line", -(made.lines // 2))])
+    return Call(words, [("layout 64 32", 1), ("line", -max(made.lines // 2, 1))])
 
 
 def replay_save(trace: str, made: Made) -> Call:
@@ -243,12 +244,10 @@ def spent(words: list[str], out: str) -> tuple[float, int | None]:
     """The processor time of a call and its status, none where it takes too long. What it prints goes to a file."""
     with open(out, "wb") as file:
         child = subprocess.Popen(words, stdin=subprocess.DEVNULL, stdout=file, stderr=subprocess.DEVNULL)
-    killer = threading.Timer(LONGEST, child.kill)
-    killer.start()
+    resource.prlimit(child.pid, resource.RLIMIT_CPU, (LONGEST, LONGEST))
     _, status, usage = os.wait4(child.pid, 0)
-    killer.cancel()
     child.returncode = os.waitstatus_to_exitcode(status)
-    return usage.ru_utime + usage.ru_stime, None if child.returncode == -signal.SIGKILL else child.returncode
+    return usage.ru_utime + usage.ru_stime, None if child.returncode in (-signal.SIGKILL, -signal.SIGXCPU) else child.returncode
 
 
 def once(way: Way, program: str, call: Call, out: str) -> Cost:

@@ -156,15 +156,14 @@ def drawn(count: int, state: int) -> tuple[list[int], int]:
 def places_in_holes(n: int) -> int:
     """The sum of the places of the blocks that holes_of_all_sizes makes last, each the least one that is free."""
     sizes, state = drawn(n, 1)
-    holes, at = [], 0
-    for size in sizes:
-        if size & 16 and holes and holes[-1][0] + holes[-1][1] == at:
+    holes, at, total = [], 0, 0
+    # (the last one is what lies behind all of them)
+    for size in [*sizes, 2**32 + 16]:
+        if size & 16 and holes and sum(holes[-1]) == at:
             holes[-1][1] += size
         elif size & 16:
             holes.append([at, size])
         at += size
-    holes.append([at, 2**32])
-    total = 0
     for size in drawn(n, state)[0]:
         hole = next(it for it in holes if it[1] >= size)
         total += hole[0]
@@ -344,9 +343,9 @@ def sites_in_functions(n: int) -> Guest:
 
 # ---- Harts.
 
-def begin_harts(code: Code) -> None:
-    """255 harts more, which begin at WORKER."""
-    with code.times(255, "s1"):
+def begin_harts(code: Code, harts: int = 256) -> None:
+    """All others, which begin at WORKER."""
+    with code.times(harts - 1, "s1"):
         code.call("spawn", WORKER, 0)
 
 
@@ -384,22 +383,22 @@ def spawns(n: int) -> Guest:
     return said(code, "s0", 3 * n)
 
 
-def turns(n: int) -> Guest:
-    """256 harts go round."""
+def turns(n: int, harts: int = 256) -> Guest:
+    """Harts go round."""
     code = Code()
     code.jump("begin")
     code.label("worker")
     code.jump("worker")
     code.label("begin")
-    begin_harts(code)
+    begin_harts(code, harts)
     code.jump("worker")
-    settings = f"harts=256,stack=4096,quantum=1,budget={16 * n}"
+    settings = f"harts={harts},stack=4096,quantum=1,budget={16 * n}"
     return Guest(alone(code), settings, "budget", ((f"steps {16 * n}", 1),), status=10)
 
 
 def drawn_turns(n: int) -> Guest:
-    """The same by drawn turns."""
-    guest = turns(n)
+    """The same by drawn turns, which go to fewer harts, since the first one begins the others by few of them."""
+    guest = turns(n, 64)
     return guest._replace(settings=f"{guest.settings},seed=1")
 
 
@@ -535,9 +534,9 @@ CASES = [
     GuestCase("guest: blocks freed in order", freed_in_order, 4096, "run run--trace"),
     GuestCase("guest: blocks freed in reverse", freed_in_reverse, 4096, "run"),
     GuestCase("guest: blocks freed at random", freed_at_random, 4096, "run"),
-    GuestCase("guest: a low hole", low_hole, 2048, "run"),
-    GuestCase("guest: a low hole again and again", low_hole_again, 2048, "run"),
-    GuestCase("guest: every second block freed", every_second, 2048, "run"),
+    GuestCase("guest: a low hole", low_hole, 1024, "run"),
+    GuestCase("guest: a low hole again and again", low_hole_again, 512, "run"),
+    GuestCase("guest: every second block freed", every_second, 512, "run"),
     GuestCase("guest: holes of all sizes", holes_of_all_sizes, 1024, "run"),
     GuestCase("guest: blocks at one place", one_place, 4096, "run"),
     GuestCase("guest: noted blocks", noted, 2048, "run run--trace"),
@@ -551,7 +550,7 @@ CASES = [
     GuestCase("guest: 256 harts that wait", waits, 8192, "run"),
     GuestCase("guest: harts one after another", spawns, 8192, "run"),
     GuestCase("guest: turns of 256 harts", turns, 8192, "run"),
-    GuestCase("guest: drawn turns of 256 harts", drawn_turns, 8192, "run"),
+    GuestCase("guest: drawn turns of 64 harts", drawn_turns, 8192, "run"),
     GuestCase("guest: much output", prints, 8192, "run run--output"),
     GuestCase("program file: segments", segments, 8192, "check", 65535),
     GuestCase("program file: names in one", names_of_one, 4096, "check"),
