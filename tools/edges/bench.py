@@ -2,7 +2,6 @@
 
 import collections
 import os
-import signal
 import subprocess
 from typing import Iterator, NamedTuple, Sequence
 
@@ -124,7 +123,7 @@ class Bench:
                     printed, said = ran.communicate()
                     faults.append(f"it hadn't ended after {SECONDS} s")
         try:
-            os.killpg(ran.pid, signal.SIGKILL)
+            os.killpg(ran.pid, 0)
             faults.append("it left something running")
         except ProcessLookupError:
             pass

@@ -104,7 +104,8 @@ def wanted_of(case: Case, calls: list[Call], number: int, how: How) -> Wanted:
     reason = "" if part == "aside" else reason_of(it, part, how)
     outputs = "stay" if case.refuses() else "whole"
     if not reason:
-        is_lost = part == "aside" and (it.name == "<2>" or case.refuses())
+        # (the advice of a refusal looks at the file again)
+        is_lost = part == "aside" and (it.name == "<2>" or (case.refuses() and it.call in ("lseek", "read")))
         return Wanted(case.status, case.printed, False, None if is_lost else b"", outputs)
     called = {"<1>": "standard output", "/dev/stdin": "standard input"}.get(it.name, it.name)
     line = f"predator: {called}: {reason}\n".encode()

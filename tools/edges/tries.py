@@ -29,8 +29,11 @@ class Ended:
     def __init__(self, bench: Bench, words: Sequence[str], **streams: object) -> None:
         usual: dict[str, object] = {"stdin": subprocess.DEVNULL, "stdout": subprocess.PIPE, "stderr": subprocess.PIPE}
         settings = usual | {"env": bench.environment({}), "timeout": SECONDS, "check": False} | streams
-        ran = subprocess.run([bench.program, *words], **settings)  # type: ignore[call-overload]
-        self.status, self.printed, self.said = ran.returncode, ran.stdout, ran.stderr or b""
+        try:
+            ran = subprocess.run([bench.program, *words], **settings)  # type: ignore[call-overload]
+            self.status, self.printed, self.said = ran.returncode, ran.stdout, ran.stderr or b""
+        except subprocess.TimeoutExpired:
+            self.status, self.printed, self.said = None, b"", f"(it hadn't ended after {SECONDS} s)".encode()
 
     def faults(self, status: int, printed: bytes | None, said: bytes | None) -> list[Fault]:
         """What is wrong. None stands for what isn't looked at, or went elsewhere."""
@@ -307,14 +310,26 @@ def try_closed_streams(bench: Bench) -> None:
             bench.count("streams", f"without {' '.join(map(str, numbers))}", case.words, found + unwritten(case) + bench.changed())
 
 
+def shown_on(terminal: int) -> bytes:
+    """All that was written on a terminal that nobody writes on any more. It is closed."""
+    said = b""
+    try:
+        while piece := os.read(terminal, PAGE):
+            said += piece
+    except OSError:
+        # (so a terminal ends that nobody has open)
+        pass
+    os.close(terminal)
+    return said
+
+
 def try_terminals(bench: Bench) -> None:
     """With a terminal for standard error all is as without one."""
     for case in (it for it in bench.cases if not it.piped and len(it.said) < PAGE):
         ours, theirs = pty.openpty()
         ended = Ended(bench, case.words, stderr=theirs)
         os.close(theirs)
-        said = os.read(ours, PAGE).replace(b"\r\n", b"\n") if case.said else b""
-        os.close(ours)
+        said = shown_on(ours).replace(b"\r\n", b"\n")
         found = ended.faults(case.status, case.printed, None) + ([] if said == case.said else [f"it said {said!r}"])
         bench.count("streams", "a terminal", case.words, found + unwritten(case) + bench.changed())
 
@@ -394,18 +409,28 @@ def try_full_pipes(bench: Bench) -> None:
         bench.count("streams", "a pipe that is full", case.words, found)
 
 
+def through_fifo(bench: Bench, words: Sequence[str], reader: Sequence[str]) -> tuple[Ended, bytes]:
+    """How a call ends, and what came through the FIFO that it writes into, to a program that reads it."""
+    with subprocess.Popen([*reader, "fifo"], stdout=subprocess.PIPE) as reading:
+        ended = Ended(bench, words)
+        try:
+            return ended, reading.communicate(timeout=SECONDS)[0]
+        except subprocess.TimeoutExpired:
+            # (the call never opened it)
+            reading.kill()
+            return ended, b""
+
+
 def try_fifos(bench: Bench) -> None:
     """A FIFO gets a whole output; where its reader goes, that is a fault of writing."""
     os.mkfifo("fifo")
     for case, name, whole in ((case, name, whole) for case in bench.writing() for name, whole in case.writes):
         words = ["fifo" if it == name else it for it in case.words]
-        with subprocess.Popen(["cat", "fifo"], stdout=subprocess.PIPE) as reader:
-            ended = Ended(bench, words)
-            found = [] if reader.communicate()[0] == whole else ["what came through is another file"]
-        bench.count("streams", "a FIFO", words, found + ended.faults(case.status, case.printed, case.said))
+        ended, came = through_fifo(bench, words, ("cat",))
+        found = ended.faults(case.status, case.printed, case.said) + ([] if came == whole else ["what came through is another file"])
+        bench.count("streams", "a FIFO", words, found)
         if len(whole) > PIPE + PAGE:
-            with subprocess.Popen(["head", "-c", "10", "fifo"], stdout=subprocess.DEVNULL):
-                ended = Ended(bench, words)
+            ended, _ = through_fifo(bench, words, ("head", "-c", "10"))
             found = ended.faults(8, WRITE_FAULT, None) + ended.unsaid(fault_line("fifo", BROKEN))
             bench.count("streams", "a FIFO whose reader goes", words, found)
         remove(*dict(case.writes))
