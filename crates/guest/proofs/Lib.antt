@@ -1,11 +1,12 @@
 pub mod AtCall
+pub mod BlockLaws
+pub mod BlockSteps
 pub mod CallFits
 pub mod CallLengths
 pub mod ChosenTurn
 pub mod FirstPhases
 pub mod GoingAhead
 pub mod HeapBlocks
-pub mod HeapLayouts
 pub mod LeastPlace
 pub mod LoneHart
 pub mod Mapped
@@ -16,6 +17,7 @@ pub mod RunSteps
 pub mod SoundChanges
 pub mod ThreadPlaces
 pub mod ThreadsTold
+pub mod Tiles
 pub mod TurnAnswers
 pub mod TurnCounts
 pub mod TurnsCounted
