@@ -9,10 +9,6 @@ use Rattle.guest.specs.declared.block_tree.LiveBlock.{LiveBlock}
 use Rattle.guest.specs.LiveBlocks.{most_free, spanned, AreBehind, DoRise, DoFit, block_at}
 use Rattle.guest.specs.LiveBlocks.{first_place, filled, grown, without}
 
-pub most_free_append : (xs ys : List LiveBlock) → most_free (xs ++ ys) ≡ max (most_free xs) (most_free ys)
-most_free_append [] ys = omega arith
-most_free_append (x ∷ xs) ys = omega (arith, most_free_append xs ys)
-
 pub spanned_append : (xs ys : List LiveBlock) → spanned (xs ++ ys) ≡ spanned xs + spanned ys
 spanned_append [] ys = omega arith
 spanned_append (x ∷ xs) ys = omega (arith, spanned_append xs ys)
@@ -30,7 +26,7 @@ rise_parts [] ys h = (tt, h)
 rise_parts (x ∷ xs) ys h =
     (let rest = rise_parts xs ys h.1 in (((behind_parts x.addr xs ys h.0).0, rest.0), rest.1))
 
-none_behind : (addr from : ℕ) (xs : List LiveBlock) → addr ≤ from → AreBehind from xs → block_at addr xs ≡ None
+pub none_behind : (addr from : ℕ) (xs : List LiveBlock) → addr ≤ from → AreBehind from xs → block_at addr xs ≡ None
 none_behind addr from [] l h = refl
 none_behind addr from (x ∷ xs) l h =
     rw (ne_eqb x.addr addr (omega (arith, h.0))) (none_behind addr from xs l h.1)

@@ -7,7 +7,8 @@ use Rattle.guest.specs.declared.block_tree.LiveBlock.{LiveBlock}
 use Rattle.guest.specs.LiveBlocks.{most_free, spanned, DoRise, DoFit, block_at}
 use Rattle.guest.specs.LiveBlocks.{first_place, filled, grown, without}
 use Rattle.guest.proofs.BlockLaws.{block_at_append, filled_left, filled_right, fit_parts, grown_right}
-use Rattle.guest.proofs.BlockLaws.{most_free_append, none_left, none_right, place_left, place_right}
+use Rattle.guest.proofs.BlockLaws.{none_left, none_right, place_left, place_right}
+use Rattle.guest.proofs.MostFree.{most_free_append}
 use Rattle.guest.proofs.BlockLaws.{rise_parts, spanned_append, without_here, without_left, without_right}
 
 module _ (l : List LiveBlock) (b : LiveBlock) (r old : List LiveBlock) (is : l ++ b ∷ r ≡ old) where

@@ -7,7 +7,7 @@ use Rattle.std.proofs.Common.{length-append, length-set}
 use Rattle.std.specs.Prelude.{slice_get, slice_index, slice_set, nat_lt, ◌==◌, IsTrue}
 use Rattle.std.specs.Option.{option_map}
 use Rattle.std.proofs.lemmas.Bool.{and_from, and_parts, eq-eqb, eqb-true, le-leb, leb-true}
-use Rattle.std.proofs.lemmas.Bool.{lt-ltb, ltb-true, not-true}
+use Rattle.std.proofs.lemmas.Bool.{cases_lt, lt-ltb, ltb-true, not-true}
 use Rattle.std.specs.List.{list_any}
 use Rattle.std.proofs.Math.Seq.{map-set_same}
 use Rattle.std.proofs.lemmas.Bool.Decides.{eqb_tells}
@@ -22,7 +22,7 @@ use Rattle.objects.specs.Laws.Indexes.{any_passes, index-die, index-push, never,
 use Rattle.objects.specs.Laws.Indexes.{passes_from, passes_within}
 use Rattle.guest.proofs.BlockLaws.{without_none}
 use Rattle.guest.proofs.Tiles.{AreClear, IsClear, clear-all, clear-each, filled-new, filled-others}
-use Rattle.guest.proofs.Tiles.{none-anywhere, none-before, placed, tiled-filled, tiled-rise}
+use Rattle.guest.proofs.Tiles.{none-anywhere, none-before, placed, some-place, tiled-filled, tiled-rise}
 use Rattle.guest.proofs.Tiles.{tiled-without, without-gone, without-others}
 
 one_place : (q k : ℕ) (b : HeapBlock) → lives_at q b ≡ true → lives_at k b ≡ true → q ≡ k
@@ -166,19 +166,25 @@ module _ (h : Heap) (gap size : ℕ) (live : List LiveBlock)
           none-before (rounded size) h.start gap h.end place q live (rounded_positive size)
           laid.tiled is s.begins s.ends (all-clear q s.clear))
 
+  pub roomy : length h.blocks < most_blocks → rounded size ≤ max gap (most_free live)
+      → HasNoPlace h size → ⊥
+  roomy room held none =
+      (let p = some-place (rounded size) h.start gap live held in
+      let stands = (least p.0 room p.1).0 in
+      true≢false (sym stands ∙ none p.0))
+
   pub nowhere : max gap (most_free live) < rounded size → HasNoPlace h size
   nowhere short q = never (can_stand h size q) (λ can.
       (let s = stands_if h (number_at live) size q laid.index can in
       none-anywhere (rounded size) h.start gap h.end q live laid.tiled short s.begins s.ends
       (all-clear q s.clear)))
 
-pub spent : (h : Heap) (size : ℕ) → most_blocks ≤ length h.blocks → HasNoPlace h size
-spent h size many q = never (can_stand h size q) (λ can.
-    (let four = and_parts _ _ can in
-    let three = and_parts _ _ four.0 in
-    let two = and_parts _ _ three.0 in
-    let one = and_parts _ _ two.0 in
-    omega (arith, many, ltb-true (length h.blocks) most_blocks one.0)))
+-- whether there is room for one block more
+pub has_room : (n : ℕ) → (most_blocks ≤ n → false ≡ true) → n < most_blocks
+has_room n spent = elim (cases_lt n most_blocks) [
+  | inl less ↦ less
+  | inr more ↦ absurd (true≢false (sym (spent more)))
+]
 
 size_early : (xs : List HeapBlock) (b : HeapBlock) (i : ℕ) → i < length xs
     → slice_index (map (λ b. b.size) (xs ++ b ∷ [])) i ≡ slice_index (map (λ b. b.size) xs) i
@@ -198,10 +204,10 @@ module _ (h : Heap) (gap size number place : ℕ) (live : List LiveBlock)
     (laid : IsLaidOut h.start gap h.end live h.blocks) (room : length h.blocks < most_blocks)
     (is : first_place (rounded size) h.start gap live ≡ Some place)
     (numbered : number ≡ length h.blocks) where
-  after : List LiveBlock
+  abbrev after : List LiveBlock
   after = (filled (rounded size) number h.start gap live).1
 
-  blocks : List HeapBlock
+  abbrev blocks : List HeapBlock
   blocks = h.blocks ++ made_block place size ∷ []
 
   pub made-laid : IsLaidOut h.start (filled (rounded size) number h.start gap live).0 h.end
@@ -270,24 +276,21 @@ module _ (h : Heap) (gap addr n : ℕ) (live : List LiveBlock) (x y : HeapBlock)
   died-laid was at same dead = record {
     few = rw (length-set h.blocks n y) laid.few;
     tiled = tiled-without addr h.start gap h.end live laid.tiled;
-    index = index-die lives_at (number_at live) (number_at after) h.blocks addr n y one_place dead was
+    index = index-die lives_at (number_at live) (number_at (without addr gap live).1) h.blocks addr n y one_place dead was
         gone others laid.index;
     bytes = taken;
   }
     where
-      after : List LiveBlock
-      after = (without addr gap live).1
-
-      gone_block : block_at addr after ≡ None
+      gone_block : block_at addr (without addr gap live).1 ≡ None
       gone_block = without-gone addr gap live (tiled-rise h.start gap h.end live laid.tiled)
 
-      gone : number_at after addr ≡ None
+      gone : number_at (without addr gap live).1 addr ≡ None
       gone = ap (option_map (λ b. b.number)) gone_block
 
-      others : (q : ℕ) → q ≢ addr → number_at after q ≡ number_at live q
+      others : (q : ℕ) → q ≢ addr → number_at (without addr gap live).1 q ≡ number_at live q
       others q apart = without-others (λ b. b.number) (λ b g. refl) addr gap q live apart
 
-      others_bytes : (q : ℕ) → q ≢ addr → bytes_at after q ≡ bytes_at live q
+      others_bytes : (q : ℕ) → q ≢ addr → bytes_at (without addr gap live).1 q ≡ bytes_at live q
       others_bytes q apart = without-others (λ b. b.bytes) (λ b g. refl) addr gap q live apart
 
       by_number : (o : Option ℕ) → option_map (taken_by (slice_set h.blocks n y)) o
@@ -295,7 +298,7 @@ module _ (h : Heap) (gap addr n : ℕ) (live : List LiveBlock) (x y : HeapBlock)
       by_number None = refl
       by_number (Some i) = ap Some (taken-set h.blocks n i x y x at same)
 
-      taken : (q : ℕ) → bytes_at after q ≡ taken_at (number_at after) (slice_set h.blocks n y) q
+      taken : (q : ℕ) → bytes_at (without addr gap live).1 q ≡ taken_at (number_at (without addr gap live).1) (slice_set h.blocks n y) q
       taken q = elim (eqb_tells q addr) [
         | inl here ↦ rw here.1 (ap (option_map (λ b. b.bytes)) gone_block
             ∙ sym (ap (option_map (taken_by (slice_set h.blocks n y))) gone))
@@ -304,14 +307,16 @@ module _ (h : Heap) (gap addr n : ℕ) (live : List LiveBlock) (x y : HeapBlock)
             ∙ by_number (number_at live q)))
       ]
 
-  -- where no block begins at an address, none dies
-  pub kept-laid : number_at live addr ≡ None
-      → IsLaidOut h.start (without addr gap live).0 h.end (without addr gap live).1 h.blocks
-  kept-laid none = rw (without_none addr gap live (no_block (block_at addr live) refl)) laid
-    where
-      no_block : (o : Option LiveBlock) → block_at addr live ≡ o → block_at addr live ≡ None
-      no_block None e = e
-      no_block (Some b) e = (let no : Some b.number ≡ None = rw e at none in cc)
+-- where no block begins at an address, none dies
+pub kept-laid : (start gap end addr : ℕ) (live : List LiveBlock) (blocks : List HeapBlock)
+    → IsLaidOut start gap end live blocks → number_at live addr ≡ None
+    → IsLaidOut start (without addr gap live).0 end (without addr gap live).1 blocks
+kept-laid start gap end addr live blocks laid none =
+    rw (without_none addr gap live (no_block (block_at addr live) refl)) laid
+  where
+    no_block : (o : Option LiveBlock) → block_at addr live ≡ o → block_at addr live ≡ None
+    no_block None e = e
+    no_block (Some b) e = (let no : Some b.number ≡ None = rw e at none in cc)
 
 pub other_heap_blocks : (start end : ℕ) (a b : List HeapBlock) → a ≡ b
     → let x : Heap = record { start = start; end = end; blocks = a } in x

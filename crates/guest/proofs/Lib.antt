@@ -10,6 +10,7 @@ pub mod HeapBlocks
 pub mod LeastPlace
 pub mod LoneHart
 pub mod Mapped
+pub mod MostFree
 pub mod NextHart
 pub mod OwnAccesses
 pub mod PassedTurns

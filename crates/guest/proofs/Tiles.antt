@@ -10,7 +10,7 @@ use Rattle.guest.specs.declared.block_tree.LiveBlock.{LiveBlock}
 use Rattle.guest.specs.LiveBlocks.{most_free, spanned, AreBehind, DoRise, DoFit, block_at}
 use Rattle.guest.specs.LiveBlocks.{first_place, filled, without}
 use Rattle.guest.specs.HeapLayout.{IsTiled, bytes_at}
-use Rattle.guest.proofs.BlockLaws.{none_behind}
+use Rattle.guest.proofs.BlockLaws.{none_behind, place_here}
 
 -- no live block has an address in common with so many bytes from a place on
 abbrev pub IsClear : (ℕ → Option ℕ) → ℕ → ℕ → Type 0
@@ -30,27 +30,27 @@ tiled-aligned at gap end (b ∷ bs) h = h.0
 pub tiled-span : (at gap end : ℕ) (bs : List LiveBlock) → IsTiled at gap end bs → at + gap + spanned bs ≡ end
 tiled-span at gap end [] h = omega (arith, h.1)
 tiled-span at gap end (b ∷ bs) h =
-    omega (arith, h.1.0, tiled-span (b.addr + b.bytes) b.gap end bs h.1.1.1)
+    omega (arith, h.1, tiled-span (b.addr + b.bytes) b.gap end bs h.3)
 
 tiled-behind : (a at gap end : ℕ) (bs : List LiveBlock) → a < at → IsTiled at gap end bs → AreBehind a bs
 tiled-behind a at gap end [] l h = tt
 tiled-behind a at gap end (b ∷ bs) l h = (
-  omega (arith, l, h.1.0),
-  tiled-behind a (b.addr + b.bytes) b.gap end bs (omega (arith, l, h.1.0)) h.1.1.1,
+  omega (arith, l, h.1),
+  tiled-behind a (b.addr + b.bytes) b.gap end bs (omega (arith, l, h.1)) h.3,
 )
 
 pub tiled-rise : (at gap end : ℕ) (bs : List LiveBlock) → IsTiled at gap end bs → DoRise bs
 tiled-rise at gap end [] h = tt
 tiled-rise at gap end (b ∷ bs) h = (
-  tiled-behind b.addr (b.addr + b.bytes) b.gap end bs (omega (arith, h.1.1.0)) h.1.1.1,
-  tiled-rise (b.addr + b.bytes) b.gap end bs h.1.1.1,
+  tiled-behind b.addr (b.addr + b.bytes) b.gap end bs (omega (arith, h.2)) h.3,
+  tiled-rise (b.addr + b.bytes) b.gap end bs h.3,
 )
 
 pub tiled-fit : (at gap end : ℕ) (bs : List LiveBlock) → end < 2 ^ 32 → IsTiled at gap end bs → DoFit bs
 tiled-fit at gap end [] l h = tt
 tiled-fit at gap end (b ∷ bs) l h = (
-  omega (arith, l, tiled-span (b.addr + b.bytes) b.gap end bs h.1.1.1),
-  tiled-fit (b.addr + b.bytes) b.gap end bs l h.1.1.1,
+  omega (arith, l, tiled-span (b.addr + b.bytes) b.gap end bs h.3),
+  tiled-fit (b.addr + b.bytes) b.gap end bs l h.3,
 )
 
 -- the gap in which a block is made is split
@@ -58,37 +58,37 @@ pub tiled-filled : (bytes number at gap end : ℕ) (bs : List LiveBlock) → byt
     → IsTiled at gap end bs
     → IsTiled at (filled bytes number at gap bs).0 end (filled bytes number at gap bs).1
 tiled-filled bytes number at gap end [] even some h = elim (leb_tells bytes gap) [
-  | inl l ↦ rw l.0 (h.0, omega arith, some, omega (arith, h.0, even), omega (arith, h.1, l.1))
+  | inl l ↦ rw l.0 (h.0, omega arith, some, (omega (arith, h.0, even), omega (arith, h.1, l.1)))
   | inr m ↦ rw m.0 h
 ]
 tiled-filled bytes number at gap end (b ∷ bs) even some h = elim (leb_tells bytes gap) [
   | inl l ↦ rw l.0
-      (h.0, omega arith, some, omega (arith, h.0, even), omega (arith, h.1.0, l.1), h.1.1.0, h.1.1.1)
+      (h.0, omega arith, some, (omega (arith, h.0, even), omega (arith, h.1, l.1), h.2, h.3))
   | inr m ↦ rw m.0
-      (h.0, h.1.0, h.1.1.0, tiled-filled bytes number (b.addr + b.bytes) b.gap end bs even some h.1.1.1)
+      (h.0, h.1, h.2, tiled-filled bytes number (b.addr + b.bytes) b.gap end bs even some h.3)
 ]
 
 -- where a block dies, the gaps around it are joined
 tiled-joined : (at gap more end : ℕ) (b : LiveBlock) (bs : List LiveBlock) → at % 16 ≡ 0 → at + gap ≡ b.addr
     → IsTiled (b.addr + b.bytes) b.gap end bs → IsTiled at (gap + (b.bytes + b.gap)) end bs
 tiled-joined at gap more end b [] even is h = (even, omega (arith, is, h.1))
-tiled-joined at gap more end b (c ∷ bs) even is h = (even, omega (arith, is, h.1.0), h.1.1.0, h.1.1.1)
+tiled-joined at gap more end b (c ∷ bs) even is h = (even, omega (arith, is, h.1), h.2, h.3)
 
 pub tiled-without : (addr at gap end : ℕ) (bs : List LiveBlock) → IsTiled at gap end bs
     → IsTiled at (without addr gap bs).0 end (without addr gap bs).1
 tiled-without addr at gap end [] h = h
 tiled-without addr at gap end (b ∷ bs) h = elim (cases_Bool (b.addr == addr)) [
-  | inl here ↦ rw here (tiled-joined at gap 0 end b bs h.0 h.1.0 h.1.1.1)
+  | inl here ↦ rw here (tiled-joined at gap 0 end b bs h.0 h.1 h.3)
   | inr other ↦ rw other
-      (h.0, h.1.0, h.1.1.0, tiled-without addr (b.addr + b.bytes) b.gap end bs h.1.1.1)
+      (h.0, h.1, h.2, tiled-without addr (b.addr + b.bytes) b.gap end bs h.3)
 ]
 
 clear-before : (place bytes at gap end : ℕ) (bs : List LiveBlock) → place + bytes ≤ at
     → IsTiled at gap end bs → AreClear place bytes bs
 clear-before place bytes at gap end [] l h = tt
 clear-before place bytes at gap end (b ∷ bs) l h = (
-  λ before behind. omega (arith, l, h.1.0, before),
-  clear-before place bytes (b.addr + b.bytes) b.gap end bs (omega (arith, l, h.1.0)) h.1.1.1,
+  λ before behind. omega (arith, l, h.1, before),
+  clear-before place bytes (b.addr + b.bytes) b.gap end bs (omega (arith, l, h.1)) h.3,
 )
 
 -- what the first place that is free is
@@ -114,29 +114,38 @@ placed bytes at gap end place [] some h is = elim (leb_tells bytes gap) [
 ]
 placed bytes at gap end place (b ∷ bs) some h is = elim (leb_tells bytes gap) [
   | inl l ↦ let same : at ≡ place = (let e : Some at ≡ Some place = rw l.0 at is in cc) in
-      let before : place < b.addr = omega (arith, same, l.1, h.1.0, some) in
-      let whole = tiled-span (b.addr + b.bytes) b.gap end bs h.1.1.1 in
+      let before : place < b.addr = omega (arith, same, l.1, h.1, some) in
+      let whole = tiled-span (b.addr + b.bytes) b.gap end bs h.3 in
       record {
         aligned = rw (← same) h.0;
         begins = omega (arith, same);
-        ends = omega (arith, same, l.1, h.1.0, whole);
+        ends = omega (arith, same, l.1, h.1, whole);
         clear = (
-          λ meets behind. omega (arith, same, l.1, h.1.0, meets),
-          clear-before place bytes (b.addr + b.bytes) b.gap end bs (omega (arith, same, l.1, h.1.0))
-              h.1.1.1,
+          λ meets behind. omega (arith, same, l.1, h.1, meets),
+          clear-before place bytes (b.addr + b.bytes) b.gap end bs (omega (arith, same, l.1, h.1))
+              h.3,
         );
         fresh = rw (ne_eqb b.addr place (omega (arith, before)))
             (none_behind place b.addr bs (omega (arith, before)) (tiled-rise at gap end (b ∷ bs) h).0);
       }
-  | inr m ↦ let rest = placed bytes (b.addr + b.bytes) b.gap end place bs some h.1.1.1
+  | inr m ↦ let rest = placed bytes (b.addr + b.bytes) b.gap end place bs some h.3
       (rw m.0 at is) in
       record {
         aligned = rest.aligned;
-        begins = omega (arith, rest.begins, h.1.0);
+        begins = omega (arith, rest.begins, h.1);
         ends = rest.ends;
         clear = (λ meets behind. omega (arith, rest.begins, behind), rest.clear);
-        fresh = rw (ne_eqb b.addr place (omega (arith, rest.begins, h.1.1.0))) rest.fresh;
+        fresh = rw (ne_eqb b.addr place (omega (arith, rest.begins, h.2))) rest.fresh;
       }
+]
+
+pub some-place : (bytes at gap : ℕ) (bs : List LiveBlock) → bytes ≤ max gap (most_free bs)
+    → (place : ℕ) × (first_place bytes at gap bs ≡ Some place)
+some-place bytes at gap [] held = (at, place_here bytes at gap [] (omega (arith, held)))
+some-place bytes at gap (b ∷ bs) held = elim (leb_tells bytes gap) [
+  | inl l ↦ (at, rw l.0 refl)
+  | inr m ↦ (let rest = some-place bytes (b.addr + b.bytes) b.gap bs (omega (arith, held, m.1)) in
+      (rest.0, rw m.0 rest.1))
 ]
 
 -- a clear place lies in a gap
@@ -151,9 +160,9 @@ none-before bytes at gap end place q [] some h is from to clear = elim (leb_tell
 none-before bytes at gap end place q (b ∷ bs) some h is from to clear = elim (leb_tells bytes gap) [
   | inl l ↦ (let same : at ≡ place = (let e : Some at ≡ Some place = rw l.0 at is in cc) in
       omega (arith, same, from))
-  | inr m ↦ none-before bytes (b.addr + b.bytes) b.gap end place q bs some h.1.1.1 (rw m.0 at is)
+  | inr m ↦ none-before bytes (b.addr + b.bytes) b.gap end place q bs some h.3 (rw m.0 at is)
       (elim (cases_lt q (b.addr + b.bytes)) [
-        | inl less ↦ absurd (clear.0 (omega (arith, from, m.1, h.1.0)) less)
+        | inl less ↦ absurd (clear.0 (omega (arith, from, m.1, h.1)) less)
         | inr more ↦ more
       ]) to clear.1
 ]
@@ -162,9 +171,9 @@ pub none-anywhere : (bytes at gap end q : ℕ) (bs : List LiveBlock) → IsTiled
     → max gap (most_free bs) < bytes → at ≤ q → q + bytes ≤ end → AreClear q bytes bs → ⊥
 none-anywhere bytes at gap end q [] h short from to clear = omega (arith, short, from, to, h.1)
 none-anywhere bytes at gap end q (b ∷ bs) h short from to clear =
-    none-anywhere bytes (b.addr + b.bytes) b.gap end q bs h.1.1.1 (omega (arith, short))
+    none-anywhere bytes (b.addr + b.bytes) b.gap end q bs h.3 (omega (arith, short))
     (elim (cases_lt q (b.addr + b.bytes)) [
-      | inl less ↦ absurd (clear.0 (omega (arith, from, short, h.1.0)) less)
+      | inl less ↦ absurd (clear.0 (omega (arith, from, short, h.1)) less)
       | inr more ↦ more
     ]) to clear.1
 
@@ -241,9 +250,9 @@ filled-new bytes number at gap end place (b ∷ bs) some h is = elim (leb_tells 
       (gap - bytes, rw (l.0, here, eq-eqb place place refl) refl))
   | inr m ↦
       let inner : first_place bytes (b.addr + b.bytes) b.gap bs ≡ Some place = rw m.0 at is in
-      let begins = (placed bytes (b.addr + b.bytes) b.gap end place bs some h.1.1.1 inner).begins in
-      let rest = filled-new bytes number (b.addr + b.bytes) b.gap end place bs some h.1.1.1 inner in
-      (rest.0, rw (m.0, ne_eqb b.addr place (omega (arith, begins, h.1.1.0))) rest.1)
+      let begins = (placed bytes (b.addr + b.bytes) b.gap end place bs some h.3 inner).begins in
+      let rest = filled-new bytes number (b.addr + b.bytes) b.gap end place bs some h.3 inner in
+      (rest.0, rw (m.0, ne_eqb b.addr place (omega (arith, begins, h.2))) rest.1)
 ]
 
 pub without-gone : (addr gap : ℕ) (bs : List LiveBlock) → DoRise bs

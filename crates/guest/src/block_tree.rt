@@ -1,4 +1,6 @@
 // The live blocks of a heap, in a balanced search tree.
+#![tactic(auto, using(crate::proofs::MostFree::most_free_append))]
+
 ghost use Rattle.std.specs.Prelude.{◌≡◌, ℕ, ◌+◌, ◌<◌, ◌≤◌, ◌^◌, [], ◌∷◌, ◌++◌, max, Some, MatchOption, OnErr, IfOk};
 ghost use Rattle.std.specs.Option.{option_map};
 ghost use Rattle.guest.specs.LiveBlocks.{most_free, spanned, DoRise, DoFit, block_at};

@@ -21,24 +21,30 @@ returns-then-bytes-gap-clause-blocks t c =
       filled_here c.args.node.value.block.bytes c.args.node.value.block.number c.args.at
           c.args.gap.now c.args.self.now (rw c.deref.ensures at c.if-bytes-gap.true),
       c.put_first.ensures,
-    ) ?
+      c.deref.ensures,
+      c.deref-then-bytes-gap.ensures,
+    ) refl
 
 pub fill-place-requires : goal.fill-place-requires
 fill-place-requires t c =
     let n = c.in-Some.top.value in
     let is = c.in-Some.ensures.taken in
-    let held : c.args.node.value.block.bytes ≤ most_free n.left = ? in
+    let held : c.args.node.value.block.bytes ≤ most_free n.left =
+    rw (← c.deref.ensures, ← c.deref-2.ensures, ← c.most.ensures) c.if-bytes-most.true in
     rw c.deref_mut-then-bytes-most.ensures.value (
-      left_shorter n.left n.block n.right c.args.self.now is,
-      omega (arith, held),
-      left_fits n.left n.block n.right c.args.self.now is c.requires.ends,
+      omega (arith, left_shorter n.left n.block n.right c.args.self.now is, c.decreases),
+      (
+        omega (arith, held),
+        left_fits n.left n.block n.right c.args.self.now is c.requires.ends,
+      ),
     )
 
 pub returns-then-bytes-most-clause-place : goal.returns-then-bytes-most-clause-place
 returns-then-bytes-most-clause-place t c =
     let n = c.in-Some.top.value in
     let is = c.in-Some.ensures.taken in
-    let held : c.args.node.value.block.bytes ≤ most_free n.left = ? in
+    let held : c.args.node.value.block.bytes ≤ most_free n.left =
+    rw (← c.deref.ensures, ← c.deref-2.ensures, ← c.most.ensures) c.if-bytes-most.true in
     placed_left n.left n.block n.right c.args.self.now is c.args.node.value.block.bytes c.args.at
     c.args.gap.now held ∙ (rw c.deref_mut-then-bytes-most.ensures.value at c.fill-place.ensures.place)
 
@@ -46,16 +52,18 @@ pub returns-then-bytes-most-clause-gap : goal.returns-then-bytes-most-clause-gap
 returns-then-bytes-most-clause-gap t c =
     let n = c.in-Some.top.value in
     let is = c.in-Some.ensures.taken in
-    let held : c.args.node.value.block.bytes ≤ most_free n.left = ? in
+    let held : c.args.node.value.block.bytes ≤ most_free n.left =
+    rw (← c.deref.ensures, ← c.deref-2.ensures, ← c.most.ensures) c.if-bytes-most.true in
     rw (filled_left_is n.left n.block n.right c.args.self.now is c.args.node.value.block.bytes
-          c.args.node.value.block.number c.args.at c.args.gap.now held)
+    c.args.node.value.block.number c.args.at c.args.gap.now held)
     (rw c.deref_mut-then-bytes-most.ensures.value at c.fill-place.ensures.gap)
 
 pub returns-then-bytes-most-clause-blocks : goal.returns-then-bytes-most-clause-blocks
 returns-then-bytes-most-clause-blocks t c =
     let n = c.in-Some.top.value in
     let is = c.in-Some.ensures.taken in
-    let held : c.args.node.value.block.bytes ≤ most_free n.left = ? in
+    let held : c.args.node.value.block.bytes ≤ most_free n.left =
+    rw (← c.deref.ensures, ← c.deref-2.ensures, ← c.most.ensures) c.if-bytes-most.true in
     rw (
       filled_left_is n.left n.block n.right c.args.self.now is c.args.node.value.block.bytes
           c.args.node.value.block.number c.args.at c.args.gap.now held,
@@ -63,34 +71,40 @@ returns-then-bytes-most-clause-blocks t c =
       c.settled.ensures.blocks,
       c.fill-place.ensures.blocks,
       c.deref_mut-then-bytes-most.ensures.value,
-    ) ?
+    ) refl
 
 pub overflow_add-end : goal.overflow_add-end
 overflow_add-end t c =
     let n = c.in-Some.top.value in
     let is = c.in-Some.ensures.taken in
     rw (c.deref-3.ensures, c.deref-4.ensures)
-    (top_fits n.left n.block n.right c.args.self.now is c.requires.ends)
+    (omega (arith, top_fits n.left n.block n.right c.args.self.now is c.requires.ends))
 
 pub fill-place-requires-2 : goal.fill-place-requires-2
 fill-place-requires-2 t c =
     let n = c.in-Some.top.value in
     let is = c.in-Some.ensures.taken in
     let parts = most_parts n.left n.block n.right c.args.self.now is in
-    let short : most_free n.left < c.args.node.value.block.bytes = ? in
-    let over : c.args.gap.now < c.args.node.value.block.bytes = ? in
+    let short : most_free n.left < c.args.node.value.block.bytes =
+    rw (← c.deref.ensures, ← c.deref-2.ensures, ← c.most.ensures) c.if-bytes-most.false in
+    let over : c.args.gap.now < c.args.node.value.block.bytes =
+    rw (← c.deref.ensures) c.if-bytes-gap.false in
     rw c.deref_mut-above.ensures.value (
-      right_shorter n.left n.block n.right c.args.self.now is,
-      omega (arith, parts, short, over, c.requires.held),
-      right_fits n.left n.block n.right c.args.self.now is c.requires.ends,
+      omega (arith, right_shorter n.left n.block n.right c.args.self.now is, c.decreases),
+      (
+        omega (arith, parts, short, over, c.requires.held),
+        right_fits n.left n.block n.right c.args.self.now is c.requires.ends,
+      ),
     )
 
 pub returns-clause-place : goal.returns-clause-place
 returns-clause-place t c =
     let n = c.in-Some.top.value in
     let is = c.in-Some.ensures.taken in
-    let short : most_free n.left < c.args.node.value.block.bytes = ? in
-    let over : c.args.gap.now < c.args.node.value.block.bytes = ? in
+    let short : most_free n.left < c.args.node.value.block.bytes =
+    rw (← c.deref.ensures, ← c.deref-2.ensures, ← c.most.ensures) c.if-bytes-most.false in
+    let over : c.args.gap.now < c.args.node.value.block.bytes =
+    rw (← c.deref.ensures) c.if-bytes-gap.false in
     placed_right n.left n.block n.right c.args.self.now is c.args.node.value.block.bytes c.args.at
     c.args.gap.now over short
     ∙ (rw (c.deref-3.ensures, c.deref-4.ensures, c.deref_mut-above.ensures.value) at
@@ -100,18 +114,21 @@ pub returns-clause-gap : goal.returns-clause-gap
 returns-clause-gap t c =
     let n = c.in-Some.top.value in
     let is = c.in-Some.ensures.taken in
-    let short : most_free n.left < c.args.node.value.block.bytes = ? in
-    let over : c.args.gap.now < c.args.node.value.block.bytes = ? in
+    let short : most_free n.left < c.args.node.value.block.bytes =
+    rw (← c.deref.ensures, ← c.deref-2.ensures, ← c.most.ensures) c.if-bytes-most.false in
+    let over : c.args.gap.now < c.args.node.value.block.bytes =
+    rw (← c.deref.ensures) c.if-bytes-gap.false in
     rw (filled_right_is n.left n.block n.right c.args.self.now is c.args.node.value.block.bytes
-          c.args.node.value.block.number c.args.at c.args.gap.now over short)
-    refl
+    c.args.node.value.block.number c.args.at c.args.gap.now over short) refl
 
 pub returns-clause-blocks : goal.returns-clause-blocks
 returns-clause-blocks t c =
     let n = c.in-Some.top.value in
     let is = c.in-Some.ensures.taken in
-    let short : most_free n.left < c.args.node.value.block.bytes = ? in
-    let over : c.args.gap.now < c.args.node.value.block.bytes = ? in
+    let short : most_free n.left < c.args.node.value.block.bytes =
+    rw (← c.deref.ensures, ← c.deref-2.ensures, ← c.most.ensures) c.if-bytes-most.false in
+    let over : c.args.gap.now < c.args.node.value.block.bytes =
+    rw (← c.deref.ensures) c.if-bytes-gap.false in
     rw (
       filled_right_is n.left n.block n.right c.args.self.now is c.args.node.value.block.bytes
           c.args.node.value.block.number c.args.at c.args.gap.now over short,
@@ -122,4 +139,4 @@ returns-clause-blocks t c =
       c.deref_mut-above.ensures.value,
       c.deref-3.ensures,
       c.deref-4.ensures,
-    ) ?
+    ) refl

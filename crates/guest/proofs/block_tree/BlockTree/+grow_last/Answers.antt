@@ -9,7 +9,7 @@ grow_last-requires t c =
     let is = c.in-Some.ensures.taken in
     let parts = spanned_parts n.left n.block n.right c.args.self.now is in
     rw c.deref_mut-node.ensures.value (
-      right_shorter n.left n.block n.right c.args.self.now is,
+      omega (arith, right_shorter n.left n.block n.right c.args.self.now is, c.decreases),
       omega (arith, parts, c.requires.fits),
     )
 
@@ -29,4 +29,8 @@ returns-clause-blocks t c =
       c.sum.ensures.block,
       c.sum.ensures.left,
       c.sum.ensures.right,
-    ) ?
+      c.deref_mut.ensures.value,
+      c.grow_last.ensures.blocks,
+      c.grow_last.ensures.gap,
+      c.deref_mut-node.ensures.value,
+    ) refl
