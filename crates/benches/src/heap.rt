@@ -56,6 +56,7 @@ fn use_heap(alloc: Global, count: u32, is_reverse: bool) -> Result<(u32, u32), N
 }
 
 // What a heap was asked for, and did.
+#[derive(Drop)]
 struct Use {
     heap: GuestHeap,
     // where the live blocks begin, in the order of making
@@ -78,7 +79,10 @@ impl Use {
 
     // The next number of a sequence, below 2^20.
     fn draw(&mut self) -> u32 {
-        self.drawn = self.drawn.wrapping_mul(1_664_525).wrapping_add(1_013_904_223);
+        self.drawn = self
+            .drawn
+            .wrapping_mul(1_664_525)
+            .wrapping_add(1_013_904_223);
         self.drawn >> 12
     }
 

@@ -92,12 +92,17 @@ module _ (bytes number : ℕ) where
 
   pub filled_right : (at gap : ℕ) (xs : List LiveBlock) (b : LiveBlock) (ys : List LiveBlock) → gap < bytes
       → most_free xs < bytes → filled bytes number at gap (xs ++ b ∷ ys)
-      ≡ (gap, xs ++ record b { gap = (filled bytes number (b.addr + b.bytes) b.gap ys).0 }
-      ∷ (filled bytes number (b.addr + b.bytes) b.gap ys).1)
+      ≡ (
+        gap,
+        xs ++ record b { gap = (filled bytes number (b.addr + b.bytes) b.gap ys).0 }
+            ∷ (filled bytes number (b.addr + b.bytes) b.gap ys).1,
+      )
   filled_right at gap [] b ys g h = rw (lt-leb bytes gap g) refl
   filled_right at gap (x ∷ xs) b ys g h =
-      rw (lt-leb bytes gap g,
-      filled_right (x.addr + x.bytes) x.gap xs b ys (omega (arith, h)) (omega (arith, h))) refl
+      rw (
+        lt-leb bytes gap g,
+        filled_right (x.addr + x.bytes) x.gap xs b ys (omega (arith, h)) (omega (arith, h)),
+      ) refl
 
 pub grown_right : (bytes gap : ℕ) (xs : List LiveBlock) (b : LiveBlock) (ys : List LiveBlock)
     → grown bytes gap (xs ++ b ∷ ys)

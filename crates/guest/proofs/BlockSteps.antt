@@ -55,8 +55,11 @@ module _ (l : List LiveBlock) (b : LiveBlock) (r old : List LiveBlock) (is : l +
 
   pub filled_right_is : (bytes number at gap : ℕ) → gap < bytes → most_free l < bytes
       → filled bytes number at gap old
-      ≡ (gap, l ++ record b { gap = (filled bytes number (b.addr + b.bytes) b.gap r).0 }
-      ∷ (filled bytes number (b.addr + b.bytes) b.gap r).1)
+      ≡ (
+        gap,
+        l ++ record b { gap = (filled bytes number (b.addr + b.bytes) b.gap r).0 }
+            ∷ (filled bytes number (b.addr + b.bytes) b.gap r).1,
+      )
   filled_right_is bytes number at gap g h = rw (← is) (filled_right bytes number at gap l b r g h)
 
   pub grown_right_is : (bytes gap : ℕ) → grown bytes gap old

@@ -50,8 +50,8 @@ filled bytes number at gap (b ∷ bs) =
     if nat_le bytes gap
     then (0, record { addr = at; bytes = bytes; number = number; gap = gap - bytes } ∷ b ∷ bs)
     else (
-      let rest : ℕ × List LiveBlock = filled bytes number (b.addr + b.bytes) b.gap bs in
-      (gap, record b { gap = rest.0 } ∷ rest.1)
+    let rest : ℕ × List LiveBlock = filled bytes number (b.addr + b.bytes) b.gap bs in
+    (gap, record b { gap = rest.0 } ∷ rest.1)
     )
 
 -- the gap and the blocks once the last gap has grown
@@ -67,6 +67,6 @@ without addr gap (b ∷ bs) =
     if b.addr == addr
     then (gap + (b.bytes + b.gap), bs)
     else (
-      let rest : ℕ × List LiveBlock = without addr b.gap bs in
-      (gap, record b { gap = rest.0 } ∷ rest.1)
+    let rest : ℕ × List LiveBlock = without addr b.gap bs in
+    (gap, record b { gap = rest.0 } ∷ rest.1)
     )

@@ -1,4 +1,10 @@
-// The live blocks of a heap, in a balanced search tree.
+// The live blocks of a heap, in a search tree by address.
+//
+// A block knows its gap, which are the free bytes behind it up to the next block or the heap's end,
+// and a node the greatest gap at or below it. So one descent finds the first gap that holds a new
+// block and makes it there, and one takes a block out. The heights of a node's sides differ by one
+// at most, so that each takes time that grows with the logarithm of the number of blocks. Calls that
+// change a tree are lent the gap before its first block beside it.
 #![tactic(auto, using(crate::proofs::MostFree::most_free_append))]
 
 ghost use Rattle.std.specs.Prelude.{◌≡◌, ℕ, ◌+◌, ◌<◌, ◌≤◌, ◌^◌, [], ◌∷◌, ◌++◌, max, Some, MatchOption, OnErr, IfOk};
@@ -12,6 +18,8 @@ use std::alloc::Global;
 use std::marker::Model;
 use std::mem;
 
+// A block at an address, with the bytes that it takes, its number in the order of making, and how
+// many bytes are free behind it.
 #[derive(Clone, Copy)]
 pub(crate) struct LiveBlock {
     pub(crate) addr: u32,
@@ -20,6 +28,7 @@ pub(crate) struct LiveBlock {
     pub(crate) gap: u32,
 }
 
+// Contracts see the list of the blocks in the order of addresses.
 #[cycle(live)]
 #[derive(Drop)]
 pub(crate) struct BlockTree {
@@ -73,7 +82,9 @@ impl BlockTree {
         }
     }
 
-    // Makes a block that takes so many bytes, in the first gap that holds it.
+    // Makes a block of so many bytes in the first gap that holds them, and answers where it begins.
+    // The gap before the first block begins at `at`. It takes memory for one node; where there is
+    // none, nothing changes.
     pub(crate) fn insert(
         &mut self,
         alloc: Global,
@@ -90,7 +101,12 @@ impl BlockTree {
         ensures refused { OnErr result (self.new ≡ self.old) }
         ensures refused_gap { OnErr result (gap.new ≡ gap.old) }
     {
-        let block = LiveBlock { addr: at, bytes, number, gap: 0 };
+        let block = LiveBlock {
+            addr: at,
+            bytes,
+            number,
+            gap: 0,
+        };
         let node = Node {
             block,
             most: 0,
@@ -102,7 +118,8 @@ impl BlockTree {
         Ok(self.fill(at, gap, node))
     }
 
-    // Takes out the block that begins at an address, and answers its number.
+    // Takes out the block that begins at an address, and answers its number. The gap before it grows
+    // by the block and by the gap behind it. None where no block begins there; nothing changes then.
     pub(crate) fn remove(&mut self, gap: &mut u32, addr: u32) -> Option<u32>
         requires rising { DoRise self.old }
         requires fits { gap.old + spanned self.old < 2 ^ 32 }
@@ -154,6 +171,7 @@ impl BlockTree {
         self.root.take()
     }
 
+    // Puts a node's block into the first gap that holds it, and answers where.
     fn fill(&mut self, at: u32, gap: &mut u32, mut node: Box<Node>) -> u32
         requires held { node.value.block.bytes ≤ max gap.old (most_free self.old) }
         requires ends { DoFit self.old }
@@ -190,6 +208,7 @@ impl BlockTree {
         place
     }
 
+    // Puts a node's block before all others.
     fn put_first(&mut self, mut node: Box<Node>)
         ensures { self.new ≡ node.value.block ∷ self.old }
     {
@@ -204,6 +223,7 @@ impl BlockTree {
         *self = BlockTree::from(settled(top));
     }
 
+    // Takes the first block out, with its node.
     fn take_first(&mut self) -> Option<Box<Node>>
         ensures first { MatchOption result (self.old ≡ [])
             (λ node. self.old ≡ node.value.block ∷ self.new) }
@@ -221,6 +241,7 @@ impl BlockTree {
         }
     }
 
+    // Lets the last gap grow: that behind the last block, or the one before where there is no block.
     fn grow_last(&mut self, gap: &mut u32, bytes: u32)
         requires fits { gap.old + bytes + spanned self.old < 2 ^ 32 }
         ensures gap { gap.new ≡ (grown bytes gap.old self.old).0 }
@@ -263,11 +284,16 @@ impl Node {
         ensures right { self.new.right ≡ self.old.right }
         ensures summed { IsSummed self.new }
     {
-        self.height = self.left.height().max(self.right.height()).saturating_add(1);
+        self.height = self
+            .left
+            .height()
+            .max(self.right.height())
+            .saturating_add(1);
         self.most = self.left.most().max(self.block.gap).max(self.right.most());
     }
 }
 
+// The left child goes up, and the top becomes its right child.
 fn turned_right(mut top: Box<Node>) -> Box<Node>
     ensures blocks { blocks_of result.value ≡ blocks_of top.value }
     ensures summed { IsSummed result.value }
@@ -283,6 +309,7 @@ fn turned_right(mut top: Box<Node>) -> Box<Node>
     left
 }
 
+// The right child goes up, and the top becomes its left child.
 fn turned_left(mut top: Box<Node>) -> Box<Node>
     ensures blocks { blocks_of result.value ≡ blocks_of top.value }
     ensures summed { IsSummed result.value }
@@ -298,6 +325,7 @@ fn turned_left(mut top: Box<Node>) -> Box<Node>
     right
 }
 
+// Turns a node whose right side is higher.
 fn leaning_left(top: Box<Node>) -> Box<Node>
     requires { IsSummed top.value }
     ensures blocks { blocks_of result.value ≡ blocks_of top.value }
@@ -309,6 +337,7 @@ fn leaning_left(top: Box<Node>) -> Box<Node>
     top
 }
 
+// Turns a node whose left side is higher.
 fn leaning_right(top: Box<Node>) -> Box<Node>
     requires { IsSummed top.value }
     ensures blocks { blocks_of result.value ≡ blocks_of top.value }
@@ -320,7 +349,7 @@ fn leaning_right(top: Box<Node>) -> Box<Node>
     top
 }
 
-// Turns a node whose sides differ in height by more than one.
+// Turns a node whose sides differ in height by two, so that they differ by one at most.
 fn settled(mut top: Box<Node>) -> Box<Node>
     ensures blocks { blocks_of result.value ≡ blocks_of top.value }
     ensures summed { IsSummed result.value }

@@ -96,7 +96,10 @@ impl GuestHeap {
         self.blocks.reserve(1)?;
         let alloc = *self.blocks.allocator();
         let number = self.blocks.len() as u32;
-        match self.live.insert(alloc, self.start, &mut self.gap, bytes as u32, number) {
+        match self
+            .live
+            .insert(alloc, self.start, &mut self.gap, bytes as u32, number)
+        {
             Ok(place) => {
                 self.blocks.push_reserved(HeapBlock {
                     addr: place,

@@ -69,6 +69,7 @@ fn no_block_is_made_without_room(rt: HostRuntime) -> Result<(), Fail> {
 }
 
 const FIRST: u64 = 0x20000;
+
 const LAST: u64 = 0x30000;
 
 // A block that lives, and the bytes that it takes.
@@ -86,6 +87,7 @@ impl Standing {
 }
 
 // A heap beside a plain list of its live blocks.
+#[derive(Drop)]
 struct Beside {
     heap: GuestHeap,
     live: Vec<Standing>,
@@ -103,23 +105,29 @@ impl Beside {
 
     // The next number of a sequence, below 2^16.
     fn draw(&mut self) -> u32 {
-        self.drawn = self.drawn.wrapping_mul(1_664_525).wrapping_add(1_013_904_223);
+        self.drawn = self
+            .drawn
+            .wrapping_mul(1_664_525)
+            .wrapping_add(1_013_904_223);
         self.drawn >> 16
     }
 
     // The least place for so many bytes: each multiple of 16 is tried, against each block.
     fn least_place(&self, bytes: u64) -> Option<u64> {
-        (FIRST / 16..LAST / 16)
-            .map(|number| number * 16)
-            .find(|place| {
-                place + bytes <= LAST && !self.live.iter().any(|block| block.meets(*place, bytes))
-            })
+        for number in FIRST / 16..LAST / 16 {
+            let place = number * 16;
+            let is_inside = place.saturating_add(bytes) <= LAST;
+            if is_inside && !self.live.iter().any(|block| block.meets(place, bytes)) {
+                return Some(place);
+            }
+        }
+        None
     }
 
     // Makes a block of 1 to 4096 bytes, and says whether it took the least place.
     fn makes(&mut self) -> Result<bool, Fail> {
         let size = self.draw() % 4096 + 1;
-        let bytes = size.div_ceil(16) * 16;
+        let bytes = (size + 15) / 16 * 16;
         let wanted = self.least_place(u64::from(bytes));
         let place = self.heap.alloc(size)?;
         if let Some(addr) = place {

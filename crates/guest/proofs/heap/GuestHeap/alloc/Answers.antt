@@ -46,7 +46,7 @@ returns-in_err-reserve-clause-settled c =
 pub insert-requires-clause-ends : goal.insert-requires-clause-ends
 insert-requires-clause-ends c =
     tiled-fit c.self.inside.start c.self.inside.gap c.self.inside.end c.self.inside.live
-    (omega (arith, c.self.ranges.end.fits)) c.self.invariant.tiled
+    (let r = c.self.ranges in omega arith) c.self.invariant.tiled
 
 pub invariant_of-self-in-Ok : goal.invariant_of-self-in-Ok
 invariant_of-self-in-Ok c =

@@ -17,7 +17,7 @@ pub remove-requires-clause-fits : goal.remove-requires-clause-fits
 remove-requires-clause-fits c =
     let span = tiled-span c.self.inside.start c.self.inside.gap c.self.inside.end c.self.inside.live
     c.self.invariant.tiled in
-    omega (arith, span, c.self.ranges.end.fits)
+    let r = c.self.ranges in omega (arith, span)
 
 pub invariant_of-self : goal.invariant_of-self
 invariant_of-self c =
