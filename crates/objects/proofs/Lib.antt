@@ -1,3 +1,4 @@
+pub mod FunctionLaws
 pub mod IndexLaws
 pub mod LiveLaws
 pub mod Lives

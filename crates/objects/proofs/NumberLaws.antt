@@ -31,12 +31,14 @@ times-numbers : (from to w : ℕ) (es : List Extent)
     → times w (numbers_on from to es) ≡ sum_by (weight from to w) es
 times-numbers from to w [] = refl
 times-numbers from to w (e ∷ es) =
-    step (meets from to e.addr e.size) refl ∙ sym (sum_by-cons (weight from to w) e es)
-  where
-    step : (b : Bool) → meets from to e.addr e.size ≡ b
-        → times w (numbers_on from to (e ∷ es)) ≡ weight from to w e + sum_by (weight from to w) es
-    step true is = rw is (ap (λ k. one w e.number + k) (times-numbers from to w es))
-    step false is = rw is (times-numbers from to w es)
+    let rest = times-numbers from to w es in
+    let here : times w (numbers_on from to (e ∷ es))
+    ≡ weight from to w e + sum_by (weight from to w) es =
+    elim (cases_Bool (meets from to e.addr e.size)) [
+      | inl met ↦ rw met (ap (λ k. one w e.number + k) rest)
+      | inr apart ↦ rw apart (omega (arith, rest))
+    ] in
+    here ∙ sym (sum_by-cons (weight from to w) e es)
 
 -- the numbers of the rows of a list stand in another order of it as often
 pub times-rows : (from to w : ℕ) (es fs : List Extent) → IsPermutation es fs
@@ -75,35 +77,29 @@ above_numbers : (from to low : ℕ) (es : List Extent)
     → ((j : ℕ) (d : Extent) → j < length es → low ≤ (get_or es j d).number)
     → list_all (leb low) (numbers_on from to es) ≡ true
 above_numbers from to low [] h = refl
-above_numbers from to low (e ∷ es) h = step (meets from to e.addr e.size) refl
+above_numbers from to low (e ∷ es) h =
+    let rest = above_numbers from to low es (λ j d within. h (suc j) d (omega arith)) in
+    elim (cases_Bool (meets from to e.addr e.size)) [
+      | inl met ↦
+          rw met (and_from (leb low e.number) (list_all (leb low) (numbers_on from to es)) here rest)
+      | inr apart ↦ rw apart rest
+    ]
   where
-    rest : list_all (leb low) (numbers_on from to es) ≡ true
-    rest = above_numbers from to low es (λ j d within. h (suc j) d (omega arith))
-
     here : leb low e.number ≡ true
     here = let f : low ≤ e.number = h zero e (omega arith) in grind (arith, nat_tests)
-
-    step : (b : Bool) → meets from to e.addr e.size ≡ b
-        → list_all (leb low) (numbers_on from to (e ∷ es)) ≡ true
-    step true is =
-        rw is (and_from (leb low e.number) (list_all (leb low) (numbers_on from to es)) here rest)
-    step false is = rw is rest
 
 pub rises_rows : (from to : ℕ) (es : List Extent) → IsNonDecreasingBy (λ e. e.number) es
     → Rises (numbers_on from to es)
 rises_rows from to [] h = tt
-rises_rows from to (e ∷ es) h = step (meets from to e.addr e.size) refl
-  where
-    rest : Rises (numbers_on from to es)
-    rest = rises_rows from to es (λ i j d le within. h (suc i) (suc j) d (omega arith) (omega arith))
-
-    behind : list_all (leb e.number) (numbers_on from to es) ≡ true
-    behind = above_numbers from to e.number es
-        (λ j d within. h zero (suc j) d (omega arith) (omega arith))
-
-    step : (b : Bool) → meets from to e.addr e.size ≡ b → Rises (numbers_on from to (e ∷ es))
-    step true is = rw is (behind, rest)
-    step false is = rw is rest
+rises_rows from to (e ∷ es) h =
+    let rest = rises_rows from to es
+    (λ i j d le within. h (suc i) (suc j) d (omega arith) (omega arith)) in
+    let behind = above_numbers from to e.number es
+    (λ j d within. h zero (suc j) d (omega arith) (omega arith)) in
+    elim (cases_Bool (meets from to e.addr e.size)) [
+      | inl met ↦ rw met (behind, rest)
+      | inr apart ↦ rw apart rest
+    ]
 
 -- a number below all of a list stands in it nowhere
 nowhere : (w low : ℕ) → w < low → (ns : List ℕ) → list_all (leb low) ns ≡ true → times w ns ≡ 0
@@ -111,7 +107,8 @@ nowhere w low less [] e = refl
 nowhere w low less (n ∷ ns) e =
     let p = and_parts (leb low n) (list_all (leb low) ns) e in
     let not : (n == w) ≡ false = apart n p.0 in
-    rw not (nowhere w low less ns p.1)
+    let rest = nowhere w low less ns p.1 in
+    rw not (omega (arith, rest))
   where
     apart : (n : ℕ) → leb low n ≡ true → (n == w) ≡ false
     apart n h = grind (arith, nat_tests)
@@ -139,14 +136,14 @@ same_numbers (x ∷ xs) (y ∷ ys) up us same =
       | inl less ↦ absurd (not_below x y xs ys us.0 (same x) less)
       | inr more ↦ elim (cases_lt y x) [
         | inl less ↦ absurd (not_below y x ys xs up.0 (sym (same y)) less)
-        | inr also ↦ both (omega (arith, more, also))
+        | inr also ↦ both (omega (arith, more, also)) (same_numbers xs ys up.1 us.1)
       ]
     ]
   where
-    both : x ≡ y → x ∷ xs ≡ y ∷ ys
-    both is =
+    both : x ≡ y → (((w : ℕ) → times w xs ≡ times w ys) → xs ≡ ys) → x ∷ xs ≡ y ∷ ys
+    both is tails =
         ap (λ n. n ∷ xs) is
-        ∙ ap (λ ns. y ∷ ns) (same_numbers xs ys up.1 us.1 (λ w. rest w
+        ∙ ap (λ ns. y ∷ ns) (tails (λ w. rest w
         (subst (λ (n : ℕ). one w n + times w xs ≡ one w y + times w ys) is (same w))))
 
     rest : (w : ℕ) → one w y + times w xs ≡ one w y + times w ys → times w xs ≡ times w ys

@@ -80,14 +80,22 @@ fn note_reach(nodes: &mut [Node]) -> u64
     }
 }
 
+// Makes a tree of rows.
+fn make_tree(nodes: &mut [Node])
+    ensures tree { IsTree nodes.new }
+    ensures same { IsPermutation (map extent_of nodes.old) (map extent_of nodes.new) }
+{
+    nodes.sort_unstable_by_key(|node| node.addr);
+    note_reach(nodes);
+}
+
 /// The tree of some rows.
 pub fn tree_of(nodes: Vec<Node>) -> Vec<Node>
     ensures tree { IsTree result.items }
     ensures same { IsPermutation (map extent_of nodes.items) (map extent_of result.items) }
 {
     let mut nodes = nodes;
-    nodes.sort_unstable_by_key(|node| node.addr);
-    note_reach(nodes.as_mut_slice());
+    make_tree(nodes.as_mut_slice());
     nodes
 }
 

@@ -250,6 +250,14 @@ impl ObjectTable {
         })
     }
 
+    /// The block of a number, counted from 0 in order of making: None exactly where there are no
+    /// more.
+    pub fn block(&self, i: usize) -> Option<&Block>
+        ensures { option_map (λ b. b.now) result ≡ slice_get self.now.blocks i }
+    {
+        self.blocks.get(i)
+    }
+
     /// The blocks that were ever made, live or dead, in order of making.
     pub fn blocks(&self) -> &[Block]
         ensures value { result.now ≡ self.now.blocks }

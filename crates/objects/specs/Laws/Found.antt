@@ -49,22 +49,14 @@ module _ {X : Type 0} (addr size : X → ℕ) where
       → filter_map (slice_get all) (numbers_on from to (extents_from addr size n xs))
       ≡ filter (λ x. meets from to (addr x) (size x)) xs
   rows_from from to n all before [] is len = refl
-  rows_from from to n all before (x ∷ xs) is len = step (meets from to (addr x) (size x)) refl
-    where
-      here : slice_get all n ≡ Some x
-      here = rw (is, ← len) (get_there before x xs)
-
-      rest : filter_map (slice_get all) (numbers_on from to (extents_from addr size (n + 1) xs))
-          ≡ filter (λ y. meets from to (addr y) (size y)) xs
-      rest = rows_from from to (n + 1) all (before ++ x ∷ []) xs
-          (is ∙ sym (append_assoc before (x ∷ []) xs))
-          (length_push before x ∙ ap (λ k. k + 1) len)
-
-      step : (b : Bool) → meets from to (addr x) (size x) ≡ b
-          → filter_map (slice_get all) (numbers_on from to (extents_from addr size n (x ∷ xs)))
-          ≡ filter (λ y. meets from to (addr y) (size y)) (x ∷ xs)
-      step true met = rw (met, here) (ap (λ ys. x ∷ ys) rest)
-      step false met = rw met rest
+  rows_from from to n all before (x ∷ xs) is len =
+      let here : slice_get all n ≡ Some x = rw (is, ← len) (get_there before x xs) in
+      let rest = rows_from from to (n + 1) all (before ++ x ∷ []) xs
+      (is ∙ sym (append_assoc before (x ∷ []) xs)) (length_push before x ∙ ap (λ k. k + 1) len) in
+      elim (cases_Bool (meets from to (addr x) (size x))) [
+        | inl met ↦ rw (met, here) (ap (λ ys. x ∷ ys) rest)
+        | inr apart ↦ rw apart rest
+      ]
 
   -- the rows of the numbers that were found are those of the list that meet the addresses
   pub rows_found : (from to : ℕ) (xs : List X)
@@ -75,31 +67,29 @@ module _ {X : Type 0} (addr size : X → ℕ) where
 -- a test that passes less than another is the same among what the other passes
 module _ {X : Type 0} (p q : X → Bool) (less : (x : X) → p x ≡ true → q x ≡ true) where
   fails : (x : X) → q x ≡ false → p x ≡ false
-  fails x no = elim (cases_Bool (p x)) [
-    | inl yes ↦ absurd (true≢false (sym (less x yes) ∙ no))
-    | inr no ↦ no
+  fails x failed = elim (cases_Bool (p x)) [
+    | inl passes ↦ absurd (true≢false (sym (less x passes) ∙ failed))
+    | inr fails_too ↦ fails_too
   ]
 
   pub filter_within : (xs : List X) → filter p (filter q xs) ≡ filter p xs
   filter_within [] = refl
   filter_within (x ∷ xs) =
       elim (cases_Bool (q x)) [
-        | inl yes ↦ rw yes (kept (p x) refl)
-        | inr no ↦ rw (no, fails x no) (filter_within xs)
+        | inl passes ↦ rw passes (elim (cases_Bool (p x)) [
+          | inl both ↦ rw both (ap (λ ys. x ∷ ys) (filter_within xs))
+          | inr one ↦ rw one (filter_within xs)
+        ])
+        | inr failed ↦ rw (failed, fails x failed) (filter_within xs)
       ]
-    where
-      kept : (b : Bool) → p x ≡ b → filter p (x ∷ filter q xs) ≡ filter p (x ∷ xs)
-      kept true is = rw is (ap (λ ys. x ∷ ys) (filter_within xs))
-      kept false is = rw is (filter_within xs)
 
   pub find_within : (xs : List X) → find p (filter q xs) ≡ find p xs
   find_within [] = refl
   find_within (x ∷ xs) =
       elim (cases_Bool (q x)) [
-        | inl yes ↦ rw yes (kept (p x) refl)
-        | inr no ↦ rw (no, fails x no) (find_within xs)
+        | inl passes ↦ rw passes (elim (cases_Bool (p x)) [
+          | inl both ↦ rw both refl
+          | inr one ↦ rw one (find_within xs)
+        ])
+        | inr failed ↦ rw (failed, fails x failed) (find_within xs)
       ]
-    where
-      kept : (b : Bool) → p x ≡ b → find p (x ∷ filter q xs) ≡ find p (x ∷ xs)
-      kept true is = rw is refl
-      kept false is = rw is (find_within xs)
