@@ -1,12 +1,16 @@
 -- The first function of some symbols that are taken one after another.
-use Rattle.std.proofs.Common.{◌≡◌, ℕ, ◌+◌, ◌<◌, Bool, true, false, List, [], ◌∷◌, ◌++◌, get_or, length}
+use Rattle.std.proofs.Common.{◌≡◌, ℕ, ◌+◌, ◌<◌, true, false, List, [], ◌∷◌, ◌++◌, get_or, length}
 use Rattle.std.proofs.Common.{take, drop, Option, None, Some, is_some, refl, sym, ap, ◌∙◌, inl, inr}
-use Rattle.std.specs.Prelude.{filter_map, option_map, option_to_list, slice_get}
+use Rattle.std.proofs.Common.{◌≤◌, ◌&&◌, arith, filter, leb, ltb}
+use Rattle.objects.specs.declared.symbol.SymbolKind.TheVariants.{Function}
+use Rattle.std.specs.Prelude.{max, min, filter_map, option_map, option_to_list, slice_get}
 use Rattle.std.specs.List.{cons_option}
-use Rattle.std.proofs.lemmas.Bool.{cases_Bool}
-use Rattle.std.proofs.lemmas.List.{append-nil, take-append-drop, take_more}
+use Rattle.std.proofs.lemmas.Bool.{and_parts, cases_Bool, leb-true, lt-ltb, ltb-true}
+use Rattle.std.proofs.lemmas.List.{take-append-drop, take_more}
 use Rattle.std.proofs.lemmas.List.Elements.{filter_map-append}
-use Rattle.objects.specs.Symbols.{Symbol, function_at, is_function_at}
+use Rattle.objects.specs.AddressTrees.{meets}
+use Rattle.objects.specs.Laws.Found.{find_within}
+use Rattle.objects.specs.Symbols.{Symbol, function_at, is_function_at, is_same_kind}
 
 behind : (pc : ℕ) (xs ys : List Symbol) → function_at xs pc ≡ None
     → function_at (xs ++ ys) pc ≡ function_at ys pc
@@ -85,3 +89,22 @@ pub name_lost : {X : Type 0} (f : X → List ℕ) (pc : ℕ) (symbols : List Sym
 name_lost f pc symbols ns i d o None within is none there some =
     function_more pc symbols ns i d o within is none ∙ sym there
 name_lost f pc symbols ns i d o (Some x) within is none there some = absurd cc
+
+holds_meets : (pc from to : ℕ) (s : Symbol) → from ≡ pc → to ≡ pc + 1 → is_function_at pc s ≡ true
+    → meets from to s.addr s.size ≡ true
+holds_meets pc from to s is_from is_to holds =
+    let parts = and_parts (leb s.addr pc) (ltb pc (s.addr + s.size))
+    (and_parts (is_same_kind s.kind Function) (leb s.addr pc && ltb pc (s.addr + s.size)) holds).1
+    in
+    let begins : s.addr ≤ pc = leb-true s.addr pc parts.0 in
+    let ends : pc < s.addr + s.size = ltb-true pc (s.addr + s.size) parts.1 in
+    lt-ltb (max from s.addr) (min to (s.addr + s.size))
+    (omega (arith, is_from, is_to, begins, ends))
+
+-- the functions that hold an address are among the symbols that meet it
+pub near_function : (pc from to : ℕ) (symbols : List Symbol) → from ≡ pc → to ≡ pc + 1
+    → function_at (filter (λ s. meets from to s.addr s.size) symbols) pc ≡ function_at symbols pc
+near_function pc from to symbols is_from is_to =
+    ap (option_map (λ (s : Symbol). s.name))
+    (find_within (is_function_at pc) (λ s. meets from to s.addr s.size)
+    (λ s holds. holds_meets pc from to s is_from is_to holds) symbols)

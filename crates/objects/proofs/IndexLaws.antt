@@ -2,12 +2,12 @@
 use Rattle.std.proofs.Common.{◌≡◌, ℕ, zero, suc, ◌+◌, ◌<◌, ◌≤◌, List, [], ◌∷◌, ◌++◌, get_or, length}
 use Rattle.std.proofs.Common.{map, take, Option, None, Some, refl, sym, ap, ◌∙◌}
 use Rattle.std.proofs.Common.{subst, arith}
-use Rattle.std.specs.Prelude.{option_to_list, slice_get, option_map}
+use Rattle.std.specs.Prelude.{option_to_list, slice_get}
 use Rattle.std.specs.List.Sorted.{IsPermutation}
 use Rattle.std.proofs.lemmas.List.{length-map, take_all, take_more, length-take-le}
 use Rattle.std.proofs.lemmas.Option.{get_or_from_slice_get}
 use Rattle.objects.specs.declared.address_tree.Node.{Node}
-use Rattle.objects.specs.AddressTrees.{Extent, IsTree, IsTreeOf, extent_of, extents_from}
+use Rattle.objects.specs.AddressTrees.{IsTree, IsTreeOf, extent_of, extents_from}
 use Rattle.objects.specs.Laws.Found.{extents-append}
 
 not_past : {X : Type 0} (xs : List X) (i : ℕ) → slice_get xs i ≡ None → i < length xs → ⊥

@@ -1,5 +1,5 @@
 -- A tree is made of two, with the row between them as its root.
-use Rattle.std.proofs.Common.{◌≡◌, ℕ, zero, suc, ◌+◌, ◌/◌, ◌<◌, ◌≤◌, true, ◌&&◌, List, [], ◌∷◌, ◌++◌}
+use Rattle.std.proofs.Common.{◌≡◌, ℕ, zero, suc, ◌+◌, ◌/◌, ◌<◌, ◌≤◌, true, List, [], ◌∷◌, ◌++◌}
 use Rattle.std.proofs.Common.{get_or, length, map, take, drop, leb, refl, sym, ap, subst, ◌∙◌, arith}
 use Rattle.std.specs.List.Sorted.{IsNonDecreasingBy}
 use Rattle.std.specs.List.{list_all}
@@ -75,55 +75,55 @@ module _ (ns left right new_left new_right : List Node) (root : Node) (low high 
     (left_reach : list_all (ends_by low) new_left ≡ true)
     (right_reach : list_all (ends_by high) new_right ≡ true)
     (over_low : low ≤ reach) (over_high : high ≤ reach) (over_root : root.addr + root.size ≤ reach)
-    where
-  pub whole_reach : list_all (ends_by reach) (new_left ++ rooted root reach ∷ new_right) ≡ true
-  whole_reach =
-      list_all-append (ends_by reach) new_left (rooted root reach ∷ new_right)
-      ∙ and_from (list_all (ends_by reach) new_left)
-      (list_all (ends_by reach) (rooted root reach ∷ new_right))
-      (wider low reach over_low new_left left_reach)
-      (and_from (ends_by reach (rooted root reach)) (list_all (ends_by reach) new_right) here
-      (wider high reach over_high new_right right_reach))
-    where
-      here : leb (root.addr + root.size) reach ≡ true
-      here = grind (arith, nat_tests)
+  where
+    pub whole_reach : list_all (ends_by reach) (new_left ++ rooted root reach ∷ new_right) ≡ true
+    whole_reach =
+        list_all-append (ends_by reach) new_left (rooted root reach ∷ new_right)
+        ∙ and_from (list_all (ends_by reach) new_left)
+        (list_all (ends_by reach) (rooted root reach ∷ new_right))
+        (wider low reach over_low new_left left_reach)
+        (and_from (ends_by reach (rooted root reach)) (list_all (ends_by reach) new_right) here
+        (wider high reach over_high new_right right_reach))
+      where
+        here : leb (root.addr + root.size) reach ≡ true
+        here = grind (arith, nat_tests)
 
-  right_order : list_all (begins_from root.addr) new_right ≡ true
-  right_order =
-      same_begins root.addr new_right right same_right
-      ∙ behind root.addr right (λ j d within.
-      from_root left root right (subst (IsNonDecreasingBy (λ (x : Node). x.addr)) whole rises)
-      zero (suc j) d (omega arith) (omega arith))
+    right_order : list_all (begins_from root.addr) new_right ≡ true
+    right_order =
+        same_begins root.addr new_right right same_right
+        ∙ behind root.addr right (λ j d within.
+        from_root left root right (subst (IsNonDecreasingBy (λ (x : Node). x.addr)) whole rises)
+        zero (suc j) d (omega arith) (omega arith))
 
-  new_middle : length new_left ≡ length (new_left ++ rooted root reach ∷ new_right) / 2
-  new_middle =
-      let lefts = same_length new_left left same_left in
-      let rights = same_length new_right right same_right in
-      let old : length ns ≡ length left + suc (length right) =
-      ap length whole ∙ length-append left (root ∷ right) in
-      let new : length (new_left ++ rooted root reach ∷ new_right)
-      ≡ length new_left + suc (length new_right) =
-      length-append new_left (rooted root reach ∷ new_right) in
-      let all : length (new_left ++ rooted root reach ∷ new_right) ≡ length ns =
-      omega (arith, lefts, rights, old, new) in
-      lefts ∙ middle ∙ ap (λ n. n / 2) (sym all)
+    new_middle : length new_left ≡ length (new_left ++ rooted root reach ∷ new_right) / 2
+    new_middle =
+        let lefts = same_length new_left left same_left in
+        let rights = same_length new_right right same_right in
+        let old : length ns ≡ length left + suc (length right) =
+        ap length whole ∙ length-append left (root ∷ right) in
+        let new : length (new_left ++ rooted root reach ∷ new_right)
+        ≡ length new_left + suc (length new_right) =
+        length-append new_left (rooted root reach ∷ new_right) in
+        let all : length (new_left ++ rooted root reach ∷ new_right) ≡ length ns =
+        omega (arith, lefts, rights, old, new) in
+        lefts ∙ middle ∙ ap (λ n. n / 2) (sym all)
 
-  pub made_tree : IsTree new_left → IsTree new_right
-      → IsTree (new_left ++ rooted root reach ∷ new_right)
-  made_tree left_tree right_tree zero = tt
-  made_tree left_tree right_tree (suc depth) = λ l r rt is len.
-      (let all : List Node = new_left ++ rooted root reach ∷ new_right in
-      let lefts : l ≡ new_left =
-      sym (take_at l (r ∷ rt) (length all / 2) len) ∙ ap (take (length all / 2)) (sym is)
-      ∙ take_at new_left (rooted root reach ∷ new_right) (length all / 2) new_middle in
-      let rest : r ∷ rt ≡ rooted root reach ∷ new_right =
-      sym (drop_at l (r ∷ rt) (length all / 2) len) ∙ ap (drop (length all / 2)) (sym is)
-      ∙ drop_at new_left (rooted root reach ∷ new_right) (length all / 2) new_middle in
-      let roots : r ≡ rooted root reach = cc in
-      let rights : rt ≡ new_right = cc in (
-        subst (λ (x : Node). IsRoot x all rt) (sym roots)
-            (subst (λ (xs : List Node). IsRoot (rooted root reach) all xs) (sym rights)
-            (record { reach = whole_reach; order = right_order })),
-        subst (IsTreeTo depth) (sym lefts) (left_tree depth),
-        subst (IsTreeTo depth) (sym rights) (right_tree depth),
-      ))
+    pub made_tree : IsTree new_left → IsTree new_right
+        → IsTree (new_left ++ rooted root reach ∷ new_right)
+    made_tree left_tree right_tree zero = tt
+    made_tree left_tree right_tree (suc depth) = λ l r rt is len.
+        (let all : List Node = new_left ++ rooted root reach ∷ new_right in
+        let lefts : l ≡ new_left =
+        sym (take_at l (r ∷ rt) (length all / 2) len) ∙ ap (take (length all / 2)) (sym is)
+        ∙ take_at new_left (rooted root reach ∷ new_right) (length all / 2) new_middle in
+        let rest : r ∷ rt ≡ rooted root reach ∷ new_right =
+        sym (drop_at l (r ∷ rt) (length all / 2) len) ∙ ap (drop (length all / 2)) (sym is)
+        ∙ drop_at new_left (rooted root reach ∷ new_right) (length all / 2) new_middle in
+        let roots : r ≡ rooted root reach = cc in
+        let rights : rt ≡ new_right = cc in (
+          subst (λ (x : Node). IsRoot x all rt) (sym roots)
+              (subst (λ (xs : List Node). IsRoot (rooted root reach) all xs) (sym rights)
+              (record { reach = whole_reach; order = right_order })),
+          subst (IsTreeTo depth) (sym lefts) (left_tree depth),
+          subst (IsTreeTo depth) (sym rights) (right_tree depth),
+        ))

@@ -1,6 +1,6 @@
 -- Numbers in order: two lists of the same numbers in order are one.
-use Rattle.std.proofs.Common.{◌≡◌, ℕ, zero, suc, ◌+◌, ◌<◌, ◌≤◌, Bool, true, false, ◌&&◌, List, [], ◌∷◌}
-use Rattle.std.proofs.Common.{get_or, length, map, filter, leb, refl, sym, ap, ◌∙◌, inl, inr, arith}
+use Rattle.std.proofs.Common.{◌≡◌, ℕ, zero, suc, ◌+◌, ◌<◌, ◌≤◌, true, false, List, [], ◌∷◌}
+use Rattle.std.proofs.Common.{get_or, length, leb, refl, sym, ap, ◌∙◌, inl, inr, arith}
 use Rattle.std.proofs.Common.{subst}
 use Rattle.std.specs.Prelude.{◌==◌, if◌then◌else◌}
 use Rattle.std.specs.List.{list_all, sum_by}
@@ -126,6 +126,9 @@ not_below x y xs ys up same less =
     here : (y : ℕ) → leb y y ≡ true
     here y = grind (arith, nat_tests)
 
+less_one : (a b c : ℕ) → a + b ≡ a + c → b ≡ c
+less_one a b c e = omega arith
+
 pub same_numbers : (xs ys : List ℕ) → Rises xs → Rises ys
     → ((w : ℕ) → times w xs ≡ times w ys) → xs ≡ ys
 same_numbers [] [] up us same = refl
@@ -143,11 +146,8 @@ same_numbers (x ∷ xs) (y ∷ ys) up us same =
     both : x ≡ y → (((w : ℕ) → times w xs ≡ times w ys) → xs ≡ ys) → x ∷ xs ≡ y ∷ ys
     both is tails =
         ap (λ n. n ∷ xs) is
-        ∙ ap (λ ns. y ∷ ns) (tails (λ w. rest w
+        ∙ ap (λ ns. y ∷ ns) (tails (λ w. less_one (one w y) (times w xs) (times w ys)
         (subst (λ (n : ℕ). one w n + times w xs ≡ one w y + times w ys) is (same w))))
-
-    rest : (w : ℕ) → one w y + times w xs ≡ one w y + times w ys → times w xs ≡ times w ys
-    rest w e = omega (arith, e)
 
 -- the numbers that were found in some order, in order
 pub in_order : (from to : ℕ) (rows tree : List Extent) (found sorted : List ℕ)

@@ -1,15 +1,15 @@
 -- Rows of a table, found by where their bytes lie. The rows stand by rising first address, and are
 -- read as a tree: the middle row is the root, and knows how far the bytes of its part reach.
-use Rattle.std.specs.Prelude.{◌≡◌, ℕ, zero, suc, ◌+◌, ◌/◌, nat_le, nat_lt, Bool, ◌&&◌, IsTrue, List}
+use Rattle.std.specs.Prelude.{◌≡◌, ℕ, zero, suc, ◌+◌, ◌/◌, nat_le, nat_lt, max, min, Bool, IsTrue}
+use Rattle.std.specs.Prelude.{List}
 use Rattle.std.specs.Prelude.{[], ◌∷◌, ◌++◌, length, map, filter, ⊤}
 use Rattle.std.specs.List.{list_all}
 use Rattle.std.specs.List.Sorted.{IsPermutation}
 use Rattle.objects.specs.declared.address_tree.Node.{Node}
 
--- whether `size` bytes from an address on meet the addresses from one on and below another
+-- whether `size` bytes from an address on have one of the addresses from one on and below another
 abbrev pub meets : ℕ → ℕ → ℕ → ℕ → Bool
-meets from to addr size =
-    nat_lt 0 size && (nat_lt addr to && nat_lt from (addr + size))
+meets from to addr size = nat_lt (max from addr) (min to (addr + size))
 
 -- a row by its number, with its first address and its size
 pub record Extent : Type 0 where

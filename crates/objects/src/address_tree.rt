@@ -22,7 +22,7 @@ pub struct Node {
 }
 
 impl Node {
-    ghost use Rattle.std.specs.Prelude.{◌+◌, ◌&&◌, nat_lt};
+    ghost use Rattle.std.specs.Prelude.{◌+◌};
     ghost use Rattle.objects.specs.AddressTrees.{meets};
 
     // Where its bytes end.
@@ -32,11 +32,11 @@ impl Node {
         u64::from(self.addr) + u64::from(self.size)
     }
 
-    // Whether its bytes meet the addresses from `from` on and below `to`.
+    // Whether it has one of the addresses from `from` on and below `to`.
     fn meets(&self, from: u64, to: u64) -> bool
         ensures { result ≡ meets from to self.now.addr self.now.size }
     {
-        self.size > 0 && u64::from(self.addr) < to && from < self.end()
+        from.max(u64::from(self.addr)) < to.min(self.end())
     }
 }
 
@@ -139,12 +139,7 @@ fn push_numbers(
 
 /// The numbers of the rows of a table that meet the addresses from `from` on and below `to`, in
 /// the table's order; the nodes are the tree of its rows.
-pub fn found_on(
-    alloc: Global,
-    nodes: &[Node],
-    from: u64,
-    to: u64,
-) -> Result<Vec<usize>, AllocError>
+pub fn found_on(alloc: Global, nodes: &[Node], from: u64, to: u64) -> Result<Vec<usize>, AllocError>
     requires { IsTree nodes.now }
     ensures { IfOk result (λ found. (rows : List Extent)
         → IsPermutation rows (map extent_of nodes.now)

@@ -1,7 +1,8 @@
 -- The lines of what was found near a range by its numbers.
 use Rattle.std.proofs.Common.{◌≡◌, ℕ, ◌+◌, ◌<◌, true, ◌&&◌, List, [], ◌∷◌, ◌++◌, get_or, length, take}
-use Rattle.std.proofs.Common.{map, filter, Option, None, Some, refl, sym, ap, ◌∙◌, pos, ◌+ℤ◌, arith}
-use Rattle.std.specs.Prelude.{filter_map, flat_map, int_lt, option_to_list, slice_get}
+use Rattle.std.proofs.Common.{map, filter, Option, None, Some, refl, sym, ap, ◌∙◌, pos, ℤ, negsuc, ◌+ℤ◌}
+use Rattle.std.proofs.Common.{arith}
+use Rattle.std.specs.Prelude.{filter_map, flat_map, int_lt, max, min, option_to_list, slice_get}
 use Rattle.std.specs.List.{cons_option}
 use Rattle.std.proofs.lemmas.Bool.{and_parts, and_from, lt-ltb, ltb-true}
 use Rattle.std.proofs.lemmas.Grind.{flat_map-append}
@@ -50,9 +51,27 @@ standing-joins symbols r start end xs ys =
     ∙ flat_map-append line_text (flat_map (block_lines symbols) (filter p xs))
     (flat_map (block_lines symbols) (filter p ys))
 
+inside : (n size : ℕ) → 0 < size → int_lt (pos n) (pos n +ℤ pos size) ≡ true
+inside n size some = grind (arith, ints)
+
+lower : (n m : ℕ) → n < m → int_lt (pos n) (pos m) ≡ true
+lower n m less = grind (arith, ints)
+
+-- a range that isn't empty begins below its end
+below_end : (base : ℤ) (size to : ℕ)
+    → ((a : ℕ) → int_lt (pos a) (base +ℤ pos size) ≡ true → a < to) → 0 < size
+    → int_lt base (pos to) ≡ true
+below_end (negsuc n) size to ends some = grind (arith, ints)
+below_end (pos n) size to ends some = lower n to (ends n (inside n size some))
+
 module _ (r : Range) (from to : ℕ)
     (begins : (a : ℕ) → 0 < a → int_lt r.base (pos a) ≡ true → from < a)
     (ends : (a : ℕ) → int_lt (pos a) (r.base +ℤ pos r.size) ≡ true → a < to) where
+  -- where some address of the range is below an end, the range isn't empty
+  begins_before : (addr : ℕ) → 0 < r.size → addr < to → from < to
+  begins_before addr some after =
+      begins to (omega (arith, after)) (below_end r.base r.size to ends some)
+
   -- what stands on a range meets its addresses
   stands_meets : (addr size : ℕ) → symbol_stands r addr size ≡ true
       → meets from to addr size ≡ true
@@ -63,8 +82,8 @@ module _ (r : Range) (from to : ℕ)
       let some : 0 < size = ltb-true 0 size one.0 in
       let before : from < addr + size = begins (addr + size) (omega (arith, some)) three.1 in
       let after : addr < to = ends addr three.0 in
-      and_from _ _ (lt-ltb 0 size some)
-      (and_from _ _ (lt-ltb addr to after) (lt-ltb from (addr + size) before))
+      let room : from < to = begins_before addr (ltb-true 0 r.size two.0) after in
+      lt-ltb (max from addr) (min to (addr + size)) (omega (arith, some, before, after, room))
 
   pub near_symbols : (symbols : List Symbol)
       → symbol_lines r (filter (λ s. meets from to s.addr s.size) symbols)

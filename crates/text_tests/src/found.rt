@@ -38,11 +38,11 @@ const ASKED: [(u64, u64); 14] = [
     (0x1100, 0x1100),
 ];
 
-// Whether bytes meet some addresses, address by address at either end.
+// Whether some bytes have one of some addresses: neither is empty, and each begins before the other
+// ends.
 fn is_met(addr: u32, size: u32, from: u64, to: u64) -> bool {
     let end = u64::from(addr) + u64::from(size);
-    let first = u64::from(addr).max(from);
-    first < end.min(to)
+    size > 0 && from < to && u64::from(addr) < to && from < end
 }
 
 // The numbers of the rows that meet some addresses, by a look at each.

@@ -1,4 +1,4 @@
-use Rattle.std.proofs.Common.{◌≡◌, ℕ, ◌<◌, List, rules, arith, sym, ap, subst, ◌∙◌, ◌++◌, append-nil}
+use Rattle.std.proofs.Common.{◌≡◌, ℕ, ◌<◌, List, rules, sym, ap, subst, ◌∙◌, ◌++◌, append-nil}
 use Rattle.std.proofs.Common.{OnOk, length, take, drop, map}
 use Rattle.std.specs.Prelude.{◌/◌, ◌+◌, ◌-◌}
 use Rattle.std.proofs.lemmas.List.{take_rest}
