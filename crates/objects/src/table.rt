@@ -7,7 +7,7 @@ ghost use Rattle.objects.specs.declared.block.Block.{Block};
 ghost use Rattle.std.specs.List.{list_any};
 ghost use Rattle.std.specs.Ordering.{nat_cmp};
 ghost use Rattle.std.specs.BTreeMap as tree;
-ghost use Rattle.objects.specs.Symbols.{Symbol, EachApart, NoTwoAlike, function_at};
+ghost use Rattle.objects.specs.Symbols.{Symbol, EachApart, NoTwoAlike};
 ghost use Rattle.objects.specs.Symbols.{symbols_of};
 ghost use Rattle.objects.specs.Symbols.{is_in_place_of, is_same_kind, kept_symbol};
 ghost use Rattle.objects.specs.declared.symbol.SymbolKind.TheVariants.{Function};
@@ -40,8 +40,8 @@ impl SymbolRow<'_> {
     ghost use Rattle.objects.specs.Symbols.{is_function_at};
     ghost use Rattle.objects.specs.Rows.{symbol_of};
 
-    // Whether it is a function whose bytes hold an address.
-    fn is_function_at(&self, pc: u32) -> bool
+    /// Whether it is a function whose bytes hold an address.
+    pub fn is_function_at(&self, pc: u32) -> bool
         ensures { result ≡ is_function_at pc (symbol_of self.now) }
     {
         let end = u64::from(self.addr) + u64::from(self.size);
@@ -250,6 +250,14 @@ impl ObjectTable {
         })
     }
 
+    /// The block of a number, counted from 0 in order of making: None exactly where there are no
+    /// more.
+    pub fn block(&self, i: usize) -> Option<&Block>
+        ensures { option_map (λ b. b.now) result ≡ slice_get self.now.blocks i }
+    {
+        self.blocks.get(i)
+    }
+
     /// The blocks that were ever made, live or dead, in order of making.
     pub fn blocks(&self) -> &[Block]
         ensures value { result.now ≡ self.now.blocks }
@@ -257,20 +265,6 @@ impl ObjectTable {
         ensures lone { NoTwoLive self.now.blocks }
     {
         self.blocks.as_slice()
-    }
-
-    /// The name of the first function whose bytes hold an address: None exactly where there is
-    /// none.
-    pub fn function_at(&self, pc: u32) -> Option<&Name>
-        ensures { option_map (λ n. n.now) result ≡ function_at self.now.symbols pc }
-    {
-        for i in 0..self.symbol_count() {
-            let row = self.symbol(i)?;
-            if row.is_function_at(pc) {
-                return Some(row.name);
-            }
-        }
-        None
     }
 }
 

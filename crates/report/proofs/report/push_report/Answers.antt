@@ -8,8 +8,9 @@ pub returns : goal.returns
 returns c =
     let f = c.args.findings.now in
     let rows = c.args.rows.now in
-    rw (← report_pieces (length rows) f.ending.accesses
-    (string_bytes c.args.text.now) f.ending f.layout f.thresholds f.objects.now
+    rw (← c.requires)
+    (rw (← report_pieces (length rows) f.ending.accesses
+    (string_bytes c.args.text.now) f.ending f.layout f.thresholds c.args.index.now
     (map track_shown rows) (sym (length-map rows track_shown)) refl)
     (rw (c.in_ok-push_tracks.ensures, c.in_ok-push_settings.ensures, c.in_ok-push_ending.ensures) at
-    c.push_end.ensures)
+    c.push_end.ensures))
