@@ -7,7 +7,7 @@ ghost use Rattle.objects.specs.declared.block.Block.{Block};
 ghost use Rattle.std.specs.List.{list_any};
 ghost use Rattle.std.specs.Ordering.{nat_cmp};
 ghost use Rattle.std.specs.BTreeMap as tree;
-ghost use Rattle.objects.specs.Symbols.{Symbol, EachApart, NoTwoAlike};
+ghost use Rattle.objects.specs.Symbols.{Symbol, EachApart, NoTwoAlike, function_at};
 ghost use Rattle.objects.specs.Symbols.{symbols_of};
 ghost use Rattle.objects.specs.Symbols.{is_in_place_of, is_same_kind, kept_symbol};
 ghost use Rattle.objects.specs.declared.symbol.SymbolKind.TheVariants.{Function};
@@ -265,6 +265,20 @@ impl ObjectTable {
         ensures lone { NoTwoLive self.now.blocks }
     {
         self.blocks.as_slice()
+    }
+
+    /// The name of the first function whose bytes hold an address: None exactly where there is
+    /// none. It looks at each symbol; an `ObjectIndex` finds the same at once.
+    pub fn function_at(&self, pc: u32) -> Option<&Name>
+        ensures { option_map (λ n. n.now) result ≡ function_at self.now.symbols pc }
+    {
+        for i in 0..self.symbol_count() {
+            let row = self.symbol(i)?;
+            if row.is_function_at(pc) {
+                return Some(row.name);
+            }
+        }
+        None
     }
 }
 

@@ -126,11 +126,11 @@ const NAMES: [(u32, &[u8]); 4] = [
     (u32::MAX, b""),
 ];
 
-// Whether the function at an address has this name.
-fn is_function(index: &ObjectIndex<'_>, pc: u32, name: &[u8]) -> Result<bool, AllocError> {
-    match index.function_at(pc)? {
-        Some(found) => Ok(found.bytes() == name),
-        None => Ok(false),
+// Whether it is this name.
+fn is_named(found: Option<&Name>, name: &[u8]) -> bool {
+    match found {
+        Some(found) => found.bytes() == name,
+        None => false,
     }
 }
 
@@ -140,9 +140,12 @@ fn the_first_function_is_named(rt: HostRuntime) -> Result<(), Fail> {
     note_symbols(&mut table, &NAMED)?;
     let index = ObjectIndex::new(rt.alloc(), &table)?;
     for (pc, name) in &NAMES {
-        assert!(rt; is_function(&index, *pc, name)?, "at {pc:x}");
+        let found = index.function_at(*pc)?;
+        assert!(rt; is_named(found, name), "at {pc:x}");
+        assert!(rt; is_named(table.function_at(*pc), name), "at {pc:x}");
     }
     let none = index.function_at(0xffff)?;
     assert!(rt; none.is_none());
+    assert!(rt; table.function_at(0xffff).is_none());
     Ok(())
 }
