@@ -3,7 +3,7 @@
 ghost use Rattle.std.specs.Prelude.{◌≡◌, ◌∷◌, ◌++◌, [], IfOk, IsTrue, List, OnOk, length, map};
 ghost use Rattle.std.specs.List.{list_all};
 ghost use Rattle.std.specs.List.Sorted.{IsNonDecreasingBy, IsPermutation};
-ghost use Rattle.objects.specs.AddressTrees.{Extent, IsTree, IsTreeOf, ends_by, extent_of};
+ghost use Rattle.objects.specs.AddressTrees.{Extent, IsTree, ends_by, extent_of};
 ghost use Rattle.objects.specs.AddressTrees.{numbers_on};
 
 use std::alloc::{AllocError, Global};

@@ -1,11 +1,10 @@
 // An index of a table's symbols and blocks by where their bytes lie.
-ghost use Rattle.std.specs.Prelude.{◌≡◌, ◌+◌, ◌∷◌, ◌++◌, [], IfOk, OnOk, filter, filter_map, length};
+ghost use Rattle.std.specs.Prelude.{◌≡◌, ◌++◌, IfOk, OnOk, filter, filter_map, length};
 ghost use Rattle.std.specs.Prelude.{map, option_map, option_to_list, slice_get};
-ghost use Rattle.std.specs.List.{find};
 ghost use Rattle.objects.specs.AddressTrees.{IsTreeOf, extent_of, extents_from, meets};
 ghost use Rattle.objects.specs.Extents.{block_extents, symbol_extents};
 ghost use Rattle.objects.specs.Rows.{symbol_of};
-ghost use Rattle.objects.specs.Symbols.{function_at, is_function_at};
+ghost use Rattle.objects.specs.Symbols.{function_at};
 
 use crate::address_tree::{Node, found_on, push_node, tree_of};
 use crate::block::Block;

@@ -1,10 +1,10 @@
 -- The lines of what was found near a range by its numbers.
-use Rattle.std.proofs.Common.{◌≡◌, ℕ, ◌+◌, ◌<◌, true, ◌&&◌, List, [], ◌∷◌, ◌++◌, get_or, length, take}
-use Rattle.std.proofs.Common.{map, filter, Option, None, Some, refl, sym, ap, ◌∙◌, pos, ℤ, negsuc, ◌+ℤ◌}
+use Rattle.std.proofs.Common.{◌≡◌, ℕ, ◌+◌, ◌<◌, true, ◌&&◌, List, [], ◌++◌, get_or, length, take}
+use Rattle.std.proofs.Common.{map, filter, Option, None, Some, refl, ap, ◌∙◌, pos, ℤ, negsuc, ◌+ℤ◌}
 use Rattle.std.proofs.Common.{arith}
 use Rattle.std.specs.Prelude.{filter_map, flat_map, int_lt, max, min, option_to_list, slice_get}
 use Rattle.std.specs.List.{cons_option}
-use Rattle.std.proofs.lemmas.Bool.{and_parts, and_from, lt-ltb, ltb-true}
+use Rattle.std.proofs.lemmas.Bool.{and_parts, lt-ltb, ltb-true}
 use Rattle.std.proofs.lemmas.Grind.{flat_map-append}
 use Rattle.std.proofs.lemmas.Int.{ints}
 use Rattle.std.proofs.lemmas.List.{get_or_default}
@@ -17,7 +17,7 @@ use Rattle.objects.specs.Symbols.{Symbol, is_same_kind}
 use Rattle.objects.specs.declared.block.Block.{Block}
 use Rattle.objects.specs.declared.symbol.SymbolKind.TheVariants.{Object}
 use Rattle.report.specs.Lines.{block_lines, standing_lines, symbol_line, symbol_lines}
-use Rattle.report.specs.Standing.{block_stands, last_position, symbol_stands}
+use Rattle.report.specs.Standing.{block_stands, symbol_stands}
 use Rattle.report.proofs.TextLaws.{text_more}
 
 listed : {X : Type 0} (o : Option X) → option_to_list o ≡ cons_option o []

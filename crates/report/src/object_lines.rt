@@ -1,5 +1,5 @@
 // The lines of what stands on a listed line.
-ghost use Rattle.std.specs.Prelude.{◌≡◌, ◌+◌, ◌<◌, ◌+ℤ◌, ◌∷◌, [], ℕ, pos, codes, int_lt, true, OnOk};
+ghost use Rattle.std.specs.Prelude.{◌≡◌, ◌<◌, ◌+ℤ◌, ◌∷◌, [], ℕ, pos, codes, int_lt, true, OnOk};
 ghost use Rattle.std.specs.Prelude.{filter_map, option_map, option_to_list, slice_get};
 ghost use Rattle.std.specs.Fmt.{decimal};
 ghost use Rattle.base.specs.Addresses.{address_text};
@@ -146,11 +146,7 @@ fn end_address(range: Range) -> u64
 }
 
 // The lines of the object symbols on a range.
-fn push_symbols(
-    text: &mut String,
-    index: &ObjectIndex<'_>,
-    range: Range,
-) -> Result<(), AllocError>
+fn push_symbols(text: &mut String, index: &ObjectIndex<'_>, range: Range) -> Result<(), AllocError>
     ensures { OnOk result (AddsLines text.old text.new (symbol_lines range index.now.symbols)) }
 {
     let numbers = index.symbols_on(first_address(range), end_address(range))?;
