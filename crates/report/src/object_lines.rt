@@ -230,6 +230,7 @@ fn push_block_at(
 fn push_blocks_of(
     text: &mut String,
     index: &ObjectIndex<'_>,
+    objects: &ObjectTable,
     numbers: &[usize],
     range: Range,
     start: u64,
@@ -237,11 +238,10 @@ fn push_blocks_of(
 ) -> Result<(), AllocError>
     ensures { OnOk result (AddsLines text.old text.new
         (standing_lines index.now.symbols range start end
-        (filter_map (slice_get index.now.blocks) numbers.now))) }
+        (filter_map (slice_get objects.now.blocks) numbers.now))) }
 {
     for number in numbers {
-        let block = index.table().block(*number);
-        push_block_at(text, block, index, range, start, end)?;
+        push_block_at(text, objects.block(*number), index, range, start, end)?;
     }
     Ok(())
 }
@@ -258,7 +258,7 @@ fn push_blocks(
         (standing_lines index.now.symbols range start end index.now.blocks)) }
 {
     let numbers = index.blocks_on(first_address(range), end_address(range))?;
-    push_blocks_of(text, index, &numbers, range, start, end)
+    push_blocks_of(text, index, index.table(), &numbers, range, start, end)
 }
 
 /// The lines of the symbols on a range, and of the blocks that stand on it at some position from

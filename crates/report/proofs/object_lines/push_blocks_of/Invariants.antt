@@ -7,4 +7,4 @@ use Rattle.report.proofs.object_lines.push_blocks_of.Given as goal
 abbrev pub invariant-loop-number : goal.invariant-loop-number
 invariant-loop-number l = string_bytes l.text ≡ string_bytes l.fn.text ++ text_of
     (standing_lines l.index.symbols l.range l.start l.end
-    (filter_map (slice_get l.index.blocks) (take l.number-index l.numbers)))
+    (filter_map (slice_get l.objects.blocks) (take l.number-index l.numbers)))
