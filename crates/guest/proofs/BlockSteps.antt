@@ -1,7 +1,7 @@
 -- What is known of the two sides of a node, where old is the list of all blocks.
 use Rattle.std.proofs.Common.{◌≡◌, ℕ, ◌+◌, ◌^◌, ◌<◌, ◌≤◌, List, ◌∷◌, ◌++◌, length, max, Option, None, Some}
-use Rattle.std.proofs.Common.{refl, sym, ap, ◌∙◌, arith, length-append}
-use Rattle.std.specs.Option.{option_map, option_or}
+use Rattle.std.proofs.Common.{refl, ap, ◌∙◌, arith, length-append}
+use Rattle.std.specs.Option.{option_or}
 use Rattle.std.proofs.lemmas.Bool.{eq-eqb, ne_eqb}
 use Rattle.guest.specs.declared.block_tree.LiveBlock.{LiveBlock}
 use Rattle.guest.specs.LiveBlocks.{most_free, spanned, DoRise, DoFit, block_at}

@@ -2,7 +2,7 @@
 use Rattle.std.proofs.Common.{◌≡◌, ◌≢◌, ℕ, zero, suc, ◌+◌, ◌%◌, ◌<◌, ◌≤◌, Bool, true, false, ◌&&◌}
 use Rattle.std.proofs.Common.{not, List, [], max}
 use Rattle.std.proofs.Common.{◌∷◌, ◌++◌, length, get_or, map, Option, None, Some, refl, sym, ◌∙◌}
-use Rattle.std.proofs.Common.{ap, subst, inl, inr, arith, true≢false}
+use Rattle.std.proofs.Common.{ap, inl, inr, arith, true≢false}
 use Rattle.std.proofs.Common.{length-append, length-set}
 use Rattle.std.specs.Prelude.{slice_get, slice_index, slice_set, nat_lt, ◌==◌, IsTrue}
 use Rattle.std.specs.Option.{option_map}
@@ -17,7 +17,7 @@ use Rattle.guest.specs.Heaps.{HasNoPlace, Heap, IsLeastPlace, can_stand, do_meet
 use Rattle.guest.specs.Heaps.{most_blocks, rounded}
 use Rattle.guest.specs.LiveBlocks.{block_at, filled, first_place, most_free, without}
 use Rattle.objects.specs.Indexes.{IsIndex, passes_in}
-use Rattle.guest.specs.HeapLayout.{IsLaidOut, IsTiled, bytes_at, number_at, taken_at, taken_by}
+use Rattle.guest.specs.HeapLayout.{IsLaidOut, bytes_at, number_at, taken_at, taken_by}
 use Rattle.objects.specs.Laws.Indexes.{any_passes, index-die, index-push, never, none_passes}
 use Rattle.objects.specs.Laws.Indexes.{passes_from, passes_within}
 use Rattle.guest.proofs.BlockLaws.{without_none}

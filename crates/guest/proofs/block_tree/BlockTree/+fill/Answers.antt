@@ -1,5 +1,5 @@
-use Rattle.std.proofs.Common.{◌≡◌, ◌+◌, ◌<◌, ◌≤◌, ◌∷◌, ◌++◌, max, refl, sym, ap, ◌∙◌, arith}
-use Rattle.guest.specs.LiveBlocks.{filled, first_place, most_free}
+use Rattle.std.proofs.Common.{◌<◌, ◌≤◌, refl, ◌∙◌, arith}
+use Rattle.guest.specs.LiveBlocks.{most_free}
 use Rattle.guest.proofs.BlockLaws.{filled_here, place_here}
 use Rattle.guest.proofs.BlockSteps.{filled_left_is, filled_right_is, left_fits, left_shorter, most_parts}
 use Rattle.guest.proofs.BlockSteps.{placed_left, placed_right, right_fits, right_shorter, top_fits}

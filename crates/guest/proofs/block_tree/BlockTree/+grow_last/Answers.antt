@@ -1,5 +1,4 @@
-use Rattle.std.proofs.Common.{◌≡◌, ◌+◌, ◌<◌, ◌∷◌, ◌++◌, refl, sym, ap, ◌∙◌, arith}
-use Rattle.guest.specs.LiveBlocks.{grown, spanned}
+use Rattle.std.proofs.Common.{refl, arith}
 use Rattle.guest.proofs.BlockSteps.{grown_right_is, right_shorter, spanned_parts}
 use Rattle.guest.proofs.block_tree.BlockTree.+grow_last.Goals as goal
 

@@ -1,6 +1,4 @@
-use Rattle.std.proofs.Common.{◌≡◌, ◌+◌, ◌<◌, ◌≤◌, ◌∷◌, ◌++◌, Some, refl, sym, ap, ◌∙◌, arith}
-use Rattle.std.specs.Option.{option_map}
-use Rattle.guest.specs.LiveBlocks.{block_at, grown, spanned, without}
+use Rattle.std.proofs.Common.{◌≡◌, ◌<◌, refl, arith}
 use Rattle.guest.proofs.BlockSteps.{at_here, at_left, at_right, left_rises, left_shorter, right_rises}
 use Rattle.guest.proofs.BlockSteps.{right_shorter, spanned_parts, without_here_is, without_left_is}
 use Rattle.guest.proofs.BlockSteps.{without_right_is}
