@@ -22,10 +22,6 @@ AreClear place bytes [] = Unit {0}
 AreClear place bytes (b ∷ bs) =
     (b.addr < place + bytes → place < b.addr + b.bytes → ⊥) × AreClear place bytes bs
 
-pub tiled-aligned : (at gap end : ℕ) (bs : List LiveBlock) → IsTiled at gap end bs → at % 16 ≡ 0
-tiled-aligned at gap end [] h = h.0
-tiled-aligned at gap end (b ∷ bs) h = h.0
-
 -- the gaps and the blocks make up the whole
 pub tiled-span : (at gap end : ℕ) (bs : List LiveBlock) → IsTiled at gap end bs → at + gap + spanned bs ≡ end
 tiled-span at gap end [] h = omega (arith, h.1)
@@ -69,16 +65,16 @@ tiled-filled bytes number at gap end (b ∷ bs) even some h = elim (leb_tells by
 ]
 
 -- where a block dies, the gaps around it are joined
-tiled-joined : (at gap more end : ℕ) (b : LiveBlock) (bs : List LiveBlock) → at % 16 ≡ 0 → at + gap ≡ b.addr
+tiled-joined : (at gap end : ℕ) (b : LiveBlock) (bs : List LiveBlock) → at % 16 ≡ 0 → at + gap ≡ b.addr
     → IsTiled (b.addr + b.bytes) b.gap end bs → IsTiled at (gap + (b.bytes + b.gap)) end bs
-tiled-joined at gap more end b [] even is h = (even, omega (arith, is, h.1))
-tiled-joined at gap more end b (c ∷ bs) even is h = (even, omega (arith, is, h.1), h.2, h.3)
+tiled-joined at gap end b [] even is h = (even, omega (arith, is, h.1))
+tiled-joined at gap end b (c ∷ bs) even is h = (even, omega (arith, is, h.1), h.2, h.3)
 
 pub tiled-without : (addr at gap end : ℕ) (bs : List LiveBlock) → IsTiled at gap end bs
     → IsTiled at (without addr gap bs).0 end (without addr gap bs).1
 tiled-without addr at gap end [] h = h
 tiled-without addr at gap end (b ∷ bs) h = elim (cases_Bool (b.addr == addr)) [
-  | inl here ↦ rw here (tiled-joined at gap 0 end b bs h.0 h.1 h.3)
+  | inl here ↦ rw here (tiled-joined at gap end b bs h.0 h.1 h.3)
   | inr other ↦ rw other
       (h.0, h.1, h.2, tiled-without addr (b.addr + b.bytes) b.gap end bs h.3)
 ]

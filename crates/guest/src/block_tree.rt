@@ -7,7 +7,8 @@
 // change a tree are lent the gap before its first block beside it.
 #![tactic(auto, using(crate::proofs::MostFree::most_free_append))]
 
-ghost use Rattle.std.specs.Prelude.{◌≡◌, ◌+◌, ◌<◌, ◌≤◌, ◌^◌, [], ◌∷◌, ◌++◌, max, Some, MatchOption, OnErr, IfOk};
+ghost use Rattle.std.specs.Prelude.{◌≡◌, ◌+◌, ◌<◌, ◌≤◌, ◌^◌, [], ◌∷◌, ◌++◌, max, Some};
+ghost use Rattle.std.specs.Prelude.{MatchOption, OnErr, IfOk};
 ghost use Rattle.std.specs.Option.{option_map};
 ghost use Rattle.guest.specs.LiveBlocks.{most_free, spanned, DoRise, DoFit, block_at};
 ghost use Rattle.guest.specs.LiveBlocks.{first_place, filled, grown, without};
