@@ -1,4 +1,4 @@
-use Rattle.std.proofs.Common.{◌≡◌, ◌≢◌, false, None, Some, ap, sym, ◌∙◌, refl, true≢false, arith}
+use Rattle.std.proofs.Common.{◌≡◌, false, None, Some, ap, sym, ◌∙◌, refl, true≢false, arith}
 use Rattle.guest.specs.declared.heap.HeapBlock.{HeapBlock}
 use Rattle.guest.specs.Heaps.{Heap, lives_at}
 use Rattle.guest.specs.HeapLayout.{number_at}
