@@ -1,7 +1,8 @@
 #!/usr/bin/env bash
-# How long a heap takes for 2^20 blocks of 16 bytes on a heap that just holds them, made in order and freed in the order of
-# making and in the reverse one, and how long a table of objects takes to note as many births and deaths. Beside it the
-# speed of sha256sum in the same run. A benchmark, no test.
+# How long a heap takes for 2^20 blocks: of 16 bytes on a heap that just holds them, made in order and freed in the order of
+# making and in the reverse one; with every second block freed and blocks that don't fit between; above one small hole; and of
+# random sizes, half of them freed at random and made anew. And how long a table of objects takes to note as many births and
+# deaths. Beside it the speed of sha256sum in the same run. A benchmark, no test.
 set -eu
 top=$(cd "$(dirname "$0")/.." && pwd)
 program=$top/crates/benches/out/benches
@@ -28,21 +29,25 @@ def timed(words, wanted=None):
     return time.monotonic() - begin, usage.ru_maxrss * 1024
 
 
+# each kind with its title, its verbs, and how many blocks are made and freed
 KINDS = [
-    ("in-order", "blocks freed in order", f"made {count} freed {count}\n"),
-    ("reverse", "blocks freed in reverse", f"made {count} freed {count}\n"),
-    ("table", "table, deaths in order", f"noted {count} died {count}\n"),
-    ("reverse-table", "table, deaths in reverse", f"noted {count} died {count}\n"),
+    ("in-order", "blocks freed in order", "made {} freed {}\n", count, count),
+    ("reverse", "blocks freed in reverse", "made {} freed {}\n", count, count),
+    ("alternate", "every second block freed, others between", "made {} freed {}\n", count, count // 4),
+    ("low-hole", "blocks above a small hole", "made {} freed {}\n", count, 1),
+    ("random", "blocks of random sizes", "made {} freed {}\n", count, count // 2),
+    ("table", "table, deaths in order", "noted {} died {}\n", count, count),
+    ("reverse-table", "table, deaths in reverse", "noted {} died {}\n", count, count),
 ]
-rows = {kind: [] for kind, _, _ in KINDS}
+rows = {kind: [] for kind, *_ in KINDS}
 digests = []
 for _ in range(4):
-    for kind, _, wanted in KINDS:
-        rows[kind].append(timed([program, "heap", str(count), kind], wanted))
+    for kind, _, said, made, freed in KINDS:
+        rows[kind].append(timed([program, "heap", str(count), kind], said.format(made, freed)))
     digests.append(timed(["sha256sum", name])[0])
-for kind, title, _ in KINDS:
+for kind, title, _, made, freed in KINDS:
     best = min(row[0] for row in rows[kind])
     peak = max(row[1] for row in rows[kind])
-    print(f"{title}: {best:.2f} s, {best / (2 * count) * 1e6:.2f} microseconds a call, peak memory {peak / 1e6:.0f} MB")
+    print(f"{title}: {best:.2f} s, {best / (made + freed) * 1e6:.2f} microseconds a call, peak memory {peak / 1e6:.0f} MB")
 print(f"sha256sum {size / min(digests) / 1e6:.0f} MB/s")
 PY

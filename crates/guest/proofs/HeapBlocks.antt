@@ -1,43 +1,33 @@
--- The blocks of a heap's list beside the bytes that its live ones take.
+-- The blocks of a heap's list beside its live ones in the order of addresses.
 use Rattle.std.proofs.Common.{◌≡◌, ◌≢◌, ℕ, zero, suc, ◌+◌, ◌%◌, ◌<◌, ◌≤◌, Bool, true, false, ◌&&◌}
-use Rattle.std.proofs.Common.{not, List, []}
+use Rattle.std.proofs.Common.{not, List, [], max}
 use Rattle.std.proofs.Common.{◌∷◌, ◌++◌, length, get_or, map, Option, None, Some, refl, sym, ◌∙◌}
-use Rattle.std.proofs.Common.{ap, subst, inl, inr, arith, true≢false}
+use Rattle.std.proofs.Common.{ap, inl, inr, arith, true≢false}
 use Rattle.std.proofs.Common.{length-append, length-set}
-use Rattle.std.specs.Prelude.{slice_get, slice_index, slice_set, min, nat_lt, ◌==◌, IsTrue}
+use Rattle.std.specs.Prelude.{slice_get, slice_index, slice_set, nat_lt, ◌==◌, IsTrue}
 use Rattle.std.specs.Option.{option_map}
 use Rattle.std.proofs.lemmas.Bool.{and_from, and_parts, eq-eqb, eqb-true, le-leb, leb-true}
-use Rattle.std.proofs.lemmas.Bool.{lt-ltb, ltb-true, not-true}
+use Rattle.std.proofs.lemmas.Bool.{cases_lt, lt-ltb, ltb-true, not-true}
 use Rattle.std.specs.List.{list_any}
 use Rattle.std.proofs.Math.Seq.{map-set_same}
+use Rattle.std.proofs.lemmas.Bool.Decides.{eqb_tells}
+use Rattle.guest.specs.declared.block_tree.LiveBlock.{LiveBlock}
 use Rattle.guest.specs.declared.heap.HeapBlock.{HeapBlock}
 use Rattle.guest.specs.Heaps.{HasNoPlace, Heap, IsLeastPlace, can_stand, do_meet, lives_at}
 use Rattle.guest.specs.Heaps.{most_blocks, rounded}
+use Rattle.guest.specs.LiveBlocks.{block_at, filled, first_place, most_free, without}
 use Rattle.objects.specs.Indexes.{IsIndex, passes_in}
-use Rattle.guest.specs.HeapLayout.{IsLaidOut, IsWithin, taken_at, taken_by}
+use Rattle.guest.specs.HeapLayout.{IsLaidOut, bytes_at, number_at, taken_at, taken_by}
 use Rattle.objects.specs.Laws.Indexes.{any_passes, index-die, index-push, never, none_passes}
 use Rattle.objects.specs.Laws.Indexes.{passes_from, passes_within}
-use Rattle.guest.proofs.HeapLayouts.{IsClear, IsSearched, fresh, laid-free, laid-make, laid-more}
-use Rattle.std.proofs.lemmas.Bool.{cases_lt}
+use Rattle.guest.proofs.BlockLaws.{without_none}
+use Rattle.guest.proofs.Tiles.{AreClear, IsClear, clear-all, clear-each, filled-new, filled-others}
+use Rattle.guest.proofs.Tiles.{none-anywhere, none-before, placed, some-place, tiled-filled, tiled-rise}
+use Rattle.guest.proofs.Tiles.{tiled-without, without-gone, without-others}
 
 one_place : (q k : ℕ) (b : HeapBlock) → lives_at q b ≡ true → lives_at k b ≡ true → q ≡ k
 one_place q k b h g =
     sym (eqb-true b.addr q (and_parts _ _ h).1) ∙ eqb-true b.addr k (and_parts _ _ g).1
-
-size_item : (xs : List HeapBlock) (i : ℕ) (b : HeapBlock) → i < length xs → b ≡ get_or xs i b
-    → slice_index (map (λ b. b.size) xs) i ≡
-    b.size
-size_item [] i b h e = absurd (omega arith)
-size_item (x ∷ xs) zero b h e = ap (λ (y : HeapBlock). y.size) (sym e)
-size_item (x ∷ xs) (suc i) b h e = size_item xs i b (omega arith) e
-
--- the bytes of the live block at an address, by its block
-pub live_bytes : (f : ℕ → Option ℕ) (xs : List HeapBlock) (k n : ℕ) (b : HeapBlock) (r : ℕ)
-    → IsIndex lives_at f xs → f k ≡ Some n
-    → b ≡ get_or xs n b → r ≡ rounded b.size → taken_at f xs k ≡ Some r
-live_bytes f xs k n b r index is at bytes =
-    let within : n < length xs = passes_within (lives_at k) xs n (index.found k n is) in
-    rw is (ap Some (ap rounded (size_item xs n b within at) ∙ sym bytes))
 
 -- the item at a place where a test passes
 item_at : (p : HeapBlock → Bool) (xs : List HeapBlock) (i : ℕ) → passes_in p xs i ≡ true
@@ -148,42 +138,53 @@ rounded_positive size = omega arith
 pub rounded_aligned : (size : ℕ) → rounded size % 16 ≡ 0
 rounded_aligned size = omega arith
 
-pub none_taken : (f : ℕ → Option ℕ) (xs : List HeapBlock) (q : ℕ) → f q ≡ None → taken_at f xs q
-    ≡ None
-none_taken f xs q is = rw is refl
+-- where there is a place, and where there is none
+module _ (h : Heap) (gap size : ℕ) (live : List LiveBlock)
+    (laid : IsLaidOut h.start gap h.end live h.blocks) where
+  all-clear : (q : ℕ) → IsClear (taken_at (number_at live) h.blocks) q (rounded size)
+      → AreClear q (rounded size) live
+  all-clear q clear = clear-all q (rounded size) live (tiled-rise h.start gap h.end live laid.tiled)
+      (λ p m is. clear p m (sym (laid.bytes p) ∙ is))
 
--- what a search has found
-module _ (h : Heap) (f : ℕ → Option ℕ) (size place : ℕ) (index : IsIndex lives_at f h.blocks)
-    (searched : IsSearched h.start h.end place (rounded size) (taken_at f h.blocks)) where
-  pub least : length h.blocks < most_blocks → place + rounded size ≤ h.end
-      → IsClear (taken_at f h.blocks) place (rounded size) →
-      IsLeastPlace h size place
-  least room ends clear = (
-    can_if h f size place index (record {
-      room = room;
-      aligned = searched.aligned;
-      begins = searched.begins;
-      ends = ends;
-      clear =
-          clear;
-    }),
-    at_least,
-  )
+  pub least : (place : ℕ) → length h.blocks < most_blocks
+      → first_place (rounded size) h.start gap live ≡ Some place → IsLeastPlace h size place
+  least place room is = (can_if h (number_at live) size place laid.index stands, at_least)
     where
+      stands : Stands h (taken_at (number_at live) h.blocks) size place
+      stands = (let p = placed (rounded size) h.start gap h.end place live (rounded_positive size)
+          laid.tiled is in
+          record {
+            room = room;
+            aligned = p.aligned;
+            begins = p.begins;
+            ends = p.ends;
+            clear = λ q m at. clear-each place (rounded size) live p.clear q m (laid.bytes q ∙ at);
+          })
+
       at_least : (q : ℕ) → IsTrue (can_stand h size q) → place ≤ q
-      at_least q can = elim (cases_lt q place) [
-        | inl less ↦ let s = stands_if h f size q index can in
-            absurd (searched.none_before q s.begins less s.clear)
-        | inr more ↦ more
-      ]
+      at_least q can = (let s = stands_if h (number_at live) size q laid.index can in
+          none-before (rounded size) h.start gap h.end place q live (rounded_positive size)
+          laid.tiled is s.begins s.ends (all-clear q s.clear))
 
-  pub nowhere : h.end < place + rounded size → HasNoPlace h size
-  nowhere short q = never (can_stand h size q) (λ can. (let s = stands_if h f size q index can in
-      let less : q < place = omega (arith, s.ends) in searched.none_before q s.begins less s.clear))
+  pub roomy : length h.blocks < most_blocks → rounded size ≤ max gap (most_free live)
+      → HasNoPlace h size → ⊥
+  roomy room held none =
+      (let p = some-place (rounded size) h.start gap live held in
+      let stands = (least p.0 room p.1).0 in
+      true≢false (sym stands ∙ none p.0))
 
-pub taken_from : (f : ℕ → Option ℕ) (xs : List HeapBlock) (k n : ℕ) → f k ≡ Some n → taken_at f xs k
-    ≡ Some (taken_by xs n)
-taken_from f xs k n is = rw is refl
+  pub nowhere : max gap (most_free live) < rounded size → HasNoPlace h size
+  nowhere short q = never (can_stand h size q) (λ can.
+      (let s = stands_if h (number_at live) size q laid.index can in
+      none-anywhere (rounded size) h.start gap h.end q live laid.tiled short s.begins s.ends
+      (all-clear q s.clear)))
+
+-- whether there is room for one block more
+pub has_room : (n : ℕ) → (most_blocks ≤ n → false ≡ true) → n < most_blocks
+has_room n spent = elim (cases_lt n most_blocks) [
+  | inl less ↦ less
+  | inr more ↦ absurd (true≢false (sym (spent more)))
+]
 
 size_early : (xs : List HeapBlock) (b : HeapBlock) (i : ℕ) → i < length xs
     → slice_index (map (λ b. b.size) (xs ++ b ∷ [])) i ≡ slice_index (map (λ b. b.size) xs) i
@@ -199,66 +200,63 @@ size_last (x ∷ xs) b = size_last xs b
 abbrev pub made_block : ℕ → ℕ → HeapBlock
 made_block place size = record { addr = place; size = size; live = true }
 
-module _ (h : Heap) (full size place : ℕ) (f g : ℕ → Option ℕ) (index : IsIndex lives_at f h.blocks)
-    (laid : IsLaidOut h.start h.end full (taken_at f h.blocks))
-    (stands : Stands h (taken_at f h.blocks) size place)
-    (new : g place ≡ Some (length h.blocks)) (others : (q : ℕ) → q ≢ place → g q ≡ f q) where
-  within : IsWithin h.start h.end place (rounded size)
-  within = record {
-    place_aligned = stands.aligned;
-    bytes_aligned = rounded_aligned size;
-    positive = rounded_positive size;
-    begins = stands.begins;
-    ends = stands.ends;
+module _ (h : Heap) (gap size number place : ℕ) (live : List LiveBlock)
+    (laid : IsLaidOut h.start gap h.end live h.blocks) (room : length h.blocks < most_blocks)
+    (is : first_place (rounded size) h.start gap live ≡ Some place)
+    (numbered : number ≡ length h.blocks) where
+  abbrev after : List LiveBlock
+  after = (filled (rounded size) number h.start gap live).1
+
+  abbrev blocks : List HeapBlock
+  blocks = h.blocks ++ made_block place size ∷ []
+
+  pub made-laid : IsLaidOut h.start (filled (rounded size) number h.start gap live).0 h.end
+      (filled (rounded size) number h.start gap live).1 (h.blocks ++ made_block place size ∷ [])
+  made-laid = record {
+    few = omega (arith, length-append h.blocks (made_block place size ∷ []), room);
+    tiled = tiled-filled (rounded size) number h.start gap h.end live (rounded_aligned size)
+        (rounded_positive size) laid.tiled;
+    index = index-push lives_at (number_at live) (number_at after) h.blocks place
+        (made_block place size) (λ q e. sym (eqb-true place q e)) (eq-eqb place place refl)
+        (ap (option_map (λ b. b.number)) fresh) new others laid.index;
+    bytes = taken;
   }
-
-  none_lived : f place ≡ None
-  none_lived = by_number (f place) refl
     where
-      by_number : (o : Option ℕ) → f place ≡ o → f place ≡ None
-      by_number None is = is
-      by_number (Some n) is =
-          absurd (fresh h.start h.end full (taken_at f h.blocks) laid place (rounded size)
-          (omega (arith, rounded_positive size))
-          stands.clear (taken_by h.blocks n) (taken_from f h.blocks place n is))
+      fresh : block_at place live ≡ None
+      fresh = (placed (rounded size) h.start gap h.end place live (rounded_positive size)
+          laid.tiled is).fresh
 
-  new_taken : taken_at g (h.blocks ++ made_block place size ∷ []) place ≡ Some (rounded size)
-  new_taken = rw new (ap Some (ap rounded (size_last h.blocks (made_block place size))))
+      new_block : (g : ℕ) × (block_at place after
+          ≡ Some (record { addr = place; bytes = rounded size; number = number; gap = g }))
+      new_block = filled-new (rounded size) number h.start gap h.end place live
+          (rounded_positive size) laid.tiled is
 
-  others_taken : (q : ℕ) → q ≢ place → taken_at g (h.blocks ++ made_block place size ∷ []) q
-      ≡ taken_at f h.blocks q
-  others_taken q apart = ap (option_map (taken_by (h.blocks ++ made_block place size ∷ [])))
-      (others q apart) ∙ by_number (f q) refl
-    where
-      by_number : (o : Option ℕ) → f q ≡ o
-          → option_map (taken_by (h.blocks ++ made_block place size ∷ [])) (f q)
-          ≡ taken_at f h.blocks q
-      by_number None is = rw is refl
-      by_number (Some i) is =
-          rw is (ap Some (ap rounded
-          (size_early h.blocks (made_block place size) i (passes_within (lives_at q)
-          h.blocks i (index.found q i is)))))
+      new : number_at after place ≡ Some (length h.blocks)
+      new = ap (option_map (λ b. b.number)) new_block.1 ∙ ap Some numbered
 
-  pub made-index : IsIndex lives_at g (h.blocks ++ made_block place size ∷ [])
-  made-index = index-push lives_at f g h.blocks place (made_block place size)
-      (λ q e. sym (eqb-true place q e)) (eq-eqb place place refl)
-      none_lived new others index
+      others : (q : ℕ) → q ≢ place → number_at after q ≡ number_at live q
+      others q apart = filled-others (λ b. b.number) (λ b g. refl) (rounded size) number h.start gap
+          h.end place q live apart is
 
-  pub made-laid : IsLaidOut h.start h.end full (taken_at g (h.blocks ++ made_block place size ∷ []))
-  made-laid = laid-make h.start h.end full (taken_at f h.blocks) laid
-      (taken_at g (h.blocks ++ made_block place size ∷ [])) place
-      (rounded size) within stands.clear new_taken others_taken
+      others_bytes : (q : ℕ) → q ≢ place → bytes_at after q ≡ bytes_at live q
+      others_bytes q apart = filled-others (λ b. b.bytes) (λ b g. refl) (rounded size) number h.start
+          gap h.end place q live apart is
 
-  pub made-more : full ≡ place → IsLaidOut h.start h.end (place + rounded size)
-      (taken_at g (h.blocks ++ made_block place size ∷ []))
-  made-more same =
-      let taken : ℕ → Option ℕ = taken_at g (h.blocks ++ made_block place size ∷ []) in
-      let Laid : ℕ → Type 0 = λ at. IsLaidOut h.start h.end (at + rounded size) taken in
-      subst Laid same (laid-more h.start h.end full taken made-laid (rounded size)
-      (ap taken same ∙ new_taken))
+      kept : (q : ℕ) (o : Option ℕ) → number_at live q ≡ o
+          → option_map (taken_by blocks) (number_at live q) ≡ taken_at (number_at live) h.blocks q
+      kept q None e = rw e refl
+      kept q (Some i) e = rw e (ap Some (ap rounded
+          (size_early h.blocks (made_block place size) i
+          (passes_within (lives_at q) h.blocks i (laid.index.found q i e)))))
 
-  pub made-few : length (h.blocks ++ made_block place size ∷ []) ≤ most_blocks
-  made-few = omega (arith, length-append h.blocks (made_block place size ∷ []), stands.room)
+      taken : (q : ℕ) → bytes_at after q ≡ taken_at (number_at after) blocks q
+      taken q = elim (eqb_tells q place) [
+        | inl same ↦ rw same.1 (ap (option_map (λ b. b.bytes)) new_block.1
+            ∙ sym (ap (option_map (taken_by blocks)) new
+            ∙ ap Some (ap rounded (size_last h.blocks (made_block place size)))))
+        | inr apart ↦ others_bytes q apart.1 ∙ (laid.bytes q
+            ∙ sym (ap (option_map (taken_by blocks)) (others q apart.1) ∙ kept q (number_at live q) refl))
+      ]
 
 -- sizes stay where a block dies
 taken-set : (xs : List HeapBlock) (n i : ℕ) (x y d : HeapBlock) → x ≡ get_or xs n d → y.size
@@ -269,38 +267,56 @@ taken-set xs n i x y d at same =
     (map-set_same (λ (b : HeapBlock). b.size) xs n y d (same ∙ ap (λ (b : HeapBlock). b.size)
     at))
 
-module _ (h : Heap) where
-  pub died-few : (n : ℕ) (y : HeapBlock) → length h.blocks ≤ most_blocks
-      → length (slice_set h.blocks n y) ≤ most_blocks
-  died-few n y few = rw (length-set h.blocks n y) few
-
-  pub died-index : (place n : ℕ) (f g : ℕ → Option ℕ) (y : HeapBlock) → IsIndex lives_at f h.blocks
-      → f place ≡ Some n → g place ≡ None
-      → ((q : ℕ) → q ≢ place → g q ≡ f q) → ((q : ℕ) → lives_at q y ≡ false)
-      → IsIndex lives_at g (slice_set h.blocks n y)
-  died-index place n f g y index was gone others dead = index-die lives_at f g h.blocks place n y
-      one_place dead was gone others index
-
-  pub died-laid : (full place n less : ℕ) (x y : HeapBlock) (f g : ℕ → Option ℕ)
-      → IsIndex lives_at f h.blocks
-      → IsLaidOut h.start h.end full (taken_at f h.blocks) → f place ≡ Some n → g place ≡ None
-      → ((q : ℕ) → q ≢ place → g q ≡ f q)
-      → x ≡ get_or h.blocks n x → y.size ≡ x.size → less ≡ min full place
-      → IsLaidOut h.start h.end less (taken_at g (slice_set h.blocks
-      n y))
-  died-laid full place n less x y f g index laid was gone others at same is =
-      laid-free h.start h.end full (taken_at f h.blocks) laid (taken_at g (slice_set h.blocks n y))
-      place (taken_by h.blocks n) less
-      (taken_from f h.blocks place n was) (none_taken g (slice_set h.blocks n y) place gone) kept is
+module _ (h : Heap) (gap addr n : ℕ) (live : List LiveBlock) (x y : HeapBlock)
+    (laid : IsLaidOut h.start gap h.end live h.blocks) where
+  pub died-laid : number_at live addr ≡ Some n → x ≡ get_or h.blocks n x → y.size ≡ x.size
+      → ((q : ℕ) → lives_at q y ≡ false)
+      → IsLaidOut h.start (without addr gap live).0 h.end (without addr gap live).1
+      (slice_set h.blocks n y)
+  died-laid was at same dead = record {
+    few = rw (length-set h.blocks n y) laid.few;
+    tiled = tiled-without addr h.start gap h.end live laid.tiled;
+    index = index-die lives_at (number_at live) (number_at (without addr gap live).1) h.blocks addr n y one_place dead was
+        gone others laid.index;
+    bytes = taken;
+  }
     where
+      gone_block : block_at addr (without addr gap live).1 ≡ None
+      gone_block = without-gone addr gap live (tiled-rise h.start gap h.end live laid.tiled)
+
+      gone : number_at (without addr gap live).1 addr ≡ None
+      gone = ap (option_map (λ b. b.number)) gone_block
+
+      others : (q : ℕ) → q ≢ addr → number_at (without addr gap live).1 q ≡ number_at live q
+      others q apart = without-others (λ b. b.number) (λ b g. refl) addr gap q live apart
+
+      others_bytes : (q : ℕ) → q ≢ addr → bytes_at (without addr gap live).1 q ≡ bytes_at live q
+      others_bytes q apart = without-others (λ b. b.bytes) (λ b g. refl) addr gap q live apart
+
       by_number : (o : Option ℕ) → option_map (taken_by (slice_set h.blocks n y)) o
           ≡ option_map (taken_by h.blocks) o
       by_number None = refl
       by_number (Some i) = ap Some (taken-set h.blocks n i x y x at same)
 
-      kept : (q : ℕ) → q ≢ place → taken_at g (slice_set h.blocks n y) q ≡ taken_at f h.blocks q
-      kept q apart = ap (option_map (taken_by (slice_set h.blocks n y))) (others q apart)
-          ∙ by_number (f q)
+      taken : (q : ℕ) → bytes_at (without addr gap live).1 q ≡ taken_at (number_at (without addr gap live).1) (slice_set h.blocks n y) q
+      taken q = elim (eqb_tells q addr) [
+        | inl here ↦ rw here.1 (ap (option_map (λ b. b.bytes)) gone_block
+            ∙ sym (ap (option_map (taken_by (slice_set h.blocks n y))) gone))
+        | inr apart ↦ others_bytes q apart.1 ∙ (laid.bytes q
+            ∙ sym (ap (option_map (taken_by (slice_set h.blocks n y))) (others q apart.1)
+            ∙ by_number (number_at live q)))
+      ]
+
+-- where no block begins at an address, none dies
+pub kept-laid : (start gap end addr : ℕ) (live : List LiveBlock) (blocks : List HeapBlock)
+    → IsLaidOut start gap end live blocks → number_at live addr ≡ None
+    → IsLaidOut start (without addr gap live).0 end (without addr gap live).1 blocks
+kept-laid start gap end addr live blocks laid none =
+    rw (without_none addr gap live (no_block (block_at addr live) refl)) laid
+  where
+    no_block : (o : Option LiveBlock) → block_at addr live ≡ o → block_at addr live ≡ None
+    no_block None e = e
+    no_block (Some b) e = (let no : Some b.number ≡ None = rw e at none in cc)
 
 pub other_heap_blocks : (start end : ℕ) (a b : List HeapBlock) → a ≡ b
     → let x : Heap = record { start = start; end = end; blocks = a } in x

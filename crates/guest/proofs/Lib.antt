@@ -1,14 +1,16 @@
 pub mod AtCall
+pub mod BlockLaws
+pub mod BlockSteps
 pub mod CallFits
 pub mod CallLengths
 pub mod ChosenTurn
 pub mod FirstPhases
 pub mod GoingAhead
 pub mod HeapBlocks
-pub mod HeapLayouts
 pub mod LeastPlace
 pub mod LoneHart
 pub mod Mapped
+pub mod MostFree
 pub mod NextHart
 pub mod OwnAccesses
 pub mod PassedTurns
@@ -16,6 +18,7 @@ pub mod RunSteps
 pub mod SoundChanges
 pub mod ThreadPlaces
 pub mod ThreadsTold
+pub mod Tiles
 pub mod TurnAnswers
 pub mod TurnCounts
 pub mod TurnsCounted

@@ -6,6 +6,7 @@ pub mod GuestInside
 pub mod HeapLayout
 pub mod Heaps
 pub mod LeastPlaces
+pub mod LiveBlocks
 pub mod Notes
 pub mod OwnSteps
 pub mod Phases
@@ -15,4 +16,5 @@ pub mod ThreadCalls
 pub mod ThreadChanges
 pub mod ThreadsInside
 pub mod ThreadsSound
+pub mod TreeBlocks
 pub mod Turns

@@ -1,15 +1,13 @@
 // The guest's heap.
-ghost use Rattle.std.specs.Prelude.{◌≡◌, ◌≤◌, ◌<◌, ◌%◌, ◌↔◌, ℕ, [], length, IsTrue, IsOk};
-ghost use Rattle.std.specs.Prelude.{IfOk, OnOk, OnErr, MatchOption, IfSome, IfNone, None, Some};
+ghost use Rattle.std.specs.Prelude.{◌≡◌, ◌≤◌, ◌<◌, ◌%◌, ◌↔◌, [], length, IsTrue, IsOk};
+ghost use Rattle.std.specs.Prelude.{IfOk, OnOk, OnErr, MatchOption};
 ghost use Rattle.std.specs.List.{list_any};
-ghost use Rattle.std.specs.Ordering.{nat_cmp};
-ghost use Rattle.std.specs.BTreeMap as tree;
-ghost use Rattle.guest.specs.Heaps.{rounded, most_blocks, can_stand, lives_at};
+ghost use Rattle.guest.specs.Heaps.{rounded, most_blocks, lives_at};
 ghost use Rattle.guest.specs.Heaps.{HasNoPlace, IsLeastPlace, after_alloc, after_free};
 
+use crate::block_tree::BlockTree;
 use base::NoMemory;
 use std::alloc::Global;
-use std::collections::BTreeMap;
 use std::marker::Model;
 
 // How many blocks a heap ever makes.
@@ -35,28 +33,21 @@ pub struct HeapBlock {
 pub struct GuestHeap {
     start: u32,
     end: u32,
-    // below it nothing is free, and no live block reaches over it
-    full: u32,
+    // how many bytes are free before the first live block
+    gap: u32,
     blocks: Vec<HeapBlock>,
-    // the number of the live block at an address
-    live: BTreeMap<u32, usize>,
+    live: BlockTree,
 }
 
 impl Model for GuestHeap {
-    ghost use Rattle.std.specs.Prelude.{◌≤◌, length};
-    ghost use Rattle.std.specs.Ordering.{nat_cmp};
-    ghost use Rattle.std.specs.BTreeMap as tree;
-    ghost use Rattle.guest.specs.Heaps.{Heap, most_blocks, lives_at};
-    ghost use Rattle.objects.specs.Indexes.{IsIndex};
-    ghost use Rattle.guest.specs.HeapLayout.{IsLaidOut, taken_at};
+    ghost use Rattle.guest.specs.Heaps.{Heap};
+    ghost use Rattle.guest.specs.HeapLayout.{IsLaidOut};
 
     ghost Value = { Heap };
 
     ghost view = { λ h. record { start = h.start; end = h.end; blocks = h.blocks.items } };
 
-    ghost invariant = { λ h. (length h.blocks.items ≤ most_blocks)
-        × IsIndex lives_at (tree.get nat_cmp h.live) h.blocks.items
-        × IsLaidOut h.start h.end h.full (taken_at (tree.get nat_cmp h.live) h.blocks.items) };
+    ghost invariant = { λ h. IsLaidOut h.start h.gap h.end h.live h.blocks.items };
 }
 
 // How many bytes a block of a size takes: a multiple of 16, at least 16.
@@ -78,9 +69,9 @@ impl GuestHeap {
         GuestHeap {
             start,
             end,
-            full: start,
+            gap: end - start,
             blocks: Vec::new(alloc),
-            live: BTreeMap::new(alloc),
+            live: BlockTree::new(),
         }
     }
 
@@ -98,12 +89,25 @@ impl GuestHeap {
         if self.is_spent() {
             return Ok(None);
         }
-        self.skip_full();
-        let Some(place) = self.least_place(size) else {
+        let bytes = rounded(size);
+        if bytes > u64::from(self.live.most().max(self.gap)) {
             return Ok(None);
-        };
-        match self.make(place, size) {
-            Ok(()) => Ok(Some(place)),
+        }
+        self.blocks.reserve(1)?;
+        let alloc = *self.blocks.allocator();
+        let number = self.blocks.len() as u32;
+        match self
+            .live
+            .insert(alloc, self.start, &mut self.gap, bytes as u32, number)
+        {
+            Ok(place) => {
+                self.blocks.push_reserved(HeapBlock {
+                    addr: place,
+                    size,
+                    live: true,
+                });
+                Ok(Some(place))
+            }
             Err(fault) => Err(fault),
         }
     }
@@ -115,11 +119,10 @@ impl GuestHeap {
         ensures freed { OnOk result (self.new ≡ after_free self.old addr) }
         ensures refused { OnErr result (self.new ≡ self.old) }
     {
-        let Some(number) = self.live.remove(&addr) else {
+        let Some(number) = self.live.remove(&mut self.gap, addr) else {
             return Err(NotLive);
         };
-        self.blocks[number].live = false;
-        self.full = self.full.min(addr);
+        self.blocks[number as usize].live = false;
         Ok(())
     }
 
@@ -129,64 +132,4 @@ impl GuestHeap {
     {
         self.blocks.len() >= MOST_BLOCKS
     }
-
-    // Goes on over the live blocks that begin where all below is full.
-    fn skip_full(&mut self)
-        ensures { self.new ≡ self.old }
-    {
-        while let Some(number) = self.live.get(&self.full) {
-            self.full += rounded(self.blocks[*number].size) as u32;
-        }
-    }
-
-    fn least_place(&self, size: u32) -> Option<u32>
-        requires { length self.now.blocks < most_blocks }
-        ensures { MatchOption result (HasNoPlace self.now size) (IsLeastPlace self.now size) }
-    {
-        let bytes = rounded(size);
-        let end = self.end;
-        let mut place = self.full;
-        while let Some((next, number)) = next_live(&self.live, place) {
-            if u64::from(place) + bytes <= u64::from(next) {
-                return Some(place);
-            }
-            place = next + rounded(self.blocks[number].size) as u32;
-        }
-        if u64::from(place) + bytes <= u64::from(end) {
-            Some(place)
-        } else {
-            None
-        }
-    }
-
-    // Makes a block at a place where it can stand.
-    fn make(&mut self, place: u32, size: u32) -> Result<(), NoMemory>
-        requires { IsTrue (can_stand self.old size place) }
-        ensures made { OnOk result (self.new ≡ after_alloc self.old size (Some place)) }
-        ensures refused { OnErr result (self.new ≡ self.old) }
-    {
-        self.blocks.reserve(1)?;
-        self.live.insert(place, self.blocks.len())?;
-        self.blocks.push_reserved(HeapBlock {
-            addr: place,
-            size,
-            live: true,
-        });
-        if self.full == place {
-            self.full = place + rounded(size) as u32;
-        }
-        Ok(())
-    }
-}
-
-// The first live block at an address or behind it: where it begins, and its number.
-fn next_live(live: &BTreeMap<u32, usize>, from: u32) -> Option<(u32, usize)>
-    ensures found { IfSome result (λ p. tree.get nat_cmp live.now p.0 ≡ Some p.1) }
-    ensures behind { IfSome result (λ p. from ≤ p.0) }
-    ensures first { IfSome result (λ p.
-        (q : ℕ) → from ≤ q → q < p.0 → tree.get nat_cmp live.now q ≡ None) }
-    ensures none { IfNone result ((q : ℕ) → from ≤ q → tree.get nat_cmp live.now q ≡ None) }
-{
-    let (addr, number) = live.range(from..).next()?;
-    Some((*addr, *number))
 }

@@ -13,11 +13,13 @@
 //!   join, wait for, wake and end one another (`specs/ThreadCalls.antt`);
 //! - calls of functions: a [`CallList`] keeps the last 256 that a hart made and hasn't returned from
 //!   (`specs/CallLists.antt` says which instruction calls and which returns);
-//! - the heap: a [`GuestHeap`] gives each block the least free place (`specs/Heaps.antt`);
+//! - the heap: a [`GuestHeap`] gives each block the least free place (`specs/Heaps.antt`), which
+//!   `block_tree` finds among the live blocks and the gaps between them (`specs/LiveBlocks.antt`);
 //! - the blocks of a guest's own allocator, which it notes: `notes` (`specs/Notes.antt`).
 #![tactic(auto)]
 
 mod ahead;
+mod block_tree;
 mod call_list;
 mod configuration;
 mod guest;

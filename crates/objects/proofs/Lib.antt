@@ -1,6 +1,11 @@
+pub mod FunctionLaws
+pub mod IndexLaws
 pub mod LiveLaws
 pub mod Lives
+pub mod MadeTrees
+pub mod NumberLaws
 pub mod Places
 pub mod SymbolLaws
 pub mod TableLaws
+pub mod TreeLaws
 pub mod Worked

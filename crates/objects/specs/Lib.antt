@@ -1,4 +1,6 @@
+pub mod AddressTrees
 pub mod Blocks
+pub mod Extents
 pub mod Indexes
 pub mod Laws
 pub mod Objects

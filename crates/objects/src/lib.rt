@@ -5,10 +5,13 @@
 //! blocks that were ever made, each with its life.
 #![tactic(auto)]
 
+mod address_tree;
 mod block;
+mod object_index;
 mod symbol;
 mod table;
 
 pub use block::Block;
+pub use object_index::ObjectIndex;
 pub use symbol::SymbolKind;
 pub use table::{ObjectTable, SymbolRow};

@@ -40,8 +40,8 @@ impl SymbolRow<'_> {
     ghost use Rattle.objects.specs.Symbols.{is_function_at};
     ghost use Rattle.objects.specs.Rows.{symbol_of};
 
-    // Whether it is a function whose bytes hold an address.
-    fn is_function_at(&self, pc: u32) -> bool
+    /// Whether it is a function whose bytes hold an address.
+    pub fn is_function_at(&self, pc: u32) -> bool
         ensures { result ≡ is_function_at pc (symbol_of self.now) }
     {
         let end = u64::from(self.addr) + u64::from(self.size);
@@ -250,6 +250,14 @@ impl ObjectTable {
         })
     }
 
+    /// The block of a number, counted from 0 in order of making: None exactly where there are no
+    /// more.
+    pub fn block(&self, i: usize) -> Option<&Block>
+        ensures { option_map (λ b. b.now) result ≡ slice_get self.now.blocks i }
+    {
+        self.blocks.get(i)
+    }
+
     /// The blocks that were ever made, live or dead, in order of making.
     pub fn blocks(&self) -> &[Block]
         ensures value { result.now ≡ self.now.blocks }
@@ -260,7 +268,7 @@ impl ObjectTable {
     }
 
     /// The name of the first function whose bytes hold an address: None exactly where there is
-    /// none.
+    /// none. It looks at each symbol; an `ObjectIndex` finds the same at once.
     pub fn function_at(&self, pc: u32) -> Option<&Name>
         ensures { option_map (λ n. n.now) result ≡ function_at self.now.symbols pc }
     {

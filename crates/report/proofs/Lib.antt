@@ -1,4 +1,4 @@
-pub mod ChunkLaws
+pub mod FoundLaws
 pub mod ShownLaws
 pub mod StandingLaws
 pub mod TextLaws

@@ -1,6 +1,4 @@
 pub mod Added
-pub mod Bounds
-pub mod Chunks
 pub mod Laws
 pub mod Lines
 pub mod ListedTracks

@@ -2,21 +2,17 @@
 //! words, and the verdict over them.
 #![tactic(auto)]
 
-mod chunks;
 mod findings;
 mod head;
 mod lines;
 mod listing;
-mod near_blocks;
 mod object_lines;
 mod report;
 mod standing;
 mod words;
 
-pub use chunks::Chunk;
 pub use findings::Findings;
 pub use head::push_outcome_lines;
-pub use near_blocks::{chunks_of, push_objects};
-pub use object_lines::push_function;
+pub use object_lines::{push_function, push_objects};
 pub use report::write_report;
 pub use standing::{block_on, symbol_on};

@@ -1,16 +1,17 @@
 // The lines of what stands on a listed line.
-ghost use Rattle.std.specs.Prelude.{◌∷◌, [], pos, codes, OnOk, option_map, option_to_list};
+ghost use Rattle.std.specs.Prelude.{◌≡◌, ◌<◌, ◌+ℤ◌, ◌∷◌, [], ℕ, pos, codes, int_lt, true, OnOk};
+ghost use Rattle.std.specs.Prelude.{filter_map, option_map, option_to_list, slice_get};
 ghost use Rattle.std.specs.Fmt.{decimal};
 ghost use Rattle.base.specs.Addresses.{address_text};
 ghost use Rattle.objects.specs.Rows.{symbol_of};
 ghost use Rattle.report.specs.Added.{AddsLine, AddsLines, AddsText};
 ghost use Rattle.report.specs.Lines.{block_line, death_words, function_word, rest_of_line};
-ghost use Rattle.report.specs.Lines.{site_lines, block_lines, standing_lines, symbol_line};
-ghost use Rattle.report.specs.Lines.{symbol_lines};
+ghost use Rattle.report.specs.Lines.{site_lines, block_lines, lines_on, standing_lines};
+ghost use Rattle.report.specs.Lines.{symbol_line, symbol_lines};
 
 use crate::{block_on, symbol_on};
 use base::{Name, Range, push_address, push_name};
-use objects::{Block, ObjectTable, SymbolKind, SymbolRow};
+use objects::{Block, ObjectIndex, ObjectTable, SymbolKind, SymbolRow};
 use std::alloc::AllocError;
 
 // The place of a symbol, and the end of its line.
@@ -105,38 +106,71 @@ fn push_symbol_at(
     }
 }
 
-/// The lines of the object symbols on a range.
-pub fn push_symbols(
+// The lines of the symbols of some numbers that are objects on a range.
+fn push_symbols_of(
     text: &mut String,
     objects: &ObjectTable,
+    numbers: &[usize],
     range: Range,
 ) -> Result<(), AllocError>
-    ensures { OnOk result (AddsLines text.old text.new (symbol_lines range objects.now.symbols)) }
+    ensures { OnOk result (AddsLines text.old text.new
+        (symbol_lines range (filter_map (slice_get objects.now.symbols) numbers.now))) }
 {
-    for i in 0..objects.symbol_count() {
-        push_symbol_at(text, objects.symbol(i), range)?;
+    for number in numbers {
+        push_symbol_at(text, objects.symbol(*number), range)?;
     }
     Ok(())
 }
 
+// The first address of a range, or 0 where it begins below.
+fn first_address(range: Range) -> u64
+    ensures { (a : ℕ) → 0 < a → int_lt range.base (pos a) ≡ true → result < a }
+{
+    if range.base < 0 {
+        0
+    } else {
+        range.base.unsigned_abs()
+    }
+}
+
+// The address behind a range, or 0 where it ends below.
+fn end_address(range: Range) -> u64
+    ensures { (a : ℕ) → int_lt (pos a) (range.base +ℤ pos range.size) ≡ true → a < result }
+{
+    let size = u64::from(range.size);
+    if range.base < 0 {
+        size.saturating_sub(range.base.unsigned_abs())
+    } else {
+        range.base.unsigned_abs() + size
+    }
+}
+
+// The lines of the object symbols on a range.
+fn push_symbols(text: &mut String, index: &ObjectIndex<'_>, range: Range) -> Result<(), AllocError>
+    ensures { OnOk result (AddsLines text.old text.new (symbol_lines range index.now.symbols)) }
+{
+    let numbers = index.symbols_on(first_address(range), end_address(range))?;
+    push_symbols_of(text, index.table(), &numbers, range)
+}
+
 // The line of a site, if it isn't 0.
-fn push_site_of(text: &mut String, site: u32, objects: &ObjectTable) -> Result<(), AllocError>
+fn push_site_of(text: &mut String, site: u32, index: &ObjectIndex<'_>) -> Result<(), AllocError>
     ensures { OnOk result (AddsLines text.old text.new
-        (site_lines objects.now.symbols (site ∷ []))) }
+        (site_lines index.now.symbols (site ∷ []))) }
 {
     if site > 0 {
-        let function = objects.function_at(site);
+        let function = index.function_at(site)?;
         push_site(text, site, function)?;
     }
     Ok(())
 }
 
 // The lines of the sites of a block.
-fn push_sites(text: &mut String, sites: &[u32], objects: &ObjectTable) -> Result<(), AllocError>
-    ensures { OnOk result (AddsLines text.old text.new (site_lines objects.now.symbols sites.now)) }
+fn push_sites(text: &mut String, sites: &[u32], index: &ObjectIndex<'_>) -> Result<(), AllocError>
+    ensures { OnOk result (AddsLines text.old text.new (site_lines index.now.symbols sites.now)) }
 {
     for site in sites {
-        push_site_of(text, *site, objects)?;
+        push_site_of(text, *site, index)?;
     }
     Ok(())
 }
@@ -145,13 +179,13 @@ fn push_sites(text: &mut String, sites: &[u32], objects: &ObjectTable) -> Result
 fn push_block_lines(
     text: &mut String,
     block: &Block,
-    objects: &ObjectTable,
+    index: &ObjectIndex<'_>,
 ) -> Result<(), AllocError>
     ensures { OnOk result (AddsLines text.old text.new
-        (block_lines objects.now.symbols block.now)) }
+        (block_lines index.now.symbols block.now)) }
 {
     push_block(text, block)?;
-    push_sites(text, &block.sites, objects)
+    push_sites(text, &block.sites, index)
 }
 
 // The lines of a block, if it is on a line whose track starts at `start`, where the accesses end
@@ -159,35 +193,85 @@ fn push_block_lines(
 fn push_block_on(
     text: &mut String,
     block: &Block,
-    objects: &ObjectTable,
+    index: &ObjectIndex<'_>,
     range: Range,
     start: u64,
     end: u64,
 ) -> Result<(), AllocError>
     ensures { OnOk result (AddsLines text.old text.new
-        (standing_lines objects.now.symbols range start end (block.now ∷ []))) }
+        (standing_lines index.now.symbols range start end (block.now ∷ []))) }
 {
     if block_on(range, start, end, block) {
-        push_block_lines(text, block, objects)?;
+        push_block_lines(text, block, index)?;
     }
     Ok(())
 }
 
-/// The lines of those of some blocks that are on a line whose track starts at `start`, where the
-/// accesses end at `end`.
-pub fn push_blocks(
+// The same of a block, if there is one.
+fn push_block_at(
     text: &mut String,
-    blocks: &[Block],
-    objects: &ObjectTable,
+    block: Option<&Block>,
+    index: &ObjectIndex<'_>,
     range: Range,
     start: u64,
     end: u64,
 ) -> Result<(), AllocError>
     ensures { OnOk result (AddsLines text.old text.new
-        (standing_lines objects.now.symbols range start end blocks.now)) }
+        (standing_lines index.now.symbols range start end
+        (option_to_list (option_map (λ b. b.now) block.entry)))) }
 {
-    for block in blocks {
-        push_block_on(text, block, objects, range, start, end)?;
+    match block {
+        Some(block) => push_block_on(text, block, index, range, start, end),
+        None => Ok(()),
+    }
+}
+
+// The same of the blocks of some numbers.
+fn push_blocks_of(
+    text: &mut String,
+    index: &ObjectIndex<'_>,
+    objects: &ObjectTable,
+    numbers: &[usize],
+    range: Range,
+    start: u64,
+    end: u64,
+) -> Result<(), AllocError>
+    ensures { OnOk result (AddsLines text.old text.new
+        (standing_lines index.now.symbols range start end
+        (filter_map (slice_get objects.now.blocks) numbers.now))) }
+{
+    for number in numbers {
+        push_block_at(text, objects.block(*number), index, range, start, end)?;
     }
     Ok(())
+}
+
+// The same of the blocks of a table.
+fn push_blocks(
+    text: &mut String,
+    index: &ObjectIndex<'_>,
+    range: Range,
+    start: u64,
+    end: u64,
+) -> Result<(), AllocError>
+    ensures { OnOk result (AddsLines text.old text.new
+        (standing_lines index.now.symbols range start end index.now.blocks)) }
+{
+    let numbers = index.blocks_on(first_address(range), end_address(range))?;
+    push_blocks_of(text, index, index.table(), &numbers, range, start, end)
+}
+
+/// The lines of the symbols on a range, and of the blocks that stand on it at some position from
+/// `start` up to `end`.
+pub fn push_objects(
+    text: &mut String,
+    index: &ObjectIndex<'_>,
+    range: Range,
+    start: u64,
+    end: u64,
+) -> Result<(), AllocError>
+    ensures { OnOk result (AddsLines text.old text.new (lines_on index.now range start end)) }
+{
+    push_symbols(text, index, range)?;
+    push_blocks(text, index, range, start, end)
 }

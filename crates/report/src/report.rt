@@ -4,36 +4,32 @@ ghost use Rattle.std.specs.List.{flat_map};
 ghost use Rattle.sharing_rules.specs.AccessLists.{AccessList};
 ghost use Rattle.sharing_rules.specs.Listed.{may_predict};
 ghost use Rattle.report.specs.Added.{AddsLines, AddsText};
-ghost use Rattle.report.specs.Chunks.{blocks_in};
 ghost use Rattle.report.specs.Reports.{lines_of, lines_of_findings, report_text};
 ghost use Rattle.report.specs.OfLists.{AreTracksOf, report_of_list};
 ghost use Rattle.report.specs.ListedTracks.{track_shown};
 
-use crate::chunks::Chunk;
 use crate::findings::Findings;
 use crate::head::{push_ending, push_settings};
 use crate::lines::{push_head, push_words};
 use crate::listing::{ListedTrack, listed};
-use crate::near_blocks::{chunks_of, push_objects};
+use crate::object_lines::push_objects;
 use base::NoMemory;
-use objects::ObjectTable;
+use objects::ObjectIndex;
 use std::alloc::{AllocError, Global};
 
 // The lines of a listed track.
 fn push_listed(
     text: &mut String,
     row: &ListedTrack<'_>,
-    objects: &ObjectTable,
-    chunks: &[Chunk<'_>],
+    index: &ObjectIndex<'_>,
     end: u64,
 ) -> Result<(), AllocError>
-    requires { flat_map blocks_in chunks.now ≡ objects.now.blocks }
     ensures { OnOk result (AddsLines text.old text.new
-        (lines_of objects.now end (track_shown row.now))) }
+        (lines_of index.now end (track_shown row.now))) }
 {
     let range = row.track.range();
     push_head(text, row.track, row.start)?;
-    push_objects(text, chunks, objects, range, row.start, end)?;
+    push_objects(text, index, range, row.start, end)?;
     push_words(text, row.track.shadow())
 }
 
@@ -41,16 +37,14 @@ fn push_listed(
 fn push_tracks(
     text: &mut String,
     rows: &[ListedTrack<'_>],
-    objects: &ObjectTable,
-    chunks: &[Chunk<'_>],
+    index: &ObjectIndex<'_>,
     end: u64,
 ) -> Result<(), AllocError>
-    requires { flat_map blocks_in chunks.now ≡ objects.now.blocks }
     ensures { OnOk result (AddsLines text.old text.new
-        (flat_map (lines_of objects.now end) (map track_shown rows.now))) }
+        (flat_map (lines_of index.now end) (map track_shown rows.now))) }
 {
     for row in rows {
-        push_listed(text, row, objects, chunks, end)?;
+        push_listed(text, row, index, end)?;
     }
     Ok(())
 }
@@ -67,21 +61,15 @@ fn push_report(
     text: &mut String,
     findings: &Findings<'_>,
     rows: &[ListedTrack<'_>],
-    chunks: &[Chunk<'_>],
+    index: &ObjectIndex<'_>,
 ) -> Result<(), AllocError>
-    requires { flat_map blocks_in chunks.now ≡ findings.now.objects.now.blocks }
+    requires { index.now ≡ findings.now.objects.now }
     ensures { OnOk result (AddsLines text.old text.new
         (lines_of_findings findings.now (map track_shown rows.now))) }
 {
     push_ending(text, &findings.ending)?;
     push_settings(text, findings.layout, findings.thresholds, rows.len())?;
-    push_tracks(
-        text,
-        rows,
-        findings.objects,
-        chunks,
-        findings.ending.accesses,
-    )?;
+    push_tracks(text, rows, index, findings.ending.accesses)?;
     push_end(text)
 }
 
@@ -89,7 +77,7 @@ fn push_report(
 /// order with what stands on each and its accessed words, and `end`.
 ///
 /// NoMemory comes where there is no memory for the text, for 16 bytes a listed line and as many for
-/// their sort, or for 32 bytes each 256 blocks.
+/// their sort, for 24 bytes a symbol and a block, or for 8 bytes each symbol or block on a line.
 pub fn write_report(alloc: Global, findings: &Findings<'_>) -> Result<Vec<u8>, NoMemory>
     ensures text { IfOk result (λ text. text.items ≡ report_text findings.now) }
     // where the tracks are those that a list keeps, in any order, it is the report of the list
@@ -101,8 +89,8 @@ pub fn write_report(alloc: Global, findings: &Findings<'_>) -> Result<Vec<u8>, N
     // A layout's lines have some bytes, as its size says.
     let _size = findings.layout.size();
     let rows = listed(alloc, findings.tracks, findings.thresholds.report())?;
-    let chunks = chunks_of(alloc, findings.objects.blocks())?;
+    let index = ObjectIndex::new(alloc, findings.objects)?;
     let mut text = String::new(alloc);
-    push_report(&mut text, findings, &rows, &chunks)?;
+    push_report(&mut text, findings, &rows, &index)?;
     Ok(text.into_bytes())
 }

@@ -5,7 +5,6 @@ ghost use Rattle.std.specs.Ordering.{is_lt};
 ghost use Rattle.base.specs.TextLines.{text_of};
 ghost use Rattle.misses.specs.Rows.{row_of};
 ghost use Rattle.report.specs.Added.{AddsLine, AddsLines, AddsText};
-ghost use Rattle.report.specs.Chunks.{blocks_in};
 ghost use Rattle.report.specs.Lines.{rest_of_line};
 ghost use Rattle.sightings.specs.MissTexts.{cost_words, is_told, miss_ends, miss_heads};
 ghost use Rattle.sightings.specs.MissTexts.{miss_line, miss_lines, misses_lines, told_rows};
@@ -13,8 +12,8 @@ ghost use Rattle.sightings.specs.MissTexts.{total_line, wastes_more};
 
 use base::{Layout, NoMemory, push_address_past};
 use misses::{Costs, Misses, Row};
-use objects::ObjectTable;
-use report::{Chunk, chunks_of, push_objects};
+use objects::{ObjectIndex, ObjectTable};
+use report::push_objects;
 use std::alloc::{AllocError, Global};
 use std::cmp::Ordering;
 
@@ -90,31 +89,27 @@ fn push_line(text: &mut String, row: &Row) -> Result<(), AllocError>
 fn push_row(
     text: &mut String,
     row: &Row,
-    objects: &ObjectTable,
-    chunks: &[Chunk<'_>],
+    index: &ObjectIndex<'_>,
     end: u64,
 ) -> Result<(), AllocError>
-    requires { flat_map blocks_in chunks.now ≡ objects.now.blocks }
-    ensures { OnOk result (AddsLines text.old text.new (miss_lines objects.now end row.now)) }
+    ensures { OnOk result (AddsLines text.old text.new (miss_lines index.now end row.now)) }
 {
     push_line(text, row)?;
-    push_objects(text, chunks, objects, row.line.range(), 0, end)
+    push_objects(text, index, row.line.range(), 0, end)
 }
 
 // The told lines.
 fn push_rows(
     text: &mut String,
     rows: &[Row],
-    objects: &ObjectTable,
-    chunks: &[Chunk<'_>],
+    index: &ObjectIndex<'_>,
     end: u64,
 ) -> Result<(), AllocError>
-    requires { flat_map blocks_in chunks.now ≡ objects.now.blocks }
     ensures { OnOk result (AddsLines text.old text.new
-        (flat_map (miss_lines objects.now end) rows.now)) }
+        (flat_map (miss_lines index.now end) rows.now)) }
 {
     for row in rows {
-        push_row(text, row, objects, chunks, end)?;
+        push_row(text, row, index, end)?;
     }
     Ok(())
 }
@@ -167,16 +162,14 @@ fn push_misses(
     misses: &Misses,
     rows: &[Row],
     total: Costs,
-    objects: &ObjectTable,
-    chunks: &[Chunk<'_>],
+    index: &ObjectIndex<'_>,
 ) -> Result<(), AllocError>
-    requires { flat_map blocks_in chunks.now ≡ objects.now.blocks }
     ensures { OnOk result (AddsLines text.old text.new
-        (misses_lines misses.now.grid misses.now.position objects.now rows.now total)) }
+        (misses_lines misses.now.grid misses.now.position index.now rows.now total)) }
 {
     let accesses = misses.position();
     push_heads(text, misses.layout(), accesses, rows.len())?;
-    push_rows(text, rows, objects, chunks, accesses)?;
+    push_rows(text, rows, index, accesses)?;
     push_ends(text, total)
 }
 
@@ -193,8 +186,8 @@ pub fn write_misses(
         (told_rows (map (row_of misses.now.grid) misses.now.lines)) total)) }
 {
     let rows = sorted(alloc, misses)?;
-    let chunks = chunks_of(alloc, objects.blocks())?;
+    let index = ObjectIndex::new(alloc, objects)?;
     let mut text = String::new(alloc);
-    push_misses(&mut text, misses, &rows, total, objects, &chunks)?;
+    push_misses(&mut text, misses, &rows, total, &index)?;
     Ok(text.into_bytes())
 }

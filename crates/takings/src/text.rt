@@ -18,7 +18,7 @@ use crate::rows::{sorted_harts, sorted_pairs, sorted_sites};
 use crate::sited::Sides;
 use crate::tables::Taken;
 use base::{Ending, Name, NoMemory, Range, push_address, push_address_past};
-use objects::ObjectTable;
+use objects::{ObjectIndex, ObjectTable};
 use report::{push_function, push_outcome_lines};
 use sharing_rules::{Owner, Word};
 use std::alloc::{AllocError, Global};
@@ -96,12 +96,17 @@ fn push_site_in(
 }
 
 // A site, and the first function that holds it.
-fn push_site(text: &mut String, objects: &ObjectTable, site: &(u32, Word)) -> Result<(), AllocError>
+fn push_site(
+    text: &mut String,
+    index: &ObjectIndex<'_>,
+    site: &(u32, Word),
+) -> Result<(), AllocError>
     ensures { OnOk result (AddsLine text.old text.new
-        (site_line objects.now.symbols site.now)) }
+        (site_line index.now.symbols site.now)) }
 {
     let (pc, word) = *site;
-    push_site_in(text, pc, word, objects.function_at(pc))
+    let function = index.function_at(pc)?;
+    push_site_in(text, pc, word, function)
 }
 
 // Two instructions.
@@ -130,16 +135,16 @@ fn push_hart(text: &mut String, pair: &(Sides, Taken)) -> Result<(), AllocError>
 // The lines of sites.
 fn push_sites(
     text: &mut String,
-    objects: &ObjectTable,
+    index: &ObjectIndex<'_>,
     sites: &[(u32, Word)],
 ) -> Result<(), AllocError>
     ensures { OnOk result (AddsLines text.old text.new
-        (headed (codes "sites") (map (site_line objects.now.symbols) sites.now))) }
+        (headed (codes "sites") (map (site_line index.now.symbols) sites.now))) }
 {
     let count = sites.len();
     writeln!(text, "sites {count}")?;
     for site in sites {
-        push_site(text, objects, site)?;
+        push_site(text, index, site)?;
     }
     Ok(())
 }
@@ -197,18 +202,18 @@ fn push_end(text: &mut String) -> Result<(), AllocError>
 // The lines of the tables.
 fn push_tables(
     text: &mut String,
-    objects: &ObjectTable,
+    index: &ObjectIndex<'_>,
     sites: &[(u32, Word)],
     pairs: &[(Sides, Taken)],
     harts: &[(Sides, Taken)],
 ) -> Result<(), AllocError>
     ensures { OnOk result (AddsLines text.old text.new
-        (headed (codes "sites") (map (site_line objects.now.symbols) sites.now)
+        (headed (codes "sites") (map (site_line index.now.symbols) sites.now)
         ++ headed (codes "pairs") (map pair_line pairs.now)
         ++ headed (codes "harts") (map hart_line harts.now)
         ++ (codes "end" ∷ []) ∷ [])) }
 {
-    push_sites(text, objects, sites)?;
+    push_sites(text, index, sites)?;
     push_pairs(text, pairs)?;
     push_harts(text, harts)?;
     push_end(text)
@@ -218,7 +223,7 @@ fn push_tables(
 fn text_of_rows(
     alloc: Global,
     ending: &Ending,
-    objects: &ObjectTable,
+    index: &ObjectIndex<'_>,
     explainer: &Explainer,
     sites: &[(u32, Word)],
     pairs: &[(Sides, Taken)],
@@ -228,18 +233,19 @@ fn text_of_rows(
     requires pairs { pairs.now ≡ in_order is_pair_row_before explainer.now.pairs }
     requires harts { harts.now ≡ in_order is_hart_row_before explainer.now.harts }
     ensures { IfOk result (λ text. text.items
-        ≡ told_text ending.now objects.now.symbols explainer.now) }
+        ≡ told_text ending.now index.now.symbols explainer.now) }
 {
     let mut text = String::new(alloc);
     push_head(&mut text, ending, explainer)?;
-    push_tables(&mut text, objects, sites, pairs, harts)?;
+    push_tables(&mut text, index, sites, pairs, harts)?;
     Ok(text.into_bytes())
 }
 
 /// What an explainer tells of its line, with how the run ended and the functions of its program:
 /// its sites by rising pc; the pairs of instructions by takings falling; and the pairs of harts.
 ///
-/// NoMemory comes where there is no memory for the text, or for the rows and their sort.
+/// NoMemory comes where there is no memory for the text, for the rows and their sort, for 24 bytes a
+/// symbol and a block, or for 8 bytes each symbol that holds a site.
 pub fn write_explain(
     alloc: Global,
     ending: &Ending,
@@ -256,5 +262,6 @@ pub fn write_explain(
     let sites = sorted_sites(alloc, explainer.sites())?;
     let pairs = sorted_pairs(alloc, explainer.pairs())?;
     let harts = sorted_harts(alloc, explainer.harts())?;
-    text_of_rows(alloc, ending, objects, explainer, &sites, &pairs, &harts)
+    let index = ObjectIndex::new(alloc, objects)?;
+    text_of_rows(alloc, ending, &index, explainer, &sites, &pairs, &harts)
 }

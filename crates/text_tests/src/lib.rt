@@ -5,6 +5,8 @@
 #[cfg(test)]
 mod findings;
 #[cfg(test)]
+mod found;
+#[cfg(test)]
 mod keys;
 #[cfg(test)]
 mod options;

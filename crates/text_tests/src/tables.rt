@@ -2,7 +2,7 @@
 ghost use Rattle.std.specs.Prelude.{◌≡◌, vec_len, IfOk};
 
 use base::Name;
-use objects::{Block, ObjectTable, SymbolKind};
+use objects::{Block, ObjectIndex, ObjectTable, SymbolKind};
 use std::alloc::{AllocError, Global};
 use std::test::Fail;
 
@@ -126,9 +126,9 @@ const NAMES: [(u32, &[u8]); 4] = [
     (u32::MAX, b""),
 ];
 
-// Whether the function at an address has this name.
-fn is_function(table: &ObjectTable, pc: u32, name: &[u8]) -> bool {
-    match table.function_at(pc) {
+// Whether it is this name.
+fn is_named(found: Option<&Name>, name: &[u8]) -> bool {
+    match found {
         Some(found) => found.bytes() == name,
         None => false,
     }
@@ -138,9 +138,14 @@ fn is_function(table: &ObjectTable, pc: u32, name: &[u8]) -> bool {
 fn the_first_function_is_named(rt: HostRuntime) -> Result<(), Fail> {
     let mut table = ObjectTable::new(rt.alloc());
     note_symbols(&mut table, &NAMED)?;
+    let index = ObjectIndex::new(rt.alloc(), &table)?;
     for (pc, name) in &NAMES {
-        assert!(rt; is_function(&table, *pc, name), "at {pc:x}");
+        let found = index.function_at(*pc)?;
+        assert!(rt; is_named(found, name), "at {pc:x}");
+        assert!(rt; is_named(table.function_at(*pc), name), "at {pc:x}");
     }
+    let none = index.function_at(0xffff)?;
+    assert!(rt; none.is_none());
     assert!(rt; table.function_at(0xffff).is_none());
     Ok(())
 }

@@ -5,4 +5,4 @@ use Rattle.report.proofs.object_lines.push_sites.Given as goal
 
 abbrev pub invariant-loop-site : goal.invariant-loop-site
 invariant-loop-site l = string_bytes l.text ≡ string_bytes l.fn.text
-    ++ text_of (site_lines l.objects.symbols (take l.site-index l.sites))
+    ++ text_of (site_lines l.index.symbols (take l.site-index l.sites))

@@ -1,21 +1,23 @@
-use Rattle.std.proofs.Common.{string_bytes}
-use Rattle.std.specs.Prelude.{option_map, ◌&&◌}
-use Rattle.objects.specs.Rows.{symbol_of}
-use Rattle.objects.specs.Symbols.{is_same_kind}
-use Rattle.objects.specs.declared.symbol.SymbolKind.TheVariants.{Object}
-use Rattle.base.specs.TextLines.{text_of}
-use Rattle.report.specs.Standing.{symbol_stands}
-use Rattle.report.specs.Lines.{symbol_line, symbol_lines}
-use Rattle.report.proofs.TextLaws.{text_more_at, text_of-joins}
+use Rattle.std.proofs.Common.{◌≡◌, ℕ, List, OnOk, ap, subst, ◌∙◌}
+use Rattle.std.specs.Prelude.{filter_map, slice_get}
+use Rattle.objects.specs.Objects.{Objects}
+use Rattle.report.specs.Added.{AddsLines}
+use Rattle.report.specs.Lines.{TextLine, symbol_lines}
+use Rattle.report.proofs.FoundLaws.{near_symbols}
 use Rattle.report.proofs.object_lines.push_symbols.Goals as goal
 
-pub loop-i-preserved : goal.loop-i-preserved
-loop-i-preserved c =
-    text_more_at (λ xs. text_of (symbol_lines c.args.range xs))
-    (text_of-joins symbol_line (λ s. is_same_kind s.kind Object && symbol_stands c.args.range s.addr
-    s.size))
-    c.args.objects.now.symbols c.loop-i.i (option_map symbol_of c.symbol.result)
-    (string_bytes c.args.text.now) (string_bytes c.loop-i.text)
-    (string_bytes c.push_symbol_at.new.text)
-    (rw c.symbol_count-i-end.ensures.value at c.loop-i-test.true) c.symbol.ensures.row
-    c.loop-i.invariant c.in_ok-push_symbol_at.ensures
+pub returns : goal.returns
+returns c =
+    let r = c.args.range in
+    let all : Objects = c.args.index.now in
+    let numbers : List ℕ = c.deref.result.now in
+    let same : symbol_lines r (filter_map (slice_get c.table.result.now.symbols) numbers)
+    ≡ symbol_lines r all.symbols =
+    ap (λ (t : Objects). symbol_lines r (filter_map (slice_get t.symbols) numbers)) c.table.ensures
+    ∙ ap (λ (ns : List ℕ). symbol_lines r (filter_map (slice_get all.symbols) ns))
+    c.deref.ensures.value
+    ∙ ap (symbol_lines r) c.in_ok-numbers.ensures
+    ∙ near_symbols r c.first_address.result c.end_address.result c.first_address.ensures
+    c.end_address.ensures all.symbols in
+    subst (λ (ls : List TextLine). OnOk c.push_symbols_of.result
+    (AddsLines c.args.text.now c.push_symbols_of.new.text ls)) same c.push_symbols_of.ensures

@@ -7,4 +7,4 @@ use Rattle.report.proofs.report.push_tracks.Given as goal
 
 abbrev pub invariant-loop-row : goal.invariant-loop-row
 invariant-loop-row l = string_bytes l.text ≡ string_bytes l.fn.text ++ text_of
-    (flat_map (lines_of l.objects l.end) (map track_shown (take l.row-index l.rows)))
+    (flat_map (lines_of l.index l.end) (map track_shown (take l.row-index l.rows)))

@@ -6,4 +6,4 @@ use Rattle.sightings.proofs.miss_text.push_rows.Given as goal
 
 abbrev pub invariant-loop-row : goal.invariant-loop-row
 invariant-loop-row l = string_bytes l.text ≡ string_bytes l.fn.text ++ text_of
-    (flat_map (miss_lines l.objects l.end) (take l.row-index l.rows))
+    (flat_map (miss_lines l.index l.end) (take l.row-index l.rows))

@@ -6,4 +6,4 @@ use Rattle.takings.proofs.text.push_sites.Given as goal
 
 abbrev pub invariant-loop-site : goal.invariant-loop-site
 invariant-loop-site l = string_bytes l.text ≡ string_bytes l.fn.text
-    ++ text_of ((codes "sites" ∷ decimal (length l.sites) ∷ []) ∷ map (site_line l.objects.symbols) (take l.site-index l.sites))
+    ++ text_of ((codes "sites" ∷ decimal (length l.sites) ∷ []) ∷ map (site_line l.index.symbols) (take l.site-index l.sites))

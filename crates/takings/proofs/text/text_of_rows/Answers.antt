@@ -17,7 +17,7 @@ returns c =
     let head : List TextLine = head_lines e k in
     let tables : List (ℕ × Word) → List (Sides × Taken) → List (Sides × Taken) → List TextLine =
     λ sites pairs harts.
-    headed (codes "sites") (map (site_line c.args.objects.now.symbols) sites)
+    headed (codes "sites") (map (site_line c.args.index.now.symbols) sites)
     ++ headed (codes "pairs") (map pair_line pairs) ++ headed (codes "harts") (map hart_line harts)
     ++ (codes "end" ∷ []) ∷ [] in
     ap (λ v. v.items) c.into_bytes.ensures.value

@@ -1,0 +1,10 @@
+use Rattle.std.proofs.Common.{◌≡◌, ◌++◌, string_bytes, take}
+use Rattle.std.specs.Prelude.{filter_map, slice_get}
+use Rattle.base.specs.TextLines.{text_of}
+use Rattle.report.specs.Lines.{standing_lines}
+use Rattle.report.proofs.object_lines.push_blocks_of.Given as goal
+
+abbrev pub invariant-loop-number : goal.invariant-loop-number
+invariant-loop-number l = string_bytes l.text ≡ string_bytes l.fn.text ++ text_of
+    (standing_lines l.index.symbols l.range l.start l.end
+    (filter_map (slice_get l.objects.blocks) (take l.number-index l.numbers)))
