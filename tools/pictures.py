@@ -15,7 +15,7 @@ import tempfile
 TOP = os.path.abspath(os.path.join(os.path.dirname(os.path.abspath(__file__)), ".."))
 # Of each picture the call that writes its page, and the width and height that are shown.
 PICTURES = {
-    "view": (["view", "run", "guest/built/counters.elf", "--html"], 1000, 760),
+    "view": (["view", "run", "guest/built/counters.elf", "--html"], 1000, 800),
 }
 MOST = 100_000
 
