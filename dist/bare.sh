@@ -4,7 +4,8 @@
 #
 #     dist/bare.sh [FOLDER]      (keeps the system in FOLDER, and takes it from there the next time)
 #
-# It fetches some 700 MB from a Debian mirror, and ends with 77 where there is none or where it isn't root. The last line is `N passed, M failed`.
+# It fetches some 700 MB from a Debian mirror. Where there is none, or a slow one, or where it isn't root, it ends with 77. The last line is
+# `N passed, M failed`.
 set -u
 top=$(cd "$(dirname "$(readlink -f "$0")")/.." && pwd)
 . "$top/bin/sources.bash"
@@ -18,7 +19,7 @@ passed=0 failed=0
 "$top/bin/release" "$work/packages" >/dev/null || skip "there is no package to try"
 
 make() { # FOLDER SUITE
-    mmdebstrap --quiet --variant=minbase "$2" "$1" >"$work/log" 2>&1 || { tail -n 3 "$work/log"; skip "no $2 could be made: is there a mirror?"; }
+    timeout 400 mmdebstrap --quiet --variant=minbase "$2" "$1" >"$work/log" 2>&1 || { tail -n 3 "$work/log"; skip "no $2 could be made: is there a mirror?"; }
 }
 inside() { chroot "$system" env -i PATH=/usr/sbin:/usr/bin:/sbin:/bin LANG=C.UTF-8 DEBIAN_FRONTEND=noninteractive "$@"; }
 # A user's call, in the user's own folder.
@@ -42,9 +43,10 @@ try() {
 mount -t proc proc "$system/proc" 2>/dev/null || skip "/proc can't be mounted"
 cp "$work/packages/"*.deb "$system/root/predator.deb"
 {
-    inside apt-get update
-    inside apt-get install -y /root/predator.deb
-    inside apt-get install -y --no-install-recommends clang lld picolibc-riscv64-unknown-elf gcc libc6-dev valgrind libc6-dbg snakemake man-db
+    inside timeout 100 apt-get update
+    inside timeout 400 apt-get install -y -o Dpkg::Options::=--force-unsafe-io /root/predator.deb
+    inside timeout 600 apt-get install -y -o Dpkg::Options::=--force-unsafe-io --no-install-recommends clang lld picolibc-riscv64-unknown-elf \
+        gcc libc6-dev valgrind libc6-dbg snakemake man-db
     inside useradd -m user
 } >"$work/log" 2>&1 || { tail -n 5 "$work/log"; skip "the packages couldn't be installed: is there a mirror?"; }
 
