@@ -104,12 +104,12 @@ class Bench:
         if os.path.exists(self.log):
             os.remove(self.log)
         status, printed, said, faults = self.run(case.words, how or {}, case.piped)
-        files = {name: content(name) for name in names}
+        written = {name: content(name) for name in names}
         for name in names:
             if os.path.exists(name):
                 os.remove(name)
         faults += self.changed()
-        return Ending(status, printed, said, before, files, calls_of((content(self.log) or b"").decode(errors="replace")), faults)
+        return Ending(status, printed, said, before, written, calls_of((content(self.log) or b"").decode(errors="replace")), faults)
 
     def run(self, words: Sequence[str], how: dict[str, str], piped: str = "") -> tuple[int, bytes, bytes, list[Fault]]:
         faults = []
