@@ -11,7 +11,8 @@ it, which takes some minutes. With --times K all are K times as large, as far as
 A cost is a number of machine instructions, counted by perf, or where the machine doesn't let it by valgrind (cachegrind); where there is
 neither, it is processor time, the least of three calls, of cases that are four times as large. WAY is perf, valgrind or time, and chooses
 one. What the same call of next to nothing costs is taken off before. What each call printed is compared with what the case is made for:
-a case that isn't what it should be, or does too little to tell, is a fault. The status is 1 where a call is named or a case has a fault."""
+a case that isn't what it should be, or does too little to tell, is a fault. The status is 1 where a call is named or a case has a fault.
+Calls of the cases in KNOWN are told apart, and don't change the status; it is a fault where none of them grows any more."""
 
 import argparse
 import os
@@ -33,6 +34,13 @@ from made_traces import Made, TraceCase, rest_of
 
 # The size grows by 4, and a cost by no more than this.
 MOST = 6.0
+# The cases of which it is known that they grow as a square, and why.
+KNOWN = {
+    "blocks dead before": "a listed line looks at each block that lay over it, and only then at when it lived",
+    "guest: noted blocks, more and wider": "the call `block` looks at each page of its bytes",
+    "program file: segments": "each header is compared with all behind it",
+    "program file: names in one": "each name is looked through to its end, however much of it is kept",
+}
 # A call may take so many seconds of a processor.
 LONGEST = 40
 LISTED = "tracking=1,report=1"
@@ -288,15 +296,27 @@ def way_of(name: str | None, program: str, folder: str) -> Way:
 
 
 class Row(NamedTuple):
-    """A command and a case, with what the two sizes cost beyond next to nothing, and what is wrong with it."""
+    """A case and a command, with what the two sizes cost beyond next to nothing, and what is wrong with it."""
 
-    what: str
+    case: str
+    command: str
     lesser: float
     greater: float | None
     fault: str
 
     def growth(self) -> float:
         return float("inf") if self.greater is None else self.greater / max(self.lesser, 1e-9)
+
+    def grows(self) -> bool:
+        return not self.fault and self.growth() > MOST
+
+    def shown(self, unit: str) -> str:
+        what, by = f"{self.command}, {self.case}", 1 if unit == "s" else 1e6
+        if self.fault:
+            return f"{what}: {self.fault}"
+        if self.greater is None:
+            return f"{what}: {self.lesser / by:.2f} {unit}, and then more than {LONGEST} s"
+        return f"{what}: {self.lesser / by:.2f} and {self.greater / by:.2f} {unit}, {self.growth():.1f} times"
 
 
 class Measures:
@@ -307,16 +327,16 @@ class Measures:
         self.pool = ThreadPoolExecutor(way.at_a_time)
         self.nothing: dict[tuple[str, str], Future[Cost]] = {}
 
-    def of_nothing(self, command: str, made: Made | Guest) -> Future[Cost]:
-        """The cost of a command of next to nothing, under the settings of a case."""
-        key = command, made.settings
-        if key not in self.nothing:
+    def of_nothing(self, case: Case, command: str, settings: str) -> Future[Cost]:
+        """The cost of a command of next to nothing under settings, or of the least size of the case, where it has one."""
+        if case.made.least:
+            return self.pool.submit(self.of_size, case, command, case.made.least)
+        if (command, settings) not in self.nothing:
             make = made_traces.symbols_apart if command in OF_TRACES else made_guests.ends
             kind = TraceCase if command in OF_TRACES else GuestCase
-            small = kind("nothing", lambda n: make(n)._replace(settings=made.settings), 1, "")
-            case = Case(small, tempfile.mkdtemp(dir=self.folder))
-            self.nothing[key] = self.pool.submit(self.of_size, case, command, 1)
-        return self.nothing[key]
+            small = kind("nothing", lambda n: make(n)._replace(settings=settings), 1, "")
+            self.nothing[command, settings] = self.pool.submit(self.of_size, Case(small, tempfile.mkdtemp(dir=self.folder)), command, 1)
+        return self.nothing[command, settings]
 
     def of_size(self, case: Case, command: str, size: int) -> Cost:
         out = os.path.join(case.folder, f"{command}.{size}.{re.sub('[^a-z0-9]+', '_', case.name)}.out")
@@ -327,21 +347,22 @@ class Measures:
         asked = []
         for case, command in chosen:
             size = min(case.made.size * times, case.made.most // 4)
-            nothing = self.of_nothing(command, case.of_size(size)[1])
+            nothing = self.of_nothing(case, command, case.of_size(size)[1].settings)
             sizes = [self.pool.submit(self.of_size, case, command, it) for it in (size, 4 * size)]
-            asked.append((f"{command}, {case.name}", nothing, *sizes))
-        for what, *costs in asked:
-            yield self.row(what, *(it.result() for it in costs))
+            asked.append((case.name, command, nothing, *sizes))
+        for name, command, *costs in asked:
+            yield self.row(Row(name, command, 0, None, ""), *(it.result() for it in costs))
 
-    def row(self, what: str, nothing: Cost, lesser: Cost, greater: Cost) -> Row:
+    def row(self, row: Row, nothing: Cost, lesser: Cost, greater: Cost) -> Row:
         fault = nothing.fault or lesser.fault or greater.fault
         if fault or nothing.cost is None or lesser.cost is None:
-            return Row(what, 0, None, fault or f"it takes more than {LONGEST} s")
+            return row._replace(fault=fault or f"it takes more than {LONGEST} s")
+        row = row._replace(lesser=lesser.cost - nothing.cost)
         if greater.cost is None:
-            return Row(what, lesser.cost - nothing.cost, None, "")
+            return row
         if greater.cost - nothing.cost < self.way.least:
-            fault = f"it does too little to tell: {greater.cost - nothing.cost} and {nothing.cost} for next to nothing"
-        return Row(what, lesser.cost - nothing.cost, greater.cost - nothing.cost, fault)
+            fault = f"it does too little to tell: {greater.cost - nothing.cost:g} beyond {nothing.cost:g} of next to nothing"
+        return row._replace(greater=greater.cost - nothing.cost, fault=fault)
 
 
 def chosen(words: argparse.Namespace, folder: str) -> list[tuple[Case, str]]:
@@ -350,13 +371,15 @@ def chosen(words: argparse.Namespace, folder: str) -> list[tuple[Case, str]]:
     return [(case, command) for case in wanted for command in case.commands(words.all)]
 
 
-def shown(row: Row, unit: str) -> str:
-    if row.fault:
-        return f"{row.what}: {row.fault}"
-    by = 1 if unit == "s" else 1e6
-    if row.greater is None:
-        return f"{row.what}: {row.lesser / by:.2f} {unit}, and then more than {LONGEST} s"
-    return f"{row.what}: {row.lesser / by:.2f} and {row.greater / by:.2f} {unit}, {row.growth():.1f} times"
+def judged(rows: list[Row]) -> tuple[list[Row], list[Row], list[Row]]:
+    """What has a fault, what is known to grow, and what else grows."""
+    faults = [it for it in rows if it.fault]
+    for name, why in KNOWN.items():
+        of_case = [it for it in rows if it.case == name]
+        if of_case and not any(it.grows() or it.fault for it in of_case):
+            faults.append(of_case[0]._replace(fault=f"it grows no more, and was known to ({why})"))
+    known = [it for it in rows if it.grows() and it.case in KNOWN]
+    return faults, known, [it for it in rows if it.grows() and it.case not in KNOWN]
 
 
 def main() -> int:
@@ -370,16 +393,18 @@ def main() -> int:
     program = os.path.abspath(words.program)
     with tempfile.TemporaryDirectory() as folder:
         way = way_of(words.by, program, folder)
-        named, faults, count = [], [], 0
+        rows = []
         for row in Measures(program, way, folder).rows(chosen(words, folder), words.times * way.times):
-            count += 1
-            print(shown(row, way.unit), flush=True)
-            faults += [row] if row.fault else []
-            named += [row] if not row.fault and row.growth() > MOST else []
-    print(f"{count} calls, by {way.name}: {len(named)} grew by more than {MOST:g} where the size grew by 4, {len(faults)} have a fault")
+            rows.append(row)
+            print(row.shown(way.unit), flush=True)
+    faults, known, named = judged(rows)
+    print(f"{len(rows)} calls, by {way.name}: {len(faults)} have a fault, {len(known)} are known to grow, and "
+          f"{len(named)} more grew by more than {MOST:g} where the size grew by 4")
+    for row in known:
+        print(f"known: {row.shown(way.unit)}: {KNOWN[row.case]}")
     for row in [*faults, *named]:
-        print(shown(row, way.unit))
-    return 1 if named or faults or not count else 0
+        print(row.shown(way.unit))
+    return 1 if named or faults or not rows else 0
 
 
 if __name__ == "__main__":

@@ -305,14 +305,15 @@ def large_object(n: int) -> Made:
 
 
 class TraceCase(NamedTuple):
-    """A trace of two sizes, of which `size` is the lesser one, and the commands that it is made for; the greatest size that it may have;
-    and commands whose text of it is a square."""
+    """A trace of two sizes, of which `size` is the lesser one, and the commands that it is made for; the greatest size that it may have; a
+    size that costs next to nothing, if another trace can't stand for that; and commands whose text of it is a square."""
 
     name: str
     make: Callable[[int], Made]
     size: int
     commands: str
     most: int = 1 << 20
+    least: int = 0
     never: str = ""
 
 
