@@ -25,7 +25,7 @@ import sys
 import tempfile
 import threading
 from concurrent.futures import Future, ThreadPoolExecutor
-from typing import Callable, Iterator, NamedTuple
+from typing import Callable, Iterable, Iterator, NamedTuple
 
 import made_guests
 import made_traces
@@ -169,14 +169,19 @@ def options_of(program: str, guest: Guest) -> list[str]:
     return words
 
 
-def run(program: str, guest: Guest) -> Call:
-    words = ["run", program, *options_of(program, guest)]
+def ran(command: list[str], program: str, guest: Guest, begins: Iterable[tuple[str, int]]) -> Call:
+    """A call of a command that runs it."""
+    words = [*command, *options_of(program, guest)]
     if guest.schedule:
         with open(f"{program}.schedule", "wb") as file:
             file.write(guest.schedule)
         words += ["--schedule", f"{program}.schedule"]
     ended = [(f"outcome {guest.outcome}", 1)] if guest.status in (0, 10) else []
-    return Call(words, [*ended, *guest.run], guest.status)
+    return Call(words, [*ended, *begins], guest.status)
+
+
+def run(program: str, guest: Guest) -> Call:
+    return ran(["run", program], program, guest, guest.run)
 
 
 def run_trace(program: str, guest: Guest) -> Call:
@@ -190,8 +195,7 @@ def run_output(program: str, guest: Guest) -> Call:
 
 
 def explain(program: str, guest: Guest) -> Call:
-    words = ["explain", program, str(DATA), "64", "0", *options_of(program, guest)]
-    return Call(words, [(f"line 0x{DATA:08x}", 1), *guest.explained], guest.status)
+    return ran(["explain", program, str(DATA), "64", "0"], program, guest, guest.explained)
 
 
 def check(program: str, guest: Guest) -> Call:
@@ -233,7 +237,11 @@ class Case:
     def commands(self, wants_all: bool) -> list[str]:
         if not wants_all:
             return self.made.commands.split()
-        return [it for it in (OF_TRACES if isinstance(self.made, TraceCase) else OF_GUESTS) if it not in self.made.never.split()]
+        never = self.made.never.split()
+        if isinstance(self.made, GuestCase):
+            return [it for it in OF_GUESTS if it not in never]
+        has_object = self.made.make(16).object
+        return [it for it in OF_TRACES if it not in never and (it != "place" or has_object)]
 
 
 # ---- What calls cost.

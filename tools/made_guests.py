@@ -331,7 +331,8 @@ def stores(n: int) -> Code:
 
 
 def sites(n: int) -> Guest:
-    return Guest(with_data(stores(n), LINE), LISTED, run=(("lines 1", 1),), explained=((f"sites {n}", 1), ("pair", -n)))
+    explained = ((f"line 0x{DATA:08x}", 1), (f"sites {n}", 1), ("pair", -n))
+    return Guest(with_data(stores(n), LINE), LISTED, run=(("lines 1", 1),), explained=explained)
 
 
 def sites_in_functions(n: int) -> Guest:
