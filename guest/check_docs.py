@@ -2,7 +2,8 @@
 """Runs the commands of the documents and compares what they print with what stands there: check_docs.py [--renew] [FILE ..].
 
 Without a FILE it also compares the lines of usage in the page of help, the manual page, the completion and docs/FORMATS.md with those
-of the crates, and the exit statuses there with those of the crates and the launcher, which needs no built program; --usage does that alone.
+of the crates, the exit statuses there with those of the crates and the launcher, and the usual settings of view/ and campaign/ with those
+there, which needs no built program; --usage does that alone.
 
 A command is an indented line that begins with `$ `, and what it is to print are the lines of the same block behind it. All commands
 of a document run in one folder, which has what stands at the top of the repository. A command that lacks a tool of this machine
@@ -12,13 +13,23 @@ anything differs."""
 
 import os
 import re
+import runpy
 import shutil
 import subprocess
 import sys
 import tempfile
 
 TOP = os.path.abspath(os.path.join(os.path.dirname(os.path.abspath(__file__)), ".."))
-FILES = ["README.md", "docs/GUIDE.md", "docs/VIEW.md", "docs/CAMPAIGNS.md", "guest/README.md", "examples/README.md", "docs/FORMATS.md", "docs/STUDIES.md"]
+FILES = [
+    "README.md",
+    "docs/GUIDE.md",
+    "docs/VIEW.md",
+    "docs/CAMPAIGNS.md",
+    "guest/README.md",
+    "examples/README.md",
+    "docs/FORMATS.md",
+    "docs/STUDIES.md",
+]
 BLOCK = "    "
 MANUAL = "docs/predator.1"
 # What the cases print of usage.
@@ -174,12 +185,30 @@ def check_statuses():
     return wrong
 
 
+def check_usual():
+    """Whether view and campaign know the settings that the proved program has, and the table of docs/FORMATS.md too."""
+    table = re.findall(r"^\| `(\w+)`[^|]*\|[^|]*\| (\d+)(?:,[^|]*)? \|$", read("docs/FORMATS.md"), re.MULTILINE)
+    rules = re.findall(r"^\s*Key::(\w+) => Rule::new\(.*, ([\d_]+)\),$", read("crates/settings/src/key.rt"), re.MULTILINE)
+    places = {
+        "docs/FORMATS.md": {key: int(value) for key, value in table},
+        "crates/settings/src/key.rt": {key.lower(): int(value.replace("_", "")) for key, value in rules},
+    }
+    known, wrong = runpy.run_path(os.path.join(TOP, "view", "settings.py"))["USUAL"], 0
+    for name, found in places.items():
+        for key, value in known.items():
+            if found.get(key) != value:
+                wrong += 1
+                print(f"{name}: the usual value of `{key}` is {found.get(key)}, and {value} in view/settings.py")
+    print(f"usual values: {len(known)}, {wrong} wrong")
+    return wrong + (not known)
+
+
 def main(words):
     if "--help" in words or "-h" in words:
         print(__doc__)
         return 0
     names = [it for it in words if not it.startswith("--")]
-    wrong, renew = 0 if names else check_usage() + check_statuses(), "--renew" in words
+    wrong, renew = 0 if names else check_usage() + check_statuses() + check_usual(), "--renew" in words
     if "--usage" not in words:
         wrong += 0 if names else check_manual(renew)
         wrong += sum(check(it, renew) for it in names or [it for it in FILES if os.path.exists(os.path.join(TOP, it))])
