@@ -5,7 +5,8 @@ usage: bench/seeds.py [ROUNDS]
 
 Three guests, each with 8 harts and turns of 1, 10 and 100 steps: harts that jump to themselves, so that a step is little but its turn;
 harts in a loop of ten arithmetic instructions, a load, a store and the jump back; and guest/built/counters.elf. Both seeds run by turns,
-ROUNDS times (9; 0 takes no times), and the least user times count. Where valgrind is there, the machine instructions of a step of the first two
+ROUNDS times (9; 0 takes no times), and the least user times count. Where valgrind is there, the machine instructions of a step of the \
+first two
 are counted too, which a busy machine doesn't change, as the difference of two runs. A benchmark, no test."""
 
 import os
@@ -40,7 +41,9 @@ def user(words):
 
 def counted(work, words):
     """Machine instructions of the whole run."""
-    told = subprocess.run(["valgrind", "--tool=callgrind", f"--callgrind-out-file={work}/out", *words], capture_output=True, encoding="utf-8")
+    told = subprocess.run(
+        ["valgrind", "--tool=callgrind", f"--callgrind-out-file={work}/out", *words], capture_output=True, encoding="utf-8"
+    )
     return int(re.search(r"Collected : (\d+)", told.stderr).group(1))
 
 

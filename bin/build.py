@@ -136,8 +136,14 @@ class Stage:
         """Begins to prove and build a crate over those below it."""
         remove(self.built(name))
         remove(f"{self.built(name)}.sum")
-        return subprocess.Popen(self.words(name, jobs), cwd=self.folder(name), stdin=subprocess.DEVNULL, stdout=log,
-                                stderr=subprocess.STDOUT, start_new_session=True)
+        return subprocess.Popen(
+            self.words(name, jobs),
+            cwd=self.folder(name),
+            stdin=subprocess.DEVNULL,
+            stdout=log,
+            stderr=subprocess.STDOUT,
+            start_new_session=True,
+        )
 
     def end(self, name, status):
         """Whether a crate was built, where the prover ended so; what was built of it is then told from anything else."""

@@ -10,19 +10,23 @@ import re
 import subprocess
 import sys
 import tempfile
+from typing import IO, Iterable, Sequence
 
 HERE = os.path.dirname(os.path.abspath(__file__))
 sys.path.insert(0, HERE)
 
 import results  # noqa: E402
 from commands import command_of, settings_text  # noqa: E402
-from folder import campaign_of, of_group, seeds_in, short  # noqa: E402
+from folder import Record, campaign_of, of_group, seeds_in, short  # noqa: E402
 
 TRIES = 3
 # The statuses with which a call has printed what is wanted: a run and a replay also where the program came to no exit.
 GOOD = {"run": (0, 10, 11, 12), "replay": (0, 10, 11, 12)}
 # Accesses in a trace of version 1 and of version 2, by their tags.
-SPANS = {b"PRDTRC01": re.compile(rb"(?:[\1\2].{7})+", re.DOTALL), b"PRDTRC02": re.compile(rb"(?:[\x11\x12\x14\x21\x22\x24].[\x80-\xff]*[\0-\x7f])+", re.DOTALL)}
+SPANS = {
+    b"PRDTRC01": re.compile(rb"(?:[\1\2].{7})+", re.DOTALL),
+    b"PRDTRC02": re.compile(rb"(?:[\x11\x12\x14\x21\x22\x24].[\x80-\xff]*[\0-\x7f])+", re.DOTALL),
+}
 ONE = re.compile(rb"[\x11\x12\x14\x21\x22\x24].[\x80-\xff]*[\0-\x7f]", re.DOTALL)
 BLOCK = re.compile(r"^object block (0x[0-9a-f]+) \d+ born (\d+)", re.MULTILINE)
 
@@ -30,45 +34,48 @@ BLOCK = re.compile(r"^object block (0x[0-9a-f]+) \d+ born (\d+)", re.MULTILINE)
 class Failed(Exception):
     """A call that didn't print what is wanted, three times."""
 
-    def __init__(self, status, said):
+    def __init__(self, status: int, said: str) -> None:
         super().__init__(said)
         self.status, self.said = status, said
 
 
 class Caller:
-    """Calls predator, whose texts go through two files: with pipes a short run takes a third longer. What a run's program puts out is lost."""
+    """Calls predator, whose texts go through two files: with pipes a short run takes a third longer. What a run's program puts out is
+    lost."""
 
-    def __init__(self, predator, work):
+    def __init__(self, predator: str, work: str) -> None:
         self.predator = predator
         self.out, self.said = (open(os.path.join(work, it), "w+b", 0) for it in ("out", "said"))
         # (the launcher asks for large pages as well: a short run takes half the time with them)
         self.env = {**os.environ, "GLIBC_TUNABLES": os.environ.get("GLIBC_TUNABLES", "glibc.malloc.hugetlb=1")}
 
-    def once(self, words, said):
+    def once(self, words: Sequence[str], said: IO[bytes] | int) -> int:
         for it in (self.out, self.said):
             it.seek(0)
             it.truncate()
         return subprocess.run([self.predator, *words], stdin=subprocess.DEVNULL, stdout=self.out, stderr=said, env=self.env).returncode
 
-    def text(self, file):
+    def text(self, file: IO[bytes]) -> str:
         file.seek(0)
         return file.read().decode("latin-1")
 
-    def called(self, words):
+    def called(self, words: Sequence[str]) -> tuple[int, str]:
         """The status of a call, and what it printed."""
         # (the last try says why it fails, and no program's output stands before that)
         loud = [*words, "--output", os.devnull] if words[0] == "run" else words
-        for asked, said in [*[(words, subprocess.DEVNULL)] * (TRIES - 1), (loud, self.said)]:
-            status = self.once(asked, said)
+        for at in range(TRIES):
+            is_last = at == TRIES - 1
+            status = self.once(loud if is_last else words, self.said if is_last else subprocess.DEVNULL)
             if status in GOOD.get(words[0], (0,)):
                 return status, self.text(self.out)
         said = [*self.text(self.out).strip().split("\n")[:1], *self.text(self.said).strip().split("\n")]
         raise Failed(status, "; ".join(it for it in said if it))
 
 
-def makings(trace, wanted):
+def makings(trace: str, wanted: set[tuple[int, int]]) -> dict[tuple[int, int], int]:
     """Of blocks, by address and birth, which one of its call sites it is, in the order of making, from 1 on; the trace tells of all."""
-    found, made = {}, {}
+    found: dict[tuple[int, int], int] = {}
+    made: dict[tuple[int, ...], int] = {}
     with open(trace, "rb") as file, mmap.mmap(file.fileno(), 0, access=mmap.ACCESS_READ) as data:
         magic, place, position = data[:8], 20, 0
         while data[place] != 6:
@@ -85,38 +92,41 @@ def makings(trace, wanted):
             elif tag == 5:
                 place += 12 + int.from_bytes(data[place + 10 : place + 12], "little")
             else:
-                end = SPANS[magic].match(data, place).end()
+                run = SPANS[magic].match(data, place)
+                if run is None:
+                    raise SystemExit(f"batch.py: {trace}: it is no trace")
+                end = run.end()
                 position += (end - place) // 8 if magic == b"PRDTRC01" else len(ONE.findall(data, place, end))
                 place = end
     return found
 
 
 class Batch:
-    def __init__(self, campaign, name):
+    def __init__(self, campaign: Record, name: str) -> None:
         self.campaign, self.name = campaign, name
         self.batch = next(it for it in campaign["batches"] if it["name"] == name)
         self.group = campaign["groups"][self.batch["group"]]
         self.program = campaign["programs"][self.group["program"]]
         self.base = of_group(campaign, self.group)
 
-    def is_same(self, record):
+    def is_same(self, record: Record) -> bool:
         """Whether a record is of the same runs but for its seed."""
         schedule = record["schedule"]["sha256"] if record["schedule"] else None
         own = {"predator": record["predator"]["sha256"], "program": record["program"]["sha256"], "schedule": schedule}
         return {**own, "settings": record["settings"]} == self.base
 
-    def empty(self, seed):
+    def empty(self, seed: int) -> Record:
         program = {"name": self.group["program"], "file": self.program["file"], "sha256": self.program["sha256"]}
         predator = {it: self.campaign["predator"][it] for it in ("version", "sha256")}
         head = {"program": program, "schedule": self.program["schedule"], "settings": self.group["settings"], "seed": seed}
         return {**head, "predator": predator, "results": {}, "blocks": {}, "failed": []}
 
-    def words(self, settings, trace):
+    def words(self, settings: str, trace: str | None) -> list[str]:
         words = ["run", self.program["file"], "--settings", settings]
         words += ["--schedule", self.program["schedule"]["file"]] if self.program["schedule"] else []
         return words + (["--trace", trace] if trace else [])
 
-    def make(self, seed, known, work):
+    def make(self, seed: int, known: Record | None, work: str) -> Record:
         """The record of a run: what is known of it, and what is still to make."""
         record = self.empty(seed)
         calls = [" ".join(it) for it in self.group["calls"]]
@@ -137,7 +147,7 @@ class Batch:
                 os.remove(trace)
         return record
 
-    def trace(self, seed, work):
+    def trace(self, seed: int, work: str) -> str:
         """Where the trace of a run is: among the kept ones, by what it stands on, or where it is lost."""
         if self.campaign["traces"] == "lost":
             return os.path.join(work, "trace")
@@ -145,25 +155,25 @@ class Batch:
         os.makedirs(folder, exist_ok=True)
         return os.path.join(folder, f"{seed}.{short(self.base)}.trace")
 
-    def run(self, record, work, trace):
+    def run(self, record: Record, work: str, trace: str | None) -> None:
         settings = os.path.join(work, "settings")
         with open(settings, "w", encoding="utf-8") as file:
             file.write(settings_text(record))
-        beside = trace and f"{trace}.new-{os.uname().nodename}-{os.getpid()}"
+        beside = f"{trace}.new-{os.uname().nodename}-{os.getpid()}" if trace else None
         try:
             status, text = self.caller.called(self.words(settings, beside))
         except Failed as failed:
             self.put_down(record, "run", failed)
             return
-        if beside:
+        if beside and trace:
             os.replace(beside, trace)
         before = record["results"].get("run")
         if before and before["text"] != text:
             raise SystemExit(f"batch.py: {command_of(record)}: it printed another report than before")
         record["results"]["run"] = {"status": status, "text": text}
 
-    def count(self, record, call, trace):
-        if "run" not in record["results"]:
+    def count(self, record: Record, call: str, trace: str | None) -> None:
+        if trace is None or "run" not in record["results"]:
             return
         try:
             status, text = self.caller.called([*call.split(), "--", trace])
@@ -172,25 +182,25 @@ class Batch:
             return
         record["results"][call] = {"status": status, "text": text}
 
-    def put_down(self, record, call, failed):
+    def put_down(self, record: Record, call: str, failed: Failed) -> None:
         record["failed"].append({"call": call, "command": command_of(record, call), "status": failed.status, "said": failed.said})
 
-    def note_blocks(self, record, trace):
+    def note_blocks(self, record: Record, trace: str | None) -> None:
         """Puts down the order of making of each block that a text names."""
         wanted = {(int(addr, 16), int(born)) for it in record["results"].values() for addr, born in BLOCK.findall(it["text"])}
         if wanted and trace and os.path.exists(trace):
             found = makings(trace, wanted)
             record["blocks"] = {f"{addr:#010x} {born}": order for (addr, born), order in sorted(found.items())}
 
-    def known(self, own):
+    def known(self, own: Iterable[Record]) -> dict[int, Record]:
         """The best record of each seed that a file has: the one with the most results."""
-        found = {}
+        found: dict[int, Record] = {}
         for it in [*own, *results.older(self.name)]:
             if self.is_same(it) and len(it["results"]) >= len(found.get(it["seed"], it)["results"]):
                 found[it["seed"]] = it
         return found
 
-    def work(self):
+    def work(self) -> None:
         """Makes all runs of the batch. Another job that is at the same batch, left by a call that was killed, is waited for."""
         path, done = results.finished(self.name), []
         os.makedirs(os.path.dirname(path), exist_ok=True)
@@ -215,7 +225,7 @@ class Batch:
                     os.remove(it)
 
 
-def main(words):
+def main(words: list[str]) -> None:
     os.chdir(words[0])
     Batch(campaign_of("."), words[1]).work()
 

@@ -2,13 +2,15 @@
 
 import shlex
 
+from folder import Record
 
-def settings_text(record):
+
+def settings_text(record: Record) -> str:
     """The settings file of a run."""
     return "".join(f"{key} = {value}\n" for key, value in {**record["settings"], "seed": record["seed"]}.items())
 
 
-def command_of(record, call="run"):
+def command_of(record: Record, call: str = "run") -> str:
     """The command of a run, or of a count of its trace."""
     text = settings_text(record).replace("\n", "\\n")
     words = f"predator run {shlex.quote(record['program']['file'])} --settings <(printf '{text}')"

@@ -3,18 +3,21 @@
 import hashlib
 import json
 import os
+from typing import Any, Iterable
 
+# What is kept as JSON: a campaign, or a part of one, or what a run gave.
+Record = dict[str, Any]
 CAMPAIGN = "campaign.json"
 
 
-def campaign_of(folder):
+def campaign_of(folder: str) -> Record:
     with open(os.path.join(folder, CAMPAIGN), encoding="utf-8") as file:
         return json.load(file)
 
 
-def spans(seeds):
+def spans(seeds: Iterable[int]) -> list[list[int]]:
     """Numbers that rise by one as a first and a last each."""
-    found = []
+    found: list[list[int]] = []
     for it in seeds:
         if found and found[-1][1] == it - 1:
             found[-1][1] = it
@@ -23,11 +26,11 @@ def spans(seeds):
     return found
 
 
-def seeds_in(batch):
+def seeds_in(batch: Record) -> list[int]:
     return [it for first, last in batch["seeds"] for it in range(first, last + 1)]
 
 
-def of_group(campaign, group):
+def of_group(campaign: Record, group: Record) -> Record:
     """What each result of a group stands on, but for its seed."""
     program = campaign["programs"][group["program"]]
     return {
@@ -38,10 +41,10 @@ def of_group(campaign, group):
     }
 
 
-def short(value):
+def short(value: object) -> str:
     """The beginning of a value's sum, which stands for it in a file's name."""
     return hashlib.sha256(json.dumps(value).encode()).hexdigest()[:12]
 
 
-def written(campaign):
+def written(campaign: Record) -> str:
     return json.dumps(campaign, indent=1, sort_keys=True) + "\n"

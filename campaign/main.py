@@ -9,18 +9,25 @@ import subprocess
 import sys
 import tempfile
 import threading
+from typing import TYPE_CHECKING, Sequence
 
 HERE = os.path.dirname(os.path.abspath(__file__))
 sys.path[:0] = [HERE, os.path.join(HERE, "..", "view")]
 
 from faults import Fault, plain  # noqa: E402
+from folder import Record  # noqa: E402
+
+if TYPE_CHECKING:
+    from plan import Check
+
 
 USAGE = "usage: predator campaign PLAN [--to DIR] [--profile P] [--cores N] [--check] [-- options of snakemake]"
 HELP = f"""{USAGE}
 
 Runs the programs of a plan under each of its settings and seeds, counts the traces, and makes tables: of each line, by the object that it
 is on, in how many seeds it was listed, the least, middle and greatest of its counts and useless misses, and the worst seed. The work is
-Snakemake's: on this machine's processors, or on those of a cluster. A call that was killed goes on where it was. docs/CAMPAIGNS.md has more.
+Snakemake's: on this machine's processors, or on those of a cluster. A call that was killed goes on where it was. docs/CAMPAIGNS.md has \
+more.
 
 Options:
   --to DIR      the folder of the results; without it PLAN without its ending, and `.campaign`
@@ -42,9 +49,11 @@ EVERY = 5
 class Call:
     """What is asked: the plan, the folder, and the words for Snakemake."""
 
-    def __init__(self, words):
-        self.options, self.more, names = {}, [], []
-        words = list(words)
+    def __init__(self, given: Sequence[str]) -> None:
+        self.options: dict[str, str] = {}
+        self.more: list[str] = []
+        names: list[str] = []
+        words = list(given)
         while words:
             word = words.pop(0)
             name, has_value, value = word.partition("=")
@@ -72,17 +81,21 @@ class Call:
         if cores != "all" and not (cores.isdigit() and int(cores)):
             raise Fault(f"'--cores' is a number from 1 on, and not '{cores}'")
 
-    def words(self):
+    def words(self) -> list[str]:
         """The words of Snakemake. A job's result is whole where it is there, and the lock is this call's own."""
         profile = self.options.get("profile")
         own = os.path.join(PROFILES, profile) if profile else ""
         words = ["--snakefile", os.path.join(HERE, "Snakefile"), "--nolock", "--ignore-incomplete", "--rerun-triggers", "mtime"]
         words += ["--keep-going", "--scheduler", "greedy"]
-        words += ["--profile", own if os.path.isdir(own) else profile] if profile else ["--cores", self.options.get("cores", "all"), "--quiet", "all"]
+        words += (
+            ["--profile", own if os.path.isdir(own) else profile]
+            if profile
+            else ["--cores", self.options.get("cores", "all"), "--quiet", "all"]
+        )
         return words + self.more
 
 
-def predator():
+def predator() -> Record:
     """The program that is called, with its sum and what the launcher says of its version."""
     launcher, program = os.environ["PREDATOR"], os.environ["PREDATOR_CAMPAIGN"]
     from plan import sum_of
@@ -95,21 +108,23 @@ def predator():
     return {"file": os.path.abspath(program), "sha256": sum_of(program), "version": version}
 
 
-def check_of(program):
+def check_of(program: str) -> "Check":
     """A function that says why predator refuses a program under settings, if it does."""
     from commands import settings_text
 
-    def told(path, settings):
+    def told(path: str, settings: Record) -> str | None:
         with tempfile.NamedTemporaryFile("w", suffix=".toml") as file:
             file.write(settings_text({"settings": settings, "seed": 0}))
             file.flush()
-            ran = subprocess.run([program, "check", path, "--settings", file.name], capture_output=True, encoding="latin-1", stdin=subprocess.DEVNULL)
+            ran = subprocess.run(
+                [program, "check", path, "--settings", file.name], capture_output=True, encoding="latin-1", stdin=subprocess.DEVNULL
+            )
         return (ran.stdout or ran.stderr).strip().partition("\n")[0].removeprefix("predator: ") if ran.returncode else None
 
     return told
 
 
-def locked(folder):
+def locked(folder: str) -> int:
     """The lock of a folder, which this call and its Snakemake hold until both have ended, however they end."""
     try:
         os.makedirs(folder, exist_ok=True)
@@ -123,7 +138,7 @@ def locked(folder):
     return lock
 
 
-def prepare(folder, campaign):
+def prepare(folder: str, campaign: Record) -> None:
     """Writes down what is asked for, unless that stands there, and puts batches aside in which a call had failed."""
     import results
     from folder import CAMPAIGN, written
@@ -147,7 +162,7 @@ def prepare(folder, campaign):
             os.replace(before, os.path.join(folder, results.failed(it)))
 
 
-def note_failed(folder, campaign, table):
+def note_failed(folder: str, campaign: Record, table: Record) -> None:
     """Puts down which batches have calls that failed: the next call tries those again."""
     import results
     from folder import seeds_in
@@ -161,7 +176,7 @@ def note_failed(folder, campaign, table):
     results.write_beside(os.path.join(folder, "failed.json"), json.dumps(found).encode())
 
 
-def tell_failed(folder, table):
+def tell_failed(folder: str, table: Record) -> None:
     for it in table["failed"][:MOST]:
         say(f"failed three times, with status {it['status']}: {it['command']}")
         say(f"  {it['said']}" if it["said"] else "  it said nothing")
@@ -173,34 +188,34 @@ def tell_failed(folder, table):
         say(f"  what it said stands in {folder}/logs/{it}.log")
 
 
-def say(text):
+def say(text: object) -> None:
     print(f"predator campaign: {plain(text)}", file=sys.stderr)
 
 
 class Progress:
     """Says on a terminal, every few seconds, how many jobs are done."""
 
-    def __init__(self, folder, campaign):
+    def __init__(self, folder: str, campaign: Record) -> None:
         import results
 
         self.files = [os.path.join(folder, results.finished(it["name"])) for it in campaign["batches"]]
         self.ended = threading.Event()
 
-    def __enter__(self):
+    def __enter__(self) -> None:
         if sys.stderr.isatty():
             threading.Thread(target=self.tell, daemon=True).start()
 
-    def __exit__(self, *_):
+    def __exit__(self, *_: object) -> None:
         self.ended.set()
 
-    def tell(self):
+    def tell(self) -> None:
         left = self.files
         while not self.ended.wait(EVERY):
             left = [it for it in left if not os.path.exists(it)]
             say(f"{len(self.files) - len(left)} of {len(self.files)} jobs are done")
 
 
-def tables(folder):
+def tables(folder: str) -> Record:
     """The tables: those that the workflow made, or else those of what there is."""
     from folder import CAMPAIGN, campaign_of
 
@@ -218,7 +233,7 @@ def tables(folder):
         return json.load(file)
 
 
-def work(call, campaign):
+def work(call: Call, campaign: Record) -> int:
     """Has the workflow do what is left, and tells how it went."""
     lock = locked(call.folder)
     prepare(call.folder, campaign)
@@ -236,11 +251,11 @@ def work(call, campaign):
     return 1 if table["failed"] or table["missing"] else 2 if status else 0
 
 
-def is_dry(words):
+def is_dry(words: Sequence[str]) -> bool:
     return any(it in ("-n", "--dry-run", "--dryrun", "--version", "--help", "--list", "--summary", "--dag") for it in words)
 
 
-def check(campaign):
+def check(campaign: Record) -> int:
     from folder import seeds_in
 
     runs = sum(len(seeds_in(it)) for it in campaign["batches"])
@@ -249,7 +264,7 @@ def check(campaign):
     return 0
 
 
-def lacking():
+def lacking() -> str | None:
     """What is missing of Debian's packages, or nothing."""
     try:
         import jsonschema  # noqa: F401
@@ -259,7 +274,7 @@ def lacking():
     return None if shutil.which("snakemake") else "snakemake"
 
 
-def main(words):
+def main(words: Sequence[str]) -> int:
     try:
         call = Call(words)
         if "help" in call.options:

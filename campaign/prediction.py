@@ -4,20 +4,23 @@
 usage: campaign/prediction.py FOLDER       the folder of a campaign whose `misses` have every shift of 64 and of 128 bytes
 
 A line of one of these layouts is **there** if its useless misses reach the report's threshold. It is **new** if they are above those of the
-run's own lines that it meets, all together, by the threshold or more: the run itself doesn't show it. A predicted line is **near** a line if it
-has half of that one's bytes or more. Prints for each run how many lines are there under layouts other than its own, and how many of them are
-predicted exactly, and have a predicted line near; the same of the new ones; and how many lines it predicts, how many of these are there, and
+run's own lines that it meets, all together, by the threshold or more: the run itself doesn't show it. A predicted line is **near** a line \
+if it
+has half of that one's bytes or more. Prints for each run how many lines are there under layouts other than its own, and how many of them \
+are
+predicted exactly, and have a predicted line near; the same of the new ones; and how many lines it predicts, how many of these are there, \
+and
 how many are new."""
 
 import os
 import sys
-from typing import NamedTuple
+from typing import Iterable, NamedTuple
 
 HERE = os.path.dirname(os.path.abspath(__file__))
 sys.path[:0] = [HERE, os.path.join(HERE, "..", "view")]
 
 import results  # noqa: E402
-from folder import campaign_of, seeds_in  # noqa: E402
+from folder import Record, campaign_of, seeds_in  # noqa: E402
 from lines import Told  # noqa: E402
 from naming import Memory  # noqa: E402
 from predicted import inside  # noqa: E402
@@ -31,30 +34,34 @@ class Range(NamedTuple):
     base: int
 
 
-def is_near(line, others):
+def is_near(line: Range, others: Iterable[Range]) -> bool:
     """Whether another line has half of a line's bytes or more."""
     shared = (min(line.base + line.size, it.base + it.size) - max(line.base, it.base) for it in others)
     return any(2 * it >= line.size for it in shared)
 
 
-def found_of(told):
+def found_of(told: Told) -> tuple[set[Range], set[Range], set[Range]]:
     """The lines that are there under layouts other than the run's own, those of them that are new, and the predicted ones."""
-    own = told.misses[told.report.size, told.report.offset]
+    report = told.report
+    assert report  # (a record without a failed call has one)
+    own = told.misses[report.size, report.offset]
     useless = {Range(size, base): it.useless for (size, _), found in told.misses.items() for base, it in found.lines.items()}
-    threshold = int(told.report.thresholds[2])
+    threshold = int(report.thresholds[2])
     there = {it for it, many in useless.items() if many >= threshold and (it.size, it.base % it.size) != (own.size, own.offset)}
     new = {it for it in there if useless[it] >= inside([it], own) + threshold}
-    return there, new, {Range(it.size, it.base) for it in told.report.predicted()}
+    return there, new, {Range(it.size, it.base) for it in report.predicted()}
 
 
-def judged(record):
+def judged(record: Record) -> list[int]:
     """The numbers of one run, under the heads behind `seed`."""
     there, new, predicted = found_of(Told(record, Memory()))
-    told = [number for lines in (there, new) for number in (len(lines), len(lines & predicted), sum(is_near(it, predicted) for it in lines))]
+    told = [
+        number for lines in (there, new) for number in (len(lines), len(lines & predicted), sum(is_near(it, predicted) for it in lines))
+    ]
     return [*told, len(predicted), len(predicted & there), len(predicted & new)]
 
 
-def main(words):
+def main(words: list[str]) -> int:
     if len(words) != 1 or words[0].startswith("-"):
         print(__doc__)
         return 0 if words in (["-h"], ["--help"]) else 1

@@ -8,25 +8,28 @@ import io
 import json
 import os
 import re
+from typing import Iterable, Iterator
+
+from folder import Record
 
 FOLDER = "results"
 # A batch by its least and greatest seed, and the sum of what it stands on; `failed` has calls that are to be tried again.
 NAME = re.compile(r"(\d+)-(\d+)\.[0-9a-f]{12}(\.part|(\.failed)?\.jsonl\.gz)")
 
 
-def finished(name):
+def finished(name: str) -> str:
     return f"{FOLDER}/{name}.jsonl.gz"
 
 
-def journal(name):
+def journal(name: str) -> str:
     return f"{FOLDER}/{name}.part"
 
 
-def failed(name):
+def failed(name: str) -> str:
     return f"{FOLDER}/{name}.failed.jsonl.gz"
 
 
-def write_beside(path, data):
+def write_beside(path: str, data: bytes) -> None:
     """Writes a file so that it is there whole or not at all, also after a loss of power."""
     beside = f"{path}.new-{os.uname().nodename}-{os.getpid()}"
     with open(beside, "wb") as file:
@@ -36,11 +39,11 @@ def write_beside(path, data):
     os.replace(beside, path)
 
 
-def spelled(record):
+def spelled(record: Record) -> str:
     return json.dumps(record, sort_keys=True, separators=(",", ":")) + "\n"
 
 
-def packed(records):
+def packed(records: Iterable[Record]) -> bytes:
     """The bytes of a finished batch: the same for the same records."""
     out = io.BytesIO()
     with gzip.GzipFile(filename="", mode="wb", fileobj=out, compresslevel=6, mtime=0) as file:
@@ -49,16 +52,17 @@ def packed(records):
     return out.getvalue()
 
 
-def records(path):
+def records(path: str) -> Iterator[Record]:
     """The records of a finished batch."""
     with gzip.open(path, "rt", encoding="utf-8") as file:
         for line in file:
             yield json.loads(line)
 
 
-def noted(data):
+def noted(data: bytes) -> tuple[list[Record], int]:
     """The records of a journal's whole lines, and where these end. A loss of power may leave anything behind them."""
-    found, end = [], 0
+    found: list[Record] = []
+    end = 0
     for line in data.splitlines(keepends=True):
         with contextlib.suppress(ValueError):
             if line.endswith(b"\n"):
@@ -69,7 +73,7 @@ def noted(data):
     return found, end
 
 
-def older(name):
+def older(name: str) -> Iterator[Record]:
     """The records of other files that have seeds of this batch's range: those of another plan, or of calls that failed."""
     folder = os.path.dirname(finished(name))
     first, last = (int(it) for it in os.path.basename(name).partition(".")[0].split("-"))

@@ -7,27 +7,34 @@ Prints, for each program and settings, how many objects the usual schedule lists
 listed in every seed and in fewer than a half; then how many objects it doesn't list and some seed does, and of these how many are listed in
 a half of the seeds or more, and in one of ten or fewer. Then it names the object
 with the greatest count in most seeds, and the objects that set the two apart: those of the usual schedule that
-fewer than a half of the seeds list, and those that seeds alone list; each with its count there, in how many seeds it is listed, its counts in
+fewer than a half of the seeds list, and those that seeds alone list; each with its count there, in how many seeds it is listed, its \
+counts in
 them, and the seed of the greatest. --lines takes each line by itself, and not all of an
 object as one. --renew puts the numbers of lines, and the objects, into the tables of docs/STUDIES.md."""
 
 import os
 import sys
 from collections import Counter
+from typing import Any, Iterable, Mapping
 
 HERE = os.path.dirname(os.path.abspath(__file__))
 sys.path[:0] = [HERE, os.path.join(HERE, "..", "view")]
 
-from folder import campaign_of  # noqa: E402
-from table import family, middle, own_name, read, settings_of  # noqa: E402
+from folder import Record, campaign_of  # noqa: E402
+from table import Part, family, middle, own_name, read, settings_of  # noqa: E402
 
 HEADS = ("program", "settings", "seeds", "usual", "in every seed", "in fewer than half", "others", "in half or more", "in a tenth or fewer")
 APART = ("program", "settings", "object", "usual count", "seeds", "least", "middle", "greatest", "worst seed")
 
 
-def listed(part, groups, by_lines):
+# Of each object its counts by their seeds.
+Objects = dict[str, Counter[int]]
+Row = tuple[Any, ...]
+
+
+def listed(part: Part, groups: Iterable[int], by_lines: bool) -> dict[int, Objects]:
     """Of each group the counts of each object, or of each line, in each seed that lists it under the run's own lines."""
-    found = {at: {} for at in groups}
+    found: dict[int, Objects] = {at: {} for at in groups}
     for (group, _, kind, key), (names, seen) in part.lines.items():
         counts = {seed: count for seed, count, _ in seen if count is not None}
         if kind == "observed" and counts:
@@ -38,30 +45,33 @@ def listed(part, groups, by_lines):
     return found
 
 
-def drawn_of(counts):
+def drawn_of(counts: Mapping[int, int]) -> dict[int, int]:
     return {seed: count for seed, count in counts.items() if seed}
 
 
-def told(name, counts):
+def told(name: str, counts: Mapping[int, int]) -> Row:
     """An object's count in the usual schedule, in how many seeds it is listed, its counts there, and the seed of the greatest."""
     seeds = drawn_of(counts)
     worst = max(seeds, key=lambda it: (seeds[it], -it)) if seeds else "-"
     return name, counts.get(0, "-"), len(seeds), *("-" if it is None else it for it in middle(seeds.values())), worst
 
 
-def worst(objects):
+def worst(objects: Objects) -> str:
     """The object that is the worst one by the middle of its counts."""
     return max(objects, key=lambda it: (middle(drawn_of(objects[it]).values())[1] or 0, it))
 
 
-def apart(objects, drawn):
+def apart(objects: Objects, drawn: int) -> list[str]:
     """The objects that the usual schedule lists and fewer than a half of the seeds do, and those that seeds alone list."""
     return [name for name, counts in sorted(objects.items()) if 0 not in counts or 2 * (len(counts) - 1) < drawn]
 
 
-def found_in(campaign, part, by_lines):
+def found_in(campaign: Record, part: Part, by_lines: bool) -> tuple[list[Row], list[Row], list[Row]]:
     """The rows of the numbers, of the worst objects, and of those that set the schedules apart, each behind its program and settings."""
-    runs, numbers, first, rows = Counter(it[0] for it in part.runs), [], [], []
+    runs = Counter(it[0] for it in part.runs)
+    numbers: list[Row] = []
+    first: list[Row] = []
+    rows: list[Row] = []
     for at, objects in listed(part, range(len(campaign["groups"])), by_lines).items():
         group = campaign["groups"][at]
         head, drawn = (group["program"], settings_of(group)), runs[at] - 1
@@ -75,16 +85,26 @@ def found_in(campaign, part, by_lines):
     return numbers, first, rows
 
 
-def renew_page(campaign, part):
+def renew_page(campaign: Record, part: Part) -> None:
     sys.path.append(os.path.join(HERE, "..", "guest", "studies"))
     import report  # (only here, since a campaign elsewhere has no page of studies)
 
-    def of_quantum(row):
+    def of_quantum(row: Row) -> Row:
         return row[0], dict(it.split("=") for it in row[1].split(","))["quantum"], *row[2:]
 
     numbers = found_in(campaign, part, True)[0]
     _, first, rows = found_in(campaign, part, False)
-    heads = ["Program", "`quantum`", "Seeds", "Usual", "in every seed", "in fewer than half", "Others", "in half or more", "in a tenth or fewer"]
+    heads = [
+        "Program",
+        "`quantum`",
+        "Seeds",
+        "Usual",
+        "in every seed",
+        "in fewer than half",
+        "Others",
+        "in half or more",
+        "in a tenth or fewer",
+    ]
     parts = {"usual": report.table(heads, map(of_quantum, numbers))}
     heads = ["Program", "`quantum`", "Object", "Usual count", "Seeds", "least", "middle", "greatest", "Seed of the greatest"]
     for name, found in (("worst", first), ("apart", rows)):
@@ -93,7 +113,7 @@ def renew_page(campaign, part):
     report.renew(parts)
 
 
-def main(words):
+def main(words: list[str]) -> int:
     by_lines, is_page, names = "--lines" in words, "--renew" in words, [it for it in words if it not in ("--lines", "--renew")]
     if len(names) != 1 or names[0].startswith("-"):
         print(__doc__)

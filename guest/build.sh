@@ -41,7 +41,7 @@ kit_of() {
         echo "$KIT"
         return
     fi
-    seen=$(clang "${common[@]}" "${small[@]}" "${flags[@]}" -M -MG "${sources[@]}" | tr -s ' \\' '\n\n')
+    seen=$(clang "${common[@]}" "${small[@]}" "${flags[@]}" -M -MG "${sources[@]}" | tr -s " \\\\" '\n')
     lacks=$(grep -v / <<<"$seen" | grep -E '\.h$|^sys/' || true)
     if [ -n "$(library_set)" ]; then
         for it in $lacks; do

@@ -15,7 +15,16 @@ import sys
 import tempfile
 
 TOP = os.path.abspath(os.path.join(os.path.dirname(os.path.abspath(__file__)), ".."))
-FILES = ["README.md", "docs/GUIDE.md", "docs/VIEW.md", "docs/CAMPAIGNS.md", "guest/README.md", "examples/README.md", "docs/FORMATS.md", "docs/STUDIES.md"]
+FILES = [
+    "README.md",
+    "docs/GUIDE.md",
+    "docs/VIEW.md",
+    "docs/CAMPAIGNS.md",
+    "guest/README.md",
+    "examples/README.md",
+    "docs/FORMATS.md",
+    "docs/STUDIES.md",
+]
 BLOCK = "    "
 MANUAL = "docs/predator.1"
 

@@ -1,5 +1,8 @@
 # What build.sh and cc have in common: the flags, the parts of the kit, and how a program is linked. `here` is the folder of the kit
 # and `self` the name of the command, which sources this file.
+#
+# (and uses what isn't used here)
+# shellcheck disable=SC2034,SC2154
 
 picolibc=${PICOLIBC:-/usr/lib/picolibc/riscv64-unknown-elf}
 machine=(--target=riscv32-unknown-none-elf -march=rv32ima -mabi=ilp32 -mno-relax)

@@ -1,6 +1,9 @@
-# shellcheck shell=bash disable=SC2154
+# shellcheck shell=bash
 # Fetches source packages of Debian (bookworm) into the folder `fetched` beside the script that sources this file and sets `here`, by apt-get
 # and dpkg-source (Debian: apt, dpkg-dev). Nothing of the system's own lists of packages is changed. What is there stays.
+#
+# (the script sets `here`)
+# shellcheck disable=SC2154
 work=$(mktemp -d)
 trap 'rm -rf "$work"' EXIT
 keys=/usr/share/keyrings/debian-archive-keyring.gpg

@@ -134,7 +134,7 @@ refuses "the driver without a C library" "there is no picolibc" env PICOLIBC=/no
 
 words_are() {
     local text=$1 wanted=$2 got
-    got=$(self=kit.sh && . "$here/common.bash" && part_words "$text" && echo "${words[*]}")
+    got=$(bash -c 'self=kit.sh here=$1; . "$here/common.bash"; part_words "$2" && echo "${words[*]}"' all "$here" "$text")
     if [ "$got" = "$wanted" ]; then pass; else wrong "ARGUMENTS=$text gives $got and not $wanted"; fi
 }
 words_are '' ''
@@ -148,7 +148,7 @@ words_are 'a"b c"d' '"ab cd",'
 words_are "a'"$'\n\t'"'b" '"a\012\011b",'
 words_are $'1\n2\t3' '"1", "2", "3",'
 words_are 'grün ä' '"grün", "ä",'
-words_are 'a\' '"a\\",'
+words_are "a\\" '"a\\",'
 refuses "an open quote" "has a \" that isn't closed" env ARGUMENTS='4 "a' "$cc" puts.c
 refuses "another open quote" "has a ' that isn't closed" env ARGUMENTS="it's" "$cc" puts.c
 
@@ -234,7 +234,7 @@ builds "all names, at run time" "$cc" -Wall -Werror -DPREDATOR_REFUSE_AT_RUN -c 
 printf 'extern void *const all[];\nint main(int count, char **words) { (void)words; return all[count] == 0; }\n' >wants.c
 builds "all names at run time, linked" "$cc" at_run.o wants.c -o wants.elf
 # (names that the C library has, over others that it hasn't)
-wanted=$(printf '%s\n' $names $(grep -v '^#' "$here/clib/missing.txt" | tr ' ' '\n' | grep -v '^PREDATOR_NO_') |
+wanted=$({ echo "$names" && grep -v '^#' "$here/clib/missing.txt" | tr -s ' ' '\n' | grep -v '^PREDATOR_NO_'; } |
     grep -v -x -E 'fopen|freopen|remove|tmpfile|mkstemp')
 {
     for it in $wanted; do echo "void $it(void);"; done

@@ -258,17 +258,14 @@ try_shown() {
     try "what is in the file" 0 grep -x "sum 80000" put
     for it in ">shown" ">shown 2>/dev/null" ">shown 2>&-" ">shown 2>/dev/full" ">shown 2> >(true)" "2>&1 >shown | cat"; do
         rm -f shown
-        # shellcheck disable=SC2016
         try "a run with $it" 0 bash -c 'set -o pipefail; "$0" run programs/counters.elf '"$it" "$predator"
         try "the report of a run with $it" 0 cmp shown report
     done
     # Standard error may be what the call writes, and then gets nothing.
     for it in "2>over" "2>>over"; do
         rm -f over
-        # shellcheck disable=SC2016
         try "a trace over $it" 0 bash -c '"$0" run programs/counters.elf --trace over >shown '"$it" "$predator"
         try "the report of a trace over $it" 0 cmp shown report
-        # shellcheck disable=SC2016
         try "a replay of a trace over $it" 0 bash -c '"$0" replay over | cmp - report' "$predator"
     done
     # Bytes that are no text come as they are, and a line that isn't ended is.
@@ -284,7 +281,6 @@ try_shown() {
     try "an exit code" 0 "$predator" run programs/linked.elf
     shows "an exit code" "linked" "predator: the program ended with exit code 14"
     for it in "2>&-" "2>/dev/full"; do
-        # shellcheck disable=SC2016
         try "an exit code with $it" 0 bash -c '"$0" run programs/linked.elf '"$it" "$predator"
         prints "an exit code with $it" "outcome exit 14"
     done
@@ -330,7 +326,6 @@ try_streams() {
     try "a file of that name" 0 "$predator" replay ./-
     for words in "${twice[@]}"; do
         rm -f a b
-        # shellcheck disable=SC2016
         try "$words of a pipe" 7 bash -c 'cat made | "$0" '"${words/IT//dev/stdin}" "$predator"
         says "$words of a pipe" "/dev/stdin: $once"
         try "$words of a pipe writes nothing" 1 test -e a

@@ -43,7 +43,9 @@ def room_of(data):
         names = data[sections[link][4] : sections[link][4] + sections[link][5]]
         for name, addr, length, info, _, _ in (struct.unpack("<IIIBBH", it) for it in table(data, at, 16, size // 16)):
             if info & 15 == OBJECT and length == ROOM and names[name:].startswith(NAME + b"\0"):
-                for kind, begin, base, _, filled, *_ in (struct.unpack_from("<8I", it) for it in table(data, segments_at, segment_size, segments)):
+                for kind, begin, base, _, filled, *_ in (
+                    struct.unpack_from("<8I", it) for it in table(data, segments_at, segment_size, segments)
+                ):
                     if kind == LOADED and base <= addr and addr + ROOM <= base + filled:
                         return addr, begin + addr - base
     return None
@@ -71,7 +73,10 @@ def main(words):
     except (OSError, Strange, struct.error):
         return 3
     if room is None:
-        print(f"predator: {path}: there is no room for words of its own: guest/build.sh and guest/cc leave it in programs with a C library", file=sys.stderr)
+        print(
+            f"predator: {path}: there is no room for words of its own: guest/build.sh and guest/cc leave it in programs with a C library",
+            file=sys.stderr,
+        )
         return 1
     made = filled(room[0], [b"program", *map(os.fsencode, words[2:])])
     if made is None:

@@ -52,12 +52,11 @@ gcc -O1 -g -pthread -DMARKS "$here/tries/odd.c" -o marked
 gcc -O1 -g -pthread "$here/tries/wide.c" -o wide
 
 # The turns, and what is taken.
-began=$SECONDS
 for row in "1 79000 80000" "10 15000 16500" "100 1500 1700" "1000 150 170"; do
-    set -- $row
-    same "counters at $1" "sum 80000" "$("$run" --quantum "$1" --trace t -- ./counters 2>&1)"
-    within "takings at $1" "$2" "$3" "$("$judge" taken t counters)"
-    same "end at $1" "exit 0" "$("$judge" end t)"
+    read -r quantum least most <<<"$row"
+    same "counters at $quantum" "sum 80000" "$("$run" --quantum "$quantum" --trace t -- ./counters 2>&1)"
+    within "takings at $quantum" "$least" "$most" "$("$judge" taken t counters)"
+    same "end at $quantum" "exit 0" "$("$judge" end t)"
 done
 same "a word's accesses" "10000 10000 1" "$("$judge" word t counters 4)"
 "$run" --quantum 50 --trace t -- ./counters >/dev/null 2>&1
@@ -346,6 +345,8 @@ within "pipe: all goes through" 1000000 3000000 "$(tail -n 1 <<<"$said")"
 piped() { # MODE STATUS END OUTPUT
     local said status
     rm -f from-pipe
+    # (a mode may be two words)
+    # shellcheck disable=SC2086
     said=$(echo hello | pass keeps -- ./odd $1 2>o.log)
     status=$?
     same "pipe: $1: status" "$2" "$status"
@@ -402,7 +403,8 @@ rm -f from-pipe
 PREDATOR=$work/keeps "$run" -- ./odd endless >/dev/null 2>pipe.log &
 pid=$!
 longer from-pipe 3000000
-for child in $(cat /proc/$pid/task/$pid/children); do
+read -ra below <"/proc/$pid/task/$pid/children"
+for child in "${below[@]}"; do
     if tr '\0' ' ' <"/proc/$child/cmdline" | grep -q '/odd endless $'; then kill -9 "$child"; fi
 done
 wait $pid 2>/dev/null

@@ -3,8 +3,10 @@
 
 usage: tools/clients.py memcached|redis PORT CLIENTS TIMES [--anew] [--in-step]
 
-So many clients at the same time each set a value of 100 bytes and get it back, so often: under a key of their own, or, --anew, under a new one
-each time. With --in-step all have asked before the first answer is read. A wrong answer ends it with status 1, and no server on the port within
+So many clients at the same time each set a value of 100 bytes and get it back, so often: under a key of their own, or, --anew, under a \
+new one
+each time. With --in-step all have asked before the first answer is read. A wrong answer ends it with status 1, and no server on the port \
+within
 a minute too."""
 
 import socket

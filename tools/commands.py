@@ -176,6 +176,23 @@ def launcher_parts(table: dict[str, list[Row]]) -> dict[str, str]:
     return {"words": f"declare -A names_before=({counts})\nwritten_options=({outputs})\n"}
 
 
+def view_parts(table: dict[str, list[Row]]) -> dict[str, str]:
+    """What view and campaign know, by the names of its marks."""
+    usual = ", ".join(f'"{it["key"]}": {it["usual"]}' for it in table["setting"] if isinstance(it["usual"], int))
+    run = {it for command in table["command"] if command["name"] == "run" for it in options_of(command)}
+    written = [it["name"] for it in table["option"] if it["name"] in run and it.get("writes")]
+    asked = [it["name"] for it in table["option"] if it["name"] in run and not it.get("writes")]
+    lines = textwrap.wrap(usual, 130)
+    return {
+        "usual": "USUAL = {\n" + "\n".join(f"    {it}" for it in lines) + ",\n}\n",
+        "options": f"ASKED = ({', '.join(map(quoted, asked))})\nWRITTEN = ({', '.join(map(quoted, written))})\n",
+    }
+
+
+def quoted(text: str) -> str:
+    return f'"{text}"'
+
+
 def marked(begin: str, end: str, parts: Callable[[dict[str, list[Row]]], dict[str, str]]) -> Callable[[str, dict[str, list[Row]]], str]:
     """Writes parts between two lines each, the first of which has the part's name."""
 
@@ -200,6 +217,7 @@ PLACES = {
     "docs/FORMATS.md": marked("<!-- commands.toml: {} -->", "<!-- (so far) -->", format_parts),
     "bin/predator.bash": marked("    # commands.toml: {}", "    # (so far)", completion_parts),
     "bin/commands.bash": marked("# commands.toml: {}", "# (so far)", launcher_parts),
+    "view/settings.py": marked("# commands.toml: {}", "# (so far)", view_parts),
     USAGE: renew_usage,
 }
 

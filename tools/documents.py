@@ -177,7 +177,11 @@ def main(words):
             for crate, item in re.findall(r"`([a-z_0-9]+)::(\w+)", line):
                 if crate not in crates or not crates[crate].has_item(item):
                     found.append(f"{crate}::{item}")
-            found += [it for it in re.findall(r"`([A-Za-z][\w-]*)`", line) if it not in everywhere and not it.endswith("_") and "STUDIES" not in name]
+            found += [
+                it
+                for it in re.findall(r"`([A-Za-z][\w-]*)`", line)
+                if it not in everywhere and not it.endswith("_") and "STUDIES" not in name
+            ]
             if name == "docs/PROMISES.md" and line.startswith("| "):
                 more, about = of_promises(line, crates, about)
                 found += more

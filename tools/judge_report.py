@@ -18,7 +18,16 @@ from typing import NamedTuple
 from traces import FUNCTION, OBJECT, Alloc, Free, Symbol
 
 KINDS = ("observed", "shifted", "doubled")
-CAUSES = ("illegal", "breakpoint", "fetch-misaligned", "fetch-outside", "load-misaligned", "load-outside", "store-misaligned", "store-outside")
+CAUSES = (
+    "illegal",
+    "breakpoint",
+    "fetch-misaligned",
+    "fetch-outside",
+    "load-misaligned",
+    "load-outside",
+    "store-misaligned",
+    "store-outside",
+)
 
 
 class Access(NamedTuple):
@@ -255,7 +264,9 @@ def some_ending(dice, harts):
     pc, cause = 4 * dice.randrange(2**30), dice.randrange(8)
     trap = Ending(f"trap hart {hart} pc {address(pc)} {CAUSES[cause]}", steps, (3, cause + 1, hart, pc))
     exits = Ending(f"exit {code}", steps, (0, 0, 0, code))
-    return dice.choice((exits, Ending("budget", steps, (1, 0, 0, 0)), Ending("deadlock", steps, (2, 0, 0, 0)), trap, Ending("part", 0, (4, 0, 0, 0))))
+    return dice.choice(
+        (exits, Ending("budget", steps, (1, 0, 0, 0)), Ending("deadlock", steps, (2, 0, 0, 0)), trap, Ending("part", 0, (4, 0, 0, 0)))
+    )
 
 
 def some_case(dice):

@@ -110,7 +110,7 @@ def object_part(b, at, position):
         if at + 12 > len(b) or b[at] != 5:
             raise Fault(at)
         kind, addr, size, length = struct.unpack_from("<BIIH", b, at + 1)
-        name = b[at + 12:at + 12 + length]
+        name = b[at + 12 : at + 12 + length]
         good = kind in (1, 2) and size > 0 and length <= 1024 and len(name) == length and 0 not in name
         if not good or (kind, addr, size) in places:
             raise Fault(at)
@@ -144,13 +144,13 @@ def variants(b):
     for place in range(len(b)):
         for value in (0, 1, 0x7F, 0xFF):
             if b[place] != value:
-                yield bytes(b[:place]) + bytes([value]) + bytes(b[place + 1:])
+                yield bytes(b[:place]) + bytes([value]) + bytes(b[place + 1 :])
     for cut in range(len(b)):
         yield bytes(b[:cut])
     yield bytes(b) + b"\0"
     for place in (48, 56):
         for number in (2**64 - 1, 2**63, 2**32):
-            yield bytes(b[:place]) + struct.pack("<Q", number) + bytes(b[place + 8:])
+            yield bytes(b[:place]) + struct.pack("<Q", number) + bytes(b[place + 8 :])
 
 
 def said(program, trace, words, state):

@@ -132,8 +132,11 @@ def stem(word):
 
 
 def words_in(text):
-    return {stem(it) for it in re.findall(r"[A-Za-z']+", re.sub(r"([a-z])([A-Z])", r"\1 \2", text.replace("_", " ").replace("-", " ")))
-            if it.lower() not in PLAIN}
+    return {
+        stem(it)
+        for it in re.findall(r"[A-Za-z']+", re.sub(r"([a-z])([A-Z])", r"\1 \2", text.replace("_", " ").replace("-", " ")))
+        if it.lower() not in PLAIN
+    }
 
 
 def comments_of_names(source):
@@ -147,8 +150,12 @@ def comments_of_names(source):
             below += 1
         if not found or not alone or below >= len(lines) or re.match(r"\s*(///|//|--|$)", lines[below]):
             continue
-        head = re.match(r"\s*(?:pub(?:\([a-z]+\))? |abbrev |unfoldable |const |unsafe )*(?:fn |struct |enum |trait |record |data |static |type |ruleset )?"
-                        r"(?:pub )?([^\s(){}<,:;=]+)\s*([:=({<,;]|where|$)", lines[below])
+        head = re.match(
+            r"\s*(?:pub(?:\([a-z]+\))? |abbrev |unfoldable |const |unsafe )*"
+            r"(?:fn |struct |enum |trait |record |data |static |type |ruleset )?"
+            r"(?:pub )?([^\s(){}<,:;=]+)\s*([:=({<,;]|where|$)",
+            lines[below],
+        )
         if head and number > 0 and words_in(found[1]) and words_in(found[1]) <= words_in(head[1]):
             yield f"{source.path}:{number + 1}: comment that repeats the name: {found[1]}"
 

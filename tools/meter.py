@@ -94,7 +94,9 @@ def main(program, seconds=3.0):
             faults = faults_of(what, shown, took, form, whole(), told)
             found += faults
             print(f"{what}: {len(form.findall(shown))} lines in {took:.1f} s{', wrong' if faults else ''}")
-            quiet = subprocess.run([program, *words], stdin=subprocess.DEVNULL, stdout=subprocess.DEVNULL, stderr=subprocess.PIPE, check=False)
+            quiet = subprocess.run(
+                [program, *words], stdin=subprocess.DEVNULL, stdout=subprocess.DEVNULL, stderr=subprocess.PIPE, check=False
+            )
             if form.search(quiet.stderr.decode(errors="replace")):
                 found.append(f"{what}: a line is shown where no terminal is")
     print(*found, sep="\n", end="\n" if found else "")

@@ -13,7 +13,8 @@ import sys
 from judge_report import address, printed
 from traces import OBJECT, Alloc, Free, Symbol, records
 
-# The address and size of an object, accesses, the size of a line, and by docs/RULES.md the places of its words, the area and the three sums.
+# The address and size of an object, accesses, the size of a line, and by docs/RULES.md the places of its words, the area and the three
+# sums.
 WORKED = [
     ((0x1000, 8), "W0 1000, W1 1004, W0 1000", 64, [0x1040, 0x1080], (0x1040, 128), (2, 0, 0)),
     ((0x1000, 4), "W0 1000, W1 1000", 64, [0x1040], (0x1040, 64), (1, 1, 1)),

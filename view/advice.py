@@ -1,6 +1,11 @@
 """What to do about an object, in a sentence: which of its fields belong apart, or that it is shared truly."""
 
 import re
+from typing import Callable, Iterable, Mapping, NamedTuple, Sequence
+
+from keys import Key, OfBlocks, OfStack
+from objects import Thing, Told
+from reports import Placed
 
 # A word whose own misses are fewer than one in so many accesses is one hart's, but for looks at the start and the end.
 SELDOM = 20
@@ -16,41 +21,56 @@ SHORT, MANY = 10, 50
 INDEX, PACKED = re.compile(r"\[\d+(?:\.\.\d+)?\]"), re.compile(r"\[\d+\.\.\d+\]")
 
 
-def patterns(names):
+# What tells the type of an array's elements, in backquotes, or nothing.
+Element = Callable[[str], str]
+SHARED = "shared"
+
+
+class Whose(NamedTuple):
+    """Whose some words are: a hart's own, or `SHARED` by those of one pattern, or written by one hart, by their name."""
+
+    whose: str
+    of: str
+
+
+Groups = dict[Whose, list[Told]]
+
+
+def patterns(names: Iterable[str]) -> list[str]:
     """The names, those of more than two elements of an array as one: `slots[..]`."""
-    names, found = list(dict.fromkeys(names)), {}
-    for it in names:
+    found: dict[str, list[str]] = {}
+    for it in dict.fromkeys(names):
         found.setdefault(INDEX.sub("[..]", it), []).append(it)
     return [one for pattern, own in found.items() for one in ([pattern] if len(own) > 2 else own)]
 
 
-def listing(names):
+def listing(own: Iterable[str]) -> str:
     """Some names in a row, and how many more there are."""
-    names = patterns(names)
+    names = patterns(own)
     more = len(names) - NAMED
     if more > 1:
         return ", ".join(names[:NAMED]) + f" and {more} more"
     return ", ".join(names[:-1]) + " and " + names[-1] if len(names) > 1 else "".join(names)
 
 
-def is_shared(word):
+def is_shared(word: Told) -> bool:
     """Whether harts hand a word to each other; a word's own misses tell, and without them its harts."""
     if word.useful is None:
         return word.hart == "many" and word.writes > 0
     return word.writes > 0 and word.useful > LOOKS and word.useful * SELDOM > word.reads + word.writes
 
 
-def is_packed(word):
+def is_packed(word: Told) -> bool:
     """Whether several fields or elements lie in a word, which counts as one."""
     return ", " in word.name or PACKED.search(word.name) is not None
 
 
-def is_waited_for(words):
+def is_waited_for(words: Sequence[Told]) -> bool:
     """Whether harts look at elements of an array far more often than these change."""
     return len(words) > 1 and sum(it.reads for it in words) >= 2 * sum(it.writes for it in words)
 
 
-def arrays(names):
+def arrays(names: Sequence[str]) -> str | None:
     """The array in which some names first differ, or none: `stats[1].low` and `stats[2].low` differ in `stats`."""
     heads = [[name[: it.start()] for it in INDEX.finditer(name)] for name in names]
     indices = [INDEX.findall(name) for name in names]
@@ -62,77 +82,80 @@ def arrays(names):
     return None
 
 
-def array_of(words):
+def array_of(words: Sequence[Told]) -> str | None:
     """The array in which some words first differ, or whose elements share the one word; or none."""
     names = [it.name.partition(", ")[0] for it in words]
     alone = PACKED.search(names[0]) if len(set(names)) == 1 else None
     return names[0][: alone.start()] if alone else arrays(names)
 
 
-def groups(words):
+def groups(words: Iterable[Told]) -> Groups:
     """The words by whose they are: each hart's own, each shared one alone, and those that are only read."""
-    found = {}
+    found: Groups = {}
     for it in sorted(words, key=lambda it: -it.writes):
         if is_shared(it):
-            found.setdefault(("shared", INDEX.sub("[..]", it.name)), []).append(it)
+            found.setdefault(Whose(SHARED, INDEX.sub("[..]", it.name)), []).append(it)
         elif it.hart != "many":
-            found.setdefault((f"hart {it.hart}", ""), []).append(it)
+            found.setdefault(Whose(f"hart {it.hart}", ""), []).append(it)
         elif it.writes:
-            found.setdefault(("one hart", it.name), []).append(it)
+            found.setdefault(Whose("one hart", it.name), []).append(it)
     return found
 
 
-def told(key, words, size, element):
+def told(key: Whose, words: Sequence[Told], size: int, element: Element) -> str:
     """A group of words, and whose it is; of an array whose elements each belong apart, how."""
-    array = array_of(words) if key[0] == "shared" and (is_waited_for(words) or all(map(is_packed, words))) else None
+    array = array_of(words) if key.whose == SHARED and (is_waited_for(words) or all(map(is_packed, words))) else None
     if not array:
-        return f"{listing(it.name for it in words)} ({key[0]})"
+        return f"{listing(it.name for it in words)} ({key.whose})"
     return f"each element of {array} (shared; `alignas({size})` on {element(array) or 'the type of an element'})"
 
 
-def lines(words):
+def lines(words: Iterable[Told]) -> list[list[Told]]:
     """The words by their lines."""
-    found = {}
+    found: dict[int, list[Told]] = {}
     for it in words:
         found.setdefault(it.base, []).append(it)
     return list(found.values())
 
 
-def fought(own):
+def fought(own: list[Told]) -> list[Told]:
     """The words of the first line that has words of several harts."""
     return next((it for it in lines(own) if len(groups(it)) > 1), own and lines(own)[0])
 
 
-def naming_fields(words, thing):
+def naming_fields(words: Sequence[Told], thing: Thing) -> str:
     """How to have the fields of a block named whose type nobody told, or nothing."""
     site = thing.name.partition(" made at ")[2].partition(" ")[0]
     return f" (`--type {site}=TYPE` names its fields)" if site and is_untyped(words, thing) else ""
 
 
-def is_untyped(words, thing):
-    return thing.key[0] == "block" and all(it.name[:1] == "+" for it in words)
+def is_untyped(words: Iterable[Told], thing: Thing) -> bool:
+    return isinstance(thing.key, OfBlocks) and all(it.name[:1] == "+" for it in words)
 
 
-def in_pieces(words, thing, size):
+def in_pieces(words: Sequence[Told], thing: Thing, size: int) -> str:
     """What to do about memory without a type of which each hart has pieces."""
-    how = f"`alignas({size})` on the type of its elements" + (f" and `aligned_alloc({size}, ..)`" if thing.key[0] == "block" else "")
+    how = f"`alignas({size})` on the type of its elements" + (
+        f" and `aligned_alloc({size}, ..)`" if isinstance(thing.key, OfBlocks) else ""
+    )
     rounded = f"in an arena by rounding up where its pieces begin, and their sizes, to multiples of {size}"
     said = f"harts have words of their own in {thing.name}: give each hart's words lines of their own, in an array by {how}, {rounded}"
     return said + naming_fields(words, thing)
 
 
-def is_raw(words, thing):
+def is_raw(words: Sequence[Told], thing: Thing) -> bool:
     """Whether an object is memory without a type, or bytes, of which each hart has its own."""
     own = groups(words)
     is_plain = is_untyped(words, thing) or all(PACKED.search(it.name) for it in words)
-    return len(own) > 1 and all(key[0] != "shared" for key in own) and is_plain
+    return len(own) > 1 and all(key.whose != SHARED for key in own) and is_plain
 
 
-def groups_apart(own, thing, size, element):
+def groups_apart(own: Sequence[Told], thing: Thing, size: int, element: Element) -> str:
     """Which words of a line belong apart."""
     found = groups(own)
-    if len(found) > 2 and not any(it.element for it in own) and all(key[0] != "shared" for key in found):
-        return f"harts have words of their own in {thing.name}: give each hart's words lines of their own, with `alignas({size})` on the type of its elements"
+    if len(found) > 2 and not any(it.element for it in own) and all(key.whose != SHARED for key in found):
+        how = f"with `alignas({size})` on the type of its elements"
+        return f"harts have words of their own in {thing.name}: give each hart's words lines of their own, {how}"
     if len(found) < 2:
         return f"begin {thing.name} on a line of its own, with `alignas({size})`"
     first = [told(key, it, size, element) for key, it in found.items()][: NAMED + 1]
@@ -141,13 +164,15 @@ def groups_apart(own, thing, size, element):
     return f"these belong apart, with `alignas({size})` before each: {listed}{naming_fields(own, thing)}"
 
 
-def apart(words, thing, size, element):
+def apart(words: Iterable[Told], thing: Thing, size: int, element: Element) -> str:
     """Which of an object's words belong apart; `element` tells the type of an array's elements."""
     own = [it for it in words if it.key == thing.key]
-    if thing.key[0] == "stack":
+    if isinstance(thing.key, OfStack):
         return f"other harts use variables of this stack: `alignas({size})` on these, or a place of their own"
-    if thing.key[0] == "block" and any(len({it.begin for it in line}) > 1 for line in lines(own)):
-        how = f"`aligned_alloc({size}, ..)`, with sizes that are multiples of {size}, or {size} bytes more for each, and its start rounded up"
+    if isinstance(thing.key, OfBlocks) and any(len({it.begin for it in line}) > 1 for line in lines(own)):
+        how = (
+            f"`aligned_alloc({size}, ..)`, with sizes that are multiples of {size}, or {size} bytes more for each, and its start rounded up"
+        )
         return f"let no two of these blocks share a line: {how}"
     own = fought(own)
     if own and is_raw(own, thing):
@@ -159,11 +184,12 @@ def apart(words, thing, size, element):
     return groups_apart(own, thing, size, element)
 
 
-def neighbours(words, thing, names):
+def neighbours(words: Sequence[Told], thing: Thing, names: Mapping[Key, str]) -> list[str]:
     """The names of the objects that another one is fought with on its worst line, as far as its words tell."""
     if not words:
         return list(names.values())
-    line, found = [it for it in words if it.base == words[0].base], {}
+    line = [it for it in words if it.base == words[0].base]
+    found: dict[Key, int] = {}
     own = any(it.writes for it in line if it.key == thing.key)
     for it in line:
         if own or it.writes:
@@ -172,46 +198,49 @@ def neighbours(words, thing, names):
     return [names[key] for key, much in found.items() if key in names and much * SELDOM > sum(found.values())]
 
 
-def cost(thing, words):
+def cost(thing: Thing, words: Iterable[Told]) -> str:
     """What lines of their own would cost the words more, where they would."""
     own = sum(it.useful or 0 for it in words if it.key == thing.key)
     more = own - thing.useful - thing.useless
     return f"; a line for each of its words would miss {more} times more" if more > 0 else ""
 
 
-def placing(placed, name):
+def placing(placed: Placed | None, name: Callable[[int], str]) -> str:
     """What `place` says of the object, or nothing; `name` tells a word's name by its address."""
     if placed is None:
         return ""
     if placed.after >= placed.before:
-        return f"; `place` gains nothing: with its words put apart by their harts, lines are taken {placed.after} times in all, and {placed.before} as they lie"
-    found = {}
+        taken = f"{placed.after} times in all, and {placed.before} as they lie"
+        return f"; `place` gains nothing: with its words put apart by their harts, lines are taken {taken}"
+    found: dict[str, list[str]] = {}
     for addr, (_, hart) in placed.words.items():
         found.setdefault("many harts" if hart == "many" else f"hart {hart}", []).append(name(addr))
     told = [f"{listing(names)} ({whose})" for whose, names in found.items()]
     more = len(told) - NAMED
     where = "; ".join(told[:NAMED]) + (f"; and {more} more" if more > 0 else "")
-    return f"; `place` puts its words apart by their harts, {where}: then lines are taken {placed.after} times in all, and not {placed.before}"
+    return (
+        f"; `place` puts its words apart by their harts, {where}: then lines are taken {placed.after} times in all, and not {placed.before}"
+    )
 
 
-def little(thing, total):
+def little(thing: Thing, total: int) -> str:
     """What to do about an object that has hardly any of all misses."""
     return f"leave it: it has {thing.useless + thing.useful} of the {total} misses that aren't cold"
 
 
-def is_true(thing, is_counted):
+def is_true(thing: Thing, is_counted: bool) -> bool:
     if is_counted:
         return thing.useless < thing.useful
     return {it.line.verdict for it in thing.spots if it.line} == {"true"}
 
 
-def packed_most(own):
+def packed_most(own: Sequence[Told]) -> str:
     """Those of some shared words in which several fields or elements lie, if they are most of what is missed; else nothing."""
     packed = [it for it in own if is_packed(it)]
     return written_most(packed) if 2 * sum(it.useful or 1 for it in packed) > sum(it.useful or 1 for it in own) else ""
 
 
-def truly(thing, words, own, is_counted):
+def truly(thing: Thing, words: Sequence[Told], own: Sequence[Told], is_counted: bool) -> str:
     """What to do about words that harts hand to each other, `own` of some."""
     total, packed = thing.useful + thing.useless, packed_most(own)
     much = f" ({thing.useful} of {total} misses bring what another hart wrote)" if is_counted else ""
@@ -222,27 +251,32 @@ def truly(thing, words, own, is_counted):
     return f"{said}: write it less often, or give each hart its own; padding doesn't help" + cost(thing, words)
 
 
-def in_turns(thing, words, turns):
+def in_turns(thing: Thing, words: Iterable[Told], turns: int) -> str:
     """That long turns hide what harts do at the same time, where that may be."""
     own, missed = [it for it in words if it.key == thing.key], thing.worst().missed
     if turns <= SHORT or missed is None or missed.useful + missed.useless < MANY or len(groups(fought(own) or ())) < 2:
         return ""
-    return f"; but harts took turns of {turns} steps, which hides what they do at the same time: look with `quantum = 1` in the settings too"
+    return (
+        f"; but harts took turns of {turns} steps, which hides what they do at the same time: look with `quantum = 1` in the settings too"
+    )
 
 
-def written_most(words):
+def written_most(words: Iterable[Told]) -> str:
     """Some words by their names, those that are written most first."""
     return listing(it.name for it in sorted(words, key=lambda it: -it.writes))
 
 
-def sentence(thing, words, names, size, is_counted, element, turns=0):
-    """What to do; the words are those of the worst line first, `names` those of the objects beside it by their keys, and `turns` how many steps
-    a hart's turn has, where that is known."""
+def sentence(
+    thing: Thing, words: Sequence[Told], names: Mapping[Key, str], size: int, is_counted: bool, element: Element, turns: int = 0
+) -> str:
+    """What to do; the words are those of the worst line first, `names` those of the objects beside it by their keys, and `turns` how many
+    steps a hart's turn has, where that is known."""
     total = thing.useful + thing.useless
     if is_counted and not total:
         return "nothing: its lines are taken, and yet no hart misses them"
     if is_counted and not words and thing.useless:
-        return f"{thing.useless} of {total} misses bring nothing new; with a lower `report` (and `tracking`) in the settings its words are told"
+        how = "with a lower `report` (and `tracking`) in the settings its words are told"
+        return f"{thing.useless} of {total} misses bring nothing new; {how}"
     own, truth = [it for it in words if is_shared(it) and it.key == thing.key], is_true(thing, is_counted)
     if truth and (not is_counted or thing.useless * SELDOM < thing.useful):
         return truly(thing, words, own, is_counted) + in_turns(thing, words, turns)
@@ -259,4 +293,5 @@ def sentence(thing, words, names, size, is_counted, element, turns=0):
     if packed:
         return f"{what}; {saved}, or more: several fields or elements lie in a word of {packed}"
     shared = written_most(own) or thing.name
-    return f"{thing.useful} of {total} misses bring what another hart wrote, so write {shared} less often; to save up to {thing.useless} more, {what}"
+    less = f"{thing.useful} of {total} misses bring what another hart wrote, so write {shared} less often"
+    return f"{less}; to save up to {thing.useless} more, {what}"

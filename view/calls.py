@@ -1,8 +1,10 @@
 """The words of a call of view."""
 
 import re
+from typing import Any, Literal, Sequence
 
 from faults import Fault
+from settings import ASKED, WRITTEN
 
 USAGE = """usage: predator view run PROGRAM [options of run] [OPTIONS] [-- WORD ..]
        predator view replay TRACE [options of replay] [--program PROGRAM] [OPTIONS]
@@ -44,12 +46,15 @@ TOP, EXPLAIN = 10, 3
 
 
 class Call:
-    """What is asked: `how` is run, replay or file; `subject` the program, the trace or the report; `words` what goes to the program, and `own`
-    what its guest gets, with the `--` before it."""
+    """What is asked: `how` is run, replay or file; `subject` the program, the trace or the report; `words` what goes to the program, and
+    `own` what its guest gets, with the `--` before it."""
 
-    def __init__(self, words):
-        self.how = words[0] if words and words[0] in ("run", "replay") else "file"
-        self.options, self.own = {"type": []}, []
+    def __init__(self, words: Sequence[str]) -> None:
+        first = words[0] if words else ""
+        self.how: Literal["run", "replay", "file"] = "run" if first == "run" else "replay" if first == "replay" else "file"
+        # (each a text, but for `type`, which has several)
+        self.options: dict[str, Any] = {"type": []}
+        self.own: list[str] = []
         self.words, names = self.split(words[1:] if self.how != "file" else words)
         if "help" in self.options:
             return
@@ -63,14 +68,16 @@ class Call:
         self.program = self.subject if self.how == "run" else self.options.get("program")
         self.judge()
 
-    def split(self, words):
+    def split(self, words: Sequence[str]) -> tuple[list[str], list[str]]:
         """The words that are the program's, and the names among them; view's own options are put down."""
-        rest, names, at = [], [], 0
+        rest: list[str] = []
+        names: list[str] = []
+        at = 0
         while at < len(words):
             word, at = words[at], at + 1
             name, has_value, value = word.partition("=")
             if word == "--" and self.how == "run" and names:
-                self.own = words[at - 1 :]
+                self.own = [*words[at - 1 :]]
                 return rest, names
             if word == "--":
                 return [*rest, "--", *words[at:]], [*names, *words[at:]]
@@ -89,7 +96,7 @@ class Call:
                 names.append(word)
         return rest, names
 
-    def put(self, name, value):
+    def put(self, name: str, value: str) -> None:
         if name == "type":
             self.options["type"].append(value)
         elif name in self.options:
@@ -97,7 +104,7 @@ class Call:
         else:
             self.options[name] = value
 
-    def judge(self):
+    def judge(self) -> None:
         """Refuses values that an option can't have."""
         for name in ("top", "fail-above", "explain"):
             value = self.options.get(name, "0")
@@ -117,7 +124,7 @@ class Call:
         if "back" in self.options and (self.how == "run" or "program" in self.options):
             raise Fault("'--back' is for a trace or a report of this machine's programs, and names the program itself")
 
-    def has_types(self):
+    def has_types(self) -> bool:
         """Whether a program is named whose types can be looked up, by itself or by the table of a native one."""
         if self.program or "back" in self.options:
             return True
@@ -127,21 +134,22 @@ class Call:
 
         return beside(self.subject) is not None
 
-    def number(self, name, usual):
+    def number(self, name: str, usual: int) -> int:
         return int(self.options.get(name, usual))
 
-    def settings_words(self):
+    def settings_words(self) -> list[str]:
         """Those of the program's words that say under which settings and schedule it runs."""
-        kept, at = [], 0
+        kept: list[str] = []
+        at = 0
         while at < len(self.words) and self.words[at] != "--":
             name, has_value, _ = self.words[at].partition("=")
             width = 1 if has_value or not name.startswith("--") else 2
-            if name in ("--settings", "--schedule", "--set"):
+            if name in ASKED:
                 kept += self.words[at : at + width]
             at += width
         return kept
 
-    def value_of(self, option):
+    def value_of(self, option: str) -> str | None:
         """The value of one of the program's options, or none."""
         for at, word in enumerate(self.words):
             if word == "--":
@@ -152,7 +160,7 @@ class Call:
                 return word.partition("=")[2]
         return None
 
-    def words_to_run(self):
+    def words_to_run(self) -> list[str]:
         """The words of the same run without its outputs, which were written already, and without the guest's own."""
         kept, at = ["run"], 0
         while at < len(self.words):
@@ -161,7 +169,7 @@ class Call:
                 return kept + self.words[at:]
             name, has_value, _ = word.partition("=")
             width = 2 if name.startswith("--") and not has_value else 1
-            if name not in ("--trace", "--output"):
+            if name not in WRITTEN:
                 kept += self.words[at : at + width]
             at += width
         return kept

@@ -1,16 +1,22 @@
 """Better or worse than before: compares what two views found, by object, call sites and field, and by no address."""
 
 import json
+from typing import Any, Iterator
 
 from advice import listing
-from exports import FORMAT, record
+from calls import Call
+from exports import FORMAT, Record, record
 from faults import Fault, plain
 from model import View
 from naming import Naming
 from reports import Report
 
 
-def loaded(path, call):
+# The objects of a record by their keys, and its outcome.
+Before = tuple[dict[str, Record], str]
+
+
+def loaded(path: str, call: Call) -> Before:
     """An older record: what `--json` wrote, or a report that was kept."""
     try:
         with open(path, "rb") as file:
@@ -30,42 +36,46 @@ def loaded(path, call):
         raise Fault(f"{path}: it isn't what `view --json` writes") from error
 
 
-def is_number(it):
+def is_number(it: object) -> bool:
     return type(it) is int and it >= 0
 
 
-def is_thing(it):
+def is_thing(it: Any) -> bool:
     """Whether something has what is compared of an object."""
     texts = [it["key"], it["name"], *it["beside"], *(word["field"] for word in it["words"])]
     numbers = [it["count"], *(word["writes"] for word in it["words"]), *([] if it["useless"] is None else [it["useless"]])]
-    return all(isinstance(one, str) for one in texts) and all(map(is_number, numbers)) and all(type(word["own"]) is bool for word in it["words"])
+    return (
+        all(isinstance(one, str) for one in texts)
+        and all(map(is_number, numbers))
+        and all(type(word["own"]) is bool for word in it["words"])
+    )
 
 
-def of_report(text, path, call):
+def of_report(text: str, path: str, call: Call) -> Before:
     report = Report(text, path)
     view = View(call, report, Naming(report))
     view.arrange()
     return {it["key"]: it for it in record(view)["objects"]}, report.outcome
 
 
-def fields(thing):
+def fields(thing: Record) -> dict[str, int]:
     """Of each field how often it was written, over all its words."""
-    found = {}
+    found: dict[str, int] = {}
     for it in thing["words"]:
         if it["own"]:
             found[it["field"]] = found.get(it["field"], 0) + it["writes"]
     return found
 
 
-def change(before, after):
+def change(before: int, after: int) -> str:
     if before == after:
         return "the same"
     return f"{'less' if after < before else 'more'}: {before} before, {after} now"
 
 
-def compared(view, before, path):
-    """The lines that tell of each object what became of it; `before` is what was loaded of the path."""
-    (old, outcome), new = before, {it["key"]: it for it in record(view)["objects"]}
+def compared(view: View, loaded: Before, path: str) -> Iterator[str]:
+    """The lines that tell of each object what became of it; `loaded` is what was loaded of the path."""
+    (old, outcome), new = loaded, {it["key"]: it for it in record(view)["objects"]}
     name = view.call.options.get("object")
     if name is not None:
         old = {key: it for key, it in old.items() if name in (it["name"], *it["beside"])}
@@ -80,7 +90,7 @@ def compared(view, before, path):
             rows.append((after[by] - before[by], (after or before)["name"], change(before[by], after[by]), moved(before, after)))
         elif before:
             rows.append((-before[by], before["name"], f"gone: {before[by]} before", ""))
-        else:
+        elif after:
             rows.append((after[by], after["name"], f"new: {after[by]}", ""))
     for _, name, what, more in sorted(rows, key=lambda it: (-it[0], it[1])):
         yield plain(f"  {name}: {what}{more}")
@@ -88,7 +98,7 @@ def compared(view, before, path):
     yield f"  in all: {change(*total)}"
 
 
-def moved(before, after):
+def moved(before: Record, after: Record) -> str:
     """Which fields are fought over that weren't before, and which no more."""
     old, new = fields(before), fields(after)
     came, went = [it for it in new if it not in old], [it for it in old if it not in new]

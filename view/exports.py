@@ -3,9 +3,18 @@
 import json
 import os
 import urllib.parse
+from typing import Any
 
 from calls import TOP
+from keys import Key
+from model import View
 from naming import shown
+from objects import Spot, Thing, Told
+from predicted import Foretold
+from reports import Block, Site
+
+# What is written, as `json` has it.
+Record = dict[str, Any]
 
 FORMAT = "predator view 1"
 SARIF = "https://raw.githubusercontent.com/oasis-tcs/sarif-spec/master/Schemata/sarif-schema-2.1.0.json"
@@ -16,7 +25,7 @@ RULES = {
 }
 
 
-def instruction(view, addr):
+def instruction(view: View, addr: int) -> Record:
     place = view.naming.sources.place(addr) if view.naming.sources else None
     return {
         "address": shown(addr),
@@ -26,12 +35,12 @@ def instruction(view, addr):
     }
 
 
-def site(view, it):
+def site(view: View, it: Site) -> Record:
     found = instruction(view, it.addr)
     return {**found, "function": found["function"] or it.name}
 
 
-def line(spot, size):
+def line(spot: Spot, size: int) -> Record:
     listed, missed = spot.line, spot.missed
     return {
         "base": shown(spot.base),
@@ -45,18 +54,26 @@ def line(spot, size):
     }
 
 
-def word(it, own):
+def word(it: Told, own: Key) -> Record:
     hart = None if it.hart == "many" else int(it.hart)
-    return {"address": shown(it.addr), "field": it.name, "own": it.key == own, "reads": it.reads, "writes": it.writes, "hart": hart, "needed": it.useful}
+    return {
+        "address": shown(it.addr),
+        "field": it.name,
+        "own": it.key == own,
+        "reads": it.reads,
+        "writes": it.writes,
+        "hart": hart,
+        "needed": it.useful,
+    }
 
 
-def thing(view, it):
+def thing(view: View, it: Thing) -> Record:
     seen = view.seen(it)
-    explained = seen.explained
+    explained, worst = seen.explained, seen.worst()
     known = view.misses is not None
     return {
         "name": it.name,
-        "kind": it.key[0],
+        "kind": it.key.kind,
         "key": view.keys[it.key],
         "useless": it.useless if known else None,
         "useful": it.useful if known else None,
@@ -64,9 +81,9 @@ def thing(view, it):
         "lives": len(it.lives),
         "beside": [view.all[key].name for key in it.beside],
         "declared": {"file": seen.declared[0], "line": seen.declared[1]} if seen.declared else None,
-        "sites": [site(view, one) for one in it.example.sites] if it.key[0] == "block" else [],
+        "sites": [site(view, one) for one in it.example.sites] if isinstance(it.example, Block) else [],
         "todo": seen.todo,
-        "worst": seen.worst().name if seen.worst() else None,
+        "worst": worst.name if worst else None,
         "lines": [line(spot, view.report.size) for spot in it.spots],
         "words": [word(one, it.key) for one in seen.words],
         "fights": [
@@ -77,7 +94,7 @@ def thing(view, it):
     }
 
 
-def foretold(view, it):
+def foretold(view: View, it: Foretold) -> Record:
     return {
         "kind": it.line.kind,
         "base": shown(it.line.base),
@@ -93,7 +110,7 @@ def foretold(view, it):
     }
 
 
-def record(view):
+def record(view: View) -> Record:
     """All that was found, as schema.json has it."""
     report, program = view.report, view.naming.program
     return {
@@ -112,11 +129,11 @@ def record(view):
     }
 
 
-def json_text(view):
+def json_text(view: View) -> str:
     return json.dumps(record(view), indent=1, ensure_ascii=True) + "\n"
 
 
-def location(view, file, number):
+def location(view: View, file: str, number: int) -> Record:
     """A line of a source, by its path from this folder on where it is there, and else as it was compiled."""
     found = view.naming.sources.path(file) if view.naming.sources else None
     path = os.path.abspath(found) if found else os.path.normpath(file)
@@ -126,12 +143,12 @@ def location(view, file, number):
     return {"physicalLocation": {"artifactLocation": {"uri": uri}, "region": {"startLine": number}}}
 
 
-def told(text):
+def told(text: str) -> str:
     """A sentence."""
     return text[:1].upper() + text[1:] + "."
 
 
-def locations(view, it):
+def locations(view: View, it: Thing) -> list[Record]:
     """Where an object's sharing happens in the sources: the lines that fight, and else where it is declared or made."""
     fight = view.seen(it).fight()
     places = [view.naming.sources.place(at) for at in (fight.taker, fight.victim)] if fight and view.naming.sources else []
@@ -140,7 +157,7 @@ def locations(view, it):
     return found or ([location(view, *declared)] if declared else [])
 
 
-def result(view, it):
+def result(view: View, it: Thing) -> Record:
     known = view.misses is not None
     is_false = it.useless >= it.useful if known else any(spot.line and spot.line.verdict != "true" for spot in it.spots)
     much = f"{it.useless} useless and {it.useful} useful misses, count {it.count}" if known else f"count {it.count}"
@@ -150,27 +167,33 @@ def result(view, it):
         "level": "warning" if is_false else "note",
         "message": {"text": f"{it.name}: {much}, lines: {len(it.spots)}. {told(view.seen(it).todo)}"},
         "locations": locations(view, it)[:1],
-        "relatedLocations": [{**one, "message": {"text": "declared or made here"}} for one in ([location(view, *declared)] if declared else [])],
+        "relatedLocations": [
+            {**one, "message": {"text": "declared or made here"}} for one in ([location(view, *declared)] if declared else [])
+        ],
         "partialFingerprints": {"object/v1": view.keys[it.key]},
     }
 
 
-def foreseen(view, it):
+def foreseen(view: View, it: Foretold) -> Record:
     names = ", ".join(view.name_of(key) for key in it.keys) or "memory"
+    much = f"{it.useless} useless misses, {it.inside} as data lies"
     declared = next((view.declared(view.all[key]) for key in it.keys), None)
     return {
         "ruleId": "predicted-sharing",
         "level": "note",
-        "message": {"text": f"{names}: a {it.line.kind} line of {it.line.size} bytes would have {it.useless} useless misses, {it.inside} as data lies."},
+        "message": {"text": f"{names}: a {it.line.kind} line of {it.line.size} bytes would have {much}."},
         "locations": [location(view, *declared)] if declared else [],
     }
 
 
-def sarif_text(view):
+def sarif_text(view: View) -> str:
     """The objects, and the predicted lines that are shown, as results."""
     top = view.call.number("top", TOP)
     results = [result(view, it) for it in view.chosen()[:top]] + [foreseen(view, it) for it in view.foretold() if it.is_shown]
-    rules = [{"id": name, "name": title, "shortDescription": {"text": title}, "fullDescription": {"text": text}} for name, (title, text) in RULES.items()]
+    rules = [
+        {"id": name, "name": title, "shortDescription": {"text": title}, "fullDescription": {"text": text}}
+        for name, (title, text) in RULES.items()
+    ]
     tool = {"driver": {"name": "predator", "rules": rules}}
     ended = {"executionSuccessful": view.report.ended_well(), "exitCodeDescription": view.report.outcome}
     run = {"tool": tool, "results": results, "invocations": [ended], "columnKind": "unicodeCodePoints"}

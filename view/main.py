@@ -1,26 +1,32 @@
 """From a report to the source: `predator view ..`. docs/VIEW.md tells what it shows."""
 
 import gc
+import io
 import os
 import sys
 import traceback
+from typing import TYPE_CHECKING
 
 sys.path.insert(0, os.path.dirname(os.path.abspath(__file__)))
 
-import compare
-from calls import HELP, TOP, Call
-from faults import Fault, plain
-from model import View, memory_of
-from naming import Naming
-from program import Predator
-from reports import Report
-from screen import Paint, screen
-from source_lines import Sources
+import compare  # noqa: E402
+from calls import HELP, TOP, Call  # noqa: E402
+from faults import Fault, plain  # noqa: E402
+from model import View, memory_of  # noqa: E402
+from naming import Naming  # noqa: E402
+from program import Predator  # noqa: E402
+from reports import Report, Symbol  # noqa: E402
+from screen import Paint, screen  # noqa: E402
+from source_lines import Sources  # noqa: E402
+
+if TYPE_CHECKING:
+    from fields import Program
+    from native import NativeProgram
 
 ABOVE, ENDED = 1, 3
 
 
-def read(path):
+def read(path: str) -> str:
     """A kept report's text, or the one on standard input."""
     if path == "-":
         return sys.stdin.buffer.read().decode("latin-1")
@@ -31,18 +37,20 @@ def read(path):
         raise Fault(f"{path}: {error.strerror}") from error
 
 
-def say(text):
+def say(text: object) -> None:
     print(f"predator view: {plain(text)}", file=sys.stderr)
 
 
-def program_of(call):
+def program_of(call: Call) -> "tuple[Program | NativeProgram | None, Sources | None]":
     """The program's debug information, and its lines; none where no program is named. What is missing for them ends the call here."""
     folders, table = [it for it in [call.options.get("sources")] if it], table_of(call)
+    program: "Program | NativeProgram"
+    sources: Sources
     if table:
         from native import Back, NativeProgram, NativeSources
 
-        program = NativeProgram(Back(table))
-        sources = NativeSources(program, folders)
+        program = native = NativeProgram(Back(table))
+        sources = NativeSources(native, folders)
     elif call.program:
         from fields import Program
 
@@ -57,7 +65,7 @@ def program_of(call):
     return program, sources
 
 
-def table_of(call):
+def table_of(call: Call) -> str | None:
     """The table back of a program of this machine: the one that is named, or that beside the trace."""
     if "back" in call.options or call.program or call.how != "replay":
         return call.options.get("back")
@@ -66,25 +74,27 @@ def table_of(call):
     return beside(call.subject)
 
 
-def stranger(program, report):
+def stranger(program: "Program | NativeProgram", report: Report) -> str | None:
     """A symbol of the report that the program hasn't, or none."""
-    if hasattr(program, "back"):
+    from fields import Program
+
+    if not isinstance(program, Program):
         return program.stranger(report)
     known = program.symbols()
     for line in report.lines[:1000]:
         for it in line.objects():
-            if hasattr(it, "name") and (it.addr, it.size) not in known:
+            if isinstance(it, Symbol) and (it.addr, it.size) not in known:
                 return f"it has no symbol {it.name} of {it.size} bytes at {it.addr:#010x}"
     return None
 
 
-def report_of(call, predator):
-    if call.how == "file":
+def report_of(call: Call, predator: Predator | None) -> Report:
+    if predator is None:
         return Report(read(call.subject), call.subject)
     return predator.report([call.how, *call.words, *call.own])
 
 
-def check_name(view):
+def check_name(view: View) -> None:
     """Refuses the name of an object that the program hasn't: a test of it would say nothing."""
     name, program = view.call.options.get("object"), view.naming.program
     if name is None or view.chosen() or ":" in name or " " in name:
@@ -97,7 +107,7 @@ def check_name(view):
         raise Fault(f"'{name}' is no variable of {program.path}")
 
 
-def look(call):
+def look(call: Call) -> View:
     """All that is found."""
     program, sources = program_of(call)
     if "html" in call.options:
@@ -108,7 +118,7 @@ def look(call):
     report = report_of(call, predator)
     strange = stranger(program, report) if program and call.how != "run" else None
     if strange:
-        named = f"{call.program} isn't the program" if call.program else f"{program.back.path} isn't the table"
+        named = f"{call.program} isn't the program" if call.program else f"{table_of(call)} isn't the table"
         say(f"{named} of this report: {strange}; it is left aside")
         call.program = program = sources = None
     memory = memory_of(call, predator)
@@ -122,7 +132,7 @@ def look(call):
     return view
 
 
-def is_above(view):
+def is_above(view: View) -> bool:
     """Whether an object has more than the call allows, which is said."""
     most, by = view.call.number("fail-above", 0), view.call.options.get("by", "useless")
     if by == "useless" and view.misses is None:
@@ -135,7 +145,7 @@ def is_above(view):
     return found
 
 
-def status_of(view):
+def status_of(view: View) -> int:
     if "fail-above" not in view.call.options:
         return 0
     if not view.report.ended_well():
@@ -143,7 +153,7 @@ def status_of(view):
     return ABOVE if is_above(view) else 0
 
 
-def write(path, text):
+def write(path: str, text: str) -> None:
     try:
         with open(path, "w", encoding="utf-8", errors="backslashreplace") as file:
             file.write(text)
@@ -151,16 +161,20 @@ def write(path, text):
         raise Fault(f"{path}: {error.strerror}") from error
 
 
-def is_same(one, other):
+def is_same(one: str, other: str) -> bool:
     """Whether two names are of one file, be it there or not."""
     if os.path.exists(one) and os.path.exists(other):
         return os.path.isfile(one) and os.path.samefile(one, other)
     return os.path.realpath(one) == os.path.realpath(other)
 
 
-def keep_inputs(call):
+def keep_inputs(call: Call) -> None:
     """Refuses outputs that are a file which is read or written by the program, or one another, and those for which there is no folder."""
-    taken = [it for it in (call.subject, call.program, table_of(call), *call.words, *(word.partition("=")[2] for word in call.words)) if it and it != "-"]
+    taken = [
+        it
+        for it in (call.subject, call.program, table_of(call), *call.words, *(word.partition("=")[2] for word in call.words))
+        if it and it != "-"
+    ]
     for name in ("html", "json", "sarif"):
         it, old = call.options.get(name), call.options.get("against") if name != "json" else None
         if it is None:
@@ -172,7 +186,7 @@ def keep_inputs(call):
         taken.append(it)
 
 
-def outputs(view):
+def outputs(view: View) -> None:
     """Writes the files that the call names."""
     options = view.call.options
     if "json" in options:
@@ -189,7 +203,7 @@ def outputs(view):
         write(options["html"], page(view))
 
 
-def show(call):
+def show(call: Call) -> int:
     """Does what a call asks, and gives its status."""
     keep_inputs(call)
     # (before --json writes to the same file)
@@ -205,11 +219,12 @@ def show(call):
     return status_of(view)
 
 
-def main(words):
+def main(words: list[str]) -> int:
     # (millions of lines live as long as the call, and none goes round in a ring)
     gc.disable()
-    sys.stdout.reconfigure(errors="backslashreplace")
-    sys.stderr.reconfigure(errors="backslashreplace")
+    for it in (sys.stdout, sys.stderr):
+        if isinstance(it, io.TextIOWrapper):
+            it.reconfigure(errors="backslashreplace")
     try:
         call = Call(words)
         if "help" in call.options:
@@ -217,8 +232,8 @@ def main(words):
             return 0
         return show(call)
     except Fault as fault:
-        for it in f"predator view: {fault}".split("\n"):
-            print(plain(it), file=sys.stderr)
+        for row in f"predator view: {fault}".split("\n"):
+            print(plain(row), file=sys.stderr)
         return fault.status
     except BrokenPipeError:
         # (who read this has seen enough)

@@ -3,8 +3,19 @@
 import os
 import shutil
 import subprocess
+from typing import TYPE_CHECKING, Any, Iterable, Sequence, Union
 
-from reports import Block, Symbol
+from keys import Key, OfBlocks, OfMemory, OfStack, OfSymbol
+from reports import Block, Report, Site, Symbol
+from source_lines import Sources
+
+if TYPE_CHECKING:
+    # (which are read where a program is named alone: they want pyelftools)
+    from fields import Program
+    from native import NativeProgram
+
+# An object of a report; none is memory without one.
+Found = Union[Symbol, Block, None]
 
 # Functions of allocators: a block's name begins with the call of one, or of what calls it.
 ALLOCATORS = {
@@ -24,79 +35,87 @@ BEGINNINGS = {
 class Memory:
     """What lies on a line where no object is: a hart's stack, or a page."""
 
-    def __init__(self, stacks=None, harts=0):
+    def __init__(self, stacks: tuple[int, int] | None = None, harts: int = 0) -> None:
         self.low, self.high = stacks or (0, 0)
         self.each = (self.high - self.low) // harts if harts else 0
 
-    def key(self, addr):
+    def key(self, addr: int) -> OfStack | OfMemory:
         if self.each and self.low <= addr < self.high:
-            return "stack", (self.high - 1 - addr) // self.each
-        return "memory", addr // 4096 * 4096
+            return OfStack("stack", (self.high - 1 - addr) // self.each)
+        return OfMemory("memory", addr // 4096 * 4096)
 
-    def top(self, hart):
+    def top(self, hart: int) -> int:
         return self.high - hart * self.each
 
 
-def shown(addr):
+def shown(addr: int) -> str:
     return f"{'-' if addr < 0 else ''}0x{abs(addr):08x}"
 
 
 class Naming:
     """`program` and `sources` are none where no program is known; `types` has, for the place of a call site, the type of its blocks."""
 
-    def __init__(self, report, program=None, sources=None, types=(), memory=None):
+    def __init__(
+        self,
+        report: Report,
+        program: "Program | NativeProgram | None" = None,
+        sources: Sources | None = None,
+        types: Iterable[str] = (),
+        memory: Memory | None = None,
+    ) -> None:
         self.where, self.program, self.sources, self.memory = report.where, program, sources, memory or Memory()
-        self.keys = {}
+        self.names: dict[str, str] = {}
+        self.keys: dict[tuple[Site, ...], tuple[str, ...]] = {}
         self.types = [it.partition("=")[::2] for it in types]
 
-    def prepare(self, addresses):
+    def prepare(self, addresses: Iterable[int]) -> None:
         """Looks lines up for many addresses at once."""
         if self.sources:
             self.sources.find(addresses)
 
-    def readable(self, name):
+    def readable(self, name: str) -> str:
         """A symbol's name as its source has it, where that is C++."""
         if not name.startswith("_Z"):
             return name
-        if name not in self.keys:
+        if name not in self.names:
             tool = shutil.which("llvm-cxxfilt")
             ran = subprocess.run([tool], input=name.encode(), capture_output=True) if tool else None
-            self.keys[name] = ran.stdout.decode("utf-8", "replace").strip() or name if ran else name
-        return self.keys[name]
+            self.names[name] = ran.stdout.decode("utf-8", "replace").strip() or name if ran else name
+        return self.names[name]
 
-    def sites_key(self, sites):
+    def sites_key(self, sites: tuple[Site, ...]) -> tuple[str, ...]:
         """Call sites as another address of the same lines has them: a loop that was unrolled is one place."""
         if sites not in self.keys:
             self.keys[sites] = tuple(self.site_key(it) for it in sites)
         return self.keys[sites]
 
-    def site_key(self, site):
+    def site_key(self, site: Site) -> str:
         frames = self.sources.frames(site.addr) if self.sources else []
         if any(it.file and it.line for it in frames):
             return "; ".join(f"{it.function} {it.file}:{it.line}" for it in frames)
         return self.where.get(site.addr) or shown(site.addr)
 
-    def site(self, site):
+    def site(self, site: Site) -> str:
         """The file and line of a call site as `arena.c:78`, or an empty text; native reports bring them."""
         if site.addr in self.where:
             return os.path.basename(self.where[site.addr])
         place = self.sources.place(site.addr) if self.sources else None
         return place.short() if place else ""
 
-    def function(self, site):
+    def function(self, site: Site) -> str:
         place = self.sources.place(site.addr) if self.sources else None
         return place.function if place and place.function else site.name
 
-    def chain(self, sites):
+    def chain(self, sites: Sequence[Site]) -> list[Site]:
         """The sites of a block from the one that wants it on: without the allocator's own, and without where harts begin."""
         own = [it for it in sites if it.name not in ALLOCATORS] or list(sites)
         return [it for it in own if it.name not in BEGINNINGS] or own[:1]
 
-    def functions(self, sites):
+    def functions(self, sites: Sequence[Site]) -> list[str]:
         """The call sites by functions alone, which other builds of the program have too."""
         return [it.name for it in self.chain(sites)]
 
-    def block(self, sites):
+    def block(self, sites: Sequence[Site]) -> str:
         if not sites:
             return "block without call sites"
         if sites[0].name == OWN:
@@ -107,18 +126,19 @@ class Naming:
         first = at or ("an unknown function" if chain[0].name == "-" else chain[0].name)
         # (a line says more with its function, unless that is named next anyway)
         first += f" ({self.function(chain[0])})" if at and not rest and chain[0].name != "main" else ""
-        return ("block made at " if at else "block made in ") + " < ".join([first, *(rest or (["main"] if at and chain[0].name == "main" else []))])
+        return ("block made at " if at else "block made in ") + " < ".join(
+            [first, *(rest or (["main"] if at and chain[0].name == "main" else []))]
+        )
 
-    def key_name(self, key, example):
+    def key_name(self, key: Key, example: Found) -> str:
         """What an object is called."""
-        kind, what = key[0], key[1]
-        if kind == "symbol":
-            return self.readable(what)
-        if kind == "block":
-            return self.block(example.sites)
-        return f"stack of hart {what}" if kind == "stack" else f"memory at {shown(what)}"
+        if isinstance(key, OfSymbol):
+            return self.readable(key.name)
+        if isinstance(key, OfBlocks):
+            return self.block(example.sites if isinstance(example, Block) else ())
+        return f"stack of hart {key.hart}" if isinstance(key, OfStack) else f"memory at {shown(key.page)}"
 
-    def type_of_block(self, block):
+    def type_of_block(self, block: Block) -> Any:
         """The type of a block's elements as the call tells it, or none."""
         if self.program is None or not block.sites:
             return None
@@ -126,16 +146,17 @@ class Naming:
         known = {self.site(chain[0]), self.function(chain[0]), chain[0].name, shown(chain[0].addr)}
         return next((self.program.type_named(it) for site, it in self.types if site in known), None)
 
-    def word(self, addr, thing):
+    def word(self, addr: int, thing: Found) -> tuple[str, str, str]:
         """The name of a word of an object, the one of its element, and that of the field in it."""
         if thing is not None:
             name = self.readable(thing.name) if isinstance(thing, Symbol) else ""
             offset = addr - thing.addr
             return self.typed(thing, name, offset) or self.parts(None, name, offset)
-        kind, what = self.memory.key(addr)
-        return (f"{shown(addr)}, {self.memory.top(what) - addr} below its top" if kind == "stack" else shown(addr)), "", shown(addr)
+        key = self.memory.key(addr)
+        below = f", {self.memory.top(key.hart) - addr} below its top" if isinstance(key, OfStack) else ""
+        return shown(addr) + below, "", shown(addr)
 
-    def typed(self, thing, name, offset):
+    def typed(self, thing: Symbol | Block, name: str, offset: int) -> tuple[str, str, str] | None:
         """The same of an object whose type is known, or none."""
         if self.program is None:
             return None
@@ -143,7 +164,9 @@ class Naming:
 
         return sound(lambda: self.field(thing, name, offset), None)
 
-    def field(self, thing, name, offset):
+    def field(self, thing: Symbol | Block, name: str, offset: int) -> tuple[str, str, str] | None:
+        if self.program is None:
+            return None
         if isinstance(thing, Symbol):
             variable = self.program.variable(thing.addr)
             return self.parts(variable.type, name, offset) if variable and variable.type is not None else None
@@ -153,7 +176,7 @@ class Naming:
         element = self.type_of_block(thing)
         return None if element is None else self.element(element, "", offset, thing.size)
 
-    def parts(self, kind, name, offset):
+    def parts(self, kind: Any, name: str, offset: int) -> tuple[str, str, str]:
         if kind is None:
             return f"{name}{offset:+d}" if offset or not name else name, "", f"{offset:+d}"
         from fields import element_of, size_of, words_of
@@ -165,7 +188,7 @@ class Naming:
         whole = words_of(kind, name, offset)
         return whole, f"{name}[{offset // size_of(of)}]", words_of(of, "", offset % size_of(of)) or "itself"
 
-    def element(self, kind, name, offset, size):
+    def element(self, kind: Any, name: str, offset: int, size: int) -> tuple[str, str, str]:
         from fields import size_of, words_of
 
         wide = size_of(kind) or 1

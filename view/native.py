@@ -1,5 +1,5 @@
-"""The names of a program of this machine: by the table back that native/ writes with a trace. Each address of the trace is one of the program
-or of a library that it loaded, and their debug information says the rest. docs/NATIVE.md has the table."""
+"""The names of a program of this machine: by the table back that native/ writes with a trace. Each address of the trace is one of the
+program or of a library that it loaded, and their debug information says the rest. docs/NATIVE.md has the table."""
 
 import contextlib
 import json
@@ -7,10 +7,11 @@ import os
 import re
 import shutil
 import subprocess
-from typing import NamedTuple
+from typing import Iterable, NamedTuple
 
 from faults import Fault
-from fields import Program, Variable
+from fields import Die, Program, Variable
+from reports import Report
 from source_lines import Place, Sources, places
 
 from elftools.elf.elffile import ELFFile
@@ -28,15 +29,18 @@ class Site(NamedTuple):
     line: str
 
 
-def known(word):
+def known(word: str) -> str:
     return "" if word == "-" else word
 
 
 class Back:
     """A table back."""
 
-    def __init__(self, path):
-        self.path, self.program, self.pages, self.maps, self.sites = path, "", {}, [], {}
+    def __init__(self, path: str) -> None:
+        self.path, self.program = path, ""
+        self.pages: dict[int, int] = {}
+        self.maps: list[tuple[int, str]] = []
+        self.sites: dict[int, Site] = {}
         try:
             with open(path, encoding="utf-8", errors="surrogateescape") as file:
                 for row in file:
@@ -48,7 +52,7 @@ class Back:
         if not self.program:
             raise Fault(f"{path}: it is no table back: its first line doesn't name a program")
 
-    def put(self, row):
+    def put(self, row: str) -> None:
         kind, _, rest = row.partition(" ")
         if kind == "program":
             self.program = os.path.normpath(rest)
@@ -61,7 +65,7 @@ class Back:
         elif kind:
             self.pages[int(kind, 16)] = int(rest, 16)
 
-    def was(self, addr):
+    def was(self, addr: int) -> int | None:
         """What an address of the trace was in the program, or none."""
         page = self.pages.get(addr // PAGE * PAGE)
         return None if page is None else page + addr % PAGE
@@ -70,9 +74,12 @@ class Back:
 class File:
     """The program or a library, with its debug information, which may stand in a file of its own."""
 
-    def __init__(self, bias, path):
-        self.bias, self.path, self.owner, self.found = bias, path, None, {}
-        self.ranges, self.debug, self.names = [], path, {}
+    def __init__(self, bias: int, path: str) -> None:
+        self.bias, self.path, self.debug = bias, path, path
+        self.owner: Program | None = None
+        self.found: dict[int, NativeVariable | None] = {}
+        self.ranges: list[tuple[int, int]] = []
+        self.names: dict[int, str] = {}
         with contextlib.suppress(Exception), open(path, "rb") as file:
             elf = ELFFile(file)
             self.ranges = [(it["p_vaddr"], it["p_memsz"]) for it in elf.iter_segments() if it["p_type"] == "PT_LOAD"]
@@ -82,7 +89,7 @@ class File:
             for it in (symbol for table in tables for symbol in table.iter_symbols() if symbol["st_info"]["type"] == "STT_OBJECT"):
                 self.names.setdefault(it["st_value"], it.name.partition("@")[0])
 
-    def debug_of(self, elf):
+    def debug_of(self, elf: ELFFile) -> str:
         note = elf.get_section_by_name(".note.gnu.build-id")
         if elf.get_section_by_name(".debug_info") or note is None:
             return self.path
@@ -90,14 +97,14 @@ class File:
         path = os.path.join(DEBUG, build[:2], build[2:] + ".debug")
         return path if os.path.exists(path) else self.path
 
-    def has(self, addr):
+    def has(self, addr: int) -> bool:
         return any(low <= addr - self.bias < low + size for low, size in self.ranges)
 
-    def program(self):
+    def program(self) -> Program:
         self.owner = self.owner or Program(self.debug)
         return self.owner
 
-    def variable(self, addr):
+    def variable(self, addr: int) -> "NativeVariable | None":
         """The variable at an address of the file. (llvm-dwarfdump finds it among those of a large library at once.)"""
         if addr not in self.found:
             self.found[addr] = None
@@ -111,47 +118,59 @@ class File:
                             self.found[addr] = self.made(int(offset, 16))
         return self.found[addr]
 
-    def made(self, offset):
+    def made(self, offset: int) -> "NativeVariable":
         die = self.program().dwarf.get_DIE_from_refaddr(offset)
         whole = die
         while "DW_AT_type" not in whole.attributes:
             link = next(it for it in ("DW_AT_specification", "DW_AT_abstract_origin") if it in whole.attributes)
             whole = whole.get_DIE_from_attribute(link)
-        found = Variable(whole)
-        found.file = self
-        return found
+        return NativeVariable(whole, self)
+
+
+class NativeVariable(Variable):
+    """A variable, and the file that it is of."""
+
+    def __init__(self, die: Die, file: File) -> None:
+        super().__init__(die)
+        self.file = file
 
 
 class NativeProgram:
     """The program and its libraries, asked as fields.Program is, with addresses of the trace."""
 
-    def __init__(self, back):
+    def __init__(self, back: Back) -> None:
         self.back, self.files = back, [File(*it) for it in back.maps]
         self.path = back.program
         own = next((it for it in self.files if os.path.realpath(it.path) == os.path.realpath(self.path)), None)
         self.main = own.program() if own else Program(self.path)
         self.dwarf, self.sha256 = self.main.dwarf, self.main.sha256
 
-    def file(self, addr):
+    def file(self, addr: int) -> tuple[File, int] | None:
         """The file that an address was in, and the address there, or none."""
         was = self.back.was(addr)
-        own = next((it for it in self.files if it.has(was)), None) if was is not None else None
+        if was is None:
+            return None
+        own = next((it for it in self.files if it.has(was)), None)
         return (own, was - own.bias) if own else None
 
-    def symbols(self):
+    def symbols(self) -> dict[tuple[int, int], str]:
         return {(it.bias + addr, 0): name for it in self.files for addr, name in it.names.items()}
 
-    def variable(self, addr):
+    def variable(self, addr: int) -> NativeVariable | None:
         found = self.file(addr)
         return found[0].variable(found[1]) if found else None
 
-    def type_named(self, text):
+    def thread_locals(self) -> list[tuple[int, int, str]]:
+        """None: what each thread has for itself is no block here."""
+        return []
+
+    def type_named(self, text: str) -> Die:
         return self.main.type_named(text)
 
-    def declared(self, variable):
-        return variable.file.program().declared(variable)
+    def declared(self, variable: Variable) -> tuple[str, int] | None:
+        return variable.file.program().declared(variable) if isinstance(variable, NativeVariable) else None
 
-    def stranger(self, report):
+    def stranger(self, report: Report) -> str | None:
         """What of a report isn't in the table, or none."""
         for line in report.lines[:1000]:
             if line.kind == "observed" and all(self.back.was(it) is None for it in range(max(line.base, 0), line.base + line.size, 4)):
@@ -162,15 +181,14 @@ class NativeProgram:
 class NativeSources(Sources):
     """The lines of the program's and its libraries' addresses."""
 
-    def __init__(self, program, folders=()):
+    def __init__(self, program: NativeProgram, folders: Iterable[str] = ()) -> None:
         super().__init__(program.path, folders)
         self.native = program
 
-    def find(self, addresses):
+    def find(self, addresses: Iterable[int]) -> None:
         wanted = sorted({it for it in addresses if it not in self.places})
         self.places.update({it: [] for it in wanted})
-        asked = [(it, self.native.file(it)) for it in wanted]
-        asked = [(it, *where) for it, where in asked if where]
+        asked = [(it, *where) for it in wanted if (where := self.native.file(it))]
         if asked:
             rows = "".join(f'"{own.debug}" {addr:#x}\n' for _, own, addr in asked)
             words = [self.tool, "--output-style=JSON", "--inlines"]
@@ -182,7 +200,7 @@ class NativeSources(Sources):
                 self.places[it] = told_by(self.native.back.sites[it]) or self.places[it]
 
 
-def told_by(site):
+def told_by(site: Site) -> list[Place]:
     """What the recorder has told of a call site, as frames."""
     file, _, line = site.line.rpartition(":")
     if file and line.isdigit():
@@ -190,7 +208,7 @@ def told_by(site):
     return [Place(site.function, "", 0)] if site.function else []
 
 
-def beside(trace):
+def beside(trace: str) -> str | None:
     """The table back that stands beside a trace, or none."""
     path = f"{trace}.table"
     with contextlib.suppress(OSError), open(path, "rb") as file:

@@ -4,9 +4,11 @@ A line's numbers are told once: under the object that most of the line's accesse
 
 import heapq
 from collections import Counter
-from typing import NamedTuple
+from typing import Iterable, Iterator, NamedTuple, Sequence
 
-from reports import Block, Symbol, bytes_of, objects_of
+from keys import Key, OfBlocks, OfSymbol
+from naming import Found, Naming
+from reports import Block, Line, Misses, Missed, Report, Symbol, Word, bytes_of, objects_of
 
 # So many lines of an object are looked at word by word: its first ones.
 LINES = 64
@@ -17,37 +19,43 @@ class Spot(NamedTuple):
     those of `each`, a report with no thresholds."""
 
     base: int
-    line: object
-    missed: object
-    each: object = None
+    line: Line | None
+    missed: Missed | None
+    each: Line | None = None
 
-    def told(self):
+    def told(self) -> Line | None:
         """The line with its words, or none where they aren't known."""
         return self.line or self.each
 
-    def stands(self):
+    def stands(self) -> str:
         """The rows of what stands on the line: since its start where the report lists it."""
         return (self.line.stands() if self.line else "") or (self.missed.stands() if self.missed else "")
 
-    def rows(self):
+    def rows(self) -> list[Symbol | Block]:
         """The objects on the line."""
         return objects_of(self.stands())
 
 
-def rank_of(spot):
+def rank_of(spot: Spot) -> tuple[int, int, int]:
     return -spot.missed.useless if spot.missed else 0, -spot.line.count if spot.line else 0, spot.base
+
+
+# Objects of a line by their keys, each with one of them, and with its share of the accesses.
+Shares = dict[Key, tuple[Found, float]]
 
 
 class Thing:
     """An object that is fought over: a variable, the blocks of a call site, or memory without an object."""
 
-    def __init__(self, key, example):
+    def __init__(self, key: Key, example: Found) -> None:
         self.key, self.example, self.name = key, example, ""
-        self.spots, self.lives, self.beside = [], set(), Counter()
+        self.spots: list[Spot] = []
+        self.lives: set[int] = set()
+        self.beside: Counter[Key] = Counter()
         self.useless = self.useful = self.cold = self.count = 0
-        self.first = []
+        self.first: list[Spot] = []
 
-    def add(self, spot):
+    def add(self, spot: Spot) -> None:
         self.spots.append(spot)
         if spot.line:
             self.count += spot.line.count
@@ -56,35 +64,35 @@ class Thing:
             self.useful += spot.missed.useful
             self.cold += spot.missed.cold
 
-    def rank(self):
+    def rank(self) -> tuple[int, int, int, int]:
         return -self.useless, -self.useful, -self.count, self.spots[0].base
 
-    def worst_first(self):
+    def worst_first(self) -> list[Spot]:
         """Its first lines, at most so many as are looked at, the worst first."""
         if not self.first:
             self.first = heapq.nsmallest(LINES, self.spots, rank_of)
         return self.first
 
-    def worst(self):
+    def worst(self) -> Spot:
         return self.worst_first()[0]
 
-    def name_to_place(self):
+    def name_to_place(self) -> bytes | str | None:
         """What `place` may know the object by, or none: a variable by its name, and the only block of a call site by its address."""
-        if self.key[0] == "symbol":
-            return bytes_of(self.key[1])
-        return f"{self.example.addr:#010x}" if self.key[0] == "block" and len(self.lives) == 1 else None
+        if isinstance(self.key, OfSymbol):
+            return bytes_of(self.key.name)
+        return f"{self.example.addr:#010x}" if isinstance(self.example, Block) and len(self.lives) == 1 else None
 
 
-def key_of(thing, naming, addr):
+def key_of(thing: Found, naming: Naming, addr: int) -> Key:
     """What an object is put together by: blocks by their call sites, as far as these have lines of a source by those."""
     if isinstance(thing, Symbol):
-        return "symbol", thing.name, thing.addr
+        return OfSymbol("symbol", thing.name, thing.addr)
     if isinstance(thing, Block):
-        return "block", naming.sites_key(thing.sites)
+        return OfBlocks("block", naming.sites_key(thing.sites))
     return naming.memory.key(addr)
 
 
-def holders(things, addr):
+def holders(things: Sequence[Symbol | Block], addr: int) -> list[tuple[Symbol | Block, float]]:
     """The objects that a word lies in, each with its share of it: blocks before symbols, short and long-lived ones first."""
     found = [it for it in things if it.addr < addr + 4 and addr < it.addr + it.size]
     blocks = [it for it in found if isinstance(it, Block)]
@@ -96,17 +104,18 @@ def holders(things, addr):
     return [(it, share / sum(shares)) for it, share in zip(blocks, shares)]
 
 
-def holder(things, addr):
+def holder(things: Sequence[Symbol | Block], addr: int) -> Found:
     """The object that a word is told under, or none."""
     found = holders(things, addr) if things else []
     return max(found, key=lambda it: it[1])[0] if found else None
 
 
-def shares_of(words, things, keys, naming):
+def shares_of(words: Iterable[Word], things: Sequence[Symbol | Block], keys: Sequence[Key], naming: Naming) -> Shares:
     """What each object of some has of a line's accesses, by its key, with an object of it; `keys` are theirs."""
-    found = {}
+    found: Shares = {}
     for word in words:
-        end, own = word.addr + 4, None
+        end = word.addr + 4
+        own: list[tuple[Key, Found, float]] | None = None
         met = [at for at, it in enumerate(things) if it.addr < end and word.addr < it.addr + it.size]
         if len(met) > 1:
             # (of one block and symbols that it lies in, the block; of several blocks each by its life)
@@ -121,22 +130,25 @@ def shares_of(words, things, keys, naming):
     return found
 
 
-def parties(spot, things, naming, keys=None):
-    """The keys of the objects that are fought over on a line, each with an object of it and its share of the accesses. Where the keys of the
-    things are given, and are one, its share isn't looked for."""
-    found, is_one = {}, keys is not None and len({*keys}) < 2
+def parties(spot: Spot, things: Sequence[Symbol | Block], naming: Naming, keys: Sequence[Key] | None = None) -> Shares:
+    """The keys of the objects that are fought over on a line, each with an object of it and its share of the accesses. Where the keys of
+    the things are given, and are one, its share isn't looked for."""
+    found: Shares = {}
+    is_one = keys is not None and len({*keys}) < 2
     keys = [key_of(it, naming, 0) for it in things] if keys is None else keys
     for at, key in enumerate(keys):
         # The first object, as long as it isn't told how the words were accessed.
         found.setdefault(key, (things[at], -at))
-    if is_one or len(things) < 2 or spot.told() is None:
+    told = spot.told()
+    if is_one or len(things) < 2 or told is None:
         return found or {naming.memory.key(max(spot.base, 0)): (None, 0)}
-    return shares_of(spot.told().words(), things, keys, naming) or found
+    return shares_of(told.words(), things, keys, naming) or found
 
 
-def spots(report, misses, each=None):
+def spots(report: Report, misses: Misses | None, each: Report | None = None) -> Iterator[Spot]:
     """The lines that the report lists, in its order, and those beside them that have misses."""
-    seen, missed, words = set(), misses.lines if misses else {}, each.at() if each else {}
+    seen: set[int] = set()
+    missed, words = misses.lines if misses else {}, each.at() if each else {}
     for line in report.lines:
         if line.kind == "observed":
             seen.add(line.base)
@@ -149,10 +161,12 @@ def spots(report, misses, each=None):
 class Folding:
     """Lines as they are put under their objects."""
 
-    def __init__(self, naming):
-        self.naming, self.found, self.known = naming, {}, {}
+    def __init__(self, naming: Naming) -> None:
+        self.naming = naming
+        self.found: dict[Key, Thing] = {}
+        self.known: dict[str, Thing] = {}
 
-    def add(self, spot):
+    def add(self, spot: Spot) -> None:
         rows = spot.stands()
         if rows in self.known:
             # (the same one object as on a line before)
@@ -169,14 +183,14 @@ class Folding:
         own.add(spot)
         if len(shares) > 1:
             own.beside.update([it for it in shares if it != key])
-        elif len(things) == 1 and key[0] == "symbol":
+        elif len(things) == 1 and isinstance(key, OfSymbol):
             self.known[rows] = own
         for it, its in zip(things, keys):
-            if its in self.found and its[0] == "block":
+            if its in self.found and isinstance(it, Block):
                 self.found[its].lives.add(it.addr << 44 | it.born)
 
 
-def things_of(report, misses, naming, each=None):
+def things_of(report: Report, misses: Misses | None, naming: Naming, each: Report | None = None) -> tuple[list[Thing], dict[Key, Thing]]:
     """The objects that have lines, the worst first, and all by their keys, those beside them too."""
     folding = Folding(naming)
     for spot in spots(report, misses, each):
@@ -186,15 +200,15 @@ def things_of(report, misses, naming, each=None):
 
 
 class Told(NamedTuple):
-    """A word on an object's lines: its line, its names, the object and where that begins, and how it was accessed; `useful` is what is missed
-    of it on a line of its own."""
+    """A word on an object's lines: its line, its names, the object and where that begins, and how it was accessed; `useful` is what is
+    missed of it on a line of its own."""
 
     addr: int
     base: int
     name: str
     element: str
     field: str
-    key: tuple
+    key: Key
     begin: int
     reads: int
     writes: int
@@ -202,12 +216,13 @@ class Told(NamedTuple):
     useful: int | None
 
 
-def words_of(spot, naming, by_word=None):
+def words_of(spot: Spot, naming: Naming, by_word: Misses | None = None) -> list[Told]:
     """The words of a line where they are told; `by_word` is the count of misses in lines of a word each."""
     told = spot.told()
     if told is None:
         return []
-    things, found = spot.rows(), []
+    things = spot.rows()
+    found: list[Told] = []
     for it in told.words():
         thing = holder(things, it.addr)
         name, element, field = naming.word(it.addr, thing)
@@ -215,10 +230,12 @@ def words_of(spot, naming, by_word=None):
         if by_word is not None:
             useful = by_word.lines[it.addr].useful if it.addr in by_word.lines else 0
         begin = thing.addr if thing else 0
-        found.append(Told(it.addr, spot.base, name, element, field, key_of(thing, naming, it.addr), begin, it.reads, it.writes, it.hart, useful))
+        found.append(
+            Told(it.addr, spot.base, name, element, field, key_of(thing, naming, it.addr), begin, it.reads, it.writes, it.hart, useful)
+        )
     return found
 
 
-def worst_word(words):
+def worst_word(words: list[Told]) -> Told | None:
     """The word that is written most, or else read most."""
     return max(words, key=lambda it: (it.writes, it.reads, -it.addr)) if words else None

@@ -1,38 +1,49 @@
 """The page: one file of HTML that needs no network and no script. Its template, page.html, escapes every name."""
 
 import os
+from typing import TYPE_CHECKING, Any, Iterator, Sequence
 
 from calls import TOP
 from faults import Fault
+from keys import Key, OfBlocks
+from model import Seen, View
 from naming import shown
-from objects import Spot, words_of
+from objects import Spot, Thing, Told, words_of
+from predicted import Foretold
+from reports import Explained
 from screen import counted, place_of
 from source_lines import PACKAGES
 
+if TYPE_CHECKING:
+    import jinja2
+
+# What the template is given of something: texts, numbers and others of its kind, by name.
+Given = dict[str, Any]
 # Colours that the colour blind tell apart (Okabe and Ito); each hart has a letter too.
 COLOURS = ("#e69f00", "#56b4e9", "#009e73", "#f0e442", "#8fb8ff", "#ff9f6b", "#e6a9c9", "#bdbdbd")
 MANY = "background:repeating-linear-gradient(45deg,#fff 0 6px,#c9c9c9 6px 9px)"
 # So many lines of an object, pairs of instructions, words in a row and lines of a source are drawn.
 LINES, PAIRS, ROW, AROUND, STRIPS = 24, 3, 16, 2, 24
-# A line that has less than one part in so many of the object's worst line isn't drawn; nor, behind the first ones of an object, is one with less
-# than one part in so many of all.
+# A line that has less than one part in so many of the object's worst line isn't drawn; nor, behind the first ones of an object, is one with
+# less than one part in so many of all.
 FEW, FIRST, LITTLE = 50, 4, 100
 
 
-def letter(hart):
+def letter(hart: int) -> str:
     return ("" if hart < 26 else letter(hart // 26 - 1)) + chr(65 + hart % 26)
 
 
-def colour(hart):
+def colour(hart: int) -> str:
     return COLOURS[hart % len(COLOURS)]
 
 
-def cell(word, most, own, strip="", is_alone=False):
+def cell(word: Told, most: int, own: bool, strip: str = "", is_alone: bool = False) -> Given:
     """A word's cell; `own` says whether the word is the object's, and `is_alone` whether it is the only one."""
     hart = None if word.hart == "many" else int(word.hart)
     field = word.name.removeprefix(strip) or (word.name if is_alone else "+0")
     return {
-        "title": f"{shown(word.addr)} {word.name}: {word.reads} reads, {word.writes} writes, " + ("many harts" if hart is None else f"hart {hart}"),
+        "title": f"{shown(word.addr)} {word.name}: {word.reads} reads, {word.writes} writes, "
+        + ("many harts" if hart is None else f"hart {hart}"),
         "letter": "✱" if hart is None else letter(hart),
         "style": MANY if hart is None else f"background:{colour(hart)}",
         "read_height": round(100 * word.reads / most),
@@ -43,14 +54,14 @@ def cell(word, most, own, strip="", is_alone=False):
     }
 
 
-def cells(base, size, words, thing, name):
+def cells(base: int, size: int, words: Sequence[Told], thing: Key | None, name: str) -> list[Given | None]:
     """The cells of a range, in order; none where a word wasn't accessed."""
     most = max([it.reads for it in words] + [it.writes for it in words] + [1])
     at, is_alone = {it.addr: it for it in words}, sum(it.key == thing for it in words) < 2
     return [cell(at[it], most, at[it].key == thing, name, is_alone) if it in at else None for it in range(base, base + size, 4)]
 
 
-def row(spot, seen, size):
+def row(spot: Spot, seen: Seen, size: int) -> Given:
     """A line, in rows of words."""
     words = [it for it in seen.words if spot.base <= it.addr < spot.base + size]
     own = cells(spot.base, size, words, seen.thing.key, seen.thing.name) if spot.told() else []
@@ -64,23 +75,24 @@ def row(spot, seen, size):
     }
 
 
-def matrix(explained):
+def matrix(explained: Explained) -> Given:
     """How often each hart takes the line from each."""
     harts = sorted({it for pair in explained.harts for it in pair})
     most = max(explained.harts.values(), default=1)
 
-    def one(victim, taker):
+    def one(victim: int, taker: int) -> Given:
         taken = explained.harts.get((victim, taker), 0)
         return {"text": taken or "", "style": f"background:rgba(213,94,0,{0.75 * taken / most:.2f})" if taken else ""}
 
     return {"harts": [letter(it) for it in harts], "rows": [{"hart": letter(it), "cells": [one(it, to) for to in harts]} for it in harts]}
 
 
-def side(view, addr, role):
+def side(view: View, addr: int, role: str) -> Given:
     """One instruction's place, with the lines of its source around it."""
     sources = view.naming.sources
-    place, lines = (sources.place(addr) or sources.near(addr)) if sources else None, []
-    if place:
+    place = (sources.place(addr) or sources.near(addr)) if sources else None
+    lines: list[Given] = []
+    if sources and place:
         text = sources.text(place.file)
         for number in range(max(1, place.line - AROUND), min(len(text), place.line + AROUND) + 1):
             lines.append({"number": number, "text": text[number - 1], "hit": number == place.line})
@@ -89,16 +101,16 @@ def side(view, addr, role):
     return {"role": role, "place": place_of(view.naming, addr) + at, "lines": lines, "lacks": lacks}
 
 
-def pairs(view, explained):
+def pairs(view: View, explained: Explained) -> Iterator[Given]:
     for it in explained.pairs[:PAIRS]:
         sides = [side(view, it.taker, "takes the line"), side(view, it.victim, "loses it")]
         yield {"taken": counted(it.taken, "time"), "same": it.same, "sides": sides}
 
 
-def worth_drawing(view, it):
+def worth_drawing(view: View, it: Thing) -> list[Spot]:
     """The first lines of an object, those left out that have few of the misses and counts of its worst one, or of all."""
 
-    def much(spot):
+    def much(spot: Spot) -> int:
         return (spot.missed.useless + spot.missed.useful if spot.missed else 0) + (spot.line.count if spot.line else 0)
 
     total, worst = sum(one.useless + one.useful + one.count for one in view.things), much(it.worst())
@@ -106,12 +118,12 @@ def worth_drawing(view, it):
     return [one for at, one in enumerate(first) if at < FIRST or much(one) * LITTLE >= total]
 
 
-def in_code(text):
+def in_code(text: str) -> list[str]:
     """A sentence in pieces, every second one of which stands in backquotes."""
     return text.split("`")
 
 
-def thing(view, it):
+def thing(view: View, it: Thing) -> Given:
     """One object as the template has it."""
     seen = view.seen(it)
     worst, fight = seen.worst(), seen.fight()
@@ -123,7 +135,7 @@ def thing(view, it):
         "count": it.count,
         "lines": len(it.spots),
         "lives": len(it.lives),
-        "is_block": it.key[0] == "block",
+        "is_block": isinstance(it.key, OfBlocks),
         "beside": [view.label(view.all[key]) for key in it.beside],
         "worst": worst.name if worst else "",
         "fight": [place_of(view.naming, at) for at in (fight.taker, fight.victim)] if fight else [],
@@ -137,7 +149,7 @@ def thing(view, it):
     }
 
 
-def strip(view, foretold, observed):
+def strip(view: View, foretold: Foretold, observed: dict[int, Spot]) -> Given:
     """A predicted line as a brace over the words of the lines that it meets."""
     line, size = foretold.line, view.report.size
     first = (line.base - view.report.offset) // size * size + view.report.offset
@@ -160,7 +172,7 @@ def strip(view, foretold, observed):
     }
 
 
-def templates():
+def templates() -> "jinja2.Environment":
     """Where the page's template stands: what it is given is escaped, and what it isn't given is a fault."""
     try:
         import jinja2
@@ -170,26 +182,32 @@ def templates():
     return jinja2.Environment(loader=jinja2.FileSystemLoader(folder), autoescape=True, undefined=jinja2.StrictUndefined, trim_blocks=True)
 
 
-def page(view):
+def page(view: View) -> str:
     """The whole page."""
     chosen, top = view.chosen(), view.call.number("top", TOP)
     objects = [thing(view, it) for it in chosen[:top]]
     is_all = "predicted" in view.call.options
     observed, foretold = {spot.base: spot for it in view.things for spot in it.spots if spot.line}, view.foretold()
     strips = [strip(view, it, observed) for it in [one for one in foretold if one.is_shown or is_all][:STRIPS]]
-    drawn = [word for it in chosen[:top] for word in view.seen(it).words] + [word for it in foretold[: len(strips)] for word in it.line.words()]
-    taking = {hart for it in chosen[:top] if view.seen(it).explained for pair in view.seen(it).explained.harts for hart in pair}
+    drawn = [word for it in chosen[:top] for word in view.seen(it).words] + [
+        word for it in foretold[: len(strips)] for word in it.line.words()
+    ]
+    taking = {hart for it in chosen[:top] if (explained := view.seen(it).explained) for pair in explained.harts for hart in pair}
     harts = sorted({int(it.hart) for it in drawn if it.hart != "many"} | taking)
-    return templates().get_template("page.html").render(
-        title=os.path.basename(view.call.subject),
-        report=view.report,
-        total=view.misses.total if view.misses else None,
-        notes=view.notes,
-        objects=objects,
-        more=max(0, len(chosen) - top),
-        harts=[{"hart": it, "letter": letter(it), "colour": colour(it)} for it in harts],
-        has_many=any(it.hart == "many" for it in drawn),
-        many=MANY,
-        predicted=strips,
-        folded=len(foretold) - len(strips),
+    return (
+        templates()
+        .get_template("page.html")
+        .render(
+            title=os.path.basename(view.call.subject),
+            report=view.report,
+            total=view.misses.total if view.misses else None,
+            notes=view.notes,
+            objects=objects,
+            more=max(0, len(chosen) - top),
+            harts=[{"hart": it, "letter": letter(it), "colour": colour(it)} for it in harts],
+            has_many=any(it.hart == "many" for it in drawn),
+            many=MANY,
+            predicted=strips,
+            folded=len(foretold) - len(strips),
+        )
     )

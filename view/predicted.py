@@ -1,34 +1,52 @@
 """Which predicted lines say more than the observed ones, and could come to be."""
 
-from typing import NamedTuple
+from typing import Iterable, NamedTuple, Protocol
 
+from keys import Key
+from naming import Naming
 from objects import key_of
-from reports import Block, Symbol
+from reports import Block, Line, Misses, Report, Symbol
+
+# The size of a layout's lines, and its offset.
+Layout = tuple[int, int]
 
 # How the kit's allocator aligns blocks.
 OF_BLOCKS = 16
 
 
 class Foretold(NamedTuple):
-    """A predicted line, its objects by their keys, its useless misses, those of the observed lines that it meets, and whether it is shown."""
+    """A predicted line, its objects by their keys, its useless misses, those of the observed lines that it meets, and whether it is
+    shown."""
 
-    line: object
-    keys: dict
+    line: Line
+    keys: dict[Key, Symbol | Block]
     useless: int | None
     inside: int | None
     is_shown: bool
     why: str
 
 
-def layout_of(line):
+class Range(Protocol):
+    """What has a line's base and size."""
+
+    @property
+    def base(self) -> int:
+        ...
+
+    @property
+    def size(self) -> int:
+        ...
+
+
+def layout_of(line: Range) -> Layout:
     return line.size, line.base % line.size
 
 
-def layouts(report):
+def layouts(report: Report) -> list[Layout]:
     return sorted({layout_of(it) for it in report.predicted()})
 
 
-def alignment(thing, naming):
+def alignment(thing: Symbol | Block, naming: Naming) -> int:
     """How an object's declaration or its allocator aligns it, as far as that is known."""
     if isinstance(thing, Symbol):
         variable = naming.program.variable(thing.addr) if naming.program else None
@@ -37,23 +55,25 @@ def alignment(thing, naming):
     return min(OF_BLOCKS, thing.addr & -thing.addr) if thing.addr else OF_BLOCKS
 
 
-def can_lie(line, naming):
+def can_lie(line: Line, naming: Naming) -> bool:
     """Whether data aligned as they are could lie so that a line begins where this one does."""
     if line.kind == "doubled":
         return True
-    return all((it.addr - line.base) % min(alignment(it, naming), line.size) == 0 for it in line.objects() if isinstance(it, (Symbol, Block)))
+    return all(
+        (it.addr - line.base) % min(alignment(it, naming), line.size) == 0 for it in line.objects() if isinstance(it, (Symbol, Block))
+    )
 
 
-def inside(lines, misses):
+def inside(lines: Iterable[Range], misses: Misses) -> int:
     """The useless misses of the observed lines that some predicted ones meet, each once."""
-    met = set()
+    met: set[int] = set()
     for it in lines:
         first = (it.base - misses.offset) // misses.size * misses.size + misses.offset
         met.update(range(first, it.base + it.size, misses.size))
     return sum(misses.lines[it].useless for it in met if it in misses.lines)
 
 
-def judged(report, misses, by_layout, naming):
+def judged(report: Report, misses: Misses | None, by_layout: dict[Layout, Misses], naming: Naming) -> list[Foretold]:
     """Each predicted line of a report, those that are shown first, the worst of them first."""
     found = []
     for line in report.predicted():
@@ -72,9 +92,9 @@ def judged(report, misses, by_layout, naming):
     return sorted(found, key=lambda it: (not it.is_shown, (it.inside or 0) - (it.useless or 0), -it.line.count, it.line.base))
 
 
-def together(found):
+def together(found: Iterable[Foretold]) -> list[list[Foretold]]:
     """The predicted lines of one kind, layout and reason that have the same objects, in the order of their firsts."""
-    groups = {}
+    groups: dict[tuple[object, ...], list[Foretold]] = {}
     for it in found:
         groups.setdefault((tuple(it.keys), it.line.kind, layout_of(it.line), it.why), []).append(it)
     return list(groups.values())

@@ -7,18 +7,21 @@ import re
 import subprocess
 import tempfile
 import threading
-from typing import NamedTuple
+from typing import Any, Callable, NamedTuple, Sequence, Union
 
 from faults import Fault
 from reports import Explained, Misses, Placed, Report
+from settings import USUAL
 
 TOP = os.path.dirname(os.path.dirname(os.path.abspath(__file__)))
 # What a run or a replay ends with where its report is printed.
 REPORTED = (0, 10, 11, 12)
 PIECE = 1 << 20
+# What a reader tells of a trace.
+Counted = Union[Misses, Report]
 
 
-def launcher():
+def launcher() -> str:
     """The command `predator` of this checkout, or that of the folder where this was installed."""
     for it in (os.environ.get("PREDATOR"), os.path.join(TOP, "bin", "predator"), os.path.join(TOP, "..", "..", "bin", "predator")):
         if it and os.path.exists(it):
@@ -31,14 +34,14 @@ class Refused(Fault):
 
 
 class Predator:
-    """The program. What the first run says on standard error, which has what the guest puts out too, is handed on as it comes; the runs behind it
-    would say the same again, so theirs is lost. Only a status tells that a call has failed."""
+    """The program. What the first run says on standard error, which has what the guest puts out too, is handed on as it comes; the runs
+    behind it would say the same again, so theirs is lost. Only a status tells that a call has failed."""
 
-    def __init__(self):
+    def __init__(self) -> None:
         self.command = launcher()
-        self.known = None
+        self.known: set[str] | None = None
 
-    def text(self, words, good=(0,), **how):
+    def text(self, words: Sequence[str | bytes], good: Sequence[int] = (0,), **how: Any) -> str:
         """What a call prints, which must end with one of these statuses."""
         ran = subprocess.run([self.command, *words], stdout=subprocess.PIPE, stdin=how.pop("stdin", subprocess.DEVNULL), **how)
         text = ran.stdout.decode("latin-1")
@@ -46,10 +49,10 @@ class Predator:
             said = text.partition("\n")[0] if text.startswith("predator: ") else f"status {ran.returncode}"
             if ran.stderr:
                 said += f" ({ran.stderr.decode('utf-8', 'replace').strip().rpartition(chr(10))[2].removeprefix('predator: ')})"
-            raise Refused(f"`predator {words[0]}` was refused: {said.removeprefix('predator: ')}")
+            raise Refused(f"`predator {words[0]!s}` was refused: {said.removeprefix('predator: ')}")
         return text
 
-    def has(self, command):
+    def has(self, command: str) -> bool:
         """Whether the program knows a command, by its lines of usage."""
         if self.known is None:
             ran = subprocess.run([self.command], stdout=subprocess.PIPE, stderr=subprocess.PIPE, stdin=subprocess.DEVNULL)
@@ -58,13 +61,13 @@ class Predator:
             self.known = set(re.findall(r"^usage: predator (\w+)", ran.stdout.decode("latin-1"), re.MULTILINE))
         return command in self.known
 
-    def report(self, words):
+    def report(self, words: Sequence[str]) -> Report:
         return Report(self.text(words, REPORTED), "the report of " + words[0])
 
-    def explained(self, words):
+    def explained(self, words: Sequence[str]) -> Explained:
         return Explained(self.text(["explain", *words], REPORTED, stderr=subprocess.DEVNULL))
 
-    def placed(self, trace, name, size):
+    def placed(self, trace: str, name: str | bytes, size: int) -> Placed | None:
         """Where `place` puts an object's words apart by their harts, or none where it has no such object or room."""
         try:
             text = self.text(["place", "--size", str(size), "--", trace, name], stderr=subprocess.DEVNULL)
@@ -72,16 +75,16 @@ class Predator:
             return None
         return Placed(text)
 
-    def counted_of_file(self, trace, readers):
+    def counted_of_file(self, trace: str, readers: "Sequence[Reader]") -> list[Counted]:
         """What readers tell of a trace, side by side."""
 
-        def one(reader):
+        def one(reader: Reader) -> Counted:
             return reader.told(self.text([*reader.words, "--", trace], reader.good, stderr=subprocess.DEVNULL))
 
         with concurrent.futures.ThreadPoolExecutor(max_workers=min(4, os.cpu_count() or 1)) as pool:
             return list(pool.map(one, readers))
 
-    def counted_of_run(self, words, readers):
+    def counted_of_run(self, words: list[str], readers: "Sequence[Reader]") -> list[Counted]:
         """The same of a run's trace, which goes through pipes where the program can have it so, and else through a file that is lost."""
         with contextlib.suppress(Refused, BrokenPipeError):
             return self.counted_by_pipes(words, readers)
@@ -91,9 +94,10 @@ class Predator:
             self.text(with_trace([words[0], "--output", os.devnull, *words[1:]], trace), REPORTED, stderr=subprocess.PIPE)
             return self.counted_of_file(trace, readers)
 
-    def counted_by_pipes(self, words, readers):
+    def counted_by_pipes(self, words: list[str], readers: "Sequence[Reader]") -> list[Counted]:
         with concurrent.futures.ThreadPoolExecutor(max_workers=len(readers) + 1) as pool, contextlib.ExitStack() as open_ends:
-            mains, counts = [], []
+            mains: list[Any] = []
+            counts = []
             for it in readers:
                 take, give = os.pipe()
                 counts.append(pool.submit(self.count_from, take, it))
@@ -107,9 +111,9 @@ class Predator:
                 os.close(give)
                 copying.join()
                 open_ends.close()
-            return [it.result() for it in counts]
+        return [it.result() for it in counts]
 
-    def count_from(self, take, reader):
+    def count_from(self, take: int, reader: "Reader") -> Counted:
         with open(take, "rb", 0) as trace:
             return reader.told(self.text([*reader.words, "-"], reader.good, stdin=trace, stderr=subprocess.DEVNULL))
 
@@ -117,30 +121,30 @@ class Predator:
 class Reader(NamedTuple):
     """A command that reads a trace: its words without that, the statuses of an answer, and what its text is."""
 
-    words: list
-    good: tuple
-    told: type
+    words: list[str]
+    good: tuple[int, ...]
+    told: Callable[[str], Counted]
 
 
-def misses_under(layout):
+def misses_under(layout: tuple[int, int]) -> Reader:
     return Reader(["misses", *layout_words(layout)], (0,), Misses)
 
 
-def each_line(layout, settings):
+def each_line(layout: tuple[int, int], settings: str) -> Reader:
     """A report of every line that was ever taken; `settings` is a file that says so."""
     return Reader(["replay", "--settings", settings, *layout_words(layout)], REPORTED, Report)
 
 
-def layout_words(layout):
+def layout_words(layout: tuple[int, int]) -> list[str]:
     return ["--size", str(layout[0]), "--shift", str(layout[1])]
 
 
-def with_trace(words, name):
+def with_trace(words: list[str], name: str) -> list[str]:
     """The words of a run with one option more, before a `--`."""
     return [words[0], "--trace", name, *words[1:]]
 
 
-def copy(take, ends):
+def copy(take: int, ends: list[Any]) -> None:
     """Copies a pipe to others, and closes them; one whose reader is gone is left out."""
     with open(take, "rb", 0) as source:
         while piece := source.read(PIECE):
@@ -155,20 +159,22 @@ def copy(take, ends):
         it.close()
 
 
-def stacks(predator, program, words):
+def stacks(predator: Predator, program: str, words: Sequence[str]) -> tuple[int, int] | None:
     """The lowest and highest address of the stacks, or none where the program can't tell."""
     with contextlib.suppress(Fault):
-        found = re.search(r"^stacks (0x[0-9a-f]+) (0x[0-9a-f]+)$", predator.text(["check", program, *words], stderr=subprocess.DEVNULL), re.MULTILINE)
+        found = re.search(
+            r"^stacks (0x[0-9a-f]+) (0x[0-9a-f]+)$", predator.text(["check", program, *words], stderr=subprocess.DEVNULL), re.MULTILINE
+        )
         if found:
             return int(found[1], 16), int(found[2], 16)
     return None
 
 
-def setting(words, key, usual):
-    """A setting of a call, by its file and its words; `words` are those that name settings."""
+def setting(words: Sequence[str], key: str) -> int:
+    """A setting of a call, by its file and its words, and else the usual one; `words` are those that name settings."""
     import tomllib
 
-    found = usual
+    found = USUAL[key]
     for at, word in enumerate(words):
         name, has_value, value = word.partition("=")
         value = value if has_value else (words[at + 1] if at + 1 < len(words) else "")

@@ -5,7 +5,7 @@ when they are asked for."""
 
 import re
 import sys
-from typing import NamedTuple
+from typing import Callable, ClassVar, Literal, NamedTuple, TypeVar, cast
 
 from faults import Fault
 
@@ -16,14 +16,19 @@ ADDRESS, NUMBER = f"({ANY})", f"({MANY})"
 # The rows below a listed line: what stands on it, and its words.
 STANDS = rf"(?:object (?:symbol [!-~]+ {ANY} {MANY}|block {ANY} {MANY} born {MANY} (?:live|died {MANY})(?:\nsite {ANY} [!-~]+)*)\n)*"
 WORDS = rf"(?:word {ANY} reads {MANY} writes {MANY} (?:hart \d{{1,3}}|many)\n)*"
-LINE = re.compile(rf"line (observed|shifted|doubled) {ADDRESS} {NUMBER} start {NUMBER} count {NUMBER} verdict (false|true|mixed)\n{STANDS}{WORDS}")
+LINE = re.compile(
+    rf"line (observed|shifted|doubled) {ADDRESS} {NUMBER} start {NUMBER} count {NUMBER} verdict (false|true|mixed)\n{STANDS}{WORDS}"
+)
 MISSES = re.compile(rf"line {ADDRESS} cold {NUMBER} useful {NUMBER} useless {NUMBER}\n{STANDS}")
-OBJECT = re.compile(rf"object (?:symbol (\S+) (\S+) (\d+)|block (\S+) (\d+) born (\d+) (?:live|died (\d+)))((?:\nsite .*)*)")
+OBJECT = re.compile(r"object (?:symbol (\S+) (\S+) (\d+)|block (\S+) (\d+) born (\d+) (?:live|died (\d+)))((?:\nsite .*)*)")
 WORD = re.compile(r"word (\S+) reads (\d+) writes (\d+) (?:hart )?(\w+)")
 SITE = re.compile(r"site (\S+) (\S+)")
 SITES = re.compile(rf"\nsite {ANY} .*(?:\nsite .*)*")
 OUTCOME = re.compile(rf"exit {MANY}|budget|deadlock|part|trap hart {MANY} pc {ADDRESS} [a-z-]+")
 WHERE = re.compile(rf"^where {ADDRESS} (.*)$", re.MULTILINE)
+LineKind = Literal["observed", "shifted", "doubled"]
+Verdict = Literal["false", "true", "mixed"]
+A = TypeVar("A", bound="Rows")
 
 
 class Site(NamedTuple):
@@ -46,7 +51,7 @@ class Block(NamedTuple):
     size: int
     born: int
     died: int | None
-    sites: tuple
+    sites: tuple[Site, ...]
 
 
 class Word(NamedTuple):
@@ -57,11 +62,11 @@ class Word(NamedTuple):
     writes: int
     hart: str
 
-    def accesses(self):
+    def accesses(self) -> int:
         return self.reads + self.writes
 
 
-def bytes_of(name):
+def bytes_of(name: str) -> bytes:
     """The bytes of a name that is printed."""
     return re.sub(rb"\\x([0-9a-f]{2})", lambda it: bytes([int(it[1], 16)]), name.encode("latin-1"))
 
@@ -71,31 +76,34 @@ class Rows:
 
     __slots__ = ("text", "begin", "end")
     # The call sites of blocks by their rows: blocks are many, and chains few.
-    chains = {}
+    chains: ClassVar[dict[str, tuple[Site, ...]]] = {}
 
-    def __init__(self, text, begin, end):
+    def __init__(self, text: str, begin: int, end: int) -> None:
         self.text, self.begin, self.end = text, begin, end
 
-    def rows(self):
+    def rows(self) -> list[str]:
         return self.text[self.begin : self.end].split("\n")
 
-    def stands(self):
+    def stands(self) -> str:
         """The rows that tell what stands on the line, as a text."""
         words = self.text.find("word ", self.begin, self.begin + 5) if self.begin < self.end else self.begin
         words = self.text.find("\nword ", self.begin, self.end) if words < 0 else words
         return self.text[self.begin : self.end if words < 0 else words]
 
-    def objects(self):
+    def objects(self) -> list[Symbol | Block]:
         """The symbols and the blocks on the line, in the report's order."""
         return objects_of(self.stands())
 
-    def words(self):
-        return [Word(int(addr, 16), int(reads), int(writes), hart) for addr, reads, writes, hart in WORD.findall(self.text, self.begin, self.end)]
+    def words(self) -> list[Word]:
+        return [
+            Word(int(addr, 16), int(reads), int(writes), hart)
+            for addr, reads, writes, hart in WORD.findall(self.text, self.begin, self.end)
+        ]
 
 
-def objects_of(rows):
+def objects_of(rows: str) -> list[Symbol | Block]:
     """What some rows say that stands on a line."""
-    found = []
+    found: list[Symbol | Block] = []
     for it in OBJECT.finditer(rows):
         name, at, size, block, length, born, died, sites = it.groups()
         if name is not None:
@@ -105,7 +113,7 @@ def objects_of(rows):
     return found
 
 
-def chain(rows):
+def chain(rows: str) -> tuple[Site, ...]:
     """The call sites that some rows tell."""
     found = Rows.chains.get(rows)
     if found is None:
@@ -118,11 +126,11 @@ class Line(Rows):
 
     __slots__ = ("kind", "base", "size", "start", "count", "verdict")
 
-    def __init__(self, text, begin, end, fields):
+    def __init__(self, text: str, begin: int, end: int, fields: tuple[str, ...]) -> None:
         self.text, self.begin, self.end = text, begin, end
         kind, base, size, start, count, verdict = fields
         # (one text for all lines)
-        self.kind, self.verdict = sys.intern(kind), sys.intern(verdict)
+        self.kind, self.verdict = cast(LineKind, sys.intern(kind)), cast(Verdict, sys.intern(verdict))
         self.base, self.size, self.start, self.count = int(base, 16), int(size), int(start), int(count)
 
 
@@ -131,15 +139,16 @@ class Missed(Rows):
 
     __slots__ = ("base", "cold", "useful", "useless")
 
-    def __init__(self, text, begin, end, fields):
+    def __init__(self, text: str, begin: int, end: int, fields: tuple[str, ...]) -> None:
         self.text, self.begin, self.end = text, begin, end
         base, cold, useful, useless = fields
         self.base, self.cold, self.useful, self.useless = int(base, 16), int(cold), int(useful), int(useless)
 
 
-def listed(text, pattern, kind, of):
+def listed(text: str, pattern: re.Pattern[str], kind: Callable[[str, int, int, tuple[str, ...]], A], of: str) -> tuple[list[A], int | None]:
     """The lines that a text lists, each with its rows, and where the text goes on behind them."""
-    found, place = [], text.find("\nline ") + 1
+    found: list[A] = []
+    place = text.find("\nline ") + 1
     if not place:
         return found, None
     fields = range(1, pattern.groups + 1)
@@ -149,13 +158,14 @@ def listed(text, pattern, kind, of):
         place = it.end()
         found.append(kind(text, it.end(pattern.groups) + 1, place - 1, it.group(*fields)))
     if text.startswith(("line ", "object ", "site ", "word "), place):
-        raise Fault(f"{of}: its row {text.count(chr(10), 0, place) + 1} is none that it may have: `{text[place : place + 80].partition(chr(10))[0]}`")
+        row, shown = text.count("\n", 0, place) + 1, text[place : place + 80].partition("\n")[0]
+        raise Fault(f"{of}: its row {row} is none that it may have: `{shown}`")
     return found, place
 
 
-def head(text, of):
+def head(text: str, of: str) -> dict[str, str]:
     """The first lines of a text, as a word and what follows it, and whether the text is whole."""
-    fields = {}
+    fields: dict[str, str] = {}
     for row in text[:2000].split("\n")[1:8]:
         name, _, value = row.partition(" ")
         fields.setdefault(name, value)
@@ -164,13 +174,13 @@ def head(text, of):
     return fields
 
 
-def number(fields, name, of):
+def number(fields: dict[str, str], name: str, of: str) -> int:
     if not re.fullmatch(MANY, fields.get(name, "")):
         raise Fault(f"{of}: it has no line `{name} N` where a report has one")
     return int(fields[name])
 
 
-def sites_of(text):
+def sites_of(text: str) -> set[int]:
     """The addresses of all call sites in a text."""
     return {it.addr for rows in {it[0] for it in SITES.finditer(text)} for it in chain(rows)}
 
@@ -178,7 +188,7 @@ def sites_of(text):
 class Report:
     """A report, whole."""
 
-    def __init__(self, text, of="the report"):
+    def __init__(self, text: str, of: str = "the report") -> None:
         self.text = text
         first = text.partition("\n")[0]
         if not text.strip():
@@ -205,27 +215,27 @@ class Report:
         # What native/predator-native prints behind a report: where a call site stands.
         self.where = {int(it[1], 16): it[2] for it in WHERE.finditer(text, place or 0)}
 
-    def ended_well(self):
+    def ended_well(self) -> bool:
         return self.outcome == "exit 0"
 
-    def sites(self):
+    def sites(self) -> set[int]:
         return sites_of(self.text)
 
-    def observed(self):
+    def observed(self) -> list[Line]:
         return [it for it in self.lines if it.kind == "observed"]
 
-    def at(self):
+    def at(self) -> dict[int, Line]:
         """The observed lines by their bases."""
         return {it.base: it for it in self.observed()}
 
-    def predicted(self):
+    def predicted(self) -> list[Line]:
         return [it for it in self.lines if it.kind != "observed"]
 
 
 class Misses:
     """What `misses` counts of a trace under one layout."""
 
-    def __init__(self, text, of="misses"):
+    def __init__(self, text: str, of: str = "misses") -> None:
         found = re.match(r"misses (\d+) (\d+)\naccesses (\d+)\nlines (\d+)\n", text)
         total = re.search(r"^total cold (\d+) useful (\d+) useless (\d+)\nend\n", text, re.MULTILINE)
         if not found or not total:
@@ -236,7 +246,7 @@ class Misses:
         if len(self.lines) != int(found[4]):
             raise Fault(f"{of}: it tells of {found[4]} lines and has {len(self.lines)}")
 
-    def sites(self):
+    def sites(self) -> set[int]:
         return sites_of(self.text)
 
 
@@ -252,12 +262,15 @@ class Pair(NamedTuple):
 class Explained:
     """What `explain` says of a line."""
 
-    def __init__(self, text, of="explain"):
+    def __init__(self, text: str, of: str = "explain") -> None:
         if not text.startswith("predator explain 1\n") or not text.endswith("\nend\n"):
             raise Fault(f"{of}: it isn't what `explain` prints")
         line = re.search(rf"^line {ADDRESS} (\d+) start (\d+) count (\d+)$", text, re.MULTILINE)
-        self.base, self.size, self.start, self.count = int(line[1], 16), *(int(it) for it in line.groups()[1:])
-        self.steps, self.accesses = (int(re.search(rf"^{it} (\d+)$", text, re.MULTILINE)[1]) for it in ("steps", "accesses"))
+        steps, accesses = (re.search(rf"^{it} (\d+)$", text, re.MULTILINE) for it in ("steps", "accesses"))
+        if not line or not steps or not accesses:
+            raise Fault(f"{of}: it isn't what `explain` prints")
+        self.base, self.size, self.start, self.count = int(line[1], 16), int(line[2]), int(line[3]), int(line[4])
+        self.steps, self.accesses = int(steps[1]), int(accesses[1])
         pairs = re.findall(rf"^pair {ADDRESS} {ADDRESS} taken (\d+) same (\d+)$", text, re.MULTILINE)
         self.pairs = [Pair(int(a, 16), int(b, 16), int(c), int(d)) for a, b, c, d in pairs]
         harts = re.findall(r"^from (\d+) to (\d+) taken (\d+)$", text, re.MULTILINE)
@@ -270,7 +283,7 @@ class Placed:
     """What `place` says: where an object lies, where its words go, by their old places, with whose they are, and how often all lines are
     taken before and after."""
 
-    def __init__(self, text, of="place"):
+    def __init__(self, text: str, of: str = "place") -> None:
         head = re.match(rf"place ([!-~]+) {ADDRESS} {NUMBER} line {NUMBER}\n", text)
         counts = re.search(rf"^before {NUMBER}\nafter {NUMBER}\nmany {NUMBER}\nend\n", text, re.MULTILINE)
         if not head or not counts:

@@ -3,11 +3,16 @@
 import os
 import sys
 import textwrap
+from typing import Iterator, Sequence, TextIO
 
 from advice import listing
 from calls import TOP
 from faults import plain
-from predicted import inside, together
+from keys import OfBlocks
+from model import View
+from naming import Naming
+from objects import Thing, Told
+from predicted import Foretold, inside, together
 
 BOLD, RED, DIM, END = "1", "1;31", "2", "0"
 
@@ -15,14 +20,14 @@ BOLD, RED, DIM, END = "1", "1;31", "2", "0"
 class Paint:
     """Colours where they are wanted."""
 
-    def __init__(self, out=sys.stdout):
+    def __init__(self, out: TextIO = sys.stdout) -> None:
         self.is_on = out.isatty() and not os.environ.get("NO_COLOR") and os.environ.get("TERM") != "dumb"
 
-    def __call__(self, code, text):
+    def __call__(self, code: str, text: str) -> str:
         return f"\033[{code}m{text}\033[{END}m" if self.is_on else text
 
 
-def place_of(naming, addr):
+def place_of(naming: Naming, addr: int) -> str:
     """An instruction's line in the source and its function, or its address."""
     sources = naming.sources
     place = sources.place(addr) if sources else None
@@ -32,7 +37,7 @@ def place_of(naming, addr):
     return f"{told} ({' < '.join(names[:2])})" if names else told
 
 
-def outcome(view, paint):
+def outcome(view: View, paint: Paint) -> Iterator[str]:
     """How the run ended: loudly where that isn't exit 0."""
     report, naming = view.report, view.naming
     told = report.outcome
@@ -44,7 +49,9 @@ def outcome(view, paint):
         "part": "it is a part of a trace that was cut",
     }
     if report.outcome.endswith(("load-misaligned", "store-misaligned")):
-        advice[report.outcome] = "its address is no multiple of its size: use `memcpy`, or a type with `__attribute__((packed))`, which goes by bytes"
+        advice[
+            report.outcome
+        ] = "its address is no multiple of its size: use `memcpy`, or a type with `__attribute__((packed))`, which goes by bytes"
     if not report.ended_well():
         yield paint(RED, plain(f"!! THE RUN DIDN'T END BY EXIT 0: {told}"))
         yield paint(RED, f"!! {advice.get(report.outcome, 'what follows is what it did until then')}")
@@ -55,23 +62,23 @@ def outcome(view, paint):
         yield f"misses: {total['useless']} useless, {total['useful']} useful, {total['cold']} cold"
 
 
-def owner(word):
+def owner(word: Told) -> str:
     return "many harts" if word.hart == "many" else f"hart {word.hart}"
 
 
-def counted(number, what):
+def counted(number: int, what: str) -> str:
     return f"{number} {what}" + ("" if number == 1 else "s")
 
 
-def fold(text, first, rest, width):
+def fold(text: str, first: str, rest: str, width: int) -> list[str]:
     return textwrap.wrap(plain(text), width, initial_indent=first, subsequent_indent=rest, break_long_words=False, break_on_hyphens=False)
 
 
-def row(view, place, thing, paint, width):
+def row(view: View, place: int, thing: Thing, paint: Paint, width: int) -> Iterator[str]:
     """One object: its numbers and name, and below it the worst field, the fighting lines and what to do."""
     seen = view.seen(thing)
-    numbers = [thing.useless, thing.useful] if view.misses else ["-", "-"]
-    lives = f" ({len(thing.lives)} lives)" if thing.key[0] == "block" and len(thing.lives) > 1 else ""
+    numbers: list[int | str] = [thing.useless, thing.useful] if view.misses else ["-", "-"]
+    lives = f" ({len(thing.lives)} lives)" if isinstance(thing.key, OfBlocks) and len(thing.lives) > 1 else ""
     beside = [view.label(view.all[it]) for it in thing.beside]
     near = f", beside {', '.join(beside[:3])}" + (f" and {len(beside) - 3} more" if len(beside) > 3 else "") if beside else ""
     cells = "".join(f" {it:>8}" for it in (*numbers, thing.count))
@@ -87,7 +94,7 @@ def row(view, place, thing, paint, width):
     yield from fold(f"to do        {seen.todo}", " " * 8, " " * 21, width)
 
 
-def words_table(view, thing):
+def words_table(view: View, thing: Thing) -> Iterator[str]:
     """The words of an object's lines."""
     for it in view.seen(thing).words:
         needed = "" if it.useful is None else f"{it.useful:>9}"
@@ -95,21 +102,21 @@ def words_table(view, thing):
         yield f"        0x{it.addr:08x}{it.reads:>9}{it.writes:>9}{needed}  {it.hart:<5} {plain(it.name)}{other}"
 
 
-def prediction(view, group):
+def prediction(view: View, group: Sequence[Foretold]) -> str:
     """Some predicted lines of one kind, in a sentence."""
     first, bases = group[0], [f"0x{it.line.base:08x}" for it in group]
     what = ", ".join(view.name_of(key) for key in first.keys) or "memory"
     size, where = first.line.size, listing(bases)
     how = f"lines of {size} bytes (at {where})" if first.line.kind == "doubled" else f"lines that begin at {where}"
-    if first.useless is None:
+    if first.useless is None or view.misses is None:
         much = f"count {sum(it.line.count for it in group)}"
     else:
         seen = inside([it.line for it in group], view.misses)
-        much = f"{sum(it.useless for it in group)} useless misses, {seen} as it lies"
+        much = f"{sum(it.useless or 0 for it in group)} useless misses, {seen} as it lies"
     return f"{what}: with {how}, {much}" + (f" (folded: {first.why})" if first.why else f"; `alignas({size})` keeps apart what meets there")
 
 
-def predictions(view, paint, width):
+def predictions(view: View, paint: Paint, width: int) -> Iterator[str]:
     found, is_all = view.foretold(), "predicted" in view.call.options
     shown = [it for it in found if it.is_shown or is_all]
     folded = len(found) - len(shown)
@@ -122,7 +129,7 @@ def predictions(view, paint, width):
         yield paint(DIM, f"{counted(folded, 'predicted line')} folded away, {why}")
 
 
-def screen(view, paint, width=110):
+def screen(view: View, paint: Paint, width: int = 110) -> Iterator[str]:
     """The whole screen, as lines."""
     yield from outcome(view, paint)
     for it in view.notes:

@@ -4,7 +4,7 @@ import json
 import os
 import shutil
 import subprocess
-from typing import NamedTuple
+from typing import Any, Iterable, NamedTuple
 
 from faults import Fault
 
@@ -20,11 +20,11 @@ class Place(NamedTuple):
     file: str
     line: int
 
-    def short(self):
+    def short(self) -> str:
         return f"{os.path.basename(self.file)}:{self.line}" if self.file and self.line else ""
 
 
-def places(told):
+def places(told: dict[str, Any]) -> list[Place]:
     """The frames of an address as llvm-symbolizer tells them, the innermost first."""
     frames = [(it.get("FunctionName", ""), it.get("FileName", ""), it.get("Line", 0)) for it in told.get("Symbol", [])]
     return [Place(function, file and os.path.normpath(file), line) for function, file, line in frames if function or file]
@@ -33,14 +33,17 @@ def places(told):
 class Sources:
     """The lines of a program's addresses, and the texts of its sources as far as they are there."""
 
-    def __init__(self, program, folders=()):
-        self.program, self.places, self.texts = program, {}, {}
+    def __init__(self, program: str, folders: Iterable[str] = ()) -> None:
+        self.program = program
+        self.places: dict[int, list[Place]] = {}
+        self.texts: dict[str, list[str]] = {}
         self.folders = [*folders, "", os.path.dirname(os.path.abspath(program))]
-        self.tool = shutil.which("llvm-symbolizer")
-        if self.tool is None:
+        tool = shutil.which("llvm-symbolizer")
+        if tool is None:
             raise Fault(f"llvm-symbolizer isn't installed: {PACKAGES}", 127)
+        self.tool = tool
 
-    def find(self, addresses):
+    def find(self, addresses: Iterable[int]) -> None:
         """Looks some addresses up in one call."""
         wanted = sorted({it for it in addresses if it not in self.places})
         if not wanted:
@@ -56,17 +59,18 @@ class Sources:
             told = json.loads(row)
             self.places[int(told["Address"], 16)] = places(told)
 
-    def frames(self, address):
+    def frames(self, address: int) -> list[Place]:
         """The functions inlined at an address, the innermost first."""
         self.find([address])
         return self.places[address]
 
-    def place(self, address):
+    def place(self, address: int) -> Place | None:
         """The innermost line of an address that is known, or none."""
         return next((it for it in self.frames(address) if it.file and it.line), None)
 
-    def near(self, address):
-        """Where the compiler has made one instruction of several lines and so told none: the line of the nearest one before it in its function."""
+    def near(self, address: int) -> Place | None:
+        """Where the compiler has made one instruction of several lines and so told none: the line of the nearest one before it in its
+        function."""
         function = next((it.function for it in reversed(self.frames(address))), "")
         before = range(address - 4, max(address - 4 * NEAR, 0) - 1, -4)
         self.find(before)
@@ -78,7 +82,7 @@ class Sources:
                 return self.place(it)
         return None
 
-    def path(self, file):
+    def path(self, file: str) -> str | None:
         """Where a source is on this machine, or none."""
         for folder in self.folders:
             for it in (file, os.path.basename(file)):
@@ -87,7 +91,7 @@ class Sources:
                     return path
         return None
 
-    def text(self, file):
+    def text(self, file: str) -> list[str]:
         """The lines of a source, none of which are there if it isn't."""
         if file not in self.texts:
             path = self.path(file)

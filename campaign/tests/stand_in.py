@@ -1,5 +1,6 @@
 #!/usr/bin/python3 -IS
-"""Stands for the program in the tests of the workflow: it prints made-up texts of the right form, which its settings' seed decides, at once.
+"""Stands for the program in the tests of the workflow: it prints made-up texts of the right form, which its settings' seed decides, at
+once.
 
 STAND_IN_LOG names a file to which each call adds a line; STAND_IN_FAILS has the seeds whose runs fail, STAND_IN_KILLS those that take their
 job with them, and STAND_IN_SLEEP is what a run takes."""
@@ -27,10 +28,26 @@ def report(seed, size=64, shift=0):
     """A variable that each seed lists, and the second block, which odd seeds list."""
     block = 0x20100 + 64 * (seed % 3)
     lines = [
-        (100 + seed, f"line observed 0x00011000 {size} start 3 count {100 + seed} verdict false\nobject symbol counters 0x00011000 64\nword 0x00011000 reads 0 writes 9 hart 0"),
-        (90, f"line observed {block:#010x} {size} start 4 count 90 verdict false\nobject block {block:#010x} 64 born 2 live\nsite 0x00010010 malloc\nsite 0x00010020 main"),
+        (
+            100 + seed,
+            f"line observed 0x00011000 {size} start 3 count {100 + seed} verdict false\n"
+            "object symbol counters 0x00011000 64\nword 0x00011000 reads 0 writes 9 hart 0",
+        ),
+        (
+            90,
+            f"line observed {block:#010x} {size} start 4 count 90 verdict false\n"
+            f"object block {block:#010x} 64 born 2 live\nsite 0x00010010 malloc\nsite 0x00010020 main",
+        ),
     ][: 1 + seed % 2]
-    head = ["predator report 1", "outcome exit 0", f"steps {1000 + seed}", "accesses 4", f"layout {size} {shift}", "thresholds 16 64 16", f"lines {len(lines)}"]
+    head = [
+        "predator report 1",
+        "outcome exit 0",
+        f"steps {1000 + seed}",
+        "accesses 4",
+        f"layout {size} {shift}",
+        "thresholds 16 64 16",
+        f"lines {len(lines)}",
+    ]
     return "\n".join([*head, *(it for _, it in lines), "end"]) + "\n"
 
 
@@ -76,7 +93,10 @@ def main(words):
     elif words[0] == "misses":
         print(misses(seed, size, shift), end="")
     elif words[0] == "sweep":
-        print(f"sweep {size}\naccesses 4\nshift 0 total {seed} lines 1\nshift 4 total 5 lines 1\nleast {0 if seed <= 5 else 4} total {min(seed, 5)}\nend")
+        print(
+            f"sweep {size}\naccesses 4\nshift 0 total {seed} lines 1\nshift 4 total 5 lines 1\n"
+            f"least {0 if seed <= 5 else 4} total {min(seed, 5)}\nend"
+        )
     else:
         print(f"caches {size} 1 1\naccesses 4\nlines 0\ntotal bounded {seed} unbounded {seed + 1} evicted 2\nend")
     return 0

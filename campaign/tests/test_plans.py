@@ -25,11 +25,12 @@ FAULTS = {
     GOOD + "misses:\n- {size: 64, shift: 64}\n": "plan.yaml:5: a shift is below the size of the line, and 64 isn't below 64",
     GOOD + "caches:\n- {size: 64, sets: 1}\n": "plan.yaml:5: 'caches.0' lacks 'ways'",
     GOOD + "caches:\n- {size: 64, sets: 3, ways: 1}\n": "plan.yaml:5: sets are a power of two",
-    GOOD + "traces: never\n": 'plan.yaml:4: \'traces\' is one of lost, kept, and not "never"',
+    GOOD + "traces: never\n": "plan.yaml:4: 'traces' is one of lost, kept, and not \"never\"",
     "programs:\n  one: one\nseeds:\n- 1\n- 7-3\n": "plan.yaml:5: '7-3' is no range of seeds",
     "programs:\n  one: one\nseeds:\n- 1\n- x\n": "plan.yaml:5: 'seeds.1' ",
     "programs:\n  one: gone\nseeds: 1\n": "plan.yaml:2: gone: No such file or directory",
-    "programs:\n  one:\n    file: one\n    shedule: s\nseeds: 1\n": "plan.yaml:4: 'shedule' is no key of 'programs.one'; there are: file, schedule, settings",
+    "programs:\n  one:\n    file: one\n    shedule: s\nseeds: 1\n": "plan.yaml:4: 'shedule' is no key of 'programs.one'; "
+    "there are: file, schedule, settings",
     "programs:\n  one: one\n  o/e: one\nseeds: 1\n": "plan.yaml:3: 'o/e' can't be a program's name",
     "programs:\n  one: one\n  one: two\nseeds: 1\n": "plan.yaml:3: 'one' stands twice",
     "programs: [\nseeds: 1\n": "plan.yaml:3: it is no YAML: expected ',' or ']'",
@@ -65,7 +66,9 @@ class Plans(Folder):
     def test_what_stands_where(self):
         """Seeds once each and in order; a program's own settings before the others; the line of the settings where no misses are named."""
         self.write("list", "0 10\n")
-        self.plan("programs:\n  one: {file: one, schedule: list, settings: {quantum: 3}}\nsettings: {line: [32, 128]}\nseeds: [5, 2-4, 3]\n")
+        self.plan(
+            "programs:\n  one: {file: one, schedule: list, settings: {quantum: 3}}\nsettings: {line: [32, 128]}\nseeds: [5, 2-4, 3]\n"
+        )
         self.assertEqual(self.campaign("--", "-n")[0], 0)
         told = json.loads(self.read("plan.campaign", "campaign.json"))
         self.assertEqual([it["settings"] for it in told["groups"]], [{"quantum": 3, "line": 32}, {"quantum": 3, "line": 128}])

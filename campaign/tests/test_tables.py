@@ -65,12 +65,17 @@ class Tables(unittest.TestCase):
         other = record(2, [block(0x30020, 0x30060, 140, 9), block(0x40000, 0x40040, 101, 3)], {"0x00030020 9": 2, "0x00040000 3": 1})
         lines, objects = rows(first, other)
         told = {it["object"]: (it["offset"], it["listed"], it["count"], it["worst"]) for it in lines[0, LAYOUT, "observed"]}
-        self.assertEqual(told, {"block 2 of work@0x00010020": (64, 2, (120, 120, 140), 2), "block 1 of work@0x00010020": (64, 1, (101, 101, 101), 2)})
+        self.assertEqual(
+            told, {"block 2 of work@0x00010020": (64, 2, (120, 120, 140), 2), "block 1 of work@0x00010020": (64, 1, (101, 101, 101), 2)}
+        )
         (thing,) = objects[0, LAYOUT, "observed"]
-        self.assertEqual((thing["object"], thing["lines"], thing["listed"], thing["count"]), ("blocks of work@0x00010020", 2, 2, (120, 120, 140)))
+        self.assertEqual(
+            (thing["object"], thing["lines"], thing["listed"], thing["count"]), ("blocks of work@0x00010020", 2, 2, (120, 120, 140))
+        )
 
     def test_misses_count_where_no_report_lists_the_line(self):
-        text = "misses 64 0\naccesses 8\nlines 1\nline 0x00011000 cold 1 useful 2 useless 33\nobject symbol low 0x00010fe0 64\ntotal cold 1 useful 2 useless 33\nend\n"
+        text = "misses 64 0\naccesses 8\nlines 1\nline 0x00011000 cold 1 useful 2 useless 33\nobject symbol low 0x00010fe0 64\n"
+        text += "total cold 1 useful 2 useless 33\nend\n"
         name = {"misses_--size_64_--shift_0": text}
         lines, _ = rows(record(1, [], **name), record(2, [symbol(0x11000, 110, 9)], **name))
         (row,) = lines[0, LAYOUT, "observed"]

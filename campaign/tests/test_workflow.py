@@ -79,7 +79,10 @@ class Workflow(Folder):
         self.plan("programs: {one: one, two: two}\nseeds: 1-5\nbatch: 2\n")
         self.assertEqual(self.campaign()[0], 0)
         self.assertEqual(self.calls(), sorted(f"{call} {seed}" for call in ("run", "misses") for seed in (1, 2, 3, 4, 5, 5)))
-        self.plan("programs: {two: two}\nseeds: 1-5\nbatch: 5\nmisses: [64, 128]\nreplays: [32]\nsweeps: [64]\ncaches: [{size: 64, sets: 1, ways: 1}]\ntraces: kept\n")
+        self.plan(
+            "programs: {two: two}\nseeds: 1-5\nbatch: 5\nmisses: [64, 128]\nreplays: [32]\nsweeps: [64]\n"
+            "caches: [{size: 64, sets: 1, ways: 1}]\ntraces: kept\n"
+        )
         self.assertEqual(self.campaign()[0], 0)
         wanted = [f"{call} {seed}" for call in ("run", "misses", "replay", "sweep", "caches") for seed in range(1, 6)]
         self.assertEqual(self.calls(), sorted(wanted), "a run again for its trace, and of the counts those that weren't there")
@@ -94,7 +97,9 @@ class Workflow(Folder):
         with gzip.open(path, "rt") as file:
             (found,) = (json.loads(it) for it in file)
         told = json.loads(self.read("plan.campaign", "campaign.json"))
-        self.assertEqual((found["seed"], found["settings"], found["program"]["sha256"]), (3, {"quantum": 10}, told["programs"]["one"]["sha256"]))
+        self.assertEqual(
+            (found["seed"], found["settings"], found["program"]["sha256"]), (3, {"quantum": 10}, told["programs"]["one"]["sha256"])
+        )
         self.assertEqual(found["predator"], {it: told["predator"][it] for it in ("sha256", "version")})
         self.assertEqual(found["blocks"], {"0x00020100 2": 2}, "the second block of its call site")
         (group,) = json.loads(self.read("plan.campaign", "table.json"))["groups"]
@@ -106,7 +111,9 @@ class Workflow(Folder):
     def test_two_calls_at_once(self):
         self.plan(PLAN)
         words = [*COMMAND, "plan.yaml"]
-        first = subprocess.Popen(words, env=environment(STAND_IN_SLEEP="0.2"), cwd=self.work, stdout=subprocess.DEVNULL, stderr=subprocess.DEVNULL)
+        first = subprocess.Popen(
+            words, env=environment(STAND_IN_SLEEP="0.2"), cwd=self.work, stdout=subprocess.DEVNULL, stderr=subprocess.DEVNULL
+        )
         while not os.path.exists(self.at("plan.campaign", "campaign.json")):
             time.sleep(0.05)
         status, _, said = self.campaign()
@@ -115,7 +122,9 @@ class Workflow(Folder):
 
     def test_plain_machines(self):
         """Over a stand-in for ssh: one machine that can't be reached, and one with two places."""
-        self.write("ssh", 'while [[ $1 == -o* ]]; do shift; done; [ "$1" = gone ] && exit 255; echo "$1" >>"$MACHINES"; exec bash -c "$2"\n')
+        self.write(
+            "ssh", 'while [[ $1 == -o* ]]; do shift; done; [ "$1" = gone ] && exit 255; echo "$1" >>"$MACHINES"; exec bash -c "$2"\n'
+        )
         self.plan(PLAN)
         os.mkdir(self.at("plan.campaign"))
         self.write("plan.campaign/machines", "gone 3\nnear 2   # two jobs at once\n")

@@ -55,8 +55,24 @@ def elf_of(code, rights, zeros, functions):
     content, sections = sections_of(functions, begin + len(code)) if functions else (b"", b"")
     table = begin + len(code) + len(content) if functions else 0
     header = struct.pack(
-        "<4sBBB9xHHIIIIIHHHHHH", b"\x7fELF", 1, 1, 1, 2, 243, 1, BASE, 52, table, 0, 52, 32, segments,
-        40 if functions else 0, len(sections) // 40, 0
+        "<4sBBB9xHHIIIIIHHHHHH",
+        b"\x7fELF",
+        1,
+        1,
+        1,
+        2,
+        243,
+        1,
+        BASE,
+        52,
+        table,
+        0,
+        52,
+        32,
+        segments,
+        40 if functions else 0,
+        len(sections) // 40,
+        0,
     )
     headers = struct.pack("<8I", 1, begin, BASE, 0, len(code), len(code), rights, 0)
     for addr, size in zeros:

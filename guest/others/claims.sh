@@ -11,10 +11,14 @@
 set -u
 here=$(cd "$(dirname "$(readlink -f "$0")")" && pwd)
 cc=$here/../cc
+# (claims/ uses this one, and two more below)
+# shellcheck disable=SC2034
 cxx=$here/../c++
 predator=${PREDATOR:-$here/../../bin/predator}
 fetched=$here/fetched
+# shellcheck disable=SC2034
 allocators=$here/../allocators/fetched
+# shellcheck disable=SC2034
 studies=$here/out
 out=$here/out/claims
 lines=-gline-tables-only
@@ -118,6 +122,8 @@ missed() {
     shift 4
     printf 'quantum = 10\nmemory = 67108864\n' >settings
     "$predator" run --settings settings --trace trace --output put "$elf" "$@" >said 2>&1
+    # (`misses` is a command, and then a file)
+    # shellcheck disable=SC2094
     "$predator" misses trace >misses 2>&1
     awk -v object="$object" -v site="$site" 'is_it && $1 == "site" && $3 ~ site { found = 1 } { is_it = $0 ~ object } END { exit !found }' misses
     told "$what" $?

@@ -31,7 +31,8 @@ STUDIES = {
 SETTINGS = "quantum = 10\n"
 # (their coders want some MiB for each thread)
 LARGE = {"zstd": SETTINGS + "memory = 67108864\n", "xz": SETTINGS + "memory = 67108864\n"}
-# The builds of which a predicted line is looked at, and the one in which what the first of them predicts is observed, with how far its data moved.
+# The builds of which a predicted line is looked at, and the one in which what the first of them predicts is observed, with how far its data
+# moved.
 PREDICTED = ["rte_ring", "rte_ring-together", "kt_for-apart"]
 MOVED = {"rte_ring-together": ("rte_ring-together-at-24", 24)}
 # How many lines of a report, and how many of the misses, are shown, and of each how many lines that say what stands there.
@@ -63,8 +64,8 @@ def useless(told, base, size):
 
 
 def foretold(name, runs):
-    """The first predicted line of a report: what it costs under its own layout, what the lines of 64 bytes that it touches cost, and, where the
-    data lie so in another build, what is observed there."""
+    """The first predicted line of a report: what it costs under its own layout, what the lines of 64 bytes that it touches cost, and, where
+    the data lie so in another build, what is observed there."""
     line = runs[name].report.of_kind("shifted", "doubled")[0]
     with tempfile.TemporaryDirectory() as work:
         settings, trace = os.path.join(work, "settings"), os.path.join(work, "trace")

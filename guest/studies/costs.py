@@ -27,8 +27,8 @@ def text(*words):
 
 
 def place(path, pc, name):
-    """The line of the source that has an instruction, with its function and the one that it is inlined in; a function of the C library, which
-    has no line tables, by its name."""
+    """The line of the source that has an instruction, with its function and the one that it is inlined in; a function of the C library,
+    which has no line tables, by its name."""
     words = ["llvm-symbolizer", f"--obj={path}", "--output-style=JSON", f"{pc:#x}"]
     ran = subprocess.run(words, stdout=subprocess.PIPE, text=True, check=True)
     frames = json.loads(ran.stdout)[0]["Symbol"]
@@ -40,8 +40,8 @@ def place(path, pc, name):
 
 
 class Build:
-    """A build that was run: its misses, and of one line the two instructions of which one takes it from the other most often. The line is the
-    first of the report, or, where `is_worst`, the first of the misses."""
+    """A build that was run: its misses, and of one line the two instructions of which one takes it from the other most often. The line is
+    the first of the report, or, where `is_worst`, the first of the misses."""
 
     def __init__(self, path, settings_text="", is_worst=False):
         self.path, self.wrong = path, []

@@ -15,6 +15,7 @@ SHOWN = "linear_regression"
 # The studies that show a prediction, and the place of their build where nothing is observed.
 PREDICTED = {"linear_regression": 0, "word_count": 0, "string_match": 0}
 
+
 def summary(runs):
     rows = []
     for name, run in runs.items():

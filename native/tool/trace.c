@@ -358,7 +358,8 @@ static void put_access(UInt hart, UInt tag, UInt addr, UInt size)
         trace_flush();
     if (trace.fd < 0)
         return;
-    *(ULong *)(trace.bytes + trace.count) = record;
+    /* (records of blocks have odd sizes) */
+    __builtin_memcpy(trace.bytes + trace.count, &record, sizeof record);
     trace.count += 8;
     if (++trace_accesses == trace_most)
         trace_stop("that many accesses were asked for");

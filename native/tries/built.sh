@@ -1,12 +1,16 @@
+# shellcheck shell=bash
 # Part of native/try.sh, which reads it: tries the second way, programs that are compiled with -fsanitize=thread and linked with the runtime.
+#
+# (try.sh sets the names that aren't set here)
+# shellcheck disable=SC2154
 
 for name in counters kinds odd locks heap; do
     gcc -O1 -g -fsanitize=thread -pthread "$here/tries/$name.c" -o $name.tsan -L"$here/out/lib" 2>gcc.log || cat gcc.log
 done
 for row in "1 79900 80000" "10 15900 16100" "100 1590 1620" "1000 155 170"; do
-    set -- $row
-    same "built: counters at $1" "sum 80000" "$("$run" --built --quantum "$1" --trace t -- ./counters.tsan 2>&1)"
-    within "built: takings at $1" "$2" "$3" "$("$judge" taken t counters)"
+    read -r quantum least most <<<"$row"
+    same "built: counters at $quantum" "sum 80000" "$("$run" --built --quantum "$quantum" --trace t -- ./counters.tsan 2>&1)"
+    within "built: takings at $quantum" "$least" "$most" "$("$judge" taken t counters)"
 done
 same "built: a word's accesses" "10000 10000 1" "$("$judge" word t counters 4)"
 back "built: the table back" t counters.tsan
@@ -24,6 +28,8 @@ same "built: an atomic is one write" "0 4000 4" "$("$judge" word same1 added 0)"
 rm -f same*
 built() { # MODE STATUS END OUTPUT
     local said status
+    # (a mode may be two words)
+    # shellcheck disable=SC2086
     said=$(echo hello | "$run" --built --trace o -- ./odd.tsan $1 2>o.log)
     status=$?
     same "built: $1: status" "$2" "$status"
@@ -51,7 +57,7 @@ built limit 6 "exit 6" limited
 built input 6 "exit 6" hello
 built "many 300" 6 part "many 300"
 built "many 255" 6 "exit 6" "many 255"
-same "built: fork" "6 child parent 0" "$("$run" --built --trace o -- ./odd.tsan fork >o.out 2>&1; echo $? $(sort o.out))"
+same "built: fork" "6 child parent 0" "$("$run" --built --trace o -- ./odd.tsan fork >o.out 2>&1; echo "$? $(sort o.out | paste -s -d ' ')")"
 said=$(ulimit -f 3000; "$run" --built --trace t -- ./odd.tsan limit 2>&1)
 same "built: a limit: status" 6 "$?"
 has "built: a limit" "t: File too large" "$said"
@@ -126,7 +132,7 @@ fi
 
 built_pipe() {
     rm -f from-pipe
-    said=$(pass keeps --built --table back -- ./$1.tsan ${2:-} 2>o.log; echo $?)
+    said=$(pass keeps --built --table back -- "./$1.tsan" "${@:2}" 2>o.log; echo $?)
 }
 built_pipe kinds
 same "built: pipe: output and status" "$right" "$said"

@@ -2,9 +2,9 @@
 """Builds examples of guest/ for this machine with -fsanitize=thread, and compares what is listed of each with what is listed of its build
 for RV32: guest.py FOLDER [NAME ..]. FOLDER is for what is built. It prints a line for each example, and ends with 1 where one differs.
 
-Compared are the observed lines, each by the variables and blocks on it, where it begins in them and its verdict. Counts aren't: a turn is so
-many accesses here, and so many steps there. Variables that don't stand alone in their lines are put, by the linker, where they are in the
-build for RV32. docs/NATIVE.md tells which examples can't be compared."""
+Compared are the observed lines, each by the variables and blocks on it, where it begins in them and its verdict. Counts aren't: a turn is
+so many accesses here, and so many steps there. Variables that don't stand alone in their lines are put, by the linker, where they are in
+the build for RV32. docs/NATIVE.md tells which examples can't be compared."""
 
 import os
 import subprocess
@@ -18,7 +18,15 @@ sys.path.insert(0, os.path.join(TOP, "view"))
 from reports import Report, Symbol  # noqa: E402
 
 # Each example, and what of its C library for RV32 isn't here.
-NAMES = {"apart": (), "atomics": ("atomic_locks", "environ", "err", "initial_env", "out", "predator_start.words", "pthread_harts", "stdout"), "checksum": (), "counters": (), "queue": (), "waits": (), "words": ()}
+NAMES = {
+    "apart": (),
+    "atomics": ("atomic_locks", "environ", "err", "initial_env", "out", "predator_start.words", "pthread_harts", "stdout"),
+    "checksum": (),
+    "counters": (),
+    "queue": (),
+    "waits": (),
+    "words": (),
+}
 # Those whose variables the linker places.
 PLACED = ("atomics", "waits")
 
@@ -52,7 +60,9 @@ def build(name, folder):
         layout(name, path)
         script = [f"-Wl,-T,{path}"]
     made = [os.path.join(folder, f"{it}.o") for it in (name, "calls")]
-    subprocess.run([*common, "-DNATIVE", "-fsanitize=thread", "-c", os.path.join(GUEST, "examples", f"{name}.c"), "-o", made[0]], check=True)
+    subprocess.run(
+        [*common, "-DNATIVE", "-fsanitize=thread", "-c", os.path.join(GUEST, "examples", f"{name}.c"), "-o", made[0]], check=True
+    )
     subprocess.run([*common, "-c", os.path.join(HERE, "guest", "calls.c"), "-o", made[1]], check=True)
     library = os.path.join(TOP, "native", "out", "lib")
     subprocess.run(["gcc", "-pthread", *made, *script, "-o", out, "-L", library, "-ltsan"], check=True)
@@ -72,10 +82,16 @@ def listed(report, without=()):
 
 def reports(name, folder):
     predator = os.environ.get("PREDATOR") or os.path.join(TOP, "bin", "predator")
-    ran = subprocess.run([predator, "run", os.path.join(GUEST, "built", f"{name}.elf")], stdout=subprocess.PIPE, stderr=subprocess.DEVNULL, text=True)
+    ran = subprocess.run(
+        [predator, "run", os.path.join(GUEST, "built", f"{name}.elf")], stdout=subprocess.PIPE, stderr=subprocess.DEVNULL, text=True
+    )
     path = os.path.join(folder, f"{name}.report")
     recorder = os.path.join(TOP, "native", "predator-native")
-    subprocess.run([recorder, "--built", "--all", "--quantum", "40", "--report", path, "--", build(name, folder)], stdout=subprocess.DEVNULL, check=True)
+    subprocess.run(
+        [recorder, "--built", "--all", "--quantum", "40", "--report", path, "--", build(name, folder)],
+        stdout=subprocess.DEVNULL,
+        check=True,
+    )
     with open(path) as file:
         return Report(ran.stdout), Report(file.read())
 

@@ -8,7 +8,16 @@ from elftools.elf.elffile import ELFFile
 MASK = 0xFFFFFFFF
 FREE, RUNS, ENDED, WAITS, JOINS = range(5)
 EINVAL, EAGAIN, EFAULT, ENOSYS = 22, 11, 14, 38
-CAUSES = ("illegal", "breakpoint", "fetch-misaligned", "fetch-outside", "load-misaligned", "load-outside", "store-misaligned", "store-outside")
+CAUSES = (
+    "illegal",
+    "breakpoint",
+    "fetch-misaligned",
+    "fetch-outside",
+    "load-misaligned",
+    "load-outside",
+    "store-misaligned",
+    "store-outside",
+)
 
 
 class Trap(Exception):
@@ -207,7 +216,9 @@ class Machine:
         if rd in links:
             hart.sites.append(pc)
         if is_plain:
-            return pc + extended(bits(word, 31, 31) << 20 | bits(word, 19, 12) << 12 | bits(word, 20, 20) << 11 | bits(word, 30, 21) << 1, 21)
+            return pc + extended(
+                bits(word, 31, 31) << 20 | bits(word, 19, 12) << 12 | bits(word, 20, 20) << 11 | bits(word, 30, 21) << 1, 21
+            )
         return a + immediate & ~1
 
     def atomic(self, number, hart, word, pc, a, b):
@@ -269,7 +280,7 @@ class Machine:
         if at + wide > self.stacks:
             return 0
         self.blocks[at] = size, at + wide
-        sites = (*hart.sites[: -5 : -1], 0, 0, 0, 0)[:4]
+        sites = (*hart.sites[:-5:-1], 0, 0, 0, 0)[:4]
         self.records.append((len(self.accesses), ("alloc", at, size, sites)))
         return at
 

@@ -1,4 +1,5 @@
-"""A test of sharing in a program's own build, as guest/README.md shows it: its Makefile and its CMakeLists.txt are tried as they stand there."""
+"""A test of sharing in a program's own build, as guest/README.md shows it: its Makefile and its CMakeLists.txt are tried as they stand
+there."""
 
 import os
 import re

@@ -1,4 +1,5 @@
-"""The files that view writes: the page in a browser, JSON by its schema, SARIF; large reports; and the program itself, where it is built."""
+"""The files that view writes: the page in a browser, JSON by its schema, SARIF; large reports; and the program itself, where it is
+built."""
 
 import json
 import os
@@ -191,7 +192,9 @@ class Program(unittest.TestCase):
                 texts = []
                 for more in ({}, {"program": PROGRAM}):
                     path = os.path.join(folder, "json")
-                    status, text, _ = view("run", built(f"{name}.elf"), "--settings", os.path.join(folder, "s"), "--words", "--json", path, *explains, **more)
+                    status, text, _ = view(
+                        "run", built(f"{name}.elf"), "--settings", os.path.join(folder, "s"), "--words", "--json", path, *explains, **more
+                    )
                     with open(path, encoding="utf-8") as file:
                         texts.append((status, text, file.read()))
                 self.assertEqual(*texts, name)

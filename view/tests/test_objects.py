@@ -43,7 +43,11 @@ def word(addr, reads, writes, hart):
 
 class Objects(unittest.TestCase):
     def test_a_line_of_two_variables_is_told_once(self):
-        rows = ["line observed 0x00001000 64 start 0 count 200 verdict false", "object symbol head 0x00001000 4", "object symbol tail 0x00001004 4"]
+        rows = [
+            "line observed 0x00001000 64 start 0 count 200 verdict false",
+            "object symbol head 0x00001000 4",
+            "object symbol tail 0x00001004 4",
+        ]
         view = view_of([*rows, word(0x1000, 1, 50, "hart 0"), word(0x1004, 9, 80, "hart 1")])
         (thing,) = view.things
         self.assertEqual((thing.name, thing.count, [view.name_of(it) for it in thing.beside]), ("tail", 200, ["head"]))
@@ -51,7 +55,11 @@ class Objects(unittest.TestCase):
         self.assertIn("head", view.names_of(thing))
 
     def test_lines_that_only_have_misses_count(self):
-        rows = ["line observed 0x00001000 64 start 0 count 200 verdict false", "object symbol a 0x00001000 64", word(0x1000, 1, 50, "hart 0")]
+        rows = [
+            "line observed 0x00001000 64 start 0 count 200 verdict false",
+            "object symbol a 0x00001000 64",
+            word(0x1000, 1, 50, "hart 0"),
+        ]
         counted = "misses 64 0\naccesses 900\nlines 2\n"
         counted += "line 0x00001040 cold 2 useful 1 useless 500\nobject symbol b 0x00001040 64\n"
         counted += "line 0x00001000 cold 2 useful 0 useless 300\nobject symbol a 0x00001000 64\n"
@@ -63,7 +71,12 @@ class Objects(unittest.TestCase):
         counted += "object symbol b 0x00001008 8\ntotal cold 2 useful 1 useless 500\nend\n"
         self.assertEqual(view_of([], counted).seen(view_of([], counted).things[0]).words, [])
         words = [word(0x1000, 9, 1, "hart 0"), word(0x1008, 30, 40, "hart 1")]
-        each = ["line observed 0x00001000 64 start 3 count 40 verdict false", "object symbol a 0x00001000 8", "object symbol b 0x00001008 8", *words]
+        each = [
+            "line observed 0x00001000 64 start 3 count 40 verdict false",
+            "object symbol a 0x00001000 8",
+            "object symbol b 0x00001008 8",
+            *words,
+        ]
         view = view_of([], counted, each=each)
         (thing,) = view.things
         self.assertEqual((thing.name, thing.count, thing.useless), ("b", 0, 500))
@@ -75,7 +88,11 @@ class Objects(unittest.TestCase):
         for at in range(40):
             rows += [f"line observed 0x{0x2000 + 64 * at:08x} 64 start 0 count {300 - at} verdict false"]
             for born in range(0, 900, 30):
-                rows += [f"object block 0x{0x2000 + 64 * at:08x} 64 born {born} died {born + 29}", "site 0x00000100 malloc", "site 0x00000200 make"]
+                rows += [
+                    f"object block 0x{0x2000 + 64 * at:08x} 64 born {born} died {born + 29}",
+                    "site 0x00000100 malloc",
+                    "site 0x00000200 make",
+                ]
             rows += [word(0x2000 + 64 * at, 5, 50, "many")]
         view = view_of(rows)
         (thing,) = view.things
@@ -86,13 +103,21 @@ class Objects(unittest.TestCase):
     def test_objects_of_one_name_are_told_apart(self):
         rows = []
         for at in (0x1000, 0x2000):
-            rows += [f"line observed 0x{at:08x} 64 start 0 count 200 verdict true", f"object symbol lock 0x{at:08x} 4", word(at, 5, 50, "many")]
+            rows += [
+                f"line observed 0x{at:08x} 64 start 0 count 200 verdict true",
+                f"object symbol lock 0x{at:08x} 4",
+                word(at, 5, 50, "many"),
+            ]
         view = view_of(rows)
         self.assertEqual([view.label(it) for it in view.things], ["lock, at 0x00001000", "lock, at 0x00002000"])
         self.assertEqual({it.name for it in view.things}, {"lock"})
 
     def test_large_numbers_stand_apart(self):
-        rows = ["line observed 0x00001000 64 start 0 count 123456789012 verdict true", "object symbol lock 0x00001000 4", word(0x1000, 5, 50, "many")]
+        rows = [
+            "line observed 0x00001000 64 start 0 count 123456789012 verdict true",
+            "object symbol lock 0x00001000 4",
+            word(0x1000, 5, 50, "many"),
+        ]
         self.assertIn(" 123456789012 ", "\n".join(screen(view_of(rows), Paint(io.StringIO()))))
 
     def test_blocks_of_one_call_site_are_one_object(self):
@@ -113,13 +138,17 @@ class Objects(unittest.TestCase):
 
     def test_stacks_have_names(self):
         memory = Memory((0xF90000, 0x1010000), 8)
-        self.assertEqual([memory.key(it) for it in (0x100FFFC, 0x1000000, 0xFFFFFC, 0xF90000)], [("stack", 0), ("stack", 0), ("stack", 1), ("stack", 7)])
+        self.assertEqual(
+            [memory.key(it) for it in (0x100FFFC, 0x1000000, 0xFFFFFC, 0xF90000)], [("stack", 0), ("stack", 0), ("stack", 1), ("stack", 7)]
+        )
         self.assertEqual(memory.key(0x1010000), ("memory", 0x1010000))
         rows = ["line observed 0x0100ffc0 64 start 0 count 300 verdict true", word(0x100FFC0, 5, 50, "many")]
         self.assertEqual(view_of(rows, memory=memory).things[0].name, "stack of hart 0")
 
     def test_a_misaligned_access_has_advice(self):
-        view = view_of(["line observed 0x00001000 64 start 0 count 300 verdict true", "object symbol a 0x00001000 4", word(0x1000, 5, 50, "many")])
+        view = view_of(
+            ["line observed 0x00001000 64 start 0 count 300 verdict true", "object symbol a 0x00001000 4", word(0x1000, 5, 50, "many")]
+        )
         for cause, told in (("load-misaligned", "`memcpy`"), ("store-misaligned", "`memcpy`"), ("load-outside", "until then")):
             view.report.outcome = f"trap hart 0 pc 0x00010000 {cause}"
             self.assertIn(told, "\n".join(screen(view, Paint(io.StringIO()))))
@@ -143,11 +172,15 @@ class Objects(unittest.TestCase):
         rows = ["line shifted 0x00001020 64 start 3 count 150 verdict false", "object symbol a 0x00001000 128"]
         rows += ["line shifted 0x00001060 64 start 3 count 140 verdict false", "object symbol a 0x00001000 128"]
         view = view_of(rows)
-        native = Misses("misses 64 0\naccesses 9\nlines 1\nline 0x00001040 cold 2 useful 0 useless 9\ntotal cold 2 useful 0 useless 9\nend\n")
+        native = Misses(
+            "misses 64 0\naccesses 9\nlines 1\nline 0x00001040 cold 2 useful 0 useless 9\ntotal cold 2 useful 0 useless 9\nend\n"
+        )
         text = "misses 64 32\naccesses 9\nlines 2\nline 0x00001020 cold 2 useful 0 useless 10\nline 0x00001060 cold 2 useful 0 useless 9\n"
         own = Misses(text + "total cold 4 useful 0 useless 19\nend\n")
         found = judged(view.report, native, {(64, 32): own}, view.naming)
-        self.assertEqual([(it.line.base, it.useless, it.inside, it.is_shown) for it in found], [(0x1020, 10, 9, True), (0x1060, 9, 9, False)])
+        self.assertEqual(
+            [(it.line.base, it.useless, it.inside, it.is_shown) for it in found], [(0x1020, 10, 9, True), (0x1060, 9, 9, False)]
+        )
         self.assertEqual(len(together(found)), 2)
 
     def judge(self, kind, base, rows, native, own, naming=None):
@@ -156,7 +189,8 @@ class Objects(unittest.TestCase):
         view = view_of([f"line {kind} 0x{base:08x} {size} start 3 count 150 verdict false", *rows])
         lines = "".join(f"line 0x{at:08x} cold 2 useful 0 useless {much}\n" for at, much in native)
         observed = Misses(f"misses 64 0\naccesses 9\nlines {len(native)}\n{lines}total cold 2 useful 0 useless 0\nend\n")
-        text = f"misses {size} {base % size}\naccesses 9\nlines 1\nline 0x{base:08x} cold 2 useful 0 useless {own}\ntotal cold 2 useful 0 useless {own}\nend\n"
+        text = f"misses {size} {base % size}\naccesses 9\nlines 1\nline 0x{base:08x} cold 2 useful 0 useless {own}\n"
+        text += f"total cold 2 useful 0 useless {own}\nend\n"
         (found,) = judged(view.report, observed, {(size, base % size): Misses(text)}, naming or view.naming)
         return found.is_shown, found.why
 
@@ -173,7 +207,12 @@ class Objects(unittest.TestCase):
 
     def test_what_no_placement_reaches_is_folded(self):
         unreachable = (False, "data aligned as it is can't come to lie so")
-        for alignment, base, wanted in ((8, 0x1024, unreachable), (8, 0x1028, (True, "")), (64, 0x1020, unreachable), (4, 0x1024, (True, ""))):
+        for alignment, base, wanted in (
+            (8, 0x1024, unreachable),
+            (8, 0x1028, (True, "")),
+            (64, 0x1020, unreachable),
+            (4, 0x1024, (True, "")),
+        ):
             variable = SimpleNamespace(alignment=lambda alignment=alignment: alignment, type=None)
             naming = Naming(view_of([]).report)
             naming.program = SimpleNamespace(variable=lambda _, it=variable: it)

@@ -38,12 +38,16 @@ class Places(unittest.TestCase):
 
     def test_apart_by_harts(self):
         (told,) = self.todo(fight(0x1000, 0x1004), named(b"queue", 0x1000, 8))
-        self.assertIn("this saves up to 238 of 238 misses; `place` puts its words apart by their harts, queue (hart 0); queue+4 (hart 1): then", told)
+        self.assertIn(
+            "this saves up to 238 of 238 misses; `place` puts its words apart by their harts, queue (hart 0); queue+4 (hart 1): then", told
+        )
         self.assertIn("then lines are taken 0 times in all, and not 239", told)
 
     def test_words_of_many_harts(self):
         (told,) = self.todo(fight(0x1000, 0x1000), named(b"lock", 0x1000, 4))
-        self.assertIn("`place` gains nothing: with its words put apart by their harts, lines are taken 239 times in all, and 239 as they lie", told)
+        self.assertIn(
+            "`place` gains nothing: with its words put apart by their harts, lines are taken 239 times in all, and 239 as they lie", told
+        )
         (told,) = self.todo([*fight(0x1000, 0x1004), *fight(0x1008, 0x1008)], named(b"both", 0x1000, 12))
         self.assertIn("both (hart 0); both+4 (hart 1); both+8 (many harts): then lines are taken 239 times in all, and not 479", told)
 
@@ -60,12 +64,17 @@ class Places(unittest.TestCase):
         self.assertNotIn("`place`", told)
 
     def test_too_large_and_no_room(self):
-        for symbol, words in ((named(b"table", 0x1000, 2**24 + 4), (0x1000, 0x1004)), (named(b"last", 0xFFFFFFC0, 64), (0xFFFFFFC0, 0xFFFFFFFC))):
+        for symbol, words in (
+            (named(b"table", 0x1000, 2**24 + 4), (0x1000, 0x1004)),
+            (named(b"last", 0xFFFFFFC0, 64), (0xFFFFFFC0, 0xFFFFFFFC)),
+        ):
             (told,) = self.todo(fight(*words), symbol)
             self.assertRegex(told, "^(harts have|these belong|begin) .*this saves up to 238 of 238 misses$")
 
     def test_the_first_of_one_name(self):
-        first, second = self.todo([*fight(0x1000, 0x1004), *fight(0x2000, 0x2004, turns=90)], named(b"own", 0x1000, 8), named(b"own", 0x2000, 8), shows=2)
+        first, second = self.todo(
+            [*fight(0x1000, 0x1004), *fight(0x2000, 0x2004, turns=90)], named(b"own", 0x1000, 8), named(b"own", 0x2000, 8), shows=2
+        )
         self.assertIn("`place` puts its words apart", first)
         self.assertNotIn("place", second)
 

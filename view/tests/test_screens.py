@@ -121,7 +121,10 @@ class Screens(Shown):
             (("run", built("ring.elf"), "--html", built("../programs/ring.elf")), "the same file is in use under another name"),
             (("run", built("ring.elf"), "--html", "/tmp/a", "--json", "/tmp/a"), "the same file is in use under another name"),
             (("run", built("ring.elf"), "--settings=/etc/hosts", "--sarif", "/etc/hosts"), "the same file is in use under another name"),
-            (("run", built("ring.elf"), "--trace", "/tmp/none", "--sarif", "/tmp/../tmp/none"), "the same file is in use under another name"),
+            (
+                ("run", built("ring.elf"), "--trace", "/tmp/none", "--sarif", "/tmp/../tmp/none"),
+                "the same file is in use under another name",
+            ),
             (("run", built("ring.elf"), "--against", "/etc/hosts", "--html", "/etc/hosts"), "the same file is in use under another name"),
         ):
             status, _, told = view(*words, *(TURNS if words[0] == "run" else ()))
@@ -188,7 +191,9 @@ class Screens(Shown):
 class Repairs(Shown):
     def test_shards_and_packed_slots(self):
         _, text, _ = view("run", built("shards.elf"), *TURNS, "--explain", "0")
-        self.shows(text, "give each element of shards lines of its own: `alignas(64)` on `struct shard`; this saves up to 2147 of 2147 misses")
+        self.shows(
+            text, "give each element of shards lines of its own: `alignas(64)` on `struct shard`; this saves up to 2147 of 2147 misses"
+        )
         _, text, _ = view("run", built("anderson.elf"), *TURNS, "--explain", "0")
         self.shows(text, "1 478 98 184 1 lock", "give each element of lock.slots lines of its own", "the sharing of guarded is true")
         # (a line that the report doesn't list)
@@ -196,16 +201,38 @@ class Repairs(Shown):
 
     def test_a_byte_for_each_slot(self):
         _, text, _ = view("run", built("flags.elf"), *TURNS, "--explain", "0")
-        self.shows(text, "1 408 458 284 1 lock", "worst field lock.slots[4..7].is_free", "each element of lock.slots (shared; `alignas(64)` on `struct slot`)")
-        self.shows(text, "this saves up to 408 of 866 misses, or more: several fields or elements lie in a word of lock.slots[4..7].is_free")
+        self.shows(
+            text,
+            "1 408 458 284 1 lock",
+            "worst field lock.slots[4..7].is_free",
+            "each element of lock.slots (shared; `alignas(64)` on `struct slot`)",
+        )
+        self.shows(
+            text, "this saves up to 408 of 866 misses, or more: several fields or elements lie in a word of lock.slots[4..7].is_free"
+        )
         _, text, _ = view("run", built("flags.elf"), "--explain", "0")
-        self.shows(text, "1 0 98", "as far as whole words tell, and several fields or elements lie in one word there", "give each a line of its own and look again")
-        self.shows(text, "harts took turns of 100 steps, which hides what they do at the same time: look with `quantum = 1` in the settings too")
+        self.shows(
+            text,
+            "1 0 98",
+            "as far as whole words tell, and several fields or elements lie in one word there",
+            "give each a line of its own and look again",
+        )
+        self.shows(
+            text, "harts took turns of 100 steps, which hides what they do at the same time: look with `quantum = 1` in the settings too"
+        )
 
     def test_pieces_of_one_block(self):
         _, text, _ = view("run", built("pieces.elf"), *TURNS, "--explain", "1")
-        self.shows(text, "1 872 1 591 1 block made at pieces.c:41 < main", "in an array by `alignas(64)` on the type of its elements and `aligned_alloc(64, ..)`")
-        self.shows(text, "in an arena by rounding up where its pieces begin, and their sizes, to multiples of 64 (`--type pieces.c:41=TYPE` names its fields)")
+        self.shows(
+            text,
+            "1 872 1 591 1 block made at pieces.c:41 < main",
+            "in an array by `alignas(64)` on the type of its elements and `aligned_alloc(64, ..)`",
+        )
+        self.shows(
+            text,
+            "in an arena by rounding up where its pieces begin, and their sizes, to multiples of 64 "
+            "(`--type pieces.c:41=TYPE` names its fields)",
+        )
         # (an instruction that the compiler made of two lines)
         self.shows(text, "near pieces.c:28 (work) takes the line from near pieces.c:28 (work), 380 times, never for the same word")
 
@@ -218,7 +245,14 @@ class Repairs(Shown):
         self.assertEqual((status, said), (1, says + "\npredator view: stats has 298 useless misses, more than 297\n"))
 
     def test_what_the_screen_says_mends_it(self):
-        for name, thing in (("ring", "stats"), ("arena", "block"), ("shards", "shards"), ("anderson", "lock"), ("flags", "lock"), ("pieces", "block")):
+        for name, thing in (
+            ("ring", "stats"),
+            ("arena", "block"),
+            ("shards", "shards"),
+            ("anderson", "lock"),
+            ("flags", "lock"),
+            ("pieces", "block"),
+        ):
             with tempfile.TemporaryDirectory() as folder:
                 path = os.path.join(folder, "json")
                 view("run", built(f"{name}-repaired.elf"), *TURNS, "--explain", "0", "--json", path)
@@ -245,7 +279,12 @@ class Against(unittest.TestCase):
             status, text, _ = view("run", built("shards.elf"), *TURNS, "--explain", "0", "--against", old, "--json", old)
             self.assertEqual((status, "stats: gone" in text), (0, True))
             head = '{"format": "predator view 1", "outcome": "exit 0", "objects": '
-            things = ("3", "[3]", '[{"key": "symbol a"}]', '[{"key": [], "name": "a", "useless": 1, "count": 1, "beside": [], "words": []}]')
+            things = (
+                "3",
+                "[3]",
+                '[{"key": "symbol a"}]',
+                '[{"key": [], "name": "a", "useless": 1, "count": 1, "beside": [], "words": []}]',
+            )
             for bad in ("{}", "[", "{" * 99999, '{"format": "predator view 2"}', '{"a":' * 99999, *(f"{head}{it}}}" for it in things)):
                 with open(old, "w", encoding="utf-8") as file:
                     file.write(bad)

@@ -23,7 +23,8 @@ word 0x00001008 reads 1 writes 1 many
 line shifted -0x0000001c 64 start 1 count 1 verdict true
 """
 WHOLE = HEAD + "lines 2\n" + ROWS + "end\n"
-MISSES = "misses 64 0\naccesses 4\nlines 1\nline 0x00001000 cold 2 useful 0 useless 2\nobject symbol a 0x00001000 8\ntotal cold 5 useful 0 useless 2\nend\n"
+MISSES = "misses 64 0\naccesses 4\nlines 1\nline 0x00001000 cold 2 useful 0 useless 2\nobject symbol a 0x00001000 8\n"
+MISSES += "total cold 5 useful 0 useless 2\nend\n"
 EXPLAINED = """predator explain 1
 outcome exit 0
 steps 75
@@ -82,14 +83,23 @@ class Texts(unittest.TestCase):
         self.fault(WHOLE.replace("layout 64 0", "layout 64 64"), "no layout")
         self.fault(WHOLE.replace("steps 3", "steps \xb2"), "no line `steps N`")
         self.fault(WHOLE.replace("0x00001000 64 start", "0x00001000 32 start"), "lines of another size")
-        for row, bad in ((9, "object symbol a 0x00001000"), (11, "site 0x000100b0"), (14, "word 0x00001000 reads 0 writes 2 hart"), (12, "word up")):
+        for row, bad in (
+            (9, "object symbol a 0x00001000"),
+            (11, "site 0x000100b0"),
+            (14, "word 0x00001000 reads 0 writes 2 hart"),
+            (12, "word up"),
+        ):
             rows = WHOLE.split("\n")
             rows[row - 1] = bad
             self.fault("\n".join(rows), f"its row {row} is none that it may have: `{bad}`")
         self.fault(WHOLE.replace("count 2", f"count {'9' * 5000}"), "r: ")
 
     def test_where_rows_end(self):
-        for row, wanted in (("object symbol word 0x00001000 8\nword 0x00001000 reads 0 writes 2 hart 0\n", 1), ("word 0x00001000 reads 0 writes 2 many\n", 0), ("", 0)):
+        for row, wanted in (
+            ("object symbol word 0x00001000 8\nword 0x00001000 reads 0 writes 2 hart 0\n", 1),
+            ("word 0x00001000 reads 0 writes 2 many\n", 0),
+            ("", 0),
+        ):
             line = Report(f"{HEAD}lines 1\nline observed 0x00001000 64 start 0 count 2 verdict false\n{row}end\n").lines[0]
             self.assertEqual((len(line.objects()), len(line.words())), (wanted, row.count("\nword ") or row.count("word 0")))
 

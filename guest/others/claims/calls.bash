@@ -1,5 +1,8 @@
-# shellcheck shell=bash disable=SC2154,SC2086,SC2206,SC2046,SC2054
+# shellcheck shell=bash
 # What it says of the calls, and of what the kit does and doesn't do by them (claims.sh sources this).
+#
+# (claims.sh sets the names that aren't set here, and flags that are several words are parted where they stand bare)
+# shellcheck disable=SC2154,SC2086,SC2206,SC2046
 
 # marked WHAT PROGRAM KIND [NUMBER ..]: between its marks a hart of the last run accesses what claims/marks.py says.
 marked() {

@@ -1,5 +1,8 @@
-# shellcheck shell=bash disable=SC2154,SC2086,SC2206
+# shellcheck shell=bash
 # What guest/README.md says of memory, and of data, on code that nobody here wrote (claims.sh sources this).
+#
+# (claims.sh sets the names that aren't set here, and flags that are several words are parted where they stand bare)
+# shellcheck disable=SC2154,SC2086,SC2206
 
 # The allocators ask the kit itself for memory, by sbrk or by mmap; `blocks` are large enough for both.
 bash_malloc() {

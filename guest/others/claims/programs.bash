@@ -1,5 +1,8 @@
-# shellcheck shell=bash disable=SC2154,SC2086,SC2206
+# shellcheck shell=bash
 # What it says of building programs, of their words, their ends and their reports (claims.sh sources this).
+#
+# (claims.sh sets the names that aren't set here, and flags that are several words are parted where they stand bare)
+# shellcheck disable=SC2154,SC2086,SC2206
 
 claim_cxx() {
     local it no="a thread_local variable has no destructor here: free it where the thread ends"

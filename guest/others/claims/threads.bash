@@ -1,5 +1,8 @@
-# shellcheck shell=bash disable=SC2154,SC2086,SC2206,SC2046,SC2054
+# shellcheck shell=bash
 # What it says of threads, signals and the clock (claims.sh sources this).
+#
+# (claims.sh sets the names that aren't set here, and flags that are several words are parted where they stand bare)
+# shellcheck disable=SC2154,SC2086,SC2206,SC2046
 
 claim_harts() {
     local told="pthread_create: each of the 8 harts is in use, so there is none for another thread: the settings may have more, as harts = 16"

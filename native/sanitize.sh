@@ -1,0 +1,94 @@
+#!/usr/bin/env bash
+# Tries native/ under the sanitizers of gcc, in a folder of its own (Debian: gcc, python3, and valgrind for the tool):
+#
+#     sanitize.sh
+#
+# What writes traces, and `mend`, run with those of addresses and of undefined behaviour. The whole runtime can't: it has functions of its own by
+# the names that the sanitizer of addresses takes, as `malloc` and `pthread_create`; nor can the tool, which is linked with valgrind's core and
+# no C library. Both are built so that undefined behaviour is a trap, which needs no library, and record programs of tries/.
+# The last line is `N passed, M failed`, and the status is 0 exactly if nothing failed.
+set -u
+here=$(cd "$(dirname "$(readlink -f "$0")")" && pwd)
+judge=$here/tries/judge.py
+for it in gcc python3; do
+    command -v "$it" >/dev/null || { echo "$it isn't installed"; exit 77; }
+done
+work=$(mktemp -d)
+trap 'rm -rf "$work"' EXIT
+cd "$work" || exit 1
+passed=0 failed=0
+
+# is WHAT WANTED GOT
+is() {
+    if [ "$2" = "$3" ]; then
+        passed=$((passed + 1))
+    else
+        failed=$((failed + 1))
+        printf 'FAILED %s: wanted %s, got %s\n' "$1" "$2" "$3"
+    fi
+}
+
+# Addresses and undefined behaviour. A finding ends the program with status 99.
+export ASAN_OPTIONS=exitcode=99 UBSAN_OPTIONS=print_stacktrace=1
+strict=(-O1 -g -std=gnu11 -fno-strict-aliasing -fsanitize=address,undefined -fno-sanitize-recover=all)
+# (blocks of the writer's own are made by the C library here, and not cut from pages)
+heap=(-Wl,--wrap=predator_malloc,--wrap=predator_realloc,--wrap=predator_free,--wrap=predator_strdup)
+cat >heap.c <<'C'
+#include <stdlib.h>
+#include <string.h>
+void *__wrap_predator_malloc(const char *name, unsigned long size) { return malloc(size); }
+void *__wrap_predator_realloc(const char *name, void *old, unsigned long size) { return realloc(old, size); }
+void __wrap_predator_free(void *it) { free(it); }
+char *__wrap_predator_strdup(const char *name, const char *text) { return strdup(text); }
+C
+gcc "${strict[@]}" -DPREDATOR_RUNTIME "$here/tries/writer.c" "$here/lib/compat.c" "$here/tool/trace.c" "$here/tool/objects.c" heap.c \
+    "${heap[@]}" -o writer && gcc "${strict[@]}" "$here/tool/mend.c" -o mend || exit 1
+# (what it has at its end is the program's until that is over)
+export ASAN_OPTIONS=$ASAN_OPTIONS:detect_leaks=0
+for seed in 1 2 3; do
+    timeout 60 ./writer "$seed" "$seed" 100000 >said 2>&1
+    is "a trace of seed $seed" 0 "$?"
+    is "its end" "exit 7" "$("$judge" end "$seed" 2>&1)"
+done
+timeout 60 ./writer all 4 4000000 >said 2>&1
+is "more regions than there are places: $(tail -n 1 said)" "0 part" "$? $("$judge" end all 2>&1)"
+./writer whole 5 2000 >said 2>&1
+size=$(stat -c %s whole)
+for cut in 0 1 19 20 21 $(seq 30 $((size / 25 + 1)) "$size"); do
+    head -c "$cut" whole >short
+    ./mend - <short >piped 2>said
+    is "a pipe that is cut at $cut" 0 "$?"
+    ./mend short >said 2>&1
+    status=$?
+    if ((cut < 20)); then
+        is "a file that is cut at $cut" 1 "$status"
+    else
+        is "a file that is cut at $cut" "0 part same" "$status $("$judge" end short 2>&1) $(cmp -s short piped && echo same)"
+    fi
+done
+head -c 300000 /dev/urandom >noise
+./mend noise >said 2>&1
+is "a file that is no trace" 1 "$?"
+./mend - <noise >piped 2>said
+is "a pipe with no trace" "0 same" "$? $(cmp -s noise piped && echo same)"
+
+# Undefined behaviour alone, as a trap.
+mkdir native && cp -r "$here"/{build,predator-native,lib,tool,tries} native
+parts=runtime
+if [ -e /usr/include/valgrind/pub_tool_tooliface.h ]; then parts=; fi
+# (gcc then has types of its own for the functions that the compiler calls)
+flags="-fsanitize=undefined -fsanitize-undefined-trap-on-error -Wno-builtin-declaration-mismatch"
+NATIVE_FLAGS=$flags native/build $parts >said 2>&1 || { cat said && exit 1; }
+for name in counters kinds locks heap; do
+    gcc -O1 -g -pthread "$here/tries/$name.c" -o "$name" &&
+        gcc -O1 -g -pthread -fsanitize=thread "$here/tries/$name.c" -o "$name.tsan" -Lnative/out/lib || exit 1
+    "./$name" >wanted 2>&1
+    status=$?
+    timeout 100 native/predator-native --built --quantum 7 --trace t -- "./$name.tsan" >said 2>&1
+    is "built: $name: its status, and its end" "$status exit $status" "$? $("$judge" end t 2>&1)"
+    [ -z "$parts" ] || continue
+    timeout 100 native/predator-native --quantum 7 --trace t -- "./$name" >said 2>&1
+    is "$name: its status, and its end" "$status exit $status" "$? $("$judge" end t 2>&1)"
+done
+echo "$passed passed, $failed failed"
+[ "$failed" = 0 ]

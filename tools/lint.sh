@@ -1,0 +1,91 @@
+#!/usr/bin/env bash
+# Judges the sources of what stands beside the proved program, without running them: lint.sh shell | python | types | c
+#
+#     shell     shellcheck, over each shell script; .shellcheckrc says by what
+#     python    flake8, over all Python; setup.cfg says by what
+#     types     mypy, over view/ and campaign/, by setup.cfg too
+#     c         gcc's analyzer, over native/ and, by the cross compiler that the kit's C library comes with, over the kit; a warning is an error
+#
+# What isn't installed is skipped: the status is 77, and the last line names it.
+set -u
+cd "$(dirname "$(readlink -f "${BASH_SOURCE[0]}")")/.." || exit 1
+python=/usr/bin/python3
+
+lacks() {
+    echo "$1 isn't installed: apt-get install $2"
+    exit 77
+}
+
+# The files of a checkout, and what was added since; where this is none, all but what was built and fetched.
+files() {
+    git ls-files --cached --others --exclude-standard 2>/dev/null ||
+        find . -type f ! -path '*/.git/*' ! -path '*/out/*' ! -path '*/fetched/*' ! -path '*/__pycache__/*' -printf '%P\n'
+}
+
+# Scripts are found by their first line, and those that others read in by their names or by a line for shellcheck.
+shell_scripts() {
+    files | grep -v '^crates/' | while IFS= read -r it; do
+        [ -f "$it" ] || continue
+        if [[ $it == *.sh || $it == *.bash ]] || head -c 80 "$it" | head -n 1 | grep -q -a -E '^#!.*[/ ](ba|da)?sh( |$)'; then echo "$it"; fi
+    done
+}
+
+python_files() { files | grep -v '^crates/' | grep '\.py$'; }
+
+judge_c() {
+    local headers=/usr/include/valgrind picolibc=${PICOLIBC:-/usr/lib/picolibc/riscv64-unknown-elf} it status=0
+    local strict=(-fanalyzer -Wall -Werror -O2 -c -o /dev/null)
+    command -v gcc >/dev/null || lacks gcc gcc
+    for it in native/lib/*.c native/tool/trace.c native/tool/objects.c; do
+        gcc "${strict[@]}" -std=gnu11 -Wno-unused-parameter -fPIC -fexceptions -pthread -DPREDATOR_RUNTIME "$it" || status=1
+    done
+    gcc "${strict[@]}" -std=gnu11 native/tool/mend.c || status=1
+    if [ -e "$headers/pub_tool_tooliface.h" ]; then
+        for it in native/tool/{tool,trace,objects,turns,preload}.c; do
+            gcc "${strict[@]}" -std=gnu99 -fno-builtin "-I$headers" "-I$headers/vki" \
+                -DVGA_amd64=1 -DVGO_linux=1 -DVGP_amd64_linux=1 -DVGPV_amd64_linux_vanilla=1 "$it" || status=1
+        done
+    else
+        echo "skipped: the tool, which wants valgrind's headers (Debian: valgrind)"
+    fi
+    if command -v riscv64-unknown-elf-gcc >/dev/null && [ -d "$picolibc/include" ]; then
+        # (the kit hands out blocks, which the analyzer takes for lost)
+        for it in guest/{calls,library,pthread}.c guest/clib/*.c; do
+            riscv64-unknown-elf-gcc "${strict[@]}" -Wextra -Wno-analyzer-malloc-leak -march=rv32ima -mabi=ilp32 -std=gnu11 -D_DEFAULT_SOURCE \
+                -ftls-model=local-exec -I guest -isystem guest/include -isystem "$picolibc/include" \
+                -DPREDATOR_THREADS -DPREDATOR_C_LIBRARY -DPREDATOR_ARGUMENTS= "$it" || status=1
+        done
+    else
+        echo "skipped: the kit, which wants a cross compiler (Debian: picolibc-riscv64-unknown-elf)"
+    fi
+    return "$status"
+}
+
+case ${1:-} in
+    shell)
+        command -v shellcheck >/dev/null || lacks shellcheck shellcheck
+        mapfile -t found < <(shell_scripts)
+        echo "${#found[@]} scripts"
+        ((${#found[@]} > 0)) && shellcheck "${found[@]}"
+        ;;
+    python)
+        "$python" -c "import flake8" 2>/dev/null || lacks flake8 python3-flake8
+        mapfile -t found < <(python_files)
+        echo "${#found[@]} files"
+        ((${#found[@]} > 0)) && "$python" -m flake8 "${found[@]}"
+        ;;
+    types)
+        command -v mypy >/dev/null || lacks mypy mypy
+        status=0
+        # (each folder by itself: both have a main.py)
+        for it in view campaign; do
+            mypy --cache-dir=/dev/null "$it"/*.py || status=1
+        done
+        exit "$status"
+        ;;
+    c) judge_c ;;
+    *)
+        sed -n '2,/^[^#]/s/^# \{0,1\}//p' "$0" >&2
+        exit 1
+        ;;
+esac

@@ -1,0 +1,15 @@
+"""What view and campaign know of the program's settings and options. (A script writes it, since Python before 3.11 can't read commands.toml.)"""
+
+# What settings have where neither a file nor the call says.
+# commands.toml: usual
+USUAL = {
+    "harts": 8, "memory": 16777216, "stack": 65536, "tracking": 16, "report": 100, "quantum": 100, "budget": 100000000, "line": 64,
+    "seed": 0,
+}
+# (so far)
+
+# The options that say under what a program runs, and those whose files are written.
+# commands.toml: options
+ASKED = ("--settings", "--set", "--schedule")
+WRITTEN = ("--trace", "--output")
+# (so far)
