@@ -1,4 +1,5 @@
 # What the launcher knows of the program's commands.
+# shellcheck disable=SC2034 # (the launcher reads these)
 
 # How many words stand before those of a PROGRAM's own `main`, and which options name files that are written.
 # commands.toml: words

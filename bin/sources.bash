@@ -1,4 +1,5 @@
 # What bin/predator and bin/dist know of the program's sources and of dist/, which has the program that was built of them. Both set `top`.
+# shellcheck disable=SC2154 # (they do)
 
 # manifest KEY: what dist/manifest says of the program in dist/: its version, its kit, and the sums of its sources and of itself.
 manifest() { sed -n "s/^$1 //p" "$top/dist/manifest" 2>/dev/null; }

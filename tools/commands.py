@@ -3,10 +3,11 @@
 
 usage: tools/commands.py [--renew | --calls KIND]
 
-Without a word it says which places differ from commands.toml, and where commands.toml differs from the crates: in the lines of usage and the exit
-statuses, and with the built program (PREDATOR_PROGRAM, or what bin/predator runs) in the ranges of the settings. --renew writes the places anew.
---calls prints, for the tries, the calls of all commands that read a TRACE or a PROGRAM, read one `twice`, have an option as --settings, or have
-files `written`, with IT in the place of that file."""
+Without a word it says which places differ from commands.toml, and where commands.toml differs from the crates: in the lines of usage and in
+the exit statuses; and, with the program that bin/predator runs, in the ranges of the settings. --renew writes the places anew.
+
+--calls prints, for the tries, the calls of all commands that read a TRACE or a PROGRAM, read one `twice`, have an option as --settings, or
+have files `written`, with IT in the place of that file."""
 
 import os
 import re
@@ -119,7 +120,8 @@ def manual_parts(table: dict[str, list[Row]]) -> dict[str, str]:
     own = [f".B predator {it['name']}\n" + roff(it["synopsis"]).rstrip() for it in table["beside"]]
     own.append(".B predator " + "\n|\n.B ".join(it.replace("-", "\\-") for it in LAUNCHER))
     options = (".TP\n.BI " + it["name"].replace("-", "\\-") + f' " {it["value"]}"\n' + roff(sentence(it)) for it in table["option"])
-    statuses = (f".TP\n.B {it['number']}\n" + roff(f"{it['comes'][0].upper()}{it['comes'][1:]}. It prints {it['printed']}.") for it in table["status"])
+    ends = ((it["number"], f"{it['comes'][0].upper()}{it['comes'][1:]}. It prints {it['printed']}.") for it in table["status"])
+    statuses = (f".TP\n.B {number}\n" + roff(text) for number, text in ends)
     keys = ",\n".join(f"`{it['key']}` ({it['is']}: {values(it)}, usually {it['usual']})" for it in table["setting"])
     return {
         "synopsis": "\n.br\n".join([*map(synopsis, table["command"]), *own]) + "\n",
@@ -296,8 +298,8 @@ def call(command: Row, **others: str) -> list[str]:
 
 
 def calls(table: dict[str, list[Row]], kind: str) -> list[str]:
-    """Calls with IT in the place of a file: of each command that reads a PROGRAM or a TRACE, that reads one twice, that has an option, or, for each
-    file that it writes, of one that writes."""
+    """Calls with IT in the place of a file: of each command that reads a PROGRAM or a TRACE, that reads one twice, that has an option, or
+    that writes, one for each file that it writes."""
     found: list[list[str]] = []
     written = [it["name"] for it in table["option"] if it.get("writes")]
     for command in table["command"]:
@@ -307,7 +309,8 @@ def calls(table: dict[str, list[Row]], kind: str) -> list[str]:
             found += [call(command, **{it: "IT"}) for it in command.get("writes", ())]
             found += [[*call(command), it, "IT"] for it in options_of(command) if it in written]
         else:
-            found += [call(command, **{it: "IT"}) for it in command.get("twice" if kind == "twice" else "reads", ()) if kind in ("twice", it)]
+            files = command.get("twice", ()) if kind == "twice" else [it for it in command.get("reads", ()) if it == kind]
+            found += [call(command, **{it: "IT"}) for it in files]
     return [" ".join(it) for it in found]
 
 
