@@ -3,8 +3,8 @@
 
 usage: tools/pictures.py [NAME ..]
 
-Each picture is a PNG of at most 100 KB in docs/pictures. Those that are named are made, or all. Nothing in them is drawn by hand. It needs the
-program, chromium and what `predator view` needs."""
+Each picture is a PNG of at most 100 KB in docs/pictures. Those that are named are made, or all. Nothing in them is drawn by hand.
+It needs the program, chromium and what `predator view` needs."""
 
 import os
 import shutil

@@ -1,4 +1,4 @@
-"""What view and campaign know of the program's settings and options. tools/commands.py writes it, since Python before 3.11 reads no TOML."""
+"""What view and campaign know of the program's settings and options. tools/commands.py writes it, as older Python reads no TOML."""
 
 # What settings have where neither a file nor the call says.
 # commands.toml: usual
