@@ -47,7 +47,7 @@ cp "$work/packages/"*.deb "$system/root/predator.deb"
     inside timeout 400 apt-get install -y -o Dpkg::Options::=--force-unsafe-io /root/predator.deb
     inside timeout 600 apt-get install -y -o Dpkg::Options::=--force-unsafe-io --no-install-recommends clang lld picolibc-riscv64-unknown-elf \
         gcc libc6-dev valgrind libc6-dbg snakemake man-db
-    inside useradd -m user
+    inside id user || inside useradd -m user
 } >"$work/log" 2>&1 || { tail -n 5 "$work/log"; skip "the packages couldn't be installed: is there a mirror?"; }
 
 share=/usr/share/predator
