@@ -14,7 +14,8 @@ skip() { echo "$*"; exit 77; }
 command -v mmdebstrap >/dev/null || skip "mmdebstrap isn't installed"
 work=$(mktemp -d)
 system=${1:-$work/system}
-trap 'umount "$system/proc" "$work/old/proc" 2>/dev/null; rm -rf "$work"' EXIT
+bare=$system
+trap 'umount "$bare/proc" "$bare/dev/shm" 2>/dev/null; rm -rf "$work"' EXIT
 passed=0 failed=0
 "$top/bin/release" "$work/packages" >/dev/null || skip "there is no package to try"
 
@@ -40,7 +41,8 @@ try() {
 }
 
 [ -d "$system/usr" ] || make "$system" bookworm
-mount -t proc proc "$system/proc" 2>/dev/null || skip "/proc can't be mounted"
+mkdir -p "$system/dev/shm"
+mount -t proc proc "$system/proc" 2>/dev/null && mount -t tmpfs shm "$system/dev/shm" || skip "/proc and /dev/shm can't be mounted"
 cp "$work/packages/"*.deb "$system/root/predator.deb"
 {
     inside timeout 100 apt-get update
