@@ -50,6 +50,8 @@ cp "$work/packages/"*.deb "$system/root/predator.deb"
     inside timeout 600 apt-get install -y -o Dpkg::Options::=--force-unsafe-io --no-install-recommends clang lld picolibc-riscv64-unknown-elf \
         gcc libc6-dev valgrind libc6-dbg snakemake man-db
     inside id user || inside useradd -m user
+    # (a kept system's user begins anew)
+    inside sh -c 'rm -rf /home/user/* /home/user/.cache'
 } >"$work/log" 2>&1 || { tail -n 5 "$work/log"; skip "the packages couldn't be installed: is there a mirror?"; }
 
 share=/usr/share/predator
@@ -61,7 +63,7 @@ try "a guest's build" 0 "count" "cp $share/guest/examples/counters.c . && $share
 try "the recorders, before they are built" 126 "predator native --build" "predator native -- /bin/true"
 try "the recorders' build" 0 "built" "predator native --build"
 try "a program of this machine" 0 "counters" "gcc -g -O1 -pthread $share/native/tries/counters.c -o counters && predator native --report r -- ./counters && cat r"
-try "a campaign" 0 "counters" "predator campaign $share/campaign/plans/first.yaml --to first && cat first/*"
+try "a campaign" 0 "counters" "predator campaign $share/campaign/plans/first.yaml --to first && cat first/table.tsv"
 try "the manual page" 0 "find false sharing" "man predator | cat"
 try "the completion" 0 "explain" "bash -c '. /usr/share/bash-completion/completions/predator; COMP_WORDS=(predator ex) COMP_CWORD=1; _predator; echo \${COMPREPLY[@]}'"
 inside "$share/native/build" >"$work/log" 2>&1
