@@ -73,7 +73,7 @@ is "a file that is no trace" 1 "$?"
 is "a pipe with no trace" "0 same" "$? $(cmp -s noise piped && echo same)"
 
 # Undefined behaviour alone, as a trap.
-mkdir native && cp -r "$here"/{build,predator-native,lib,tool,tries} native
+mkdir native && cp -r "$here"/{build,places,predator-native,lib,tool,tries} native
 parts=runtime
 if [ -e /usr/include/valgrind/pub_tool_tooliface.h ]; then parts=; fi
 # (gcc then has types of its own for the functions that the compiler calls)
