@@ -15,7 +15,7 @@ command -v mmdebstrap >/dev/null || skip "mmdebstrap isn't installed"
 work=$(mktemp -d)
 system=${1:-$work/system}
 bare=$system
-trap 'umount "$bare/proc" "$bare/dev/shm" 2>/dev/null; rm -rf "$work"' EXIT
+trap 'umount "$bare/proc" "$bare/dev/shm" 2>/dev/null; rm -rf --one-file-system "$work"' EXIT
 passed=0 failed=0
 "$top/bin/release" "$work/packages" >/dev/null || skip "there is no package to try"
 
