@@ -172,10 +172,15 @@ def completion_parts(table: dict[str, list[Row]]) -> dict[str, str]:
 
 
 def launcher_parts(table: dict[str, list[Row]]) -> dict[str, str]:
-    """What the launcher knows, by the name of its mark."""
+    """What the launcher knows, by the names of its marks."""
     counts = " ".join(f"[{it['name']}]={len(names_of(it))}" for it in table["command"] if it.get("main"))
     outputs = " ".join(it["name"] for it in table["option"] if it.get("writes"))
-    return {"words": f"declare -A names_before=({counts})\nwritten_options=({outputs})\n"}
+    readers = " ".join(it["name"] for it in table["command"] if "TRACE" in it.get("reads", ()))
+    keys = " ".join(it["key"] for it in table["setting"])
+    return {
+        "words": f"declare -gA names_before=({counts})\nwritten_options=({outputs})\n",
+        "hints": f'trace_readers="{readers}"\nsetting_keys=({keys})\n',
+    }
 
 
 def view_parts(table: dict[str, list[Row]]) -> dict[str, str]:
@@ -184,10 +189,15 @@ def view_parts(table: dict[str, list[Row]]) -> dict[str, str]:
     run = {it for command in table["command"] if command["name"] == "run" for it in options_of(command)}
     written = [it["name"] for it in table["option"] if it["name"] in run and it.get("writes")]
     asked = [it["name"] for it in table["option"] if it["name"] in run and not it.get("writes")]
-    lines = textwrap.wrap(usual, 130)
+    lines, keys = textwrap.wrap(usual, 130), ", ".join(quoted(it["key"]) for it in table["setting"])
+    own = "".join(
+        f'    "{it["name"]}": ({", ".join(map(quoted, options_of(it)))}),\n' for it in table["command"] if it["name"] in ("run", "replay")
+    )
     return {
         "usual": "USUAL = {\n" + "\n".join(f"    {it}" for it in lines) + ",\n}\n",
-        "options": f"ASKED = ({', '.join(map(quoted, asked))})\nWRITTEN = ({', '.join(map(quoted, written))})\n",
+        "keys": f"KEYS = ({keys})\n",
+        "options": f"ASKED = ({', '.join(map(quoted, asked))})\nWRITTEN = ({', '.join(map(quoted, written))})\n"
+        + f"OPTIONS = {{\n{own}}}\n",
     }
 
 

@@ -5,16 +5,17 @@ import io
 import os
 import sys
 import traceback
-from typing import TYPE_CHECKING
+from typing import TYPE_CHECKING, Sequence
 
 sys.path.insert(0, os.path.dirname(os.path.abspath(__file__)))
 
 import compare  # noqa: E402
-from calls import HELP, TOP, Call  # noqa: E402
+from calls import HELP, OUTPUTS, TOP, Call, nearest  # noqa: E402
 from faults import Fault, plain  # noqa: E402
 from model import View, memory_of  # noqa: E402
 from naming import Naming  # noqa: E402
 from program import Predator  # noqa: E402
+from recording import recorded  # noqa: E402
 from reports import Report, Symbol  # noqa: E402
 from screen import Paint, screen  # noqa: E402
 from source_lines import Sources  # noqa: E402
@@ -94,22 +95,31 @@ def report_of(call: Call, predator: Predator | None) -> Report:
     return predator.report([call.how, *call.words, *call.own])
 
 
-def check_name(view: View) -> None:
+def check_name(name: str | None, naming: Naming) -> None:
     """Refuses the name of an object that the program hasn't: a test of it would say nothing."""
-    name, program = view.call.options.get("object"), view.naming.program
-    if name is None or view.chosen() or ":" in name or " " in name:
+    program = naming.program
+    if name is None or program is None or ":" in name or " " in name:
         return
-    if program is None:
-        if "fail-above" in view.call.options:
+    known = {naming.readable(it) for it in program.symbols().values()}
+    if name not in known:
+        near = nearest(name, known).strip()
+        raise Fault(f"'{name}' is no variable of {program.path}{near and '; '}{near}")
+
+
+def check_seen(view: View) -> None:
+    """Refuses a test of an object that nothing is seen of, where that may be since there is none."""
+    name = view.call.options.get("object")
+    if name is not None and not view.chosen():
+        if view.naming.program is None and "fail-above" in view.call.options:
             raise Fault(f"nothing is seen of '{name}', and without '--program' it can't be told whether there is such a variable")
-        return
-    if name not in {view.naming.readable(it) for it in program.symbols().values()}:
-        raise Fault(f"'{name}' is no variable of {program.path}")
+        check_name(name, view.naming)
 
 
 def look(call: Call) -> View:
     """All that is found."""
     program, sources = program_of(call)
+    if call.how == "run":
+        check_name(call.options.get("object"), Naming(None, program))
     if "html" in call.options:
         from page import templates
 
@@ -125,10 +135,11 @@ def look(call: Call) -> View:
     view = View(call, report, Naming(report, program, sources, call.options["type"], memory))
     view.count(predator)
     view.arrange()
-    check_name(view)
+    check_seen(view)
     first = view.chosen()[: call.number("top", TOP)]
     view.explain(predator, first)
     view.place(predator, first)
+    view.note_idle()
     return view
 
 
@@ -154,6 +165,9 @@ def status_of(view: View) -> int:
 
 
 def write(path: str, text: str) -> None:
+    if path == "-":
+        print(text, end="")
+        return
     try:
         with open(path, "w", encoding="utf-8", errors="backslashreplace") as file:
             file.write(text)
@@ -175,9 +189,11 @@ def keep_inputs(call: Call) -> None:
         for it in (call.subject, call.program, table_of(call), *call.words, *(word.partition("=")[2] for word in call.words))
         if it and it != "-"
     ]
-    for name in ("html", "json", "sarif"):
+    if [call.options.get(name) for name in OUTPUTS].count("-") > 1:
+        raise Fault("`-` is standard output, and can be one output alone")
+    for name in OUTPUTS:
         it, old = call.options.get(name), call.options.get("against") if name != "json" else None
-        if it is None:
+        if it in (None, "-"):
             continue
         if any(is_same(it, other) for other in (*taken, *([old] if old else []))):
             raise Fault(f"{it}: the same file is in use under another name, and stays as it is")
@@ -208,15 +224,22 @@ def show(call: Call) -> int:
     keep_inputs(call)
     # (before --json writes to the same file)
     old = compare.loaded(call.options["against"], call) if "against" in call.options else None
-    view = look(call)
-    outputs(view)
+    with recorded(call):
+        view = look(call)
+        outputs(view)
+        if all(call.options.get(it) != "-" for it in OUTPUTS):
+            tell(view, old)
+    sys.stdout.flush()
+    return status_of(view)
+
+
+def tell(view: View, old: compare.Before | None) -> None:
+    """Prints the screen, and what got better and worse."""
     for it in screen(view, Paint()):
         print(it)
     if old is not None:
-        for it in compare.compared(view, old, call.options["against"]):
+        for it in compare.compared(view, old, view.call.options["against"]):
             print(it)
-    sys.stdout.flush()
-    return status_of(view)
 
 
 def main(words: list[str]) -> int:

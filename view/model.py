@@ -181,6 +181,19 @@ class View:
                     )
         self.naming.prepare({at for it in self.explained.values() for pair in it.pairs[:8] for at in pair[:2]})
 
+    def note_idle(self) -> None:
+        """Notes options that matched nothing: a type for blocks that aren't fought over, and a folder without a source of the program."""
+        blocks = [it.example for it in self.all.values() if isinstance(it.example, Block) and it.example.sites]
+        sites = [self.naming.names_of_site(it) for it in blocks]
+        for site in (site for site, _ in self.naming.types if not any(site in it for it in sites)):
+            made = sorted({self.naming.site(self.naming.chain(it.sites)[0]) or it.sites[0].name for it in blocks})
+            there = f"blocks that are fought over are made at {advice.listing(made)}" if made else "no block is fought over"
+            self.notes.append(f"`--type {site}=..` matches nothing: {there}")
+        folder, sources = self.call.options.get("sources"), self.naming.sources
+        files = sorted({it.file for frames in sources.places.values() for it in frames if it.file}) if folder and sources else []
+        if files and not any(os.path.isfile(os.path.join(folder, it)) for file in files for it in (file, os.path.basename(file))):
+            self.notes.append(f"`--sources {folder}` has none of the program's sources: {advice.listing(map(os.path.basename, files))}")
+
     def asked(self, predator: Predator, program: str, spot: Spot) -> Explained | Refused:
         """What `explain` says of a line, or how it refuses to."""
         start, words = spot.line.start if spot.line else 0, self.call.settings_words()

@@ -57,13 +57,13 @@ class Naming:
 
     def __init__(
         self,
-        report: Report,
+        report: Report | None,
         program: "Program | NativeProgram | None" = None,
         sources: Sources | None = None,
         types: Iterable[str] = (),
         memory: Memory | None = None,
     ) -> None:
-        self.where, self.program, self.sources, self.memory = report.where, program, sources, memory or Memory()
+        self.where, self.program, self.sources, self.memory = report.where if report else {}, program, sources, memory or Memory()
         self.names: dict[str, str] = {}
         self.keys: dict[tuple[Site, ...], tuple[str, ...]] = {}
         self.types = [it.partition("=")[::2] for it in types]
@@ -142,9 +142,13 @@ class Naming:
         """The type of a block's elements as the call tells it, or none."""
         if self.program is None or not block.sites:
             return None
-        chain = self.chain(block.sites)
-        known = {self.site(chain[0]), self.function(chain[0]), chain[0].name, shown(chain[0].addr)}
+        known = self.names_of_site(block)
         return next((self.program.type_named(it) for site, it in self.types if site in known), None)
+
+    def names_of_site(self, block: Block) -> set[str]:
+        """What a call may name the call site of a block by: its line, its function or its address."""
+        chain = self.chain(block.sites)
+        return {self.site(chain[0]), self.function(chain[0]), chain[0].name, shown(chain[0].addr)} - {""}
 
     def word(self, addr: int, thing: Found) -> tuple[str, str, str]:
         """The name of a word of an object, the one of its element, and that of the field in it."""

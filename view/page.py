@@ -198,7 +198,7 @@ def page(view: View) -> str:
         templates()
         .get_template("page.html")
         .render(
-            title=os.path.basename(view.call.subject),
+            title=view.call.title,
             report=view.report,
             total=view.misses.total if view.misses else None,
             notes=view.notes,
