@@ -230,6 +230,15 @@ class Program:
         """The address and size of each symbol of data; none where the table is damaged."""
         return {(at, size): name for at, size, name in self.symbols_of("STT_OBJECT")}
 
+    def code(self) -> list[tuple[int, int]]:
+        """Where the program has code, as ranges of addresses."""
+
+        def found() -> list[tuple[int, int]]:
+            parts = [it for it in self.elf.iter_segments() if it["p_type"] == "PT_LOAD" and it["p_flags"] & 1]
+            return [(it["p_vaddr"], it["p_vaddr"] + it["p_memsz"]) for it in parts]
+
+        return sound(found, [])
+
     def thread_locals(self) -> list[tuple[int, int, str]]:
         """The place among a hart's own variables, the size and the name of each."""
         if self.own is None:

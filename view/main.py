@@ -55,8 +55,8 @@ def program_of(call: Call) -> "tuple[Program | NativeProgram | None, Sources | N
     elif call.program:
         from fields import Program
 
-        sources = Sources(call.program, folders)
-        program = Program(call.program)
+        program = guest = Program(call.program)
+        sources = Sources(call.program, folders, guest.code())
     else:
         return None, None
     if program.dwarf is None:
@@ -134,6 +134,7 @@ def look(call: Call) -> View:
     memory = memory_of(call, predator)
     view = View(call, report, Naming(report, program, sources, call.options["type"], memory))
     view.count(predator)
+    view.look_for_overflow(predator)
     view.arrange()
     check_seen(view)
     first = view.chosen()[: call.number("top", TOP)]

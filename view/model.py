@@ -1,6 +1,7 @@
 """All that a call of view has found: what the outputs are written from."""
 
 import concurrent.futures
+import contextlib
 import functools
 import os
 import tempfile
@@ -12,6 +13,7 @@ from calls import EXPLAIN, Call
 from keys import Key, OfBlocks, OfStack, OfSymbol, order_of
 from naming import Memory, Naming, shown
 from objects import Spot, Thing, Told, things_of, words_of, worst_word
+from overflow import Overflow, last_of_file, last_of_run, overflow
 from predicted import Foretold, Layout, judged, layouts
 from program import Predator, Refused, each_line, misses_under, setting, stacks
 from reports import Block, Explained, Misses, Pair, Placed, Report, Symbol
@@ -52,6 +54,7 @@ class View:
         self.placed: dict[Key, Placed] = {}
         self.cached: dict[Key, Seen] = {}
         self.label_counts: Counter[str] | None = None
+        self.overflow: Overflow | None = None
 
     def count(self, predator: Predator | None) -> None:
         """Has the misses counted, under the report's layout, for each word, and under the layouts of predicted lines."""
@@ -87,6 +90,15 @@ class View:
         # (the readers of `wanted` tell misses, and the one behind them a report)
         self.each, self.by_layout = cast(Report, counted.pop()), dict(zip(wanted, cast(list[Misses], counted)))
         self.misses, self.by_word = self.by_layout[own], self.by_layout[WORD]
+
+    def look_for_overflow(self, predator: Predator | None) -> None:
+        """Looks, where the run didn't end well, whether a hart ran out of its stack."""
+        if predator is None or self.report.ended_well() or not self.naming.memory.each:
+            return
+        trace = self.trace()
+        with contextlib.suppress(Refused, OSError):
+            last = last_of_file(trace) if trace else last_of_run(predator, [*self.call.words_to_run(), *self.call.own])
+            self.overflow = overflow(last, self.naming.memory)
 
     def trace(self) -> str | None:
         """The trace's file, where it is one."""

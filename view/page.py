@@ -11,7 +11,7 @@ from naming import shown
 from objects import Spot, Thing, Told, words_of
 from predicted import Foretold
 from reports import Explained
-from screen import counted, place_of
+from screen import counted, next_step, place_of
 from source_lines import PACKAGES
 
 if TYPE_CHECKING:
@@ -200,6 +200,7 @@ def page(view: View) -> str:
         .render(
             title=view.call.title,
             report=view.report,
+            next_step=next_step(view),
             total=view.misses.total if view.misses else None,
             notes=view.notes,
             objects=objects,

@@ -45,5 +45,5 @@ def recorded(call: Call) -> Iterator[None]:
         status = subprocess.run(words, stdout=2).returncode
         if not os.path.exists(trace):
             raise Fault(f"`predator native` was refused: status {status}", status if status in REFUSED[2:] else 2)
-        call.how, call.subject, call.words = "replay", trace, [trace, *replay]
+        call.how, call.subject, call.words, call.own = "replay", trace, [trace, *replay], []
         yield

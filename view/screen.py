@@ -12,6 +12,7 @@ from keys import OfBlocks
 from model import View
 from naming import Naming
 from objects import Thing, Told
+from overflow import is_strange
 from predicted import Foretold, inside, together
 
 BOLD, RED, DIM, END = "1", "1;31", "2", "0"
@@ -43,23 +44,34 @@ def outcome(view: View, paint: Paint) -> Iterator[str]:
     told = report.outcome
     if told.startswith("trap") and naming.sources:
         told += f", at {place_of(naming, int(told.split(' ')[4], 16))}"
-    advice = {
-        "budget": "it took all steps of its `budget`; the setting may be larger",
-        "deadlock": "no hart could run any more",
-        "part": "it is a part of a trace that was cut",
-    }
-    if report.outcome.endswith(("load-misaligned", "store-misaligned")):
-        advice[
-            report.outcome
-        ] = "its address is no multiple of its size: use `memcpy`, or a type with `__attribute__((packed))`, which goes by bytes"
     if not report.ended_well():
         yield paint(RED, plain(f"!! THE RUN DIDN'T END BY EXIT 0: {told}"))
-        yield paint(RED, f"!! {advice.get(report.outcome, 'what follows is what it did until then')}")
+        yield paint(RED, f"!! {next_step(view)}")
     layout = f"lines of {report.size} bytes" + (f" at offset {report.offset}" if report.offset else "")
     yield plain(f"outcome {told}, {report.steps} steps, {report.accesses} accesses, {layout}")
     if view.misses:
         total = view.misses.total
         yield f"misses: {total['useless']} useless, {total['useful']} useful, {total['cold']} cold"
+
+
+def next_step(view: View) -> str:
+    """What to do about a run that didn't end by exit 0."""
+    outcome, sources = view.report.outcome, view.naming.sources
+    if view.overflow:
+        return view.overflow.told()
+    if outcome.endswith(("load-misaligned", "store-misaligned")):
+        return "its address is no multiple of its size: use `memcpy`, or a type with `__attribute__((packed))`, which goes by bytes"
+    if sources and is_strange(outcome, sources.code):
+        return (
+            "it jumped to where no code is: by a pointer to no function, or by a return address that was overwritten, as by a stack that is too "
+            "small (`--set stack=1048576`)"
+        )
+    advice = {
+        "budget": "it took all steps of its `budget`; the setting may be larger",
+        "deadlock": "no hart could run any more",
+        "part": "it is a part of a trace that was cut",
+    }
+    return advice.get(outcome, "what follows is what it did until then")
 
 
 def owner(word: Told) -> str:

@@ -91,6 +91,13 @@ class Fields(unittest.TestCase):
         self.assertTrue(sources.text("ring.c")[0].startswith("// A ring"))
         self.assertEqual(sources.text("moved/elsewhere.c"), [])
 
+    def test_functions_that_were_discarded(self):
+        program = Program(built("ring.elf"))
+        self.assertIsNotNone(Sources(program.path).place(0))
+        sources = Sources(program.path, (), program.code())
+        self.assertIsNone(sources.place(0))
+        self.assertIsNotNone(sources.place(program.code()[0][0]))
+
 
 if __name__ == "__main__":
     unittest.main()

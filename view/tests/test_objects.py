@@ -7,13 +7,15 @@ import unittest
 from types import SimpleNamespace
 
 HERE = os.path.dirname(os.path.abspath(__file__))
-sys.path.insert(0, os.path.dirname(HERE))
+sys.path[:0] = [os.path.dirname(HERE), os.path.join(HERE, "..", "..", "tools")]
 
 import advice  # noqa: E402
 from calls import Call  # noqa: E402
 from model import View  # noqa: E402
+from judge_report import Access, Case, Ending, trace_of  # noqa: E402
 from naming import Memory, Naming  # noqa: E402
 from objects import holder  # noqa: E402
+from overflow import overflow  # noqa: E402
 from predicted import can_lie, judged, together  # noqa: E402
 from reports import Block, Line, Misses, Report, Symbol  # noqa: E402
 from screen import Paint, screen  # noqa: E402
@@ -152,6 +154,31 @@ class Objects(unittest.TestCase):
         for cause, told in (("load-misaligned", "`memcpy`"), ("store-misaligned", "`memcpy`"), ("load-outside", "until then")):
             view.report.outcome = f"trap hart 0 pc 0x00010000 {cause}"
             self.assertIn(told, "\n".join(screen(view, Paint(io.StringIO()))))
+
+    def test_a_trap_where_no_code_is(self):
+        view = view_of([])
+        view.naming.sources = SimpleNamespace(code=[(0x10000, 0x11000)], place=lambda _: None, near=lambda _: None, frames=lambda _: [])
+        for pc, told in ((0, "to where no code is"), (0x10FF0, "until then"), (0x11000, "`--set stack=1048576`")):
+            view.report.outcome = f"trap hart 0 pc {pc:#010x} illegal"
+            self.assertIn(told, "\n".join(screen(view, Paint(io.StringIO()))))
+
+    def overflow(self, *accesses):
+        """What is told of the stacks of harts that made some accesses."""
+        case = Case([Access(*it, 4) for it in accesses], [], Ending("exit 0", 9, (0, 0, 0, 0)), 8, 16, 64, 100, 64, None)
+        found = overflow(trace_of(case), Memory((0xF90000, 0x1010000), 8))
+        return found and found.told()
+
+    def test_a_stack_that_is_too_small(self):
+        down = [(1, True, at) for at in range(0xFFFFF0, 0xFFFFF0 - 0x18000, -32)]
+        self.assertIn("hart 1 ran out of its stack of 65536 bytes, and wrote 98288 bytes below its top", self.overflow(*down))
+        self.assertIn("`--set stack=131072` gives it more", self.overflow(*down))
+        deep = [(7, True, at) for at in range(0xF9FFF0, 0xF9FFF0 - 0x200000, -1024)]
+        self.assertIn("hart 7 ran out of its stack of 65536 bytes", self.overflow(*deep))
+        self.assertIn("it calls itself without end", self.overflow(*deep))
+        # What a hart reads there, or writes far from its stack, is data of others.
+        self.assertIsNone(self.overflow(*((hart, False, at) for hart, _, at in down)))
+        self.assertIsNone(self.overflow(*((1, True, at) for at in range(0xF80000, 0xF90000, 32))))
+        self.assertIsNone(self.overflow(*down[: 0x10000 // 32]))
 
     def test_thread_local_variables_have_names(self):
         rows = ["line observed 0x0100ffc0 64 start 0 count 300 verdict true", "object block 0x0100ffe0 8 born 0 live"]

@@ -7,7 +7,7 @@ import subprocess
 import tempfile
 import unittest
 
-from calling import STAND_IN, TOP, TURNS, built, joined, view
+from calling import PROGRAM, STAND_IN, TOP, TURNS, built, has, joined, view
 
 
 class Shown(unittest.TestCase):
@@ -24,6 +24,16 @@ class Screens(Shown):
         self.shows(text, "give each element of stats lines of its own: `alignas(64)` on `struct stats`")
         self.shows(text, "ring.c:34 (note < consumer) takes the line from ring.c:34 (note < producer), 142 times, never for the same word")
         self.shows(text, "2 44 314 331 2 ring", "314 of 358 misses bring what another hart wrote")
+
+    def test_options_that_match_nothing(self):
+        with tempfile.TemporaryDirectory() as folder:
+            words = ("--type", "arena.c:18=node", "--sources", folder, "--json", "-")
+            status, text, said = view("run", built("arena.elf"), *TURNS, "--explain", "0", *words)
+            self.assertEqual((status, said), (0, ""))
+            first, second = json.loads(text)["notes"]
+            self.assertEqual(first, "`--type arena.c:18=..` matches nothing: blocks that are fought over are made at arena.c:17")
+            self.assertIn(f"`--sources {folder}` has none of the program's sources: ", second)
+            self.assertIn("arena.c", second)
 
     def test_arena(self):
         _, text, _ = view("run", built("arena.elf"), *TURNS, "--type", "arena.c:17=node", "--words")
@@ -115,7 +125,10 @@ class Screens(Shown):
         for words, said in (
             (("missing",), "missing: No such file or directory"),
             (("run", "missing.elf"), "missing.elf: No such file or directory"),
-            (("replay", built("ring.elf")), "`predator replay` was refused"),
+            (("replay", __file__), "`predator replay` was refused"),
+            (("replay", built("ring.elf")), "ring.elf is a program: `predator view"),
+            (("run", built("ring.elf"), "--object", "stat"), "ring.elf; did you mean `stats`?"),
+            (("run", built("ring.elf"), "--json", "-", "--html", "-"), "can be one output alone"),
             ((__file__,), "it is no report"),
             (("run", built("ring.elf"), "--html", "/no/where"), "/no/where: No such file or directory"),
             (("run", built("ring.elf"), "--html", built("../programs/ring.elf")), "the same file is in use under another name"),
@@ -186,6 +199,23 @@ class Screens(Shown):
             texts.append(text)
         self.assertIn(b"\033[1;31m!! THE RUN", texts[0])
         self.assertNotIn(b"\033", texts[1])
+
+
+RECORDER = os.path.join(TOP, "native", "out", "predator-amd64-linux")
+
+
+@unittest.skipUnless(os.path.exists(RECORDER) and has(PROGRAM, "misses"), "the recorder of native/ or the program isn't built")
+class OfThisMachine(Shown):
+    def test_a_program_is_recorded(self):
+        with tempfile.TemporaryDirectory() as folder:
+            source = os.path.join(TOP, "native", "tries", "counters.c")
+            subprocess.run(["gcc", "-g", "-O1", "-pthread", source, "-o", "counters"], cwd=folder, check=True)
+            for words in (("--top=1", "counters"), ("native", "--top=1", "--quantum", "10", "--", "./counters")):
+                status, text, said = view(*words, program=PROGRAM, cwd=folder)
+                self.assertEqual((status, said), (0, "sum 80000\n"))
+                self.shows(text, "outcome exit 0, 0 steps", "counters worst field counters[1].count", "each element of counters")
+            status, _, said = view("native", "./counters", "--quantum", "0", program=PROGRAM, cwd=folder)
+            self.assertEqual((status, "'--quantum' is 1 to 100000" in said), (2, True))
 
 
 class Repairs(Shown):
