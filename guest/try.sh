@@ -110,6 +110,34 @@ try_launcher() {
     try "without rt, once built" 0 env PATH=/usr/bin:/bin "$predator" check "$here/built/counters.elf"
 }
 
+# completes WANTED WORD ..: what bash is offered for the last word.
+completes() {
+    local wanted=$1 got
+    shift
+    got=$(bash -c '. "$0/bin/predator.bash"; COMP_WORDS=(predator "$@"); COMP_CWORD=$#; _predator; echo "${COMPREPLY[*]}"' "$top" "$@")
+    tried=$((tried + 1))
+    [ "$got" = "$wanted" ] || { echo "completion of '$*': '$got', and not '$wanted'"; failed=$((failed + 1)); }
+}
+
+try_completion() {
+    completes "replay" rep
+    completes "--settings --set --schedule" run p --s
+    completes "--settings --set --size --shift --save" replay t --s
+    completes "--help" convert --
+    completes "--sources --sarif" view r --s
+    completes "--sources --sarif --settings --set --schedule" view run p --s
+    completes "--sources --sarif --settings --set --size --shift --save" view replay t --s
+    completes "--sources --sarif --settings --set --size --shift" view native p --s
+    completes "" view run p --ba
+    completes "--back" view replay t --ba
+    completes "useless count" view run p --fail-above 3 --by ""
+    completes "run" view ru
+    completes "--cores --check" campaign p.yaml --c
+    completes "--trace --table" native --t
+    completes "" native -- ./a --t
+    completes "1 2 4 8 16 32 64 128 256 512 1024" caches t --sets ""
+}
+
 try_commands() {
     try "counters" 0 "$predator" run "$here/built/counters.elf"
     shows "counters" "sum 80000"
@@ -586,7 +614,7 @@ try_unproved() {
 [ $# -gt 0 ] || set -- program install kit c_library
 for part in "$@"; do
     case $part in
-        program) for it in launcher commands refusals outputs shown messages streams; do "try_$it"; done ;;
+        program) for it in launcher completion commands refusals outputs shown messages streams; do "try_$it"; done ;;
         install | kit | c_library | unproved) "try_$part" ;;
         *)
             sed -n '2,/^[^#]/s/^# \{0,1\}//p' "$here/try.sh" >&2

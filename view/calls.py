@@ -68,14 +68,14 @@ class Call:
 
     def __init__(self, words: Sequence[str]) -> None:
         first = words[0] if words else ""
-        self.how: How = first if first in ("run", "replay", "native") else "file"
-        is_named = self.how != "file"
+        named: dict[str, How] = {"run": "run", "replay": "replay", "native": "native"}
+        self.how = named.get(first, "file")
         # (each a text, but for `type`, which has several)
         self.options: dict[str, Any] = {"type": []}
         self.own: list[str] = []
         self.marks: list[str] = []
         self.given: list[str] = []
-        self.words, names = self.split(words[1:] if is_named else words)
+        self.words, names = self.split(words[1:] if first in named else words)
         if "help" in self.options:
             return
         if len(names) != 1:
@@ -194,6 +194,14 @@ class Call:
                 kept += self.words[at : at + width]
             at += width
         return kept
+
+    def reads_once(self) -> bool:
+        """Whether the trace comes from a pipe or a terminal, and can be read once."""
+        return self.how == "replay" and (self.subject == "-" or os.path.exists(self.subject) and not os.path.isfile(self.subject))
+
+    def words_of_pipe(self) -> list[str]:
+        """The words of a replay of standard input, in the place of a trace."""
+        return ["-" if it == self.subject else it for it in self.words]
 
     def values(self, option: str) -> Iterator[str]:
         """The values that the words give for one of the program's options."""

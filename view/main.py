@@ -5,7 +5,7 @@ import io
 import os
 import sys
 import traceback
-from typing import TYPE_CHECKING, Sequence
+from typing import TYPE_CHECKING, BinaryIO
 
 sys.path.insert(0, os.path.dirname(os.path.abspath(__file__)))
 
@@ -14,6 +14,7 @@ from calls import HELP, OUTPUTS, TOP, Call, nearest  # noqa: E402
 from faults import Fault, plain  # noqa: E402
 from model import View, memory_of  # noqa: E402
 from naming import Naming  # noqa: E402
+from pipes import kept  # noqa: E402
 from program import Predator  # noqa: E402
 from recording import recorded  # noqa: E402
 from reports import Report, Symbol  # noqa: E402
@@ -34,6 +35,13 @@ def read(path: str) -> str:
     try:
         with open(path, "rb") as file:
             return file.read().decode("latin-1")
+    except OSError as error:
+        raise Fault(f"{path}: {error.strerror}") from error
+
+
+def opened(path: str) -> BinaryIO:
+    try:
+        return open(path, "rb", 0)
     except OSError as error:
         raise Fault(f"{path}: {error.strerror}") from error
 
@@ -92,7 +100,12 @@ def stranger(program: "Program | NativeProgram", report: Report) -> str | None:
 def report_of(call: Call, predator: Predator | None) -> Report:
     if predator is None:
         return Report(read(call.subject), call.subject)
-    return predator.report([call.how, *call.words, *call.own])
+    if not call.reads_once():
+        return predator.report([call.how, *call.words, *call.own])
+    # (the program gets a pipe as its standard input, as it doesn't have what is open here)
+    with sys.stdin if call.subject == "-" else opened(call.subject) as trace:
+        found = predator.report([call.how, *call.words_of_pipe()], stdin=trace)
+    return found
 
 
 def check_name(name: str | None, naming: Naming) -> None:
@@ -194,7 +207,7 @@ def keep_inputs(call: Call) -> None:
         raise Fault("`-` is standard output, and can be one output alone")
     for name in OUTPUTS:
         it, old = call.options.get(name), call.options.get("against") if name != "json" else None
-        if it in (None, "-"):
+        if it is None or it == "-":
             continue
         if any(is_same(it, other) for other in (*taken, *([old] if old else []))):
             raise Fault(f"{it}: the same file is in use under another name, and stays as it is")
@@ -225,7 +238,7 @@ def show(call: Call) -> int:
     keep_inputs(call)
     # (before --json writes to the same file)
     old = compare.loaded(call.options["against"], call) if "against" in call.options else None
-    with recorded(call):
+    with kept(call), recorded(call):
         view = look(call)
         outputs(view)
         if all(call.options.get(it) != "-" for it in OUTPUTS):

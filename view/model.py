@@ -67,8 +67,10 @@ class View:
         own = self.report.size, self.report.offset
         wanted = list(dict.fromkeys([own, WORD, *layouts(self.report)]))
         trace = self.trace()
-        if trace == "-":
-            self.notes.append("a trace that is piped in can be read once, so its misses are unknown")
+        if self.call.reads_once():
+            self.notes.append(
+                "a trace from a pipe can be read once, so its misses, and places for its objects, are unknown: write it to a file for these"
+            )
             return
         with tempfile.TemporaryDirectory(prefix="predator-view-") as folder:
             settings = os.path.join(folder, "settings")
@@ -93,7 +95,7 @@ class View:
 
     def look_for_overflow(self, predator: Predator | None) -> None:
         """Looks, where the run didn't end well, whether a hart ran out of its stack."""
-        if predator is None or self.report.ended_well() or not self.naming.memory.each:
+        if predator is None or self.report.ended_well() or not self.naming.memory.each or self.call.reads_once():
             return
         trace = self.trace()
         with contextlib.suppress(Refused, OSError):
@@ -101,13 +103,14 @@ class View:
             self.overflow = overflow(last, self.naming.memory)
 
     def trace(self) -> str | None:
-        """The trace's file, where it is one."""
-        return self.call.subject if self.call.how == "replay" else self.call.value_of("--trace")
+        """The trace's file, where it is one that can be read again and again."""
+        path = self.call.subject if self.call.how == "replay" else self.call.value_of("--trace")
+        return path if path and os.path.isfile(path) and not self.call.reads_once() else None
 
     def place(self, predator: Predator | None, things: Sequence[Thing]) -> None:
         """Has a placement of the first objects counted, where the trace is a file that can be read again and again."""
         trace, most = self.trace(), self.call.number("explain", EXPLAIN)
-        if predator is None or trace is None or not os.path.isfile(trace) or not predator.has("place"):
+        if predator is None or trace is None or not predator.has("place"):
             return
         for it in things[:most]:
             name = it.name_to_place()
@@ -201,7 +204,7 @@ class View:
             made = sorted({self.naming.site(self.naming.chain(it.sites)[0]) or it.sites[0].name for it in blocks})
             there = f"blocks that are fought over are made at {advice.listing(made)}" if made else "no block is fought over"
             self.notes.append(f"`--type {site}=..` matches nothing: {there}")
-        folder, sources = self.call.options.get("sources"), self.naming.sources
+        folder, sources = self.call.options.get("sources", ""), self.naming.sources
         files = sorted({it.file for frames in sources.places.values() for it in frames if it.file}) if folder and sources else []
         if files and not any(os.path.isfile(os.path.join(folder, it)) for file in files for it in (file, os.path.basename(file))):
             self.notes.append(f"`--sources {folder}` has none of the program's sources: {advice.listing(map(os.path.basename, files))}")

@@ -1,5 +1,5 @@
-"""Whether a hart ran out of its stack, by the last accesses of a run that didn't end well. Nothing separates two stacks: one that grows too far
-runs into that of the next hart, and the last one into the heap."""
+"""Whether a hart ran out of its stack, by the last accesses of a run that didn't end well. Nothing separates two stacks: one that grows
+too far runs into that of the next hart, and the last one into the heap."""
 
 import os
 import subprocess
@@ -86,7 +86,8 @@ def overflow(trace: bytes, memory: Memory) -> Overflow | None:
         if memory.each and addr < memory.top(hart + 1):
             below.setdefault(hart, set()).add(addr)
     found = [Overflow(hart, memory.each, memory.top(hart) - edge(own, memory.top(hart + 1))) for hart, own in below.items()]
-    return max((it for it in found if it.depth >= it.size + LEAST), key=lambda it: it.depth, default=None)
+    deep = [it for it in found if it.depth >= it.size + LEAST]
+    return max(deep, key=lambda it: it.depth) if deep else None
 
 
 def edge(addresses: set[int], low: int) -> int:

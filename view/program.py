@@ -61,8 +61,8 @@ class Predator:
             self.known = set(re.findall(r"^usage: predator (\w+)", ran.stdout.decode("latin-1"), re.MULTILINE))
         return command in self.known
 
-    def report(self, words: Sequence[str]) -> Report:
-        return Report(self.text(words, REPORTED), "the report of " + words[0])
+    def report(self, words: Sequence[str], **how: Any) -> Report:
+        return Report(self.text(words, REPORTED, **how), "the report of " + words[0])
 
     def explained(self, words: Sequence[str]) -> Explained:
         return Explained(self.text(["explain", *words], REPORTED, stderr=subprocess.DEVNULL))

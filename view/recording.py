@@ -31,8 +31,8 @@ def parted(words: list[str], program: str) -> tuple[list[str], list[str]]:
 
 @contextlib.contextmanager
 def recorded(call: Call) -> Iterator[None]:
-    """Records the program of a call, where it is one of this machine, and has the call name its trace as long as that is there. What the program
-    prints goes to standard error; its status is the trace's outcome."""
+    """Records the program of a call, where it is one of this machine, and has the call name its trace as long as that is there. What the
+    program prints goes to standard error; its status is the trace's outcome."""
     if call.how != "native":
         yield
         return

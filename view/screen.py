@@ -63,8 +63,8 @@ def next_step(view: View) -> str:
         return "its address is no multiple of its size: use `memcpy`, or a type with `__attribute__((packed))`, which goes by bytes"
     if sources and is_strange(outcome, sources.code):
         return (
-            "it jumped to where no code is: by a pointer to no function, or by a return address that was overwritten, as by a stack that is too "
-            "small (`--set stack=1048576`)"
+            "it jumped to where no code is: by a pointer to no function, or by a return address that was overwritten, as by a stack that "
+            "is too small (`--set stack=1048576`)"
         )
     advice = {
         "budget": "it took all steps of its `budget`; the setting may be larger",

@@ -201,6 +201,37 @@ class Screens(Shown):
         self.assertNotIn(b"\033", texts[1])
 
 
+class Pipes(Shown):
+    def call(self, command, trace):
+        """What a command in bash prints, in which $view is view, and $1 the trace."""
+        env = {**os.environ, "PREDATOR_PROGRAM": STAND_IN, "PREDATOR_BUILD": "no", "view": os.path.join(TOP, "bin", "predator") + " view"}
+        ran = subprocess.run(["bash", "-c", command, "bash", trace], capture_output=True, encoding="utf-8", env=env, timeout=100)
+        self.assertEqual((ran.returncode, ran.stderr), (0, ""), command)
+        return ran.stdout
+
+    def test_a_trace_from_a_pipe(self):
+        with tempfile.TemporaryDirectory() as folder:
+            trace, fifo = os.path.join(folder, "t"), os.path.join(folder, "fifo")
+            subprocess.run([STAND_IN, "run", built("ring.elf"), *TURNS, "--trace", trace], check=True, stdout=subprocess.DEVNULL)
+            os.mkfifo(fifo)
+            texts = {
+                self.call(it, trace)
+                for it in (
+                    'cat "$1" | $view replay -',
+                    '$view replay - <"$1"',
+                    '$view replay <(cat "$1")',
+                    f'cat "$1" >{fifo} & $view replay {fifo}; wait',
+                )
+            }
+            self.assertEqual(len(texts), 1)
+            self.shows(texts.pop(), "note: a trace from a pipe can be read once, so its misses, and places", "1 - - 331 1 ring")
+            _, whole, _ = view("replay", trace)
+            self.shows(whole, "1 298 0 284 1 stats")
+            # (settings and schedules that are pipes serve each run)
+            text = self.call(f"$view run {built('ring.elf')} --settings <(echo quantum = 3) --explain 1", trace)
+            self.assertEqual(text, view("run", built("ring.elf"), *TURNS, "--explain", "1")[1])
+
+
 RECORDER = os.path.join(TOP, "native", "out", "predator-amd64-linux")
 
 

@@ -160,7 +160,8 @@ class Words(unittest.TestCase):
     def test_what_a_file_is(self):
         with tempfile.TemporaryDirectory() as folder:
             at = functools.partial(os.path.join, folder)
-            for name, head in (("guest", b"\x7fELF\1\1\1"), ("own", b"\x7fELF\2\1\1" + bytes(9) + b"\3\0\x3e\0"), ("trace", b"PRDTRC02")):
+            own = b"\x7fELF\2\1\1" + bytes(9) + b"\3\0\x3e\0"
+            for name, head in (("guest", b"\x7fELF\1\1\1"), ("own", own), ("trace", b"PRDTRC02")):
                 with open(at(name), "wb") as file:
                     file.write(head)
             call = Call([at("guest"), "--set", "quantum=3", "--top", "2", "--", "--words"])
@@ -172,7 +173,8 @@ class Words(unittest.TestCase):
             self.assertEqual(parted(call.words, at("own")), (["--quantum", "10"], ["--size", "32"]))
             call = Call(["native", "--all", "--", at("own"), "a", "--b"])
             self.assertEqual((call.subject, call.own, call.marks), (at("own"), ["--", "a", "--b"], ["--all"]))
-            for how, name, said in (("run", "trace", "a trace"), ("run", "own", "a program of this machine"), ("replay", "guest", "a program")):
+            strange = ("run", "trace", "a trace"), ("run", "own", "a program of this machine"), ("replay", "guest", "a program")
+            for how, name, said in strange:
                 self.assertIn(f"{at(name)} is {said}: `predator view {at(name)}`", self.refused(how, at(name)))
             self.assertIn("'--quantum' is no option of view run", self.refused(at("guest"), "--quantum", "10"))
             self.assertIn("'--all' is for a program of this machine", self.refused(at("guest"), "--all"))
@@ -180,7 +182,8 @@ class Words(unittest.TestCase):
 
     def test_refusals(self):
         self.assertIn("'--saves=1' is no option of view replay; did you mean `--save`?", self.refused("replay", "t", "--saves=1"))
-        self.assertIn("names no key of the settings; did you mean `quantum`? the keys are: harts", self.refused("run", "p", "--set=quantom=3"))
+        near = "names no key of the settings; did you mean `quantum`? the keys are: harts"
+        self.assertIn(near, self.refused("run", "p", "--set=quantom=3"))
         self.assertIn("'x=3' in --set names no key of the settings; the keys are", self.refused("run", "p", "--set", "quantum=1,x=3"))
         self.assertIn("a report is wanted", self.refused())
         self.assertIn("a program is wanted", self.refused("run", "--top", "3"))

@@ -1,0 +1,35 @@
+"""Files of a call that are pipes, as `<(..)` makes them: the program is run several times, and each time reads them anew."""
+
+import contextlib
+import os
+import tempfile
+from typing import Iterator
+
+from calls import Call
+from faults import Fault
+from settings import ASKED
+
+FILES = [it for it in ASKED if it != "--set"]
+
+
+def is_pipe(path: str) -> bool:
+    return os.path.exists(path) and not os.path.isfile(path) and not os.path.isdir(path)
+
+
+@contextlib.contextmanager
+def kept(call: Call) -> Iterator[None]:
+    """Has the words of a call name copies of the settings and the schedule where these are pipes."""
+    with tempfile.TemporaryDirectory(prefix="predator-view-") as folder:
+        for at, word in enumerate(call.words):
+            name, has_value, value = word.partition("=")
+            before = call.words[at - 1] if at else ""
+            path = value if name in FILES and has_value else word if before in FILES else ""
+            if path and is_pipe(path):
+                own = os.path.join(folder, str(at))
+                try:
+                    with open(path, "rb") as source, open(own, "wb") as file:
+                        file.write(source.read())
+                except OSError as error:
+                    raise Fault(f"{path}: {error.strerror}") from error
+                call.words[at] = f"{name}={own}" if has_value else own
+        yield
