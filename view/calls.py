@@ -62,8 +62,8 @@ def nearest(word: str, known: Iterable[str]) -> str:
 
 
 class Call:
-    """What is asked: `how` says what is done with the file; `subject` is the program, the trace or the report, and `title` what it is
-    called; `words` go to the program, `given` are the options among them, `marks` go to its recorder, and `own` is what its guest gets,
+    """What is asked: `how` says what is done with the file; `subject` is the program, the trace or the report, and `named` what the
+    call names; `words` go to the program, `given` are the options among them, `marks` go to its recorder, and `own` is what its guest gets,
     with the `--` before it."""
 
     def __init__(self, words: Sequence[str]) -> None:
@@ -81,7 +81,7 @@ class Call:
         if len(names) != 1:
             what = {"run": "a program", "native": "a program", "replay": "a trace", "file": "a report"}[self.how]
             raise Fault(f"{what} is wanted, one\n{USAGE}" if not names else f"'{names[1]}' is one word more than is wanted\n{USAGE}")
-        self.subject, self.title = names[0], os.path.basename(names[0])
+        self.subject = self.named = names[0]
         self.judge_words()
         self.program = self.subject if self.how == "run" else self.options.get("program")
         self.judge()

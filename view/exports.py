@@ -115,7 +115,7 @@ def record(view: View) -> Record:
     report, program = view.report, view.naming.program
     return {
         "format": FORMAT,
-        "subject": view.call.subject,
+        "subject": view.call.named,
         "program": {"file": program.path, "sha256": program.sha256} if program else None,
         "outcome": report.outcome,
         "steps": report.steps,

@@ -103,7 +103,7 @@ def report_of(call: Call, predator: Predator | None) -> Report:
     if not call.reads_once():
         return predator.report([call.how, *call.words, *call.own])
     # (the program gets a pipe as its standard input, as it doesn't have what is open here)
-    with sys.stdin if call.subject == "-" else opened(call.subject) as trace:
+    with sys.stdin.buffer if call.subject == "-" else opened(call.subject) as trace:
         found = predator.report([call.how, *call.words_of_pipe()], stdin=trace)
     return found
 

@@ -198,7 +198,7 @@ def page(view: View) -> str:
         templates()
         .get_template("page.html")
         .render(
-            title=view.call.title,
+            title=os.path.basename(view.call.named),
             report=view.report,
             next_step=next_step(view),
             total=view.misses.total if view.misses else None,

@@ -10,6 +10,7 @@ HERE = os.path.dirname(os.path.abspath(__file__))
 sys.path[:0] = [os.path.dirname(HERE), os.path.join(HERE, "..", "..", "tools")]
 
 import advice  # noqa: E402
+import compare  # noqa: E402
 from calls import Call  # noqa: E402
 from model import View  # noqa: E402
 from judge_report import Access, Case, Ending, trace_of  # noqa: E402
@@ -41,6 +42,57 @@ def view_of(rows, misses=None, memory=None, each=None):
 
 def word(addr, reads, writes, hart):
     return f"word 0x{addr:08x} reads {reads} writes {writes} {hart}"
+
+
+def made(useless, *lines, functions=("malloc", "make", "main"), useful=0):
+    """A record of blocks that are made at some lines of ring.c."""
+    sites = [{"function": it, "file": "/src/ring.c" if it != "malloc" else "", "line": at} for it, at in zip(functions, (0, *lines))]
+    key = "block " + " < ".join(functions[1:])
+    return {"key": key, "name": f"block made at ring.c:{lines[0]}", "useless": useless, "useful": useful, "count": 0, "beside": []} | {
+        "words": [],
+        "sites": sites,
+        "declared": None,
+    }
+
+
+class Compared(unittest.TestCase):
+    def pairs(self, old, new):
+        return sorted((a and a["useless"] or 0, b and b["useless"] or 0) for a, b in compare.pairs(old, new))
+
+    def test_blocks_whose_lines_have_moved(self):
+        old = [made(11, 9, 40), made(12, 100, 40), made(13, 20, 50)]
+        for by in (0, 7, -5):
+            new = [made(91, 9 + by, 40 + by), made(92, 100 + by, 40 + by), made(93, 20 + by, 50 + by)]
+            self.assertEqual(self.pairs(old, new), [(11, 91), (12, 92), (13, 93)])
+            # One that is gone, or new, isn't taken for another one.
+            self.assertEqual(self.pairs(old, new[1:]), [(11, 0), (12, 92), (13, 93)])
+            self.assertEqual(self.pairs(old[1:], new), [(0, 91), (12, 92), (13, 93)])
+
+    def test_callers_and_order(self):
+        old, new = [made(1, 9, 40), made(2, 9, 50)], [made(5, 9, 50)]
+        self.assertEqual(self.pairs(old, new), [(1, 0), (2, 5)])
+        self.assertEqual(self.pairs([made(1, 9), made(2, 30)], [made(5, 9), made(6, 33)]), [(1, 5), (2, 6)])
+        other = made(7, 9, functions=("malloc", "grow"))
+        self.assertEqual(self.pairs([other], [made(5, 9)]), [(0, 5), (7, 0)])
+        # (a kept report has no lines)
+        self.assertEqual(self.pairs([made(1, 0), made(2, 0)], [made(5, 0)]), [(0, 5), (1, 0), (2, 0)])
+
+    def test_rows(self):
+        self.assertEqual(compare.row(made(3, 9), made(3, 9), "useless"), "the same")
+        self.assertEqual(compare.row(made(3, 9), None, "useless"), "gone: 3 before")
+        self.assertEqual(compare.row(None, made(3, 9, useful=2), "useless"), "new: 3 useless and 2 useful")
+        told = "less: 300 before, 0 now; useful more: 1 before, 900 now"
+        self.assertEqual(compare.row(made(300, 9, useful=1), made(0, 9, useful=900), "useless"), told)
+
+    def test_what_was_saved_and_costs_more(self):
+        view = view_of([], "misses 64 0\naccesses 900\nlines 0\ntotal cold 4 useful 901 useless 0\nend\n")
+        before = compare.Before([made(300, 9, useful=1)], "exit 0", {"cold": 2, "useful": 1, "useless": 300})
+        rows = list(compare.compared(view, before, "old"))
+        self.assertEqual(rows[1], "  all misses but cold ones: worse: 301 before, 901 now")
+        self.assertEqual(rows[2:4], ["    useless: less: 300 before, 0 now", "    useful: more: 1 before, 901 now"])
+        self.assertEqual(rows[4:], ["  block made at ring.c:9: gone: 300 useless and 1 useful before"])
+        nothing = compare.Before([made(0, 9)], "exit 0", {"cold": 2, "useful": 0, "useless": 0})
+        self.assertEqual(list(compare.compared(view, nothing, "old"))[4:], [])
 
 
 class Objects(unittest.TestCase):

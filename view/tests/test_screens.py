@@ -331,15 +331,18 @@ class Against(unittest.TestCase):
             with open(old, encoding="utf-8") as file:
                 before = {it["name"]: it["useless"] for it in json.load(file)["objects"]}
             told = joined(text.partition("by useless misses:")[2])
+            self.assertRegex(told, "^all misses but cold ones: better: [0-9]+ before, 656 now useless: less: [0-9]+ before, 342 now")
             self.assertIn("stats: the same", told)
             self.assertIn(f"ring: less: {before['ring']} before, 44 now", told)
             _, text, _ = view("run", built("shards.elf"), *TURNS, "--explain", "0", "--against", old)
             told = joined(text.partition("by useless misses:")[2])
+            self.assertRegex(told, "^all misses but cold ones: worse: [0-9]+ before, 2147 now")
+            self.assertNotIn(": 0", told)
             self.assertIn("shards: new: 2147", told)
             self.assertIn(f"stats: gone: {before['stats']} before", told)
             status, text, _ = view("run", built("shards.elf"), *TURNS, "--explain", "0", "--against", old, "--json", old)
             self.assertEqual((status, "stats: gone" in text), (0, True))
-            head = '{"format": "predator view 1", "outcome": "exit 0", "objects": '
+            head = '{"format": "predator view 1", "outcome": "exit 0", "total": null, "objects": '
             things = (
                 "3",
                 "[3]",

@@ -169,7 +169,7 @@ class Words(unittest.TestCase):
             self.assertEqual(call.words, [at("guest"), "--set", "quantum=3"])
             self.assertEqual(Call([at("trace"), "--size=32"]).how, "replay")
             call = Call(["--quantum", "10", "--all", at("own"), "--size", "32", "--", "a"])
-            self.assertEqual((call.how, call.title, call.own, call.marks), ("native", "own", ["--", "a"], ["--all"]))
+            self.assertEqual((call.how, call.named, call.own, call.marks), ("native", at("own"), ["--", "a"], ["--all"]))
             self.assertEqual(parted(call.words, at("own")), (["--quantum", "10"], ["--size", "32"]))
             call = Call(["native", "--all", "--", at("own"), "a", "--b"])
             self.assertEqual((call.subject, call.own, call.marks), (at("own"), ["--", "a", "--b"], ["--all"]))
