@@ -26,7 +26,8 @@ Options:
   --back TABLE       the same for a program of this machine, by the table that `predator native` wrote; TRACE.table unless it is given
   --top N            shows N objects (10)
   --object NAME      shows this object alone, and those that share lines with it
-  --words            lists the words of each object's lines with their fields
+  --words            lists the words of each object's lines with their fields, and all instructions that fight over the worst one
+  --library          shows the objects of the C library and of the kernel too, which are one line else
   --predicted        shows all predicted lines, those too that say nothing more
   --explain N        looks for the instructions that fight over the worst lines of the first N objects (3); 0 for none
   --type SITE=TYPE   what the blocks of a call site hold, as arena.c:78=node; a type, or a variable that points to one
@@ -35,17 +36,18 @@ Options:
   --json F           writes all that was found to F, by view/schema.json
   --sarif F          writes the same for editors and code hosts, as SARIF 2.1.0
   --against OLD      tells what got better and worse than in OLD, which --json wrote, or a kept report
-  --fail-above N     ends with 1 if an object has more than N useless misses, and with 3 if the run didn't end by exit 0
+  --fail-above N     ends with 1 if an object has more than N useless misses, and with 3 if the run didn't end by exit 0, or a thread
+                     didn't run since no hart was free
   --by count         judges by the report's count instead
   --help, -h         this page
 Words behind a `--` that follows PROGRAM are for its `main`.
 
-Status: 0 shown; 1 an object is above N; 2 refused, which standard error tells; 3 the run didn't end by exit 0 (with --fail-above); 127 a
-package is missing, or the program. Colours are for terminals, unless NO_COLOR is set."""
+Status: 0 shown; 1 an object is above N; 2 refused, which standard error tells; 3 (with --fail-above) the run didn't end by exit 0, or
+lacked a hart; 127 a package is missing, or the program. Colours are for terminals, unless NO_COLOR is set."""
 )
 # The options of view's own that have a value, and those that have none; `type` may come more than once.
 VALUES = ("top", "object", "html", "json", "sarif", "against", "fail-above", "by", "type", "program", "back", "sources", "explain")
-FLAGS = ("words", "predicted", "help")
+FLAGS = ("words", "predicted", "library", "help")
 # Options of `predator native` that have no value, and those that have one.
 MARKS = ("all", "marked", "built")
 RECORDS = ("--quantum", "--most")

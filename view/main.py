@@ -150,7 +150,7 @@ def look(call: Call) -> View:
     view.look_for_overflow(predator)
     view.arrange()
     check_seen(view)
-    first = view.chosen()[: call.number("top", TOP)]
+    first = view.listed()[: call.number("top", TOP)]
     view.explain(predator, first)
     view.place(predator, first)
     view.note_idle()
@@ -174,6 +174,9 @@ def status_of(view: View) -> int:
     if "fail-above" not in view.call.options:
         return 0
     if not view.report.ended_well():
+        return ENDED
+    if view.lacked:
+        say(view.lacked)
         return ENDED
     return ABOVE if is_above(view) else 0
 

@@ -4,6 +4,7 @@ import concurrent.futures
 import contextlib
 import functools
 import os
+import re
 import tempfile
 from collections import Counter
 from typing import Iterable, Sequence, cast
@@ -11,6 +12,7 @@ from typing import Iterable, Sequence, cast
 import advice
 from calls import EXPLAIN, Call
 from keys import Key, OfBlocks, OfStack, OfSymbol, order_of
+from library import is_foreign
 from naming import Memory, Naming, shown
 from objects import Spot, Thing, Told, things_of, words_of, worst_word
 from overflow import Overflow, last_of_file, last_of_run, overflow
@@ -32,9 +34,14 @@ class Seen:
     def worst(self) -> Told | None:
         return worst_word([it for it in self.words if it.key == self.thing.key])
 
+    def fights(self) -> list[Pair]:
+        """The pairs of instructions that take the object's worst line, those first that take it most often for nothing."""
+        pairs = self.explained.pairs if self.explained else []
+        return sorted(pairs, key=lambda it: (it.same - it.taken, -it.taken))
+
     def fight(self) -> Pair | None:
-        """The pair of instructions that takes the object's worst line most often, or none."""
-        return self.explained.pairs[0] if self.explained and self.explained.pairs else None
+        """The pair that takes the object's worst line most often for nothing, or none."""
+        return next(iter(self.fights()), None)
 
 
 class View:
@@ -53,6 +60,8 @@ class View:
         self.explained: dict[int, Explained] = {}
         self.placed: dict[Key, Placed] = {}
         self.cached: dict[Key, Seen] = {}
+        self.foreign: set[Key] = set()
+        self.lacked = ""
         self.label_counts: Counter[str] | None = None
         self.overflow: Overflow | None = None
 
@@ -89,9 +98,18 @@ class View:
         if any(it.accesses != self.report.accesses for it in counted):
             self.notes.append("the trace is a part of what the report counts, so its misses are unknown")
             return
+        self.note_lacked(predator)
         # (the readers of `wanted` tell misses, and the one behind them a report)
         self.each, self.by_layout = cast(Report, counted.pop()), dict(zip(wanted, cast(list[Misses], counted)))
         self.misses, self.by_word = self.by_layout[own], self.by_layout[WORD]
+
+    def note_lacked(self, predator: Predator) -> None:
+        """Notes that a thread never ran since no hart was free."""
+        found = re.findall("^predator: (no hart was free for [^:\n]*)", predator.said, re.MULTILINE)
+        if found and self.call.how == "run":
+            harts = setting(self.call.settings_words(), "harts")
+            self.lacked = f"{found[-1]}, and what that shares isn't seen: `--set harts={min(2 * harts, 256)}` gives more"
+            self.notes.append(self.lacked)
 
     def look_for_overflow(self, predator: Predator | None) -> None:
         """Looks, where the run didn't end well, whether a hart ran out of its stack."""
@@ -125,6 +143,7 @@ class View:
         self.things, self.all = things_of(self.report, self.misses, self.naming, self.each)
         for it in self.all.values():
             it.name = self.naming.key_name(it.key, it.example)
+        self.rank()
         self.keys = keys_over_builds(self.all.values(), self.naming)
         self.predicted = judged(self.report, self.misses, self.by_layout, self.naming)
         for line in self.predicted:
@@ -133,9 +152,30 @@ class View:
                     self.all[key] = Thing(key, example)
                     self.all[key].name = self.naming.key_name(key, example)
 
+    def rank(self) -> None:
+        """Puts the objects in order by the misses that lines of their own would save their words."""
+        needed: Counter[int] = Counter()
+        size, offset = self.report.size, self.report.offset
+        for addr, word in self.by_word.lines.items() if self.by_word else ():
+            needed[(addr - offset) // size * size + offset] += word.useful
+        for it in self.things if self.by_word else ():
+            missed = [(spot.missed.useless, spot.missed.useful, needed[spot.base]) for spot in it.spots if spot.missed]
+            it.saves = sum(max(0, min(useless, useless + useful - own)) for useless, useful, own in missed)
+        self.things.sort(key=Thing.rank)
+        self.foreign = {it.key for it in self.things if is_foreign(it, self.naming)}
+
     def chosen(self) -> list[Thing]:
         """The objects that the call wants to see."""
         return [it for it in self.things if self.is_named(it)]
+
+    def listed(self) -> list[Thing]:
+        """Those of them that have a row each."""
+        return [it for it in self.chosen() if it not in self.folded()]
+
+    def folded(self) -> list[Thing]:
+        """The objects of the C library, which have one row, unless the call asks for them."""
+        is_asked = "library" in self.call.options or "object" in self.call.options
+        return [] if is_asked else [it for it in self.things if it.key in self.foreign]
 
     def foretold(self) -> list[Foretold]:
         """The predicted lines of the objects that the call wants to see."""
@@ -194,7 +234,8 @@ class View:
                     self.notes.append(
                         f"the program under these settings doesn't make this trace, so `explain` says nothing of {spot.base:#010x}"
                     )
-        self.naming.prepare({at for it in self.explained.values() for pair in it.pairs[:8] for at in pair[:2]})
+        shown = None if "words" in self.call.options else 8
+        self.naming.prepare({at for it in self.explained.values() for pair in it.pairs[:shown] for at in pair[:2]})
 
     def note_idle(self) -> None:
         """Notes options that matched nothing: a type for blocks that aren't fought over, and a folder without a source of the program."""

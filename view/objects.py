@@ -53,6 +53,8 @@ class Thing:
         self.lives: set[int] = set()
         self.beside: Counter[Key] = Counter()
         self.useless = self.useful = self.cold = self.count = 0
+        # (how many misses its words would save, each on a line of its own)
+        self.saves = 0
         self.first: list[Spot] = []
 
     def add(self, spot: Spot) -> None:
@@ -64,8 +66,8 @@ class Thing:
             self.useful += spot.missed.useful
             self.cold += spot.missed.cold
 
-    def rank(self) -> tuple[int, int, int, int]:
-        return -self.useless, -self.useful, -self.count, self.spots[0].base
+    def rank(self) -> tuple[int, int, int, int, int]:
+        return -self.saves, -self.useless, -self.useful, -self.count, self.spots[0].base
 
     def worst_first(self) -> list[Spot]:
         """Its first lines, at most so many as are looked at, the worst first."""

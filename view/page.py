@@ -7,6 +7,7 @@ from calls import TOP
 from faults import Fault
 from keys import Key, OfBlocks
 from model import Seen, View
+from library import row_of
 from naming import shown
 from objects import Spot, Thing, Told, words_of
 from predicted import Foretold
@@ -101,8 +102,8 @@ def side(view: View, addr: int, role: str) -> Given:
     return {"role": role, "place": place_of(view.naming, addr) + at, "lines": lines, "lacks": lacks}
 
 
-def pairs(view: View, explained: Explained) -> Iterator[Given]:
-    for it in explained.pairs[:PAIRS]:
+def pairs(view: View, seen: Seen) -> Iterator[Given]:
+    for it in seen.fights()[:PAIRS]:
         sides = [side(view, it.taker, "takes the line"), side(view, it.victim, "loses it")]
         yield {"taken": counted(it.taken, "time"), "same": it.same, "sides": sides}
 
@@ -145,7 +146,7 @@ def thing(view: View, it: Thing) -> Given:
         "more": len(it.spots) - len(drawn),
         "explained": shown(seen.explained.base) if seen.explained else "",
         "matrix": matrix(seen.explained) if seen.explained and seen.explained.harts else None,
-        "pairs": list(pairs(view, seen.explained)) if seen.explained else [],
+        "pairs": list(pairs(view, seen)),
     }
 
 
@@ -172,6 +173,12 @@ def strip(view: View, foretold: Foretold, observed: dict[int, Spot]) -> Given:
     }
 
 
+def library(view: View) -> str:
+    """What is said of the objects of the C library, which aren't drawn, or nothing."""
+    numbers, text = row_of(view.folded(), view.misses is not None)
+    return "{} useless, {} useful, count {}, lines {}: {}".format(*numbers, text) if view.folded() else ""
+
+
 def templates() -> "jinja2.Environment":
     """Where the page's template stands: what it is given is escaped, and what it isn't given is a fault."""
     try:
@@ -184,7 +191,7 @@ def templates() -> "jinja2.Environment":
 
 def page(view: View) -> str:
     """The whole page."""
-    chosen, top = view.chosen(), view.call.number("top", TOP)
+    chosen, top = view.listed(), view.call.number("top", TOP)
     objects = [thing(view, it) for it in chosen[:top]]
     is_all = "predicted" in view.call.options
     observed, foretold = {spot.base: spot for it in view.things for spot in it.spots if spot.line}, view.foretold()
@@ -205,6 +212,7 @@ def page(view: View) -> str:
             notes=view.notes,
             objects=objects,
             more=max(0, len(chosen) - top),
+            library=library(view),
             harts=[{"hart": it, "letter": letter(it), "colour": colour(it)} for it in harts],
             has_many=any(it.hart == "many" for it in drawn),
             many=MANY,

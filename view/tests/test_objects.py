@@ -11,14 +11,15 @@ sys.path[:0] = [os.path.dirname(HERE), os.path.join(HERE, "..", "..", "tools")]
 
 import advice  # noqa: E402
 import compare  # noqa: E402
+import library  # noqa: E402
 from calls import Call  # noqa: E402
-from model import View  # noqa: E402
+from model import Seen, View  # noqa: E402
 from judge_report import Access, Case, Ending, trace_of  # noqa: E402
 from naming import Memory, Naming  # noqa: E402
 from objects import holder  # noqa: E402
 from overflow import overflow  # noqa: E402
 from predicted import can_lie, judged, together  # noqa: E402
-from reports import Block, Line, Misses, Report, Symbol  # noqa: E402
+from reports import Block, Line, Misses, Pair, Report, Symbol  # noqa: E402
 from screen import Paint, screen  # noqa: E402
 
 HEAD = "predator report 1\noutcome exit 0\nsteps 9\naccesses 900\nlayout 64 0\nthresholds 16 64 100\n"
@@ -29,13 +30,13 @@ def report_of(rows):
     return Report(HEAD + f"lines {lines}\n" + "".join(f"{it}\n" for it in rows) + "end\n")
 
 
-def view_of(rows, misses=None, memory=None, each=None):
+def view_of(rows, misses=None, memory=None, each=None, by_word=None):
     """What is seen of a report of these rows."""
     report = report_of(rows)
     view = View(Call(["r"]), report, Naming(report, memory=memory))
     view.misses = Misses(misses) if misses else None
     view.each = report_of(each) if each else None
-    view.by_word = None
+    view.by_word = Misses(by_word) if by_word else None
     view.arrange()
     return view
 
@@ -119,6 +120,52 @@ class Objects(unittest.TestCase):
         counted += "line 0x00001000 cold 2 useful 0 useless 300\nobject symbol a 0x00001000 64\n"
         view = view_of(rows, counted + "total cold 4 useful 1 useless 800\nend\n")
         self.assertEqual([(it.name, it.useless, it.useful, it.count) for it in view.things], [("b", 500, 1, 0), ("a", 300, 0, 200)])
+
+    def test_what_a_repair_saves_stands_first(self):
+        counted = "misses 64 0\naccesses 900\nlines 2\n"
+        counted += "line 0x00001040 cold 2 useful 9 useless 500\nobject symbol a 0x00001040 64\n"
+        counted += "line 0x00001000 cold 2 useful 1 useless 300\nobject symbol b 0x00001000 64\n"
+        counted += "total cold 4 useful 10 useless 800\nend\n"
+        # (each load of a's line brought two words that are needed)
+        words = "misses 4 0\naccesses 900\nlines 3\nline 0x00001040 cold 1 useful 250 useless 0\n"
+        words += "line 0x00001044 cold 1 useful 250 useless 0\nline 0x00001000 cold 1 useful 1 useless 0\n"
+        words += "total cold 3 useful 501 useless 0\nend\n"
+        view = view_of([], counted, by_word=words)
+        self.assertEqual([(it.name, it.saves, it.useless) for it in view.things], [("b", 300, 300), ("a", 9, 500)])
+        self.assertEqual([it.name for it in view_of([], counted).things], ["a", "b"])
+
+    def test_what_the_c_library_has_is_one_row(self):
+        rows = []
+        for at, name in enumerate(("__malloc_lock", "queue", "_Impure", "_mine")):
+            base = 0x1000 + 64 * at
+            rows += [f"line observed 0x{base:08x} 64 start 0 count {300 + at} verdict true", f"object symbol {name} 0x{base:08x} 4"]
+            rows += [word(base, 5, 50, "many")]
+        view = view_of(rows)
+        self.assertEqual(view.folded(), [])
+        view.naming.program = SimpleNamespace(dwarf=1, variable=lambda _: None, declared=lambda _: None)
+        view.rank()
+        self.assertEqual([it.name for it in view.listed()], ["_mine", "queue"])
+        (shown,) = [it for it in screen(view, Paint(io.StringIO())) if "library" in it]
+        self.assertEqual(shown.split(), "- - 602 2 2 objects of the C library: --library shows them".split())
+        for option in ({"library": ""}, {"object": "__malloc_lock"}):
+            view.call.options.update(option)
+            self.assertEqual(view.folded(), [])
+            view.call.options = {"type": []}
+
+    def test_files_of_the_c_library(self):
+        for path in ("/usr/lib/x86_64-linux-gnu/libc.so.6", "/lib64/ld-linux-x86-64.so.2", "[vdso]", "libpthread-2.36.so"):
+            self.assertTrue(library.LIBRARIES.search(path), path)
+        for path in ("/usr/lib/libcap.so.2", "/home/me/libc/queue", "/usr/lib/libstdc++.so.6"):
+            self.assertFalse(library.LIBRARIES.search(path), path)
+        self.assertTrue(library.KIT.search("/opt/predator/guest/clib/heap.c"))
+        self.assertFalse(library.KIT.search("guest/examples/queue.c"))
+
+    def test_the_pair_that_takes_most_for_nothing_is_first(self):
+        pairs = [Pair(1, 2, 90, 90), Pair(3, 4, 50, 10), Pair(5, 6, 45, 4), Pair(7, 8, 40, 10)]
+        seen = Seen(None, [], SimpleNamespace(pairs=pairs), "", None)
+        self.assertEqual([it.victim for it in seen.fights()], [5, 3, 7, 1])
+        self.assertEqual(seen.fight().victim, 5)
+        self.assertIsNone(Seen(None, [], None, "", None).fight())
 
     def test_words_of_lines_that_are_not_listed(self):
         counted = "misses 64 0\naccesses 900\nlines 1\nline 0x00001000 cold 2 useful 1 useless 500\nobject symbol a 0x00001000 8\n"

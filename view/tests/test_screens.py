@@ -54,6 +54,22 @@ class Screens(Shown):
         self.assertEqual(view(*words, "297", "--object", "ring")[0], 0)
         self.assertEqual(view("run", built("odd.elf"), *TURNS, "--explain", "0", "--fail-above", "9999")[0], 3)
 
+    def test_a_thread_for_which_no_hart_was_free(self):
+        says = "predator: no hart was free for the last thread that was to start: `harts` is 8, and in the settings it may be up to 256\n"
+        words = ("run", built("ring.elf"), *TURNS, "--explain", "0")
+        for lacks in ("", "pipes"):
+            status, text, _ = view(*words, STAND_IN_SAYS=says, lacks=lacks)
+            self.assertEqual(status, 0)
+            self.shows(text, "note: no hart was free for the last thread that was to start, and what that shares isn't seen")
+            self.shows(text, "`--set harts=16` gives more")
+            status, _, said = view(*words, "--fail-above", "9999", STAND_IN_SAYS=says, lacks=lacks)
+            self.assertEqual((status, "predator view: no hart was free" in said), (3, True))
+
+    def test_all_that_fight(self):
+        _, text, _ = view("run", built("ring.elf"), *TURNS, "--explain", "1", "--words")
+        self.shows(text, "fighting ring.c:34 (note < consumer) takes the line from ring.c:34 (note < producer), 142 times")
+        self.shows(text, "fighting ring.c:34 (note < producer) takes the line from ring.c:34 (note < consumer), 142 times")
+
     def test_without_misses_and_explain(self):
         status, text, _ = view("run", built("ring.elf"), *TURNS, lacks="misses explain")
         self.assertEqual(status, 0)
@@ -245,6 +261,7 @@ class OfThisMachine(Shown):
                 status, text, said = view(*words, program=PROGRAM, cwd=folder)
                 self.assertEqual((status, said), (0, "sum 80000\n"))
                 self.shows(text, "outcome exit 0, 0 steps", "counters worst field counters[1].count", "each element of counters")
+                self.assertRegex(text, r"[1-9] objects? of the C library: --library shows them")
             status, _, said = view("native", "./counters", "--quantum", "0", program=PROGRAM, cwd=folder)
             self.assertEqual((status, "'--quantum' is 1 to 100000" in said), (2, True))
 
