@@ -14,7 +14,7 @@ from calls import EXPLAIN, Call
 from keys import Key, OfBlocks, OfStack, OfSymbol, order_of
 from library import is_foreign
 from naming import Memory, Naming, shown
-from objects import Spot, Thing, Told, things_of, words_of, worst_word
+from objects import Spot, Thing, Told, field_at, things_of, words_of, worst_word
 from overflow import Overflow, last_of_file, last_of_run, overflow
 from predicted import Foretold, Layout, judged, layouts
 from program import Predator, Refused, each_line, misses_under, setting, stacks
@@ -156,8 +156,11 @@ class View:
         """Puts the objects in order by the misses that lines of their own would save their words."""
         needed: Counter[int] = Counter()
         size, offset = self.report.size, self.report.offset
-        for addr, word in self.by_word.lines.items() if self.by_word else ():
-            needed[(addr - offset) // size * size + offset] += word.useful
+        words = self.by_word.lines if self.by_word else {}
+        for addr, word in words.items():
+            # (two words that are missed as often are of one field, or brought by one load)
+            if addr % 8 != 4 or addr - 4 not in words or words[addr - 4].useful != word.useful:
+                needed[(addr - offset) // size * size + offset] += word.useful
         for it in self.things if self.by_word else ():
             missed = [(spot.missed.useless, spot.missed.useful, needed[spot.base]) for spot in it.spots if spot.missed]
             it.saves = sum(max(0, min(useless, useless + useful - own)) for useless, useful, own in missed)
@@ -275,7 +278,7 @@ class View:
             return advice.little(thing, total)
         names = {key: self.label(self.all[key]) for key in thing.beside}
         todo = advice.sentence(thing, words, names, self.align_to(thing), self.misses is not None, self.element(thing), self.turns())
-        return todo + advice.placing(self.placed.get(thing.key), lambda addr: self.naming.word(addr, thing.example)[0])
+        return todo + advice.placing(self.placed.get(thing.key), lambda addr: field_at(addr, thing.example, self.naming))
 
     def turns(self) -> int:
         """How many steps a hart's turn has, or 0 where that isn't known."""

@@ -3,7 +3,7 @@
 import os
 import shutil
 import subprocess
-from typing import TYPE_CHECKING, Any, Iterable, Sequence, Union
+from typing import TYPE_CHECKING, Any, Iterable, NamedTuple, Sequence, Union
 
 from keys import Key, OfBlocks, OfMemory, OfStack, OfSymbol
 from reports import Block, Report, Site, Symbol
@@ -13,6 +13,14 @@ if TYPE_CHECKING:
     # (which are read where a program is named alone: they want pyelftools)
     from fields import Program
     from native import NativeProgram
+
+
+class WordKind(NamedTuple):
+    """Whether a word is of a known type, and whether several fields or elements lie in it."""
+
+    is_typed: bool
+    is_packed: bool
+
 
 # An object of a report; none is memory without one.
 Found = Union[Symbol, Block, None]
@@ -167,6 +175,30 @@ class Naming:
         from fields import sound
 
         return sound(lambda: self.field(thing, name, offset), None)
+
+    def typed_value(self, thing: Found, addr: int) -> tuple[Any, int] | None:
+        """The type of the value that a word lies in, and the word's place there, or none where that isn't known."""
+        if self.program is None or thing is None:
+            return None
+        if isinstance(thing, Symbol):
+            variable = self.program.variable(thing.addr)
+            return (variable.type, addr - thing.addr) if variable and variable.type is not None else None
+        from fields import size_of
+
+        element = None if thing.sites and thing.sites[0].name == OWN else self.type_of_block(thing)
+        return None if element is None else (element, (addr - thing.addr) % (size_of(element) or 1))
+
+    def kind(self, addr: int, thing: Found) -> WordKind:
+        """What a word is: of a known type or not, and with several fields or elements or with one."""
+        if self.program is None:
+            return WordKind(False, False)
+        from fields import are_several, sound
+
+        found = sound(lambda: self.typed_value(thing, addr), None)
+        if found is None:
+            return WordKind(False, False)
+        die, offset = found
+        return WordKind(True, sound(lambda: are_several(die, 8 * offset, 8 * offset + 32), False))
 
     def field(self, thing: Symbol | Block, name: str, offset: int) -> tuple[str, str, str] | None:
         if self.program is None:

@@ -138,7 +138,7 @@ def thing(view: View, it: Thing) -> Given:
         "lives": len(it.lives),
         "is_block": isinstance(it.key, OfBlocks),
         "beside": [view.label(view.all[key]) for key in it.beside],
-        "worst": worst.name if worst else "",
+        "worst": worst.whole() if worst else "",
         "fight": [place_of(view.naming, at) for at in (fight.taker, fight.victim)] if fight else [],
         "declared": "{}:{}".format(*seen.declared) if seen.declared else "",
         "todo": in_code(seen.todo),

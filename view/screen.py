@@ -99,7 +99,7 @@ def row(view: View, place: int, thing: Thing, paint: Paint, width: int) -> Itera
     worst = seen.worst()
     if worst:
         much = f"{counted(worst.writes, 'write')} and {counted(worst.reads, 'read')} by {owner(worst)}"
-        yield from fold(f"worst field  {worst.name}: {much}", " " * 8, " " * 21, width)
+        yield from fold(f"worst field  {worst.whole()}: {much}", " " * 8, " " * 21, width)
     for fight in seen.fights()[: None if "words" in view.call.options else 1]:
         one, other = (place_of(view.naming, it) for it in fight[:2])
         took = counted(fight.taken, "time") + (f", {fight.same} of them for the same word" if fight.same else ", never for the same word")

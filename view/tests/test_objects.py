@@ -15,8 +15,9 @@ import library  # noqa: E402
 from calls import Call  # noqa: E402
 from model import Seen, View  # noqa: E402
 from judge_report import Access, Case, Ending, trace_of  # noqa: E402
-from naming import Memory, Naming  # noqa: E402
-from objects import holder  # noqa: E402
+from keys import OfSymbol  # noqa: E402
+from naming import Memory, Naming, WordKind  # noqa: E402
+from objects import Spot, Thing, Told, holder  # noqa: E402
 from overflow import overflow  # noqa: E402
 from predicted import can_lie, judged, together  # noqa: E402
 from reports import Block, Line, Misses, Pair, Report, Symbol  # noqa: E402
@@ -96,6 +97,51 @@ class Compared(unittest.TestCase):
         self.assertEqual(list(compare.compared(view, nothing, "old"))[4:], [])
 
 
+LOCK = OfSymbol("symbol", "lock", 0x1000)
+
+
+def used(name, at, useful, kind=WordKind(True, False), hart="many"):
+    """A word of the object `lock` that harts use."""
+    return Told(0x1000 + at, 0x1000, name, "", name, LOCK, 0x1000, 100, 100, hart, useful, kind)
+
+
+class Advised(unittest.TestCase):
+    def todo(self, *words, useless=0, useful=300, turns=100):
+        thing = Thing(LOCK, Symbol("lock", 0x1000, 64))
+        thing.name, thing.useless, thing.useful = "lock", useless, useful
+        thing.spots.append(Spot(0x1000, None, SimpleNamespace(useless=useless, useful=useful)))
+        return advice.sentence(thing, words, {}, 64, True, lambda _: "", turns)
+
+    def test_several_fields_in_a_word(self):
+        state, flags = used("lock.state", 0, 200), used("lock.ready, .done", 4, 40, WordKind(True, True))
+        for turns in (1, 3, 100):
+            for useless, useful in ((0, 300), (100, 300), (300, 20)):
+                told = self.todo(state, flags, useless=useless, useful=useful, turns=turns)
+                self.assertIn("several fields or elements lie in a word of lock.ready, .done", told)
+                self.assertNotIn("padding", told)
+            self.assertIn("several fields or elements lie in one word there", self.todo(flags, turns=turns))
+        self.assertIn("padding doesn't help", self.todo(state))
+        # (what isn't known of memory without a type)
+        self.assertIn("padding helps only where harts use different bytes", self.todo(used("lock+8", 8, 200, WordKind(False, False))))
+
+    def test_a_field_of_eight_bytes_is_one(self):
+        words = [used("lock.sum", 0, 90), used("lock.sum+4", 4, 90), used("lock.own", 8, 0, hart="1"), used("lock.own+4", 12, 0, hart="1")]
+        told = self.todo(*words, useless=200, useful=90)
+        self.assertIn("before each: lock.sum (shared); lock.own (hart 1)", told)
+        self.assertNotIn("+4", told)
+        self.assertIn("the sharing of lock.sum is true", self.todo(*words[:2]))
+        # (each load brings both of its words)
+        self.assertNotIn("times more", self.todo(*words[:2], useful=90))
+        self.assertIn("a line for each of its words would miss 90 times more", self.todo(words[0], used("lock.other", 8, 90), useful=90))
+
+    def test_words_of_a_stack(self):
+        rows = ["line observed 0x0100ffc0 64 start 0 count 300 verdict true", word(0x100FFC0, 5, 50, "many")]
+        view = view_of(rows, memory=Memory((0xF90000, 0x1010000), 8))
+        (told,) = view.seen(view.things[0]).words
+        self.assertEqual((told.name, told.kind), ("0x0100ffc0, 64 below its top", WordKind(False, False)))
+        self.assertNotIn("several fields", view.seen(view.things[0]).todo)
+
+
 class Objects(unittest.TestCase):
     def test_a_line_of_two_variables_is_told_once(self):
         rows = [
@@ -128,7 +174,7 @@ class Objects(unittest.TestCase):
         counted += "total cold 4 useful 10 useless 800\nend\n"
         # (each load of a's line brought two words that are needed)
         words = "misses 4 0\naccesses 900\nlines 3\nline 0x00001040 cold 1 useful 250 useless 0\n"
-        words += "line 0x00001044 cold 1 useful 250 useless 0\nline 0x00001000 cold 1 useful 1 useless 0\n"
+        words += "line 0x00001048 cold 1 useful 250 useless 0\nline 0x00001000 cold 1 useful 1 useless 0\n"
         words += "total cold 3 useful 501 useless 0\nend\n"
         view = view_of([], counted, by_word=words)
         self.assertEqual([(it.name, it.saves, it.useless) for it in view.things], [("b", 300, 300), ("a", 9, 500)])
