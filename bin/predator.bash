@@ -20,7 +20,7 @@ _predator() {
             return
         fi
     done
-    if [ "$of" = view ] && ((COMP_CWORD > 2)) && [[ ${COMP_WORDS[2]} == @(run|replay|native) ]]; then of="view ${COMP_WORDS[2]}"; fi
+    if [ "$of" = view ] && ((COMP_CWORD > 2)) && [[ ${COMP_WORDS[2]} == @(run|replay|native|sweep) ]]; then of="view ${COMP_WORDS[2]}"; fi
     case $of in
     # commands.toml: options
         'run') options="--settings --set --schedule --trace --output" ;;
@@ -35,10 +35,11 @@ _predator() {
         'misses') options="--size --shift" ;;
         'explain') options="--settings --set --schedule" ;;
         'view') options="--top --object --words --library --predicted --explain --type --sources --html --json --sarif --against --fail-above --by --program --back" ;;
-        'campaign') options="--to --profile --cores --check" ;;
+        'campaign') options="--to --profile --cores --html --check" ;;
         'native') options="--built --quantum --all --marked --most --trace --table --report --settings --size --shift --mend --build" ;;
         'view run') options="--top --object --words --library --predicted --explain --type --sources --html --json --sarif --against --fail-above --by --settings --set --schedule --trace --output" ;;
         'view replay') options="--top --object --words --library --predicted --explain --type --sources --html --json --sarif --against --fail-above --by --program --back --settings --set --size --shift --save --resume" ;;
+        'view sweep') options="--size --html" ;;
         'view native') options="--top --object --words --library --predicted --explain --type --sources --html --json --sarif --against --fail-above --by --built --quantum --all --marked --most --settings --set --size --shift" ;;
     # (so far)
         *) return ;;
@@ -59,7 +60,7 @@ _predator() {
             if [[ $word == -* ]]; then
                 mapfile -t COMPREPLY < <(compgen -W "$options --help" -- "$word")
             elif [ "$of:$COMP_CWORD" = view:2 ]; then
-                mapfile -t COMPREPLY < <(compgen -W "run replay native" -- "$word"; compgen -f -- "$word")
+                mapfile -t COMPREPLY < <(compgen -W "run replay native sweep" -- "$word"; compgen -f -- "$word")
             else
                 mapfile -t COMPREPLY < <(compgen -f -- "$word")
             fi

@@ -169,6 +169,7 @@ def view_options(table: dict[str, list[Row]]) -> dict[str, list[str]]:
         "view": [*own["options"], *own["names"]],
         "view run": [*own["options"], *of["run"]],
         "view replay": [*own["options"], *own["names"], *of["replay"]],
+        "view sweep": [*of["sweep"], "--html"],
         "view native": [*own["options"], *recorder["traces"], *layout],
     }
 
@@ -207,9 +208,8 @@ def view_parts(table: dict[str, list[Row]]) -> dict[str, str]:
     written = [it["name"] for it in table["option"] if it["name"] in run and it.get("writes")]
     asked = [it["name"] for it in table["option"] if it["name"] in run and not it.get("writes")]
     lines, keys = textwrap.wrap(usual, 130), ", ".join(quoted(it["key"]) for it in table["setting"])
-    own = "".join(
-        f'    "{it["name"]}": ({", ".join(map(quoted, options_of(it)))}),\n' for it in table["command"] if it["name"] in ("run", "replay")
-    )
+    shown = {it["name"]: options_of(it) for it in table["command"] if it["name"] in ("run", "replay", "sweep")}
+    own = "".join(f"    {quoted(name)}: [{', '.join(map(quoted, of))}],\n" for name, of in shown.items())
     return {
         "usual": "USUAL = {\n" + "\n".join(f"    {it}" for it in lines) + ",\n}\n",
         "keys": f"KEYS = ({keys})\n",

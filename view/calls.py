@@ -12,6 +12,7 @@ from settings import ASKED, KEYS, OPTIONS, WRITTEN
 USAGE = """usage: predator view run PROGRAM [options of run] [OPTIONS] [-- WORD ..]
        predator view replay TRACE [options of replay] [--program PROGRAM] [OPTIONS]
        predator view native PROGRAM [options of native] [OPTIONS] [-- WORD ..]
+       predator view sweep TRACE --size N [--html F]
        predator view REPORT [--program PROGRAM] [OPTIONS]          (the report - is standard input)
        predator view FILE ..          (a program or a trace: as run, native or replay, by what the file is)"""
 HELP = (
@@ -70,7 +71,7 @@ class Call:
 
     def __init__(self, words: Sequence[str]) -> None:
         first = words[0] if words else ""
-        named: dict[str, How] = {"run": "run", "replay": "replay", "native": "native"}
+        named: dict[str, How] = {"run": "run", "replay": "replay", "native": "native", "sweep": "sweep"}
         self.how = named.get(first, "file")
         # (each a text, but for `type`, which has several)
         self.options: dict[str, Any] = {"type": []}
@@ -81,7 +82,7 @@ class Call:
         if "help" in self.options:
             return
         if len(names) != 1:
-            what = {"run": "a program", "native": "a program", "replay": "a trace", "file": "a report"}[self.how]
+            what = {"run": "a program", "native": "a program", "replay": "a trace", "sweep": "a trace", "file": "a report"}[self.how]
             raise Fault(f"{what} is wanted, one\n{USAGE}" if not names else f"'{names[1]}' is one word more than is wanted\n{USAGE}")
         self.subject = self.named = names[0]
         self.judge_words()
@@ -91,7 +92,7 @@ class Call:
     def judge_words(self) -> None:
         """Refuses words that what is done with the file doesn't take, and a file with which it can't be done."""
         what = how_of(self.subject)
-        if what not in ("file", self.how):
+        if what not in ("file", "replay" if self.how == "sweep" else self.how):
             raise Fault(f"{self.subject} is {IS[what]}: `predator view {self.subject}` {DOES[what]} it")
         known = [*OPTIONS.get("replay" if self.how == "native" else self.how, ()), *(RECORDS if self.how == "native" else ())]
         for word in (it for it in self.given if it.partition("=")[0] not in known):
@@ -152,6 +153,8 @@ class Call:
 
     def judge(self) -> None:
         """Refuses values that an option can't have."""
+        if self.how == "sweep":
+            self.judge_sweep()
         for name in ("top", "fail-above", "explain"):
             value = self.options.get(name, "0")
             if not re.fullmatch("[0-9]{1,18}", value):
@@ -171,6 +174,14 @@ class Call:
             raise Fault(f"'--sources' is a folder, and '{self.options['sources']}' is none")
         if "back" in self.options and (self.how in ("run", "native") or "program" in self.options):
             raise Fault("'--back' is for a trace or a report of this machine's programs, and names the program itself")
+
+    def judge_sweep(self) -> None:
+        """Refuses what a sweep doesn't take."""
+        strange = [name for name, value in self.options.items() if name != "html" and value != []]
+        if strange:
+            raise Fault(f"'--{strange[0]}' isn't for a sweep, of which `--html` alone makes something")
+        if self.value_of("--size") is None:
+            raise Fault("a sweep is of lines of a size: '--size' names it")
 
     def has_types(self) -> bool:
         """Whether a program is named whose types can be looked up, by itself or by the table of a native one."""
@@ -199,7 +210,8 @@ class Call:
 
     def reads_once(self) -> bool:
         """Whether the trace comes from a pipe or a terminal, and can be read once."""
-        return self.how == "replay" and (self.subject == "-" or os.path.exists(self.subject) and not os.path.isfile(self.subject))
+        is_pipe = self.subject == "-" or os.path.exists(self.subject) and not os.path.isfile(self.subject)
+        return self.how in ("replay", "sweep") and is_pipe
 
     def words_of_pipe(self) -> list[str]:
         """The words of a replay of standard input, in the place of a trace."""

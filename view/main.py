@@ -5,7 +5,7 @@ import io
 import os
 import sys
 import traceback
-from typing import TYPE_CHECKING, BinaryIO
+from typing import TYPE_CHECKING
 
 sys.path.insert(0, os.path.dirname(os.path.abspath(__file__)))
 
@@ -14,7 +14,7 @@ from calls import HELP, OUTPUTS, TOP, Call, nearest  # noqa: E402
 from faults import Fault, plain  # noqa: E402
 from model import View, memory_of  # noqa: E402
 from naming import Naming  # noqa: E402
-from pipes import kept  # noqa: E402
+from pipes import kept, opened  # noqa: E402
 from program import Predator  # noqa: E402
 from recording import recorded  # noqa: E402
 from reports import Report, Symbol  # noqa: E402
@@ -35,13 +35,6 @@ def read(path: str) -> str:
     try:
         with open(path, "rb") as file:
             return file.read().decode("latin-1")
-    except OSError as error:
-        raise Fault(f"{path}: {error.strerror}") from error
-
-
-def opened(path: str) -> BinaryIO:
-    try:
-        return open(path, "rb", 0)
     except OSError as error:
         raise Fault(f"{path}: {error.strerror}") from error
 
@@ -134,7 +127,7 @@ def look(call: Call) -> View:
     if call.how == "run":
         check_name(call.options.get("object"), Naming(None, program))
     if "html" in call.options:
-        from page import templates
+        from drawing import templates
 
         templates()
     predator = Predator() if call.how != "file" else None
@@ -239,6 +232,8 @@ def outputs(view: View) -> None:
 def show(call: Call) -> int:
     """Does what a call asks, and gives its status."""
     keep_inputs(call)
+    if call.how == "sweep":
+        return show_sweep(call)
     # (before --json writes to the same file)
     old = compare.loaded(call.options["against"], call) if "against" in call.options else None
     with kept(call), recorded(call):
@@ -248,6 +243,18 @@ def show(call: Call) -> int:
             tell(view, old)
     sys.stdout.flush()
     return status_of(view)
+
+
+def show_sweep(call: Call) -> int:
+    import sweep
+
+    rows, page = sweep.show(call)
+    if page is not None:
+        write(call.options["html"], page)
+    if call.options.get("html") != "-":
+        print(*rows, sep="\n")
+    sys.stdout.flush()
+    return 0
 
 
 def tell(view: View, old: compare.Before | None) -> None:

@@ -1,10 +1,10 @@
 """The page: one file of HTML that needs no network and no script. Its template, page.html, escapes every name."""
 
 import os
-from typing import TYPE_CHECKING, Any, Iterator, Sequence
+from typing import Iterator, Sequence
 
 from calls import TOP
-from faults import Fault
+from drawing import Given, templates
 from keys import Key, OfBlocks
 from model import Seen, View
 from library import row_of
@@ -13,13 +13,7 @@ from objects import Spot, Thing, Told, words_of
 from predicted import Foretold
 from reports import Explained
 from screen import counted, next_step, place_of
-from source_lines import PACKAGES
 
-if TYPE_CHECKING:
-    import jinja2
-
-# What the template is given of something: texts, numbers and others of its kind, by name.
-Given = dict[str, Any]
 # Colours that the colour blind tell apart (Okabe and Ito); each hart has a letter too.
 COLOURS = ("#e69f00", "#56b4e9", "#009e73", "#f0e442", "#8fb8ff", "#ff9f6b", "#e6a9c9", "#bdbdbd")
 MANY = "background:repeating-linear-gradient(45deg,#fff 0 6px,#c9c9c9 6px 9px)"
@@ -177,16 +171,6 @@ def library(view: View) -> str:
     """What is said of the objects of the C library, which aren't drawn, or nothing."""
     numbers, text = row_of(view.folded(), view.misses is not None)
     return "{} useless, {} useful, count {}, lines {}: {}".format(*numbers, text) if view.folded() else ""
-
-
-def templates() -> "jinja2.Environment":
-    """Where the page's template stands: what it is given is escaped, and what it isn't given is a fault."""
-    try:
-        import jinja2
-    except ImportError as missing:
-        raise Fault(f"python3-jinja2 isn't installed: {PACKAGES}", 127) from missing
-    folder = os.path.dirname(os.path.abspath(__file__))
-    return jinja2.Environment(loader=jinja2.FileSystemLoader(folder), autoescape=True, undefined=jinja2.StrictUndefined, trim_blocks=True)
 
 
 def page(view: View) -> str:

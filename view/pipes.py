@@ -3,13 +3,20 @@
 import contextlib
 import os
 import tempfile
-from typing import Iterator
+from typing import BinaryIO, Iterator
 
 from calls import Call
 from faults import Fault
 from settings import ASKED
 
 FILES = [it for it in ASKED if it != "--set"]
+
+
+def opened(path: str) -> BinaryIO:
+    try:
+        return open(path, "rb", 0)
+    except OSError as error:
+        raise Fault(f"{path}: {error.strerror}") from error
 
 
 def is_pipe(path: str) -> bool:

@@ -18,7 +18,8 @@ KEYS = ("harts", "memory", "stack", "tracking", "prediction", "report", "quantum
 ASKED = ("--settings", "--set", "--schedule")
 WRITTEN = ("--trace", "--output")
 OPTIONS = {
-    "run": ("--settings", "--set", "--schedule", "--trace", "--output"),
-    "replay": ("--settings", "--set", "--size", "--shift", "--save", "--resume"),
+    "run": ["--settings", "--set", "--schedule", "--trace", "--output"],
+    "replay": ["--settings", "--set", "--size", "--shift", "--save", "--resume"],
+    "sweep": ["--size"],
 }
 # (so far)

@@ -157,6 +157,13 @@ class Words(unittest.TestCase):
         self.assertEqual(Call(["run", "--", "-p.elf"]).subject, "-p.elf")
         self.assertEqual(Call(["run", "p", "--type", "a.c:7=node", "--type=b=c"]).options["type"], ["a.c:7=node", "b=c"])
 
+    def test_sweeps(self):
+        call = Call(["sweep", "t", "--size", "64", "--html=f"])
+        self.assertEqual((call.how, call.subject, call.words), ("sweep", "t", ["t", "--size", "64"]))
+        self.assertIn("a sweep is of lines of a size", self.refused("sweep", "t"))
+        self.assertIn("'--json' isn't for a sweep", self.refused("sweep", "t", "--size=64", "--json=f"))
+        self.assertIn("'--shift' is no option of view sweep", self.refused("sweep", "t", "--size=64", "--shift", "4"))
+
     def test_what_a_file_is(self):
         with tempfile.TemporaryDirectory() as folder:
             at = functools.partial(os.path.join, folder)
