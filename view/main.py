@@ -14,7 +14,7 @@ from calls import HELP, OUTPUTS, TOP, Call, nearest  # noqa: E402
 from faults import Fault, plain  # noqa: E402
 from model import View, memory_of  # noqa: E402
 from naming import Naming  # noqa: E402
-from pipes import kept, opened  # noqa: E402
+from pipes import fed, kept  # noqa: E402
 from program import Predator  # noqa: E402
 from recording import recorded  # noqa: E402
 from reports import Report, Symbol  # noqa: E402
@@ -95,10 +95,8 @@ def report_of(call: Call, predator: Predator | None) -> Report:
         return Report(read(call.subject), call.subject)
     if not call.reads_once():
         return predator.report([call.how, *call.words, *call.own])
-    # (the program gets a pipe as its standard input, as it doesn't have what is open here)
-    with sys.stdin.buffer if call.subject == "-" else opened(call.subject) as trace:
-        found = predator.report([call.how, *call.words_of_pipe()], stdin=trace)
-    return found
+    with fed(call.subject) as trace:
+        return predator.report([call.how, *call.words_of_pipe()], stdin=trace)
 
 
 def check_name(name: str | None, naming: Naming) -> None:

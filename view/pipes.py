@@ -2,21 +2,42 @@
 
 import contextlib
 import os
+import sys
 import tempfile
+import threading
 from typing import BinaryIO, Iterator
 
 from calls import Call
 from faults import Fault
+from program import PIECE
 from settings import ASKED
 
 FILES = [it for it in ASKED if it != "--set"]
 
 
-def opened(path: str) -> BinaryIO:
+@contextlib.contextmanager
+def fed(path: str) -> Iterator[int]:
+    """A pipe that gets what is read of a file, or of standard input, for the standard input of a program: that opens it anew, and a pipe
+    with a name may have no writer any more by then."""
     try:
-        return open(path, "rb", 0)
+        source: BinaryIO = sys.stdin.buffer if path == "-" else open(path, "rb", 0)  # noqa: SIM115 (the thread closes it)
     except OSError as error:
         raise Fault(f"{path}: {error.strerror}") from error
+    take, give = os.pipe()
+    threading.Thread(target=feed, args=(source, give), daemon=True).start()
+    try:
+        yield take
+    finally:
+        os.close(take)
+
+
+def feed(source: BinaryIO, give: int) -> None:
+    """Copies a file into a pipe, as long as that has a reader."""
+    with contextlib.suppress(OSError), source, open(give, "wb", 0) as pipe:
+        while piece := source.read(PIECE):
+            left = memoryview(piece)
+            while left:
+                left = left[pipe.write(left) :]
 
 
 def is_pipe(path: str) -> bool:

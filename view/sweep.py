@@ -2,13 +2,12 @@
 
 import os
 import re
-import sys
 from typing import Iterator, NamedTuple
 
 from calls import Call
 from drawing import Given, curve, templates
 from faults import Fault, plain
-from pipes import opened
+from pipes import fed
 from program import Predator
 
 SHIFT = re.compile(r"^shift (\d+) total (\d+) lines (\d+)$", re.MULTILINE)
@@ -44,12 +43,10 @@ class Sweep:
 
 
 def sweep_of(call: Call) -> Sweep:
-    words = ["sweep", *(call.words_of_pipe() if call.reads_once() else call.words)]
     if not call.reads_once():
-        return Sweep(Predator().text(words))
-    with sys.stdin.buffer if call.subject == "-" else opened(call.subject) as trace:
-        found = Sweep(Predator().text(words, stdin=trace))
-    return found
+        return Sweep(Predator().text(["sweep", *call.words]))
+    with fed(call.subject) as trace:
+        return Sweep(Predator().text(["sweep", *call.words_of_pipe()], stdin=trace))
 
 
 def rows(sweep: Sweep) -> Iterator[str]:

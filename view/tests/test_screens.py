@@ -218,9 +218,11 @@ class Screens(Shown):
 
 
 class Pipes(Shown):
+    program = STAND_IN
+
     def call(self, command, trace):
         """What a command in bash prints, in which $view is view, and $1 the trace."""
-        env = {**os.environ, "PREDATOR_PROGRAM": STAND_IN, "PREDATOR_BUILD": "no", "view": os.path.join(TOP, "bin", "predator") + " view"}
+        env = {**os.environ, "PREDATOR_PROGRAM": self.program, "PREDATOR_BUILD": "no", "view": os.path.join(TOP, "bin", "predator") + " view"}
         ran = subprocess.run(["bash", "-c", command, "bash", trace], capture_output=True, encoding="utf-8", env=env, timeout=100)
         self.assertEqual((ran.returncode, ran.stderr), (0, ""), command)
         return ran.stdout
@@ -228,24 +230,30 @@ class Pipes(Shown):
     def test_a_trace_from_a_pipe(self):
         with tempfile.TemporaryDirectory() as folder:
             trace, fifo = os.path.join(folder, "t"), os.path.join(folder, "fifo")
-            subprocess.run([STAND_IN, "run", built("ring.elf"), *TURNS, "--trace", trace], check=True, stdout=subprocess.DEVNULL)
+            subprocess.run([self.program, "run", built("ring.elf"), *TURNS, "--trace", trace], check=True, stdout=subprocess.DEVNULL)
             os.mkfifo(fifo)
             texts = {
                 self.call(it, trace)
                 for it in (
                     'cat "$1" | $view replay -',
                     '$view replay - <"$1"',
+                    f'cat "$1" >{fifo} & $view replay - <{fifo}; wait',
                     '$view replay <(cat "$1")',
                     f'cat "$1" >{fifo} & $view replay {fifo}; wait',
                 )
             }
             self.assertEqual(len(texts), 1)
             self.shows(texts.pop(), "note: a trace from a pipe can be read once, so its misses, and places", "1 - - 331 1 ring")
-            _, whole, _ = view("replay", trace)
+            _, whole, _ = view("replay", trace, program=self.program)
             self.shows(whole, "1 298 0 284 1 stats")
             # (settings and schedules that are pipes serve each run)
             text = self.call(f"$view run {built('ring.elf')} --settings <(echo quantum = 3) --explain 1", trace)
-            self.assertEqual(text, view("run", built("ring.elf"), *TURNS, "--explain", "1")[1])
+            self.assertEqual(text, view("run", built("ring.elf"), *TURNS, "--explain", "1", program=self.program)[1])
+
+
+@unittest.skipUnless(has(PROGRAM, "misses"), "the program isn't built, or has no misses")
+class PipesOfTheProgram(Pipes):
+    program = PROGRAM
 
 
 RECORDER = os.path.join(TOP, "native", "out", "predator-amd64-linux")
