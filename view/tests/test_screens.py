@@ -222,7 +222,8 @@ class Pipes(Shown):
 
     def call(self, command, trace):
         """What a command in bash prints, in which $view is view, and $1 the trace."""
-        env = {**os.environ, "PREDATOR_PROGRAM": self.program, "PREDATOR_BUILD": "no", "view": os.path.join(TOP, "bin", "predator") + " view"}
+        own = {"PREDATOR_PROGRAM": self.program, "PREDATOR_BUILD": "no", "view": os.path.join(TOP, "bin", "predator") + " view"}
+        env = {**os.environ, **own}
         ran = subprocess.run(["bash", "-c", command, "bash", trace], capture_output=True, encoding="utf-8", env=env, timeout=100)
         self.assertEqual((ran.returncode, ran.stderr), (0, ""), command)
         return ran.stdout
