@@ -411,8 +411,9 @@ wait $pid 2>/dev/null
 same "pipe: killed" "137 part" "$? $("$judge" end from-pipe)"
 within "pipe: killed: accesses" 300000 1000000000 "$("$judge" accesses from-pipe)"
 
-# The second way.
+# The second way, and the instructions of accesses.
 . "$here/tries/built.sh"
+. "$here/tries/pcs.sh"
 
 # The report, where the proved program is built.
 PREDATOR_BUILD=no "$here/../bin/predator" >/dev/null 2>&1

@@ -3,8 +3,8 @@
    at a time and in an order that depends on nothing but the program.
 
    The environment says what is done: PREDATOR_TRACE is the trace, PREDATOR_TABLE the table back, PREDATOR_QUANTUM the length of a turn,
-   PREDATOR_ALL=1 records while one thread lives too, PREDATOR_MOST ends the trace after so many accesses. native/predator-native sets
-   them. */
+   PREDATOR_ALL=1 records while one thread lives too, PREDATOR_PCS=1 tells each access's instruction, PREDATOR_MOST ends the trace after so
+   many accesses. native/predator-native sets them. */
 #include "runtime.h"
 
 Hart harts[MOST_PLACES];
@@ -314,6 +314,7 @@ void __attribute__((constructor)) begin(void)
     quantum = left = number_of("PREDATOR_QUANTUM", 1, 100000, 100);
     trace_most = number_of("PREDATOR_MOST", 1, 1L << 40, 0);
     records_all = number_of("PREDATOR_ALL", 0, 1, 0);
+    trace_pcs = number_of("PREDATOR_PCS", 0, 1, 0);
     first_thread();
     if (path && *path && !trace_begin(path, table && *table ? table : 0))
         _Exit(125);

@@ -77,7 +77,8 @@ static inline void hold(void) /* gets the turn where it was lost */
     if (holder != self && self >= 0 && !inside)
         regain();
 }
-static inline void note(const volatile void *addr, unsigned size, int writes)
+/* `caller` is where the access's call of the runtime comes back to; its instruction is the last byte of the call, as of a call site. */
+static inline void note(const volatile void *addr, unsigned size, int writes, Addr caller)
 {
     if (self < 0 || inside)
         return;
@@ -85,13 +86,13 @@ static inline void note(const volatile void *addr, unsigned size, int writes)
     if (!trace_records)
         return;
     inside = recording = 1;
-    trace_access(self, writes, (Addr)addr, size);
+    trace_access(self, writes, (Addr)addr, size, trace_pcs ? trace_pc(caller - 1) : 0);
     inside = recording = 0;
 }
-static inline void touch(const volatile void *addr, unsigned size, int writes)
+static inline void touch(const volatile void *addr, unsigned size, int writes, Addr caller)
 {
     ready();
-    note(addr, size, writes);
+    note(addr, size, writes, caller);
 }
 
 #define CALLER ((Addr)__builtin_return_address(0))
