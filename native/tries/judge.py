@@ -9,8 +9,8 @@
     judge.py blocks TRACE NAME    the sizes of the blocks that were made by a call that a function of this name made, each with
                                   `live` or `freed`
     judge.py turns TRACE          the longest turn of a hart while another one has accesses before and after
-    judge.py alike TRACE OTHER    `alike` where a trace of version 3 without its instructions has the records of one of version 1, one by one
-    judge.py sites TRACE NAME AT  which instructions touch the word, by the table back: of each distinct one its rows in TRACE.table as
+    judge.py alike TRACE OTHER    `alike` where a trace of version 3 without its instructions has the records of one of version 1
+    judge.py sites TRACE NAME AT  which instructions touch the word, by the table back: of each its rows in TRACE.table as
                                   `FUNCTION LINE`, and behind it the frames that are inlined there, the innermost first
     judge.py untold TRACE         how many distinct instructions have not exactly one row of their own in TRACE.table
     judge.py each TRACE           bytes for each access, times 100

@@ -15,7 +15,8 @@ for name in counters sites; do
 done
 same "pcs: a line, and what is inlined there" "work sites.c:10 < $inlined" "$("$judge" sites p counts 4)"
 same "no pcs: nothing is told of them" 0 "$(grep -c "^frame \|+0x" t.table)"
-has "a call in another section" " make " "$(grep "^site .* make .*/sites.c:15 " t.table)"
+row=$(grep "^site .* make - .*/sites+0x" t.table)
+has "a call in another section" "sites.c:15" "$(addr2line -e sites "${row##*+}")"
 strip sites -o bare
 "$run" --pcs --trace p -- ./bare >/dev/null 2>&1
 has "pcs: stripped: the file and the place in it" "/bare+0x" "$(grep "^site .* - - " p.table)"
