@@ -6,7 +6,11 @@ SHOWN void __tsan_init(void);
 SHOWN void __tsan_init(void) {}
 
 SHOWN void __tsan_func_entry(void *pc);
-SHOWN void __tsan_func_entry(void *pc) { calls[depth++ % DEPTH] = (Addr)pc; }
+SHOWN void __tsan_func_entry(void *pc)
+{
+    steps++;
+    calls[depth++ % DEPTH] = (Addr)pc;
+}
 SHOWN void __tsan_func_exit(void);
 SHOWN void __tsan_func_exit(void) { depth--; }
 

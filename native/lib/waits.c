@@ -26,6 +26,7 @@ static void *begins(void *mine)
     void *result;
     self = it - harts;
     it->tid = CALL(SYS_gettid, 0, 0, 0, 0).value;
+    it->steps = &steps;
     rest(self);
     pthread_cleanup_push(ends, it);
     result = it->start_c11 ? (void *)(long)it->start_c11(it->argument) : it->start(it->argument);

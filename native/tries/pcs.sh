@@ -14,7 +14,7 @@ for name in counters sites; do
     same "pcs: $name: each is told once" 0 "$("$judge" untold p)"
 done
 same "pcs: a line, and what is inlined there" "work sites.c:10 < $inlined" "$("$judge" sites p counts 4)"
-same "no pcs: nothing is told of them" 0 "$(grep -c "^frame \|+0x" t.table)"
+same "no pcs: nothing is told of them" 0 "$(grep -c "^frame " t.table)"
 row=$(grep "^site .* make - .*/sites+0x" t.table)
 has "a call in another section" "sites.c:15" "$(addr2line -e sites "${row##*+}")"
 strip sites -o bare
