@@ -68,38 +68,52 @@ static Bool is_known(Addr text, const HChar *path)
 
 void trace_library(void) { libraries_came = True; }
 
+static OSet *symbol_places; /* the addresses of those that were noted */
+
+void note_symbol(Addr addr, UInt size, const HChar *name, Bool only_new)
+{
+    Bool is_new = !VG_(OSetWord_Contains)(symbol_places, addr);
+    if (only_new && !is_new)
+        return;
+    if (is_new)
+        VG_(OSetWord_Insert)(symbol_places, addr);
+    if (symbol_count == symbol_room) {
+        symbol_room = symbol_room ? 2 * symbol_room : 4096;
+        symbols = VG_(realloc)("predator.symbols", symbols, symbol_room * sizeof *symbols);
+    }
+    symbols[symbol_count++] = (Symbol){addr, size, VG_(strdup)("predator.symbol", name)};
+}
+
+static void read_library(const DebugInfo *info, Addr text, SizeT text_size)
+{
+    Int count = VG_(DebugInfo_syms_howmany)(info), it;
+    for (it = 0; it < count; it++) {
+        Addr addr;
+        UInt size;
+        const HChar *name, **others;
+        Bool is_text, is_ifunc, is_global;
+        VG_(DebugInfo_syms_getidx)(info, it, &addr, &size, &name, &others, &is_text, &is_ifunc, &is_global);
+        if (!is_text && !is_ifunc && size > 0 && !(text <= addr && addr < text + text_size))
+            note_symbol(addr, size, name, False);
+    }
+}
+
 void read_libraries(void)
 {
     const DebugInfo *info;
     libraries_came = False;
     for (info = VG_(next_DebugInfo)(NULL); info; info = VG_(next_DebugInfo)(info)) {
-        Addr text = VG_(DebugInfo_get_text_avma)(info);
+        Addr text = VG_(DebugInfo_get_text_avma)(info), bias = VG_(DebugInfo_get_text_bias)(info);
         const HChar *path = VG_(DebugInfo_get_filename)(info);
-        Int count = VG_(DebugInfo_syms_howmany)(info), it;
         SizeT text_size = VG_(DebugInfo_get_text_size)(info);
-        UInt from = symbol_count, region;
+        UInt from = symbol_count, region, it;
         if (is_known(text, path) || VG_(strstr)(path, "/predator-amd64-linux"))
             continue;
-        Addr bias = VG_(DebugInfo_get_text_bias)(info);
         sites_read(info, library_count);
         libraries[library_count++] = (Library){text, VG_(strdup)("predator.library", path), bias};
         table_text("map 0x%lx 0x%lx 0x%lx %s\n", text, text + text_size, bias, path);
-        for (it = 0; it < count; it++) {
-            Addr addr;
-            UInt size;
-            const HChar *name, **others;
-            Bool is_text, is_ifunc, is_global;
-            VG_(DebugInfo_syms_getidx)(info, it, &addr, &size, &name, &others, &is_text, &is_ifunc, &is_global);
-            if (is_text || is_ifunc || size == 0 || (text <= addr && addr < text + text_size))
-                continue;
-            if (symbol_count == symbol_room) {
-                symbol_room = symbol_room ? 2 * symbol_room : 4096;
-                symbols = VG_(realloc)("predator.symbols", symbols, symbol_room * sizeof *symbols);
-            }
-            symbols[symbol_count].addr = addr;
-            symbols[symbol_count].size = size;
-            symbols[symbol_count++].name = VG_(strdup)("predator.symbol", name);
-        }
+        read_library(info, text, text_size);
+        SYMBOLS_LEFT_OUT(path, bias);
         for (region = 0; region < region_count; region++)
             for (it = from; it < symbol_count; it++)
                 tell_symbol(&regions[region], &symbols[it]);
@@ -280,5 +294,6 @@ void tell_untold(void)
 void objects_begin(void)
 {
     blocks = VG_(OSetGen_Create)(0, NULL, VG_(malloc), "predator.blocks", VG_(free));
+    symbol_places = VG_(OSetWord_Create)(VG_(malloc), "predator.places", VG_(free));
     sites_begin();
 }

@@ -42,6 +42,14 @@ typedef struct {
 extern Library libraries[];
 extern UInt library_count;
 
+void note_symbol(Addr addr, UInt size, const HChar *name, Bool only_new); /* one of data; or only where none is known at the address */
+void symbols_left_out(const HChar *path, Addr bias);
+#ifdef PREDATOR_RUNTIME
+#define SYMBOLS_LEFT_OUT(path, bias) (void)0 /* (all were read) */
+#else
+#define SYMBOLS_LEFT_OUT(path, bias) symbols_left_out(path, bias)
+#endif
+
 void sites_begin(void);
 void sites_read(const DebugInfo *, UInt library); /* the functions of a library */
 UInt site_of(Addr addr);                          /* what a call site is in the trace, which is told of it once */

@@ -58,7 +58,7 @@ for words in "--size 5" "--settings nowhere"; do
     said=$(pass strict $words -- "$(type -P touch)" made 2>&1; echo $?)
     same "$words: refused" "predator native: no such words
 125" "$said"
-    same "$words: the program doesn't run" "" "$(ls made 2>&1 >&1 | grep -v "No such")"
+    same "$words: the program doesn't run" "" "$(if [ -e made ]; then echo it did; fi)"
 done
 touch few
 refused "the report is the settings' file" 125 "this is the settings' file" --report few --settings few -- ./odd
