@@ -27,7 +27,7 @@ _predator() {
             return
             ;;
         native)
-            local records="--built --quantum --all --marked --most --trace --table --report --settings --size --shift --mend --build --help"
+            local records="--built --quantum --all --marked --pcs --most --trace --table --report --settings --size --shift --mend --build --help"
             case $word in
                 -*) mapfile -t COMPREPLY < <(compgen -W "$records" -- "$word") ;;
                 *) mapfile -t COMPREPLY < <(compgen -c -f -- "$word") ;;

@@ -7,7 +7,8 @@
 gcc -O1 -g -pthread "$here/tries/forever.c" -o forever
 gcc -O1 -g -fsanitize=thread -pthread "$here/tries/forever.c" -o forever.tsan -L"$here/out/lib"
 export KEPT=$work/from-pipe
-living() { pgrep -f "$work/forever" | while read -r it; do if [ "$(ps -o stat= -p "$it" | cut -c1)" != Z ]; then echo "$it"; fi; done; }
+# (one that has ended has no words any more, though it may not be waited for)
+living() { pgrep -f "$work/forever"; }
 # Waits until nothing of it is left, ten seconds at most, and says what is.
 left_over() {
     for _ in $(seq 1 50); do
@@ -19,11 +20,16 @@ left_over() {
 for way in "" --built; do
     program=$work/forever${way:+.tsan}
     rm -f from-pipe
-    said=$(PREDATOR=$work/keeps timeout 4 "$run" ${way:+"$way"} -- "$program" 2>&1; echo $?)
-    same "${way}in time: status and report" "read
-124" "$said"
-    same "${way}in time: end" part "$("$judge" end from-pipe)"
-    within "${way}in time: accesses" 1000 10000000000 "$("$judge" accesses from-pipe)"
+    # (as `timeout` does it, once there is something to tell)
+    PREDATOR=$work/keeps setsid "$run" ${way:+"$way"} -- "$program" >said 2>&1 &
+    pid=$!
+    longer from-pipe 1100000
+    kill -s TERM -- -$pid
+    wait $pid 2>/dev/null
+    same "${way}TERM to all: status and report" "143 read" "$? $(cat said)"
+    same "${way}TERM to all: end" part "$("$judge" end from-pipe)"
+    within "${way}TERM to all: accesses" 1000 10000000000 "$("$judge" accesses from-pipe)"
+    same "${way}TERM to all: nothing is left" "" "$(left_over)"
     for number in TERM HUP KILL; do
         rm -f from-pipe
         PREDATOR=$work/keeps "$run" ${way:+"$way"} --report r -- "$program" >said 2>&1 &
