@@ -483,6 +483,7 @@ if /usr/bin/python3 -c 'import elftools, jinja2' 2>/dev/null && command -v llvm-
     has "view: no table" "it is no table back" "$said"
     has "view: a table that isn't there" "No such file" "$(view replay t --back nowhere)"
     has "view: a run has no table" "'--back' is for" "$(view run x --back t.table)"
+    . "$here/tries/names.sh"
 else
     skip "view: its packages aren't installed (Debian: python3-pyelftools python3-jinja2 llvm)"
 fi
