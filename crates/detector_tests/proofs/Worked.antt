@@ -8,7 +8,7 @@ use Rattle.objects.specs.Objects.{Objects}
 use Rattle.objects.specs.Symbols.{Symbol}
 use Rattle.trace_format.specs.declared.record.TraceRecord.{TraceRecord}
 use Rattle.trace_format.specs.declared.record.TraceRecord.TheVariants as records
-use Rattle.sightings.specs.Lives.{objects_after, objects_of}
+use Rattle.trace_passes.specs.Lives.{objects_after, objects_of}
 
 a_write : TraceRecord
 a_write = records.Touch (record { hart = 0; addr = 0x2000; kind = Write; size = 4 })

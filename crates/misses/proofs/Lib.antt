@@ -1,1 +1,4 @@
+pub mod RowOrder
+pub mod SeenLaws
+pub mod TextPieces
 pub mod WorkedMisses

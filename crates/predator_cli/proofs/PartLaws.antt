@@ -27,13 +27,13 @@ use Rattle.saved_state.specs.ObjectRules.{IsSavable}
 use Rattle.settings.specs.declared.values.Settings.{Settings}
 use Rattle.shelf.specs.Files.{bytes_for}
 use Rattle.shelf.specs.Shelf.{Files, content}
-use Rattle.sightings.specs.Lives.{objects_of}
+use Rattle.trace_passes.specs.Lives.{objects_of}
 use Rattle.trace_files.specs.Copies.{any, first_half, halves, second_half}
 use Rattle.trace_files.specs.Laws.Copies.{trace_unrefused}
 use Rattle.trace_format.specs.Rules.{IsGoodRecord, touch_in, touches_in}
 use Rattle.trace_format.specs.declared.record.TraceRecord.{TraceRecord}
 use Rattle.trace_format.specs.declared.record.TraceRecord.TheVariants as records
-use Rattle.trace_parts.specs.Halves.{AreHalves, IsWhole}
+use Rattle.trace_files.specs.Halves.{AreHalves, IsWhole}
 use Rattle.trace_passes.specs.Passes.{Trace, all_records, header_refusal, refusal_of as refuses}
 use Rattle.trace_passes.specs.Passes.{spell_trace, trace_of}
 use Rattle.predator_cli.specs.Again.{replayed}

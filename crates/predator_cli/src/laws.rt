@@ -12,7 +12,7 @@ ghost use Rattle.saved_state.specs.ObjectRules.{IsSavable};
 ghost use Rattle.base.specs.Levels.{Levels};
 ghost use Rattle.base.specs.Lines.{Grid};
 ghost use Rattle.shelf.specs.Shelf.{Files, content};
-ghost use Rattle.sightings.specs.Lives.{objects_of};
+ghost use Rattle.trace_passes.specs.Lives.{objects_of};
 ghost use Rattle.saved_state.specs.OfLists.{AreOf};
 ghost use Rattle.trace_format.specs.Rules.{IsGoodRecord, touches_in};
 ghost use Rattle.trace_format.specs.declared.record.TraceRecord.{TraceRecord as Record};
@@ -30,7 +30,7 @@ ghost use Rattle.predator_cli.specs.declared.state_file.Begun.{Begun};
 use detector::an_access_changes_what_it_meets;
 use saved_state::{the_state_of_a_list_is_taken_up, what_is_resumed_was_saved};
 use sightings::{what_is_noted_is_seen, what_stands_was_noted};
-use trace_parts::the_halves_are_traces;
+use trace_files::the_halves_are_traces;
 use trace_passes::a_trace_is_its_spelling;
 
 /// A replay that goes on from the state of some records gives the report, and saves the state, of

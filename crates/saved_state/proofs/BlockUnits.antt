@@ -19,7 +19,8 @@ use Rattle.trace_format.specs.declared.record.Version.TheVariants.{One}
 use Rattle.trace_format.specs.Laws.Again.{record_again}
 use Rattle.trace_format.specs.Laws.Bytes.{bytes_of, from_part, last_part, spelled_64}
 use Rattle.trace_format.specs.Found.{IsFound}
-use Rattle.trace_format.specs.Judging.{alloc_at, number_at, record_extent, record_judged}
+use Rattle.trace_format.specs.Judging.{alloc_at, record_extent, record_judged}
+use Rattle.base.specs.Fields.{number_at}
 use Rattle.trace_format.specs.Spelling.{spell_alloc}
 use Rattle.trace_format.specs.Laws.Spelling.{record_whole}
 use Rattle.saved_state.specs.ObjectJudging.{block_at, block_form, block_read, death_of, is_life}

@@ -17,7 +17,8 @@ use Rattle.trace_format.specs.declared.record.TraceRecord.{TraceRecord}
 use Rattle.trace_format.specs.declared.record.TraceRecord.TheVariants as records
 use Rattle.sightings.specs.Seen.{HasSeen, IsNotable, SeesNext}
 use Rattle.sightings.specs.Laws.Seen.{sighted_after-push}
-use Rattle.sightings.specs.Sights.{Sighted, noted, objects_noted, report_of_sighted, sighted_after}
+use Rattle.sightings.specs.Sights.{Sighted, noted, report_of_sighted, sighted_after}
+use Rattle.trace_passes.specs.Lives.{objects_noted}
 use Rattle.sightings.proofs.NextLaws.{next_access, next_alloc, next_end, next_free, next_symbol}
 use Rattle.sightings.proofs.NextLaws.{seen_nothing}
 use Rattle.sightings.proofs.Records.{by_records}

@@ -22,11 +22,11 @@ use Rattle.trace_format.specs.Reading.{counted_after}
 use Rattle.trace_format.specs.Rules.{touch_in, touches_in}
 use Rattle.trace_format.specs.declared.record.TraceRecord.{TraceRecord}
 use Rattle.trace_format.specs.declared.record.TraceRecord.TheVariants as records
-use Rattle.sightings.specs.Laws.Lives.{blocks_behind-push, ended, position_after}
-use Rattle.sightings.specs.Lives.{ends_at, made_by, made_in, objects_of, symbols_in}
+use Rattle.trace_passes.specs.Laws.Lives.{blocks_behind-push, ended, position_after}
+use Rattle.trace_passes.specs.Lives.{ends_at, made_by, made_in, objects_of, symbols_in}
 use Rattle.sightings.specs.Origins.{IsBlockOf, IsSymbolOf}
-use Rattle.sightings.specs.Sights.{objects_noted}
-use Rattle.sightings.proofs.NextLaws.{blocks_noted}
+use Rattle.trace_passes.specs.Lives.{objects_noted}
+use Rattle.trace_passes.specs.Laws.Noting.{blocks_noted}
 use Rattle.sightings.proofs.Records.{by_records}
 
 -- ---- no two blocks live at one address

@@ -6,3 +6,4 @@ pub mod Laws
 pub mod Rows
 pub mod Takings
 pub mod Text
+pub mod Watched

@@ -1,4 +1,4 @@
-//! Takings: which instructions take a line from each other.
+//! What the command `explain` tells: which instructions take a line from each other.
 //!
 //! A taking is an invalidation of one line at a position above a start. Its victim is the latest
 //! access in the line by another hart than its own, so a taking has two instructions, that of its
@@ -7,7 +7,9 @@
 //! The definitions stand in `specs/Takings.antt`, over whole lists of accesses with their pcs, and
 //! the laws in `specs/Laws/`: each taking has a victim, whose hart holds the line, and two accesses
 //! are enough to tell every victim, whatever the number of harts. [`Explainer`] keeps these two
-//! beside its tables, and [`write_explain`] prints what it tells.
+//! beside its tables, and [`write_explain`] prints what it tells. [`explain_run`] runs a guest to its
+//! end without a detector: the explainer notes each access with the pc of the instruction that made
+//! it. It is what the command `explain` does.
 #![tactic(auto)]
 
 mod explainer;
@@ -17,6 +19,7 @@ mod rows;
 mod sited;
 mod tables;
 mod text;
+mod watch;
 
 pub use explainer::Explainer;
 pub use laws::{
@@ -26,3 +29,4 @@ pub use laws::{
 pub use sited::{Sides, Sited, Taking};
 pub use tables::Taken;
 pub use text::write_explain;
+pub use watch::{Explained, explain_run};

@@ -3,9 +3,12 @@ pub mod Answering
 pub mod Begun
 pub mod Conversions
 pub mod Differing
+pub mod Distances
 pub mod Going
+pub mod HalfTraces
 pub mod Items
 pub mod Kept
+pub mod Lengths
 pub mod MadeGoing
 pub mod OneTraces
 pub mod Pieces

@@ -29,7 +29,8 @@ use Rattle.trace_format.specs.Tags.{number_of}
 use Rattle.trace_format.specs.Rules.{FitsFields, IsAllowedEnd, IsGoodEnding, IsGoodHeader}
 use Rattle.trace_format.specs.Rules.{last_position}
 use Rattle.trace_format.specs.Judging.{begun, cause_of, end_with, fields_judged, header_judged}
-use Rattle.trace_format.specs.Judging.{number_at, outcome_judged, plain_judged}
+use Rattle.trace_format.specs.Judging.{outcome_judged, plain_judged}
+use Rattle.base.specs.Fields.{number_at}
 use Rattle.trace_format.specs.Judging.{plain_outcome_of, plain_with, trap_for, trap_judged}
 use Rattle.trace_format.specs.Judging.{version_at}
 use Rattle.trace_format.specs.Laws.Bytes.{IsBytes, below_32, below_64, from_part, last_part, part}

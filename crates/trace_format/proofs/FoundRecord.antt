@@ -19,7 +19,8 @@ use Rattle.trace_format.specs.Tags.{tag_of}
 use Rattle.trace_format.specs.Rules.{IsGoodRecord, last_position}
 use Rattle.trace_format.specs.Found.{IsFound}
 use Rattle.trace_format.specs.Judging.{alloc_at, end_counted, end_with, extent_if, extent_of}
-use Rattle.trace_format.specs.Judging.{number_at, outcome_judged, record_extent}
+use Rattle.trace_format.specs.Judging.{outcome_judged, record_extent}
+use Rattle.base.specs.Fields.{number_at}
 use Rattle.trace_format.specs.Judging.{record_judged, short_touch_judged, symbol_judged}
 use Rattle.trace_format.specs.Judging.{symbol_kind_of, tagged_if, tagged_judged, touch_counted}
 use Rattle.trace_format.specs.Judging.{touch_judged}

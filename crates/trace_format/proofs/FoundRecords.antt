@@ -28,7 +28,8 @@ use Rattle.trace_format.specs.Spelling.{kind_number, spell_alloc, spell_free, sp
 use Rattle.trace_format.specs.Spelling.{spell_symbol, spell_touch}
 use Rattle.trace_format.specs.Tags.{number_of, other_tag_of, tag_of}
 use Rattle.trace_format.specs.Rules.{IsGoodRecord, IsGoodSymbol, IsGoodTouch}
-use Rattle.trace_format.specs.Judging.{alloc_at, number_at, short_touch_judged, symbol_extent}
+use Rattle.trace_format.specs.Judging.{alloc_at, short_touch_judged, symbol_extent}
+use Rattle.base.specs.Fields.{number_at}
 use Rattle.trace_format.specs.Judging.{symbol_kind_of, symbol_with, touch_judged}
 use Rattle.trace_format.specs.declared.read_so_far.ReadSoFar.{ReadSoFar}
 use Rattle.trace_format.specs.Laws.Again.{ComesAt}

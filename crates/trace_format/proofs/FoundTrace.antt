@@ -7,7 +7,6 @@ use Rattle.std.proofs.lemmas.Bool.Decides.{nat_tests}
 use Rattle.std.proofs.lemmas.Bool.{cases_lt}
 use Rattle.std.proofs.lemmas.List.{append-nil, length-append, take-append-le}
 use Rattle.std.proofs.lemmas.List.Elements.{All-append, All-cons, All-head, All-nil, All-tail}
-use Rattle.std.proofs.lemmas.List.Elements.{filter_map-append}
 use Rattle.base.specs.declared.ending.Ending.{Ending}
 use Rattle.trace_format.specs.declared.fault.TraceFault.{TraceFault}
 use Rattle.trace_format.specs.declared.fault.TraceFault.TheVariants as faults
@@ -16,7 +15,7 @@ use Rattle.trace_format.specs.declared.record.TraceRecord.TheVariants as records
 use Rattle.trace_format.specs.declared.read_so_far.ReadSoFar.{ReadSoFar}
 use Rattle.trace_format.specs.Spelling.{last_after, spell, spell_header, spell_record}
 use Rattle.trace_format.specs.Rules.{IsGoodHeader, IsGoodRecord, IsInner, last_position}
-use Rattle.trace_format.specs.Rules.{longest_trace, touch_in, touches_in}
+use Rattle.trace_format.specs.Rules.{longest_trace, touches_in}
 use Rattle.trace_format.specs.Judging.{header_judged, record_extent, record_judged}
 use Rattle.trace_format.specs.Reading.{Reading, begin, byte_read, counted_after, ending_in}
 use Rattle.trace_format.specs.Reading.{ending_of, extent_at, header_read, part_at}
@@ -30,25 +29,17 @@ use Rattle.trace_format.specs.Faults.{HasFault, IsOpenTrace, ended, nothing, une
 use Rattle.trace_format.specs.Found.{IsFound, IsTraceOf}
 use Rattle.trace_format.specs.Writing.{begun_with, last_behind}
 use Rattle.trace_format.specs.Laws.Bytes.{bytes_of}
+use Rattle.trace_format.specs.Laws.Touches.{counted-one, touched-push}
 use Rattle.trace_format.proofs.FoundEnds.{header_found}
 use Rattle.trace_format.proofs.FoundRecord.{record_found}
 use Rattle.trace_format.proofs.Stops.{Stops, has_stopped, is_behind, stops_longer}
 
 -- ---- lists of records
 
-counted-one : (n : ℕ) (x : TraceRecord) → n + length (touches_in (x ∷ [])) ≡ counted_after n x
-counted-one n (records.Touch a) = refl
-counted-one n (records.Alloc addr size sites) = omega arith
-counted-one n (records.Free addr) = omega arith
-counted-one n (records.Symbol kind addr size name) = omega arith
-counted-one n (records.End e) = omega arith
-
 counted-more : (xs : List TraceRecord) (x : TraceRecord) → counted_after (length (touches_in xs)) x
     ≡ length (touches_in (xs ++ x ∷ []))
 counted-more xs x =
-    sym (ap length (filter_map-append touch_in xs (x ∷ [])) ∙ length-append (touches_in xs)
-    (touches_in (x ∷ []))
-    ∙ counted-one (length (touches_in xs)) x)
+    counted-one (length (touches_in xs)) x ∙ sym (touched-push xs x)
 
 -- ---- what waits is judged as soon as its bytes are there
 

@@ -12,7 +12,8 @@ use Rattle.base.specs.declared.access.Kind.{Kind}
 use Rattle.trace_format.specs.declared.fault.TraceFault.TheVariants as faults
 use Rattle.trace_format.specs.declared.record.TraceRecord.TheVariants as records
 use Rattle.trace_format.specs.Numbers.{address_at, are_groups, number_in}
-use Rattle.trace_format.specs.Judging.{number_at, short_touch_judged, symbol_extent, symbol_judged}
+use Rattle.trace_format.specs.Judging.{short_touch_judged, symbol_extent, symbol_judged}
+use Rattle.base.specs.Fields.{number_at}
 use Rattle.trace_format.specs.Judging.{symbol_kind_of}
 
 -- an address that its size does not divide

@@ -2,10 +2,11 @@
 -- their places in the record,
 -- and are judged in the order written here, once all of them are there.
 use Rattle.std.specs.Prelude.{ℕ, ◌+◌, ◌%◌, ◌==◌, ◌&&◌, nat_eq, nat_lt, nat_le, List, [], ◌∷◌}
-use Rattle.std.specs.Prelude.{length, take, drop, find, slice_index, Option, Some, None, Result, Ok}
+use Rattle.std.specs.Prelude.{length, drop, find, slice_index, Option, Some, None, Result, Ok}
 use Rattle.std.specs.Prelude.{Err, if◌then◌else◌}
 use Rattle.std.specs.List.{starts_with, list_any}
-use Rattle.std.specs.Int.{Width, w16, w32, w64, byte_len, from_le_bytes}
+use Rattle.std.specs.Int.{w16, w32, w64}
+use Rattle.base.specs.Fields.{number_at}
 use Rattle.base.specs.Names.{longest_name}
 use Rattle.objects.specs.declared.symbol.SymbolKind.{SymbolKind}
 use Rattle.objects.specs.declared.symbol.SymbolKind.TheVariants.{Object, Function}
@@ -35,10 +36,6 @@ use Rattle.trace_format.specs.Tags.{tag_of}
 use Rattle.trace_format.specs.Numbers.{address_at, are_groups, group_count, number_in}
 use Rattle.trace_format.specs.Spelling.{magic_of, cause_number}
 use Rattle.trace_format.specs.Rules.{last_position}
-
--- the number of a width at a place
-abbrev pub number_at : Width → ℕ → List ℕ → ℕ
-number_at w place bytes = from_le_bytes w (take (byte_len w) (drop place bytes))
 
 -- ---- how many bytes there are to judge
 

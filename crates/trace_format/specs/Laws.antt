@@ -8,5 +8,6 @@ pub mod Prefixes
 pub mod Reading
 pub mod Records
 pub mod Spelling
+pub mod Touches
 pub mod Traces
 pub mod Writing

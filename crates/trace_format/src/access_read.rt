@@ -6,8 +6,7 @@ ghost use Rattle.trace_format.specs.Numbers.{address_at, are_groups, group_count
 ghost use Rattle.trace_format.specs.Judging.{short_touch_judged, touch_judged};
 
 use crate::TraceFault;
-use crate::fields::{behind, u16_at, u32_at};
-use base::{Access, Hart, Kind};
+use base::{Access, Hart, Kind, behind, u16_at, u32_at};
 
 // The access in 8 bytes at a place.
 #[tactic(auto, using(std::proofs::lemmas::Bool::Decides::nat_tests), unfolding(crate::specs::Judging::touch_judged))]

@@ -3,8 +3,8 @@ ghost use Rattle.std.specs.Prelude.{◌≡◌, ◌≢◌, ◌≤◌, Err, IfOk, 
 ghost use Rattle.trace_format.specs.Judging.{begun, fields_judged, header_judged, version_at};
 ghost use Rattle.trace_format.specs.Sound.{IsSound};
 
-use crate::fields::{u16_at, u64_at};
 use crate::{Header, ReadSoFar, TraceFault, Version};
+use base::{u16_at, u64_at};
 
 pub(crate) const MAGIC_ONE: [u8; 8] = *b"PRDTRC01";
 

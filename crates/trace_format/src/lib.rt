@@ -18,7 +18,6 @@ mod cut_laws;
 mod ending_read;
 mod ending_write;
 mod fault;
-mod fields;
 mod header_read;
 mod laws;
 mod read_so_far;
@@ -35,7 +34,6 @@ mod writer;
 
 pub use cut_laws::a_trace_is_cut_in_two;
 pub use fault::TraceFault;
-pub use fields::{behind, u16_at, u32_at, u64_at};
 pub use laws::{what_is_read_was_spelled, where_the_first_fault_stands};
 pub(crate) use read_so_far::ReadSoFar;
 pub use reader::TraceReader;

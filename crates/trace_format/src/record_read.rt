@@ -8,11 +8,10 @@ ghost use Rattle.trace_format.specs.Sound.{IsSound};
 
 use crate::access_read::{group_count, short_touch_of, touch_of};
 use crate::ending_read::outcome_of;
-use crate::fields::{u32_at, u64_at};
 use crate::header_read::LAST_POSITION;
 use crate::symbol_read::{symbol_extent, symbol_of};
 use crate::{ReadSoFar, Tag, TraceFault, TraceRecord, Version};
-use base::{Access, Ending};
+use base::{Access, Ending, u32_at, u64_at};
 use std::alloc::Global;
 
 // How many bytes an access of version 1 has.

@@ -10,12 +10,11 @@ ghost use Rattle.trace_format.specs.Sound.{IsSound};
 ghost use Rattle.trace_format.specs.ReaderStates.{HasAccess, HasSameHead, ReadsBut, reading_at};
 
 use crate::access_read::{short_touch_of, touch_of};
-use crate::fields::behind;
 use crate::header_read::LAST_POSITION;
 use crate::reader_state::count_access;
 use crate::record_read::{TOUCH_LENGTH, short_touch_extent};
 use crate::{ReadSoFar, Tag, TraceFault, TraceRecord};
-use base::{Access, Kind};
+use base::{Access, Kind, behind};
 
 // An access that is good in itself, if there is a position for it.
 #[tactic(auto, using(std::proofs::lemmas::Bool::Decides::nat_tests))]

@@ -42,7 +42,7 @@ use Rattle.finite_cache.specs.Kept.{is_cached_now, is_held_now, lists_of}
 use Rattle.finite_cache.specs.Kept.{tally_after, tally_in, use_of}
 use Rattle.finite_cache.specs.Rows.{all_evicted, bounded_count, bounded_since, evicted_count}
 use Rattle.finite_cache.specs.Rows.{start_of, unbounded_count, writes_line}
-use Rattle.cache_shape.specs.Shapes.{CacheShape, grid_of}
+use Rattle.base.specs.Shapes.{CacheShape, grid_of}
 use Rattle.finite_cache.specs.declared.rows.Tally.{Tally}
 
 pub bounded-push : (k : CacheShape) (t : List Touch) (a : Touch) (h s : ℕ)

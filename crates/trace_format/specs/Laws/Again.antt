@@ -32,7 +32,8 @@ use Rattle.trace_format.specs.Tags.{half_of}
 use Rattle.std.specs.Int.{w32, w64}
 use Rattle.trace_format.specs.Rules.{FitsFields, IsAllowedEnd, IsGoodEnding, IsGoodHeader}
 use Rattle.trace_format.specs.Rules.{IsGoodRecord, IsGoodSymbol, IsGoodTouch, last_position}
-use Rattle.trace_format.specs.Judging.{alloc_at, begun, cause_of, header_judged, number_at}
+use Rattle.trace_format.specs.Judging.{alloc_at, begun, cause_of, header_judged}
+use Rattle.base.specs.Fields.{number_at}
 use Rattle.trace_format.specs.Judging.{outcome_judged, plain_judged, record_judged}
 use Rattle.trace_format.specs.Judging.{short_touch_judged}
 use Rattle.trace_format.specs.Judging.{symbol_judged, symbol_kind_of, touch_judged, trap_judged}

@@ -17,7 +17,8 @@ use Rattle.trace_format.specs.declared.record.TraceRecord.TheVariants as records
 use Rattle.trace_format.specs.declared.read_so_far.ReadSoFar.{ReadSoFar}
 use Rattle.trace_format.specs.Rules.{IsGoodHeader, IsInner, IsWritable, last_position}
 use Rattle.trace_format.specs.Rules.{longest_trace, touches_in}
-use Rattle.trace_format.specs.Judging.{begun, fields_judged, header_judged, number_at}
+use Rattle.trace_format.specs.Judging.{begun, fields_judged, header_judged}
+use Rattle.base.specs.Fields.{number_at}
 use Rattle.trace_format.specs.Judging.{record_judged, version_at}
 use Rattle.trace_format.specs.Reading.{Reading, begin, byte_read, counted_after, ending_in}
 use Rattle.trace_format.specs.Reading.{extent_at, header_read, part_at, place_of, progress_after}

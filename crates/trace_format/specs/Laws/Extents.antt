@@ -14,7 +14,8 @@ use Rattle.trace_format.specs.declared.tag.Tag.TheVariants as tags
 use Rattle.trace_format.specs.declared.read_so_far.ReadSoFar.{ReadSoFar}
 use Rattle.trace_format.specs.Tags.{tag_of}
 use Rattle.trace_format.specs.Numbers.{group_count}
-use Rattle.trace_format.specs.Judging.{number_at, symbol_extent, extent_of, extent_if}
+use Rattle.trace_format.specs.Judging.{symbol_extent, extent_of, extent_if}
+use Rattle.base.specs.Fields.{number_at}
 use Rattle.trace_format.specs.Judging.{record_extent}
 use Rattle.trace_format.specs.Reading.{extent_at}
 use Rattle.trace_format.specs.Laws.Reading.{FrontsWait}

@@ -22,7 +22,8 @@ use Rattle.trace_format.specs.declared.tag.Tag.TheVariants as tags
 use Rattle.trace_format.specs.declared.read_so_far.ReadSoFar.{ReadSoFar}
 use Rattle.trace_format.specs.Rules.{last_position, longest_trace, touch_in, touches_in}
 use Rattle.trace_format.specs.Judging.{alloc_at, begun, end_counted, fields_judged, header_judged}
-use Rattle.trace_format.specs.Judging.{record_judged, number_at, symbol_judged, symbol_with}
+use Rattle.trace_format.specs.Judging.{record_judged, symbol_judged, symbol_with}
+use Rattle.base.specs.Fields.{number_at}
 use Rattle.trace_format.specs.Judging.{version_at, tagged_if, touch_counted}
 use Rattle.trace_format.specs.Reading.{Reading, begin, byte_read, counted_after, header_read}
 use Rattle.trace_format.specs.Reading.{part_at, place_of, progress_after, read_on, reading_of}

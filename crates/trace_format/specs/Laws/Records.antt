@@ -23,7 +23,8 @@ use Rattle.trace_format.specs.declared.tag.Tag.TheVariants as tags
 use Rattle.trace_format.specs.declared.read_so_far.ReadSoFar.{ReadSoFar}
 use Rattle.trace_format.specs.Tags.{tag_of}
 use Rattle.trace_format.specs.Rules.{IsAllowedEnd, IsWritable, last_position}
-use Rattle.trace_format.specs.Judging.{alloc_at, cause_of, end_counted, end_with, number_at}
+use Rattle.trace_format.specs.Judging.{alloc_at, cause_of, end_counted, end_with}
+use Rattle.base.specs.Fields.{number_at}
 use Rattle.trace_format.specs.Judging.{outcome_judged, plain_judged, plain_outcome_of, plain_with}
 use Rattle.trace_format.specs.Judging.{record_judged, short_touch_judged, symbol_judged}
 use Rattle.trace_format.specs.Judging.{symbol_kind_of}

@@ -1,5 +1,5 @@
 use Rattle.std.proofs.Common.{arith, length}
-use Rattle.sightings.specs.Lives.{objects_of}
+use Rattle.trace_passes.specs.Lives.{objects_of}
 use Rattle.trace_format.specs.Rules.{touches_in}
 use Rattle.predator_cli.specs.Replay.{grid_in, levels_in}
 use Rattle.predator_cli.specs.GoesOn.{work_of_both}
