@@ -1,5 +1,6 @@
 pub mod Addresses
 pub mod Fields
+pub mod Laws
 pub mod Levels
 pub mod Lines
 pub mod Names

@@ -1,4 +1,3 @@
 pub mod RowOrder
 pub mod SeenLaws
-pub mod TextPieces
 pub mod WorkedMisses

@@ -30,7 +30,8 @@ use Rattle.sharing_rules.specs.Laws.Places.{first_place-within}
 use Rattle.sharing_rules.specs.Laws.Recounts.{count_since-end}
 use Rattle.sharing_rules.specs.Observed.{written_lines}
 use Rattle.sharing_rules.specs.Places.{first_place}
-use Rattle.misses.specs.Laws.Entered.{AgreeBut, entries, insert-entries, lookup-entries}
+use Rattle.misses.specs.Laws.Entered.{entries, insert-entries, lookup-entries}
+use Rattle.sharing_rules.specs.Laws.Sums.{AgreeBut}
 use Rattle.finite_cache.specs.Bounded.{bounded, bounded_step, evicts, has, is_any_eviction}
 use Rattle.finite_cache.specs.Bounded.{is_bounded_invalidation, is_cached_by_another, is_eviction}
 use Rattle.finite_cache.specs.Bounded.{left, line_in, set_of, used, without}

@@ -1,6 +1,6 @@
 use Rattle.std.proofs.Common.{string_bytes}
 use Rattle.misses.specs.Texts.{total_line}
-use Rattle.misses.proofs.TextPieces.{ended_by}
+use Rattle.base.specs.Laws.TextLines.{ended_by}
 use Rattle.misses.proofs.text.push_ends.Goals as goal
 
 pub returns : goal.returns

@@ -1,7 +1,7 @@
 use Rattle.std.proofs.Common.{string_bytes, length}
 use Rattle.std.specs.List.{flat_map}
 use Rattle.misses.specs.Texts.{miss_ends, miss_heads, miss_lines}
-use Rattle.misses.proofs.TextPieces.{in_three}
+use Rattle.base.specs.Laws.TextLines.{in_three}
 use Rattle.misses.proofs.text.push_misses.Goals as goal
 
 pub returns : goal.returns

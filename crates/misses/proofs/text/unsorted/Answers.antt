@@ -1,6 +1,6 @@
 use Rattle.misses.specs.Rows.{row_of}
 use Rattle.misses.specs.Texts.{is_told}
-use Rattle.misses.proofs.RowOrder.{told_more}
+use Rattle.misses.specs.Laws.Told.{told_more}
 use Rattle.misses.proofs.text.unsorted.Goals as goal
 
 pub loop-i-preserved : goal.loop-i-preserved
