@@ -8,7 +8,7 @@
 //!
 //! A [`TraceReader`] takes pieces one after the other: what a piece leaves over is kept, and stands
 //! before the next. A [`TraceWriter`] gives the bytes of each record, and a [`Splitter`] the side of
-//! each. Numbers and symbols are read and written by calls of their own too, for other files that
+//! each. Symbols and blocks are read and written by calls of their own too, for other files that
 //! have them as a trace does.
 #![tactic(auto)]
 
