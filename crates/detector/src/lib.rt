@@ -7,7 +7,8 @@
 //! threshold, the pairs of the line are searched, and what opens has a track from then on.
 //!
 //! An index is a map from line numbers to entries, in which every line that was never touched has
-//! the entry with no write and no track. [`PagedIndex`] is a directory of pages. [`Totals`] says what the tracks of a detector come to.
+//! the entry with no write and no track. [`PagedIndex`] is a directory of pages. [`Totals`] says
+//! what the tracks of a detector come to.
 #![tactic(auto)]
 
 mod adding;

@@ -7,9 +7,9 @@
 //! The definitions stand in `specs/Takings.antt`, over whole lists of accesses with their pcs, and
 //! the laws in `specs/Laws/`: each taking has a victim, whose hart holds the line, and two accesses
 //! are enough to tell every victim, whatever the number of harts. [`Explainer`] keeps these two
-//! beside its tables, and [`write_explain`] prints what it tells. [`explain_run`] runs a guest to its
-//! end without a detector: the explainer notes each access with the pc of the instruction that made
-//! it. It is what the command `explain` does.
+//! beside its tables, and [`write_explain`] prints what it tells. [`explain_run`] runs a guest to
+//! its end without a detector: the explainer notes each access with the pc of the instruction that
+//! made it.
 #![tactic(auto)]
 
 mod explainer;

@@ -6,8 +6,8 @@ use base::NoMemory;
 use objects::ObjectTable;
 use trace_format::TraceRecord;
 
-/// Notes a record that comes at a position, where it is one of an object. At NoMemory nothing is said
-/// of the table.
+/// Notes a record that comes at a position, where it is one of an object. At NoMemory nothing is
+/// said of the table.
 pub fn note_object(
     objects: &mut ObjectTable,
     position: u64,
