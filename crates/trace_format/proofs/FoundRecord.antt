@@ -1,7 +1,7 @@
 -- What is judged good is a good record, and the bytes are its spelling.
 use Rattle.std.proofs.Common.{◌≡◌, ℕ, ◌+◌, ◌^◌, ◌≤◌, ◌<◌, true, eqb, eqb-true, ltb, List, length}
 use Rattle.std.proofs.Common.{get_or, Option, Some, None, Result, Ok}
-use Rattle.std.proofs.Common.{Err, refl, subst, arith}
+use Rattle.std.proofs.Common.{Err, refl, ap, ◌∙◌, subst, arith}
 use Rattle.std.proofs.lemmas.Bool.Decides.{nat_tests}
 use Rattle.std.specs.Int.{w32, w64}
 use Rattle.base.specs.Touch.{Touch, is_access_size}

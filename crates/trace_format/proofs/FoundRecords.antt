@@ -6,7 +6,7 @@ use Rattle.std.proofs.Common.{Some, None, Result, Ok, Err, refl, sym, ap}
 use Rattle.std.proofs.Common.{subst, ◌∙◌, arith}
 use Rattle.std.proofs.lemmas.Bool.{and_parts}
 use Rattle.std.proofs.lemmas.Bool.Decides.{nat_tests}
-use Rattle.std.proofs.lemmas.List.{drop_more, drop_all, get_or-take, length-drop, length-take-le}
+use Rattle.std.proofs.lemmas.List.{drop_more, drop_all, get_or-take, length-drop}
 use Rattle.std.proofs.lemmas.List.{take-append-drop}
 use Rattle.std.proofs.lemmas.List.Elements.{All-nil, All-cons}
 use Rattle.std.specs.Int.{w16, w32, to_le_bytes}
@@ -39,7 +39,7 @@ use Rattle.trace_format.specs.Laws.Before.{pc_before_low}
 use Rattle.trace_format.specs.Laws.Bytes.{IsBytes, IsBytes-drop, IsBytes-take, below_32}
 use Rattle.trace_format.specs.Laws.Bytes.{bytes_all, from_part}
 use Rattle.trace_format.specs.Laws.Bytes.{last_part, part, spelled_16, spelled_32}
-use Rattle.trace_format.specs.Laws.Extents.{short_touch_front}
+use Rattle.trace_format.specs.Laws.Extents.{front_whole}
 use Rattle.trace_format.proofs.FoundShortTouches.{address_below, distance_again, groups_found}
 
 -- ---- tests that a good record passes
@@ -268,8 +268,7 @@ sited_touch_found kind size harts before place bytes sited few low sized len is 
     let those = groups_found told (IsBytes-drop n bytes is) count w.groups_good in
     let some : 1 ≤ n = omega arith in
     let le : n ≤ length bytes = omega arith in
-    let whole : length front ≡ short_touch_extent front = length-take-le n bytes le
-    ∙ sym ((short_touch_front n bytes some le).same (omega arith)) in
+    let whole = front_whole bytes n refl some le in
     let tagged : number_of (tags.ShortTouch kind size) ≡ get_or front 0 0 = tag
     ∙ sym (get_or-take n bytes 0 0 some) in
     let first = short_touch_found kind size harts before.last place front w.touch few low.last sized

@@ -10,7 +10,7 @@ use Rattle.trace_format.specs.declared.fault.TraceFault.TheVariants as faults
 use Rattle.trace_format.specs.declared.record.TraceRecord.{TraceRecord}
 use Rattle.trace_format.specs.declared.record.TraceRecord.TheVariants as records
 use Rattle.trace_format.specs.declared.record.Header.{Header}
-use Rattle.trace_format.specs.declared.record.Version.TheVariants.{One, Two, Three}
+use Rattle.trace_format.specs.declared.record.Version.TheVariants.{One, Two}
 use Rattle.trace_format.specs.Spelling.{nothing_before, spell_header, spell_touch, spell_ending}
 use Rattle.trace_format.specs.Spelling.{spell}
 use Rattle.trace_format.specs.Judging.{header_judged, symbol_extent, record_extent, touch_judged}
@@ -21,18 +21,18 @@ use Rattle.trace_format.specs.Rules.{IsGoodRecord, IsGoodTrace, IsInner}
 use Rattle.trace_format.specs.Faults.{HasFault, IsOpenTrace, ended as whole, nothing, unended}
 
 -- PRDTRC01, or the text of another version, first position 0, so many harts, and zero
-head : ℕ → ℕ → List ℕ
+unfoldable pub head : ℕ → ℕ → List ℕ
 head version harts = 80 ∷ 82 ∷ 68 ∷ 84 ∷ 82 ∷ 67 ∷ 48 ∷ (48 + version)
     ∷ (replicate 8 0 ++ harts ∷ 0 ∷ 0 ∷ 0 ∷ [])
 
 -- an end with exit 0 and so many steps and accesses
-ended : ℕ → List ℕ
+unfoldable pub ended : ℕ → List ℕ
 ended n = 6 ∷ (replicate 8 0 ++ n ∷ (replicate 7 0 ++ n ∷ replicate 7 0))
 
-what : List ℕ → List TraceRecord × Result Ending TraceFault
+unfoldable pub what : List ℕ → List TraceRecord × Result Ending TraceFault
 what bytes = let r = reading_of bytes in (r.0, ending_of r.1)
 
-an_end : ℕ → Ending
+unfoldable pub an_end : ℕ → Ending
 an_end n = record { outcome = Exit 0; steps = n; accesses = n }
 
 -- writes of 4 bytes at 0x1000 by hart 0, 0x1004 by hart 1, and 0x1000 by hart 0
@@ -151,7 +151,7 @@ module _ where
 
 -- ---- where the first fault stands
 
-eight : Header
+unfoldable pub eight : Header
 eight = record { first = 0; harts = 8 }
 
 begun_well : IsOpenTrace One eight []

@@ -68,12 +68,22 @@ fn group_count(bytes: &[u8]) -> usize
     }
 }
 
+// Where the groups from a place on end, as far as they are there.
+#[inline(always)]
+fn end_of_groups(bytes: &[u8], place: usize) -> usize
+    requires { place ≤ 7 }
+    ensures { result ≡ place + group_count (drop place bytes.now) }
+{
+    place + group_count(bytes.get(place..).unwrap_or(&[]))
+}
+
 // How many bytes an access of version 2 has, as far as they are there.
 #[inline(always)]
 pub(crate) fn short_touch_extent(bytes: &[u8]) -> usize
-    ensures { result ≡ short_touch_extent bytes.now }
+    ensures value { result ≡ short_touch_extent bytes.now }
+    ensures few { result ≤ 7 }
 {
-    2 + group_count(bytes.get(2..).unwrap_or(&[]))
+    end_of_groups(bytes, 2)
 }
 
 // How many bytes an access of version 3 has, as far as they are there.
@@ -81,8 +91,7 @@ pub(crate) fn short_touch_extent(bytes: &[u8]) -> usize
 pub(crate) fn sited_touch_extent(bytes: &[u8]) -> usize
     ensures { result ≡ sited_touch_extent bytes.now }
 {
-    let front = short_touch_extent(bytes);
-    front + group_count(bytes.get(front..).unwrap_or(&[]))
+    end_of_groups(bytes, short_touch_extent(bytes))
 }
 
 // The number of a group and of those behind it.

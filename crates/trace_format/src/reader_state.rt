@@ -42,12 +42,7 @@ fn extent_in(state: &State, bytes: &[u8]) -> usize
 
 /// An access more is read, in so many bytes.
 #[inline(always)]
-pub(crate) fn count_access(
-    progress: &mut ReadSoFar,
-    access: Access,
-    pc: Option<u32>,
-    size: usize,
-)
+pub(crate) fn count_access(progress: &mut ReadSoFar, access: Access, pc: Option<u32>, size: usize)
     requires sound { IsSound progress.old }
     requires some { 1 ≤ size }
     requires low { progress.old.place + size ≤ longest_trace }

@@ -6,8 +6,9 @@ ghost use Rattle.trace_format.specs.Judging.{record_judged, tagged_judged, touch
 ghost use Rattle.trace_format.specs.Tags.{IsTag};
 ghost use Rattle.trace_format.specs.Sound.{IsSound};
 
-use crate::access_read::{short_touch_extent, short_touch_of, sited_touch_extent, sited_touch_of};
-use crate::access_read::{touch_of, without_pc};
+use crate::access_read::{
+    short_touch_extent, short_touch_of, sited_touch_extent, sited_touch_of, touch_of, without_pc,
+};
 use crate::ending_read::outcome_of;
 use crate::fields::{u32_at, u64_at};
 use crate::header_read::LAST_POSITION;

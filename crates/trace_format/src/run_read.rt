@@ -9,8 +9,9 @@ ghost use Rattle.trace_format.specs.Tags.{tag_of};
 ghost use Rattle.trace_format.specs.Sound.{IsSound};
 ghost use Rattle.trace_format.specs.ReaderStates.{HasAccess, HasSameHead, ReadsBut, reading_at};
 
-use crate::access_read::{short_touch_extent, short_touch_of, sited_touch_extent, sited_touch_of};
-use crate::access_read::{touch_of, without_pc};
+use crate::access_read::{
+    short_touch_extent, short_touch_of, sited_touch_extent, sited_touch_of, touch_of, without_pc,
+};
 use crate::fields::behind;
 use crate::header_read::LAST_POSITION;
 use crate::reader_state::count_access;

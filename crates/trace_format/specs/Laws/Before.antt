@@ -1,10 +1,9 @@
 -- What an access is spelled against are numbers of 32 bits.
-use Rattle.std.proofs.Common.{◌≡◌, ℕ, ◌^◌, ◌<◌, inl, inr, List, length, get_or, All, Option, Some}
+use Rattle.std.proofs.Common.{ℕ, ◌^◌, ◌<◌, inl, inr, length, Option, Some}
 use Rattle.std.proofs.Common.{None, arith}
 use Rattle.std.proofs.lemmas.Bool.{cases_lt}
 use Rattle.std.proofs.lemmas.List.{get_or_past}
 use Rattle.std.proofs.lemmas.List.Elements.{All-get_or, All-replicate, All-set}
-use Rattle.base.specs.Touch.{Touch}
 use Rattle.trace_format.specs.declared.before.Before.{Before}
 use Rattle.trace_format.specs.declared.record.Version.{Version}
 use Rattle.trace_format.specs.declared.record.Version.TheVariants.{One, Two, Three}

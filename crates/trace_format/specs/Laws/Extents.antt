@@ -46,9 +46,9 @@ unfolding count_of
 whole_groups n k a b c d a' b' c' d' ea eb ec ed is = grind (arith, nat_tests)
 
 -- how a beginning of k bytes looks beside its whole
-pub record IsFront (k whole front : ℕ) : Type 0 where
-  pub short : k < whole → k < front
-  pub same : whole ≤ k → front ≡ whole
+record IsFront (k whole front : ℕ) : Type 0 where
+  short : k < whole → k < front
+  same : whole ≤ k → front ≡ whole
 
 module _ (k : ℕ) (bytes : List ℕ) (some : 1 ≤ k) (le : k ≤ length bytes) where
   byte_there : (n i : ℕ) → n + i < k
@@ -79,7 +79,7 @@ module _ (k : ℕ) (bytes : List ℕ) (some : 1 ≤ k) (le : k ≤ length bytes)
         (byte_there n 1) (byte_there n 2) (byte_there n 3) is);
   }
 
-  pub short_touch_front : IsFront k (short_touch_extent bytes) (short_touch_extent (take k bytes))
+  short_touch_front : IsFront k (short_touch_extent bytes) (short_touch_extent (take k bytes))
   short_touch_front = groups_front 2
 
   sited_touch_front : IsFront k (sited_touch_extent bytes) (sited_touch_extent (take k bytes))
@@ -147,6 +147,12 @@ module _ (k : ℕ) (bytes : List ℕ) (some : 1 ≤ k) (le : k ≤ length bytes)
   front_at None e = record { short = λ lt. lt; same = λ is. refl }
   front_at (Some p) None = record_front p.version
   front_at (Some p) (Some e) = record { short = λ lt. lt; same = λ is. refl }
+
+-- the bytes of an access up to the end of its distance are all that those have
+pub front_whole : (bytes : List ℕ) (n : ℕ) → n ≡ short_touch_extent bytes → 1 ≤ n
+    → n ≤ length bytes → length (take n bytes) ≡ short_touch_extent (take n bytes)
+front_whole bytes n is some le =
+    length-take-le n bytes le ∙ is ∙ sym ((short_touch_front n bytes some le).same (omega arith))
 
 -- The header and each record wait until they are whole.
 pub fronts_wait_at : (p : Option ReadSoFar) (e : Option Ending) (bytes : List ℕ)

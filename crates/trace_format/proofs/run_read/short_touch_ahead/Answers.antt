@@ -12,11 +12,11 @@ returns c =
     if_some c.placed.result _ _ (λ ahead is.
     ahead_there p c.args.bytes.now c.split_at.result.0.now
     (tags.ShortTouch c.args.kind c.args.width) c.short_touch_extent-size.result c.requires.tagged
-    c.split_at.ensures.front c.short_touch_extent-size.ensures (omega arith)
+    c.split_at.ensures.front c.short_touch_extent-size.ensures.value (omega arith)
     ahead.access ahead.pc ahead.size (sym same ∙ is.0, is.1)) c.placed.ensures
 
 pub short_touch_of-access-requires-clause-long : goal.short_touch_of-access-requires-clause-long
 short_touch_of-access-requires-clause-long c =
     part_extent c.args.progress.now c.args.bytes.now c.split_at.result.0.now
     (tags.ShortTouch c.args.kind c.args.width) c.short_touch_extent-size.result
-    c.requires.tagged c.split_at.ensures.front c.short_touch_extent-size.ensures (omega arith)
+    c.requires.tagged c.split_at.ensures.front c.short_touch_extent-size.ensures.value (omega arith)
