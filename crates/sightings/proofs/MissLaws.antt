@@ -39,7 +39,7 @@ touches-push xs x = filter_map-append touch_in xs (x ∷ [])
 symbols_noted : (o : Objects) (list : List Symbol) (x : TraceRecord) (q : ℕ)
     → o.symbols ≡ symbols_of list
     → (objects_noted o x q).symbols ≡ symbols_of (list ++ symbols_in (x ∷ []))
-symbols_noted o list (records.Touch a) q is = is ∙ ap symbols_of (sym (append-nil list))
+symbols_noted o list (records.Touch a pc) q is = is ∙ ap symbols_of (sym (append-nil list))
 symbols_noted o list (records.Alloc addr size sites) q is = is
     ∙ ap symbols_of (sym (append-nil list))
 symbols_noted o list (records.Free addr) q is = is ∙ ap symbols_of (sym (append-nil list))
@@ -63,7 +63,7 @@ objects_next before p xs x =
 -- ---- one record more
 
 counted-one : (p : ℕ) (x : TraceRecord) → counted_after p x ≡ p + length (touches_in (x ∷ []))
-counted-one p (records.Touch a) = omega arith
+counted-one p (records.Touch a pc) = omega arith
 counted-one p (records.Alloc addr size sites) = omega arith
 counted-one p (records.Free addr) = omega arith
 counted-one p (records.Symbol kind addr size name) = omega arith
@@ -71,14 +71,14 @@ counted-one p (records.End e) = omega arith
 
 noted_position : (k : Kept) (x : TraceRecord) → (misses_noted k x).position
     ≡ counted_after k.position x
-noted_position k (records.Touch a) = refl
+noted_position k (records.Touch a pc) = refl
 noted_position k (records.Alloc addr size sites) = refl
 noted_position k (records.Free addr) = refl
 noted_position k (records.Symbol kind addr size name) = refl
 noted_position k (records.End e) = refl
 
 noted_grid : (k : Kept) (x : TraceRecord) → (misses_noted k x).grid ≡ k.grid
-noted_grid k (records.Touch a) = refl
+noted_grid k (records.Touch a pc) = refl
 noted_grid k (records.Alloc addr size sites) = refl
 noted_grid k (records.Free addr) = refl
 noted_grid k (records.Symbol kind addr size name) = refl

@@ -39,8 +39,8 @@ use Rattle.detector.specs.Laws.Standing.{stands_nothing}
 -- one record more at a position, over any blocks
 pub blocks_noted : (before : Objects) (q : ℕ) (x : TraceRecord)
     → map (ended q x) before.blocks ++ made_by q x [] ≡ (objects_noted before x q).blocks
-blocks_noted before q (records.Touch a) = append-nil _
-    ∙ none_ended q (records.Touch a) (λ addr. refl) before.blocks
+blocks_noted before q (records.Touch a pc) = append-nil _
+    ∙ none_ended q (records.Touch a pc) (λ addr. refl) before.blocks
 blocks_noted before q (records.Alloc addr size sites) = refl
 blocks_noted before q (records.Free addr) = append-nil _
 blocks_noted before q (records.Symbol kind addr size name) =
@@ -65,7 +65,7 @@ touches-push : (xs : List TraceRecord) (x : TraceRecord) → touches_in (xs ++ x
 touches-push xs x = filter_map-append touch_in xs (x ∷ [])
 
 counted-one : (p : ℕ) (x : TraceRecord) → counted_after p x ≡ p + length (touches_in (x ∷ []))
-counted-one p (records.Touch a) = refl
+counted-one p (records.Touch a pc) = refl
 counted-one p (records.Alloc addr size sites) = sym (add-zero p)
 counted-one p (records.Free addr) = sym (add-zero p)
 counted-one p (records.Symbol kind addr size name) = sym (add-zero p)
@@ -139,11 +139,11 @@ no_symbol : (old new list : List Symbol) → new ≡ old → old ≡ symbols_of 
 no_symbol old new list same is = same ∙ is ∙ ap symbols_of (sym (append-nil list))
 
 -- an access, over any objects
-pub next_access : (o : Objects) (old new : Watch) (a : Touch) → new ≡ watched old a
+pub next_access : (o : Objects) (old new : Watch) (a : Touch) (pc : Option ℕ) → new ≡ watched old a
     → ((t : AccessList) → StandsFor t old → StandsFor (t ++ a ∷ []) new)
-    → SeesNext (sighted old o) (sighted new o) (records.Touch a)
-next_access o old new a is stands =
-    sees_next (sighted old o) (sighted new o) (records.Touch a) (record {
+    → SeesNext (sighted old o) (sighted new o) (records.Touch a pc)
+next_access o old new a pc is stands =
+    sees_next (sighted old o) (sighted new o) (records.Touch a pc) (record {
       value = ap (λ (w : Watch). sighted w o) is;
       stands = stands;
       position = ap (λ (w : Watch). w.position) is;

@@ -39,7 +39,7 @@ fn note_miss(misses: &mut Misses, item: &TraceRecord) -> Result<(), NoMemory>
         → OnOk result (StandsFor (t ++ touches_in (item.now ∷ [])) misses.new) }
 {
     match item {
-        TraceRecord::Touch(access) => misses.on_access(access),
+        TraceRecord::Touch(access, _) => misses.on_access(access),
         TraceRecord::Alloc { .. } => Ok(()),
         TraceRecord::Free { .. } => Ok(()),
         TraceRecord::Symbol { .. } => Ok(()),
@@ -52,7 +52,7 @@ fn note_object(objects: &mut ObjectTable, position: u64, item: &TraceRecord) -> 
     ensures { OnOk result (objects.new ≡ objects_noted objects.old item.now position) }
 {
     match item {
-        TraceRecord::Touch(_) => Ok(()),
+        TraceRecord::Touch(_, _) => Ok(()),
         TraceRecord::Alloc { addr, size, sites } => {
             objects.note_alloc(position, *addr, *size, *sites)
         }

@@ -8,6 +8,7 @@ pub mod Items
 pub mod Kept
 pub mod MadeGoing
 pub mod OneTraces
+pub mod Others
 pub mod Pieces
 pub mod Readings
 pub mod Splittings

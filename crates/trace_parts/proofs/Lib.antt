@@ -1,3 +1,4 @@
 pub mod Distances
 pub mod HalfTraces
+pub mod Jumps
 pub mod Lengths

@@ -3,7 +3,7 @@ use Rattle.std.proofs.Common.{◌≡◌, ℕ, ◌+◌, ◌≤◌, List, [], ◌�
 use Rattle.std.proofs.Common.{append_assoc, arith, subst}
 use Rattle.std.proofs.lemmas.List.{append-nil, length-append}
 use Rattle.std.proofs.lemmas.List.Elements.{filter_map-append}
-use Rattle.std.specs.Prelude.{OnOk, Result, Ok, Err}
+use Rattle.std.specs.Prelude.{OnOk, Option, Result, Ok, Err}
 use Rattle.base.specs.Touch.{Touch}
 use Rattle.sharing_rules.specs.AccessLists.{AccessList}
 use Rattle.trace_format.specs.Reading.{counted_after}
@@ -32,23 +32,23 @@ touches-push : (xs : List TraceRecord) (x : TraceRecord)
 touches-push xs x = filter_map-append touch_in xs (x ∷ [])
 
 counted-one : (p : ℕ) (x : TraceRecord) → counted_after p x ≡ p + length (touches_in (x ∷ []))
-counted-one p (records.Touch a) = omega arith
+counted-one p (records.Touch a pc) = omega arith
 counted-one p (records.Alloc addr size sites) = omega arith
 counted-one p (records.Free addr) = omega arith
 counted-one p (records.Symbol kind addr size name) = omega arith
 counted-one p (records.End e) = omega arith
 
 -- one access more
-pub access-next : (old new : Kept) (a : Touch) → HasNoted a old new
+pub access-next : (old new : Kept) (a : Touch) (pc : Option ℕ) → HasNoted a old new
     → ((t : AccessList) → StandsFor t old → StandsFor (t ++ a ∷ []) new)
-    → SeesNext old new (records.Touch a)
-access-next old new a noted stands begun items seen =
-    let all : length (touches_in (items ++ records.Touch a ∷ [])) ≡ length (touches_in items) + 1 =
-    ap length (touches-push items (records.Touch a)) ∙ length-append (touches_in items) (a ∷ []) in
+    → SeesNext old new (records.Touch a pc)
+access-next old new a pc noted stands begun items seen =
+    let all : length (touches_in (items ++ records.Touch a pc ∷ [])) ≡ length (touches_in items) + 1 =
+    ap length (touches-push items (records.Touch a pc)) ∙ length-append (touches_in items) (a ∷ []) in
     record {
       stands = λ t stood. subst (λ (list : AccessList). StandsFor list new)
           (append_assoc t (touches_in items) (a ∷ [])
-          ∙ ap (λ list. t ++ list) (sym (touches-push items (records.Touch a))))
+          ∙ ap (λ list. t ++ list) (sym (touches-push items (records.Touch a pc))))
           (stands (t ++ touches_in items) (seen.stands t stood));
       position = omega (arith, all, noted.position, seen.position);
       shape = noted.shape ∙ seen.shape;
@@ -70,12 +70,12 @@ other-next now x none begun items seen =
     }
 
 pub see-on : {T E : Type 0} (result : Result T E) (old new : Kept) (x : TraceRecord) (a : Touch)
-    → x ≡ records.Touch a → OnOk result (HasNoted a old new)
+    (pc : Option ℕ) → x ≡ records.Touch a pc → OnOk result (HasNoted a old new)
     → ((t : AccessList) → StandsFor t old → OnOk result (StandsFor (t ++ a ∷ []) new))
     → OnOk result (SeesNext old new x)
-see-on (Err e) old new x a is noted stands = tt
-see-on (Ok v) old new x a is noted stands =
-    subst (λ y. SeesNext old new y) (sym is) (access-next old new a noted stands)
+see-on (Err e) old new x a pc is noted stands = tt
+see-on (Ok v) old new x a pc is noted stands =
+    subst (λ y. SeesNext old new y) (sym is) (access-next old new a pc noted stands)
 
 -- nothing seen yet
 pub seen-none : (now : Kept) → HasSeen now now []

@@ -63,7 +63,7 @@ touches-push : (xs : List TraceRecord) (x : TraceRecord) → touches_in (xs ++ x
 touches-push xs x = filter_map-append touch_in xs (x ∷ [])
 
 counted-one : (p : ℕ) (x : TraceRecord) → counted_after p x ≡ p + length (touches_in (x ∷ []))
-counted-one p (records.Touch a) = refl
+counted-one p (records.Touch a pc) = refl
 counted-one p (records.Alloc addr size sites) = sym (add-zero p)
 counted-one p (records.Free addr) = sym (add-zero p)
 counted-one p (records.Symbol kind addr size name) = sym (add-zero p)
@@ -127,11 +127,11 @@ recounted-nothing r = record {
 
 -- an access
 pub touch-recounted : {A E : Type 0} (r : Result A E) (old new : Recount) (a : Touch)
-    (x : TraceRecord) → x ≡ records.Touch a
+    (pc : Option ℕ) (x : TraceRecord) → x ≡ records.Touch a pc
     → ((t : AccessList) → RecountsFor t old → OnOk r (RecountsFor (t ++ a ∷ []) new))
     → OnOk r (new.position ≡ old.position + 1) → new.size ≡ old.size → new.plan ≡ old.plan
     → OnOk r (RecountsNext old new x)
-touch-recounted (Ok u) old new a x is stands next size plan =
+touch-recounted (Ok u) old new a pc x is stands next size plan =
     recounts-next old new x (record {
       stands = λ t stood. subst (λ z. RecountsFor (t ++ touches_in (z ∷ [])) new) (sym is)
           (stands t stood);
@@ -139,12 +139,12 @@ touch-recounted (Ok u) old new a x is stands next size plan =
       size = size;
       plan = plan;
     })
-touch-recounted (Err e) old new a x is stands next size plan = tt
+touch-recounted (Err e) old new a pc x is stands next size plan = tt
 
 -- a record that is none
-pub other-recounted : (r : Recount) (x : TraceRecord) → ((a : Touch) → x ≡ records.Touch a → ⊥)
+pub other-recounted : (r : Recount) (x : TraceRecord) → ((a : Touch) (pc : Option ℕ) → x ≡ records.Touch a pc → ⊥)
     → RecountsNext r r x
-other-recounted r (records.Touch a) other = absurd (other a refl)
+other-recounted r (records.Touch a pc) other = absurd (other a pc refl)
 other-recounted r (records.Alloc addr size sites) other = quiet-next r _ refl
 other-recounted r (records.Free addr) other = quiet-next r _ refl
 other-recounted r (records.Symbol kind addr size name) other = quiet-next r _ refl

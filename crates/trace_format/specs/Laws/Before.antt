@@ -29,7 +29,7 @@ nothing_good = record {
   pcs = All-replicate (λ pc. pc < 2 ^ 32) 256 0 (omega arith);
 }
 
-pc_low : (v : Version) (pc : Option ℕ) → IsGoodPc v pc → pc_or_zero pc < 2 ^ 32
+pub pc_low : (v : Version) (pc : Option ℕ) → IsGoodPc v pc → pc_or_zero pc < 2 ^ 32
 pc_low One None good = omega arith
 pc_low Two None good = omega arith
 pc_low Three (Some pc) good = good
