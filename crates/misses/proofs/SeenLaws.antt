@@ -32,14 +32,14 @@ use Rattle.trace_passes.specs.Laws.Noting.{none_left, objects_next, same_objects
 
 noted_position : (k : Kept) (x : TraceRecord) → (misses_noted k x).position
     ≡ counted_after k.position x
-noted_position k (records.Touch a) = refl
+noted_position k (records.Touch a pc) = refl
 noted_position k (records.Alloc addr size sites) = refl
 noted_position k (records.Free addr) = refl
 noted_position k (records.Symbol kind addr size name) = refl
 noted_position k (records.End e) = refl
 
 noted_grid : (k : Kept) (x : TraceRecord) → (misses_noted k x).grid ≡ k.grid
-noted_grid k (records.Touch a) = refl
+noted_grid k (records.Touch a pc) = refl
 noted_grid k (records.Alloc addr size sites) = refl
 noted_grid k (records.Free addr) = refl
 noted_grid k (records.Symbol kind addr size name) = refl

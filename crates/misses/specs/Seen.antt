@@ -17,7 +17,7 @@ nothing_missed g = record { misses = kept_of g []; objects = no_objects }
 
 -- what the accesses show once a record came
 abbrev pub misses_noted : Kept → TraceRecord → Kept
-misses_noted k (records.Touch a) = note_access k a
+misses_noted k (records.Touch a pc) = note_access k a
 misses_noted k _ = k
 
 -- one record more

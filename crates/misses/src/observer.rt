@@ -38,7 +38,7 @@ fn note_miss(misses: &mut Misses, item: &TraceRecord) -> Result<(), NoMemory>
         → OnOk result (StandsFor (t ++ touches_in (item.now ∷ [])) misses.new) }
 {
     match item {
-        TraceRecord::Touch(access) => misses.on_access(access),
+        TraceRecord::Touch(access, _) => misses.on_access(access),
         TraceRecord::Alloc { .. } => Ok(()),
         TraceRecord::Free { .. } => Ok(()),
         TraceRecord::Symbol { .. } => Ok(()),

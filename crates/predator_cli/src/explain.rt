@@ -36,7 +36,7 @@ fn note_symbol(table: &mut ObjectTable, item: &TraceRecord) -> Result<(), NoMemo
             size,
             name,
         } => table.note_symbol(*kind, *addr, *size, name.bytes()),
-        TraceRecord::Touch(_) => Ok(()),
+        TraceRecord::Touch(_, _) => Ok(()),
         TraceRecord::Alloc { .. } => Ok(()),
         TraceRecord::Free { .. } => Ok(()),
         TraceRecord::End(_) => Ok(()),

@@ -16,6 +16,7 @@ ghost use Rattle.trace_passes.specs.Lives.{objects_of};
 ghost use Rattle.saved_state.specs.OfLists.{AreOf};
 ghost use Rattle.trace_format.specs.Rules.{IsGoodRecord, touches_in};
 ghost use Rattle.trace_format.specs.declared.record.TraceRecord.{TraceRecord as Record};
+ghost use Rattle.trace_format.specs.declared.record.Version.{Version as Format};
 ghost use Rattle.trace_files.specs.Copies.{first_half, second_half};
 ghost use Rattle.trace_passes.specs.Passes.{Trace, all_records, trace_of};
 ghost use Rattle.predator_cli.specs.Answer.{answer_of};
@@ -80,9 +81,9 @@ pub fn a_replay_goes_on_from_a_list()
         → trace_of bytes ≡ Some whole
         → IsCutIn whole (first_half at whole ∷ []) (second_half at whole) }
     // the objects and the accesses of good records may stand in a state
-    ensures good { (harts : ℕ) (before : List Record) → All (IsGoodRecord harts) before
+    ensures good { (v : Format) (harts : ℕ) (before : List Record) → All (IsGoodRecord v harts) before
         → length before < 2 ^ 64 → IsSavable (length (touches_in before)) (objects_of before) }
-    ensures of_harts { (harts : ℕ) (before : List Record) → All (IsGoodRecord harts) before
+    ensures of_harts { (v : Format) (harts : ℕ) (before : List Record) → All (IsGoodRecord v harts) before
         → AreOf harts (touches_in before) }
 {
     the_state_of_a_list_is_taken_up();

@@ -22,7 +22,7 @@ IsSymbolRecord _ = ⊥
 -- what the trace tells of an event
 abbrev pub record_in : RunEvent → List TraceRecord
 record_in quiet = []
-record_in (touch a pc) = records.Touch a ∷ []
+record_in (touch a pc) = records.Touch a None ∷ []
 record_in (alloc at size sites) = records.Alloc at size sites ∷ []
 record_in (free at) = records.Free at ∷ []
 record_in (output at bytes) = []

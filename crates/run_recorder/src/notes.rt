@@ -4,6 +4,7 @@ ghost use Rattle.std.specs.Prelude.{◌≡◌, ◌<◌, ◌++◌, ◌∷◌, [],
 ghost use Rattle.std.specs.List.{All};
 ghost use Rattle.shelf.specs.Shelf.{Outside};
 ghost use Rattle.shelf.specs.OnTheirWay.{AreBegun, names_of as waiting_names};
+ghost use Rattle.trace_format.specs.declared.record.Version.TheVariants.{One};
 ghost use Rattle.trace_format.specs.Rules.{IsGoodRecord, IsWritable};
 ghost use Rattle.trace_format.specs.declared.record.TraceRecord.{TraceRecord as ARecord};
 ghost use Rattle.trace_format.specs.declared.record.TraceRecord.TheVariants as records;
@@ -59,23 +60,23 @@ pub(crate) fn note_record<S: Shelf, O: Observer>(
 #[inline(always)]
 pub(crate) fn touch_record(access: Access) -> TraceRecord
     ensures value { result ≡ records.Touch access }
-    ensures good { (harts : ℕ) → access.hart < harts → IsGoodRecord harts result }
+    ensures good { (harts : ℕ) → access.hart < harts → IsGoodRecord One harts result }
 {
     let _hart = access.hart();
-    TraceRecord::Touch(access)
+    TraceRecord::Touch(access, None)
 }
 
 // The record of a block.
 fn alloc_record(addr: u32, size: u32, sites: [u32; 4]) -> TraceRecord
     ensures value { result ≡ records.Alloc addr size sites }
-    ensures good { (harts : ℕ) → IsGoodRecord harts result }
+    ensures good { (harts : ℕ) → IsGoodRecord One harts result }
 {
     TraceRecord::Alloc { addr, size, sites }
 }
 
 fn free_record(addr: u32) -> TraceRecord
     ensures value { result ≡ records.Free addr }
-    ensures good { (harts : ℕ) → IsGoodRecord harts result }
+    ensures good { (harts : ℕ) → IsGoodRecord One harts result }
 {
     TraceRecord::Free { addr }
 }
@@ -134,7 +135,7 @@ pub(crate) fn note_event<S: Shelf, O: Observer>(
     ensures given { OnOk result ((begun : O) (earlier : List ARecord)
         → O.given begun observer.old earlier
         → O.given begun observer.new (earlier ++ records_told guest.now.config event)) }
-    ensures good { All (IsGoodRecord guest.now.setup.harts)
+    ensures good { All (IsGoodRecord One guest.now.setup.harts)
         (records_told guest.now.config event) }
     ensures noted { OnOk result
         ((harts : ℕ) (items : List ARecord) (put : List ℕ) (before : Outside)

@@ -202,7 +202,7 @@ block_length position b good =
 with_life : TraceRecord → ℕ → Option ℕ → Option Block
 with_life (records.Alloc addr size sites) born died =
     Some (record { addr = addr; size = size; sites = sites; born = born; died = died })
-with_life (records.Touch a) born died = None
+with_life (records.Touch a pc) born died = None
 with_life (records.Free addr) born died = None
 with_life (records.Symbol kind addr size name) born died = None
 with_life (records.End ending) born died = None

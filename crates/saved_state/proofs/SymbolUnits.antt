@@ -52,7 +52,7 @@ if_true false o x e = absurd cc
 symbol_was : (j : Result TraceRecord TraceFault) (s : Symbol) → symbol_in j ≡ Some s → j
     ≡ Ok (records.Symbol s.kind s.addr s.size s.name)
 symbol_was (Err fault) s e = absurd cc
-symbol_was (Ok (records.Touch a)) s e = absurd cc
+symbol_was (Ok (records.Touch a pc)) s e = absurd cc
 symbol_was (Ok (records.Alloc addr size sites)) s e = absurd cc
 symbol_was (Ok (records.Free addr)) s e = absurd cc
 symbol_was (Ok (records.End ending)) s e = absurd cc

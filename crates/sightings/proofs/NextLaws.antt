@@ -110,11 +110,11 @@ no_symbol : (old new list : List Symbol) → new ≡ old → old ≡ symbols_of 
 no_symbol old new list same is = same ∙ is ∙ ap symbols_of (sym (append-nil list))
 
 -- an access, over any objects
-pub next_access : (o : Objects) (old new : Watch) (a : Touch) → new ≡ watched old a
+pub next_access : (o : Objects) (old new : Watch) (a : Touch) (pc : Option ℕ) → new ≡ watched old a
     → ((t : AccessList) → StandsFor t old → StandsFor (t ++ a ∷ []) new)
-    → SeesNext (sighted old o) (sighted new o) (records.Touch a)
-next_access o old new a is stands =
-    sees_next (sighted old o) (sighted new o) (records.Touch a) (record {
+    → SeesNext (sighted old o) (sighted new o) (records.Touch a pc)
+next_access o old new a pc is stands =
+    sees_next (sighted old o) (sighted new o) (records.Touch a pc) (record {
       value = ap (λ (w : Watch). sighted w o) is;
       stands = stands;
       position = ap (λ (w : Watch). w.position) is;

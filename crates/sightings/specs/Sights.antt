@@ -23,7 +23,7 @@ nothing_sighted g v = record { watch = nothing_seen g v; objects = no_objects }
 
 -- what the accesses show once a record came
 abbrev pub watch_noted : Watch → TraceRecord → Watch
-watch_noted w (records.Touch a) = watched w a
+watch_noted w (records.Touch a pc) = watched w a
 watch_noted w _ = w
 
 -- one record more
@@ -46,7 +46,7 @@ report_of_sighted ending s =
 
 -- whether a record may want memory
 abbrev pub wants_memory : Sighted → TraceRecord → Bool
-wants_memory s (records.Touch a) = takes_memory s.watch a
+wants_memory s (records.Touch a pc) = takes_memory s.watch a
 wants_memory s (records.Alloc addr size sites) = true
 wants_memory s (records.Free addr) = false
 wants_memory s (records.Symbol kind addr size name) =

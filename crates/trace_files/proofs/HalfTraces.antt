@@ -62,8 +62,8 @@ module _ (at : ℕ) (t : Trace) (good : IsGoodTrace t.version t.header t.items t
         ap length two.second ∙ length-drop cut (touches_in t.items)
         ∙ ap (λ (n : ℕ). n - cut) (sym good.counted)
 
-    whole_good : All (IsGoodRecord t.header.harts) (before ++ behind)
-    whole_good = All-same (IsGoodRecord t.header.harts) (before ++ behind) t.items two.whole
+    whole_good : All (IsGoodRecord t.version t.header.harts) (before ++ behind)
+    whole_good = All-same (IsGoodRecord t.version t.header.harts) (before ++ behind) t.items two.whole
         good.records
 
     whole_inner : All IsInner (before ++ behind)
@@ -80,7 +80,7 @@ module _ (at : ℕ) (t : Trace) (good : IsGoodTrace t.version t.header t.items t
         (first_half at t).ending t.ending in
         record {
           header = good.header;
-          records = all_of_first (IsGoodRecord t.header.harts) before behind whole_good;
+          records = all_of_first (IsGoodRecord t.version t.header.harts) before behind whole_good;
           inner = all_of_first IsInner before behind whole_inner;
           ending = record {
             allowed = refl;
@@ -95,10 +95,10 @@ module _ (at : ℕ) (t : Trace) (good : IsGoodTrace t.version t.header t.items t
 
     second_good : IsGoodTrace t.version (second_half at t).header behind (second_half at t).ending
     second_good =
-        let goods = all_of_second (IsGoodRecord t.header.harts) before behind whole_good in
+        let goods = all_of_second (IsGoodRecord t.version t.header.harts) before behind whole_good in
         let short = second_short t.version t.header.harts (second_half at t).header t.header before
         behind (second_half at t).ending t.ending
-        (all_of_first (IsGoodRecord t.header.harts) before behind whole_good) goods in
+        (all_of_first (IsGoodRecord t.version t.header.harts) before behind whole_good) goods in
         record {
           header = record {
             position = omega (arith, good.positions, cut_within);

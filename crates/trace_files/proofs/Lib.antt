@@ -7,10 +7,12 @@ pub mod Distances
 pub mod Going
 pub mod HalfTraces
 pub mod Items
+pub mod Jumps
 pub mod Kept
 pub mod Lengths
 pub mod MadeGoing
 pub mod OneTraces
+pub mod Others
 pub mod Pieces
 pub mod Readings
 pub mod Splittings

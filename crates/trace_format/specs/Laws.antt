@@ -1,5 +1,6 @@
 -- The laws of the definitions, by what they are about.
 pub mod Again
+pub mod Before
 pub mod Bytes
 pub mod Counts
 pub mod Extents

@@ -1,6 +1,6 @@
 //! Traces: what one is made of, how it is read in pieces, and how it is written.
 //!
-//! `specs/Spelling.antt` has the format of both versions as the one spelling of each part,
+//! `specs/Spelling.antt` has the format of the three versions as the one spelling of each part,
 //! `specs/Rules.antt` the rules that the parts keep, `specs/Judging.antt` what the bytes of one
 //! record say, and `specs/Reading.antt` what any bytes say: the records that are whole in them, and
 //! the first fault. `specs/Faults.antt` says where that one stands, by the spelling alone, and
@@ -14,6 +14,7 @@
 
 mod access_read;
 mod access_write;
+mod before;
 mod cut_laws;
 mod ending_read;
 mod ending_write;

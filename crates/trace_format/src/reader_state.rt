@@ -42,15 +42,15 @@ fn extent_in(state: &State, bytes: &[u8]) -> usize
 
 /// An access more is read, in so many bytes.
 #[inline(always)]
-pub(crate) fn count_access(progress: &mut ReadSoFar, access: Access, size: usize)
+pub(crate) fn count_access(progress: &mut ReadSoFar, access: Access, pc: Option<u32>, size: usize)
     requires sound { IsSound progress.old }
     requires some { 1 ≤ size }
     requires low { progress.old.place + size ≤ longest_trace }
-    ensures value { progress.new ≡ progress_after progress.old (TraceRecord.Touch access) size }
+    ensures value { progress.new ≡ progress_after progress.old (TraceRecord.Touch access pc) size }
     ensures sound { IsSound progress.new }
 {
     progress.counted += 1;
-    progress.last = access.addr();
+    progress.before.note(access, pc);
     progress.place += size as u64;
 }
 
@@ -65,7 +65,7 @@ fn progress_after(progress: &ReadSoFar, item: &TraceRecord, size: usize) -> Read
 {
     let mut later = *progress;
     match item {
-        TraceRecord::Touch(access) => count_access(&mut later, *access, size),
+        TraceRecord::Touch(access, pc) => count_access(&mut later, *access, *pc, size),
         _ => later.place += size as u64,
     }
     later

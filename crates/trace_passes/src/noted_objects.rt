@@ -16,7 +16,7 @@ pub fn note_object(
     ensures { OnOk result (objects.new ≡ objects_noted objects.old item.now position) }
 {
     match item {
-        TraceRecord::Touch(_) => Ok(()),
+        TraceRecord::Touch(_, _) => Ok(()),
         TraceRecord::Alloc { addr, size, sites } => {
             objects.note_alloc(position, *addr, *size, *sites)
         }

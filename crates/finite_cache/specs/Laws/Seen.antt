@@ -1,7 +1,7 @@
 -- What has been seen, with one record more.
 use Rattle.std.proofs.Common.{◌≡◌, ℕ, ◌≤◌, List, [], ◌∷◌, ◌++◌, length, map, refl, sym, ap, ◌∙◌}
 use Rattle.std.proofs.Common.{arith, subst}
-use Rattle.std.specs.Prelude.{OnOk, Result, Ok, Err}
+use Rattle.std.specs.Prelude.{OnOk, Option, Result, Ok, Err}
 use Rattle.base.specs.Touch.{Touch}
 use Rattle.sharing_rules.specs.AccessLists.{AccessList}
 use Rattle.trace_format.specs.Reading.{counted_after}
@@ -28,14 +28,14 @@ SeesNext old new item =
     → HasSeen begun old items → HasSeen begun new (items ++ item ∷ [])
 
 -- one access more
-pub access-next : (old new : Kept) (a : Touch) → HasNoted a old new
+pub access-next : (old new : Kept) (a : Touch) (pc : Option ℕ) → HasNoted a old new
     → ((t : AccessList) → StandsFor t old → StandsFor (t ++ a ∷ []) new)
-    → SeesNext old new (records.Touch a)
-access-next old new a noted stands begun items seen =
+    → SeesNext old new (records.Touch a pc)
+access-next old new a pc noted stands begun items seen =
     record {
-      stands = λ t stood. stands-next StandsFor new t items (records.Touch a)
+      stands = λ t stood. stands-next StandsFor new t items (records.Touch a pc)
           (stands (t ++ touches_in items) (seen.stands t stood));
-      position = position-next begun.position old.position items (records.Touch a) seen.position
+      position = position-next begun.position old.position items (records.Touch a pc) seen.position
           new.position noted.position;
       shape = noted.shape ∙ seen.shape;
     }
@@ -53,12 +53,12 @@ other-next now x none begun items seen =
     }
 
 pub see-on : {T E : Type 0} (result : Result T E) (old new : Kept) (x : TraceRecord) (a : Touch)
-    → x ≡ records.Touch a → OnOk result (HasNoted a old new)
+    (pc : Option ℕ) → x ≡ records.Touch a pc → OnOk result (HasNoted a old new)
     → ((t : AccessList) → StandsFor t old → OnOk result (StandsFor (t ++ a ∷ []) new))
     → OnOk result (SeesNext old new x)
-see-on (Err e) old new x a is noted stands = tt
-see-on (Ok v) old new x a is noted stands =
-    subst (λ y. SeesNext old new y) (sym is) (access-next old new a noted stands)
+see-on (Err e) old new x a pc is noted stands = tt
+see-on (Ok v) old new x a pc is noted stands =
+    subst (λ y. SeesNext old new y) (sym is) (access-next old new a pc noted stands)
 
 -- nothing seen yet
 pub seen-none : (now : Kept) → HasSeen now now []

@@ -1,6 +1,6 @@
 -- One record more that a sweep has seen.
-use Rattle.std.proofs.Common.{◌≡◌, ◌+◌, ◌≤◌, List, [], ◌∷◌, ◌++◌, length, refl, sym, ap, ◌∙◌, subst}
-use Rattle.std.proofs.Common.{Result, Ok, Err}
+use Rattle.std.proofs.Common.{◌≡◌, ℕ, ◌+◌, ◌≤◌, List, [], ◌∷◌, ◌++◌, length, refl, sym, ap, ◌∙◌, subst}
+use Rattle.std.proofs.Common.{Option, Result, Ok, Err}
 use Rattle.std.proofs.Math.Nat.{add-zero}
 use Rattle.std.proofs.lemmas.List.{append-nil}
 use Rattle.std.specs.Prelude.{OnOk}
@@ -71,24 +71,24 @@ swept-end begun now items e seen =
     }
 
 -- an access
-pub touch-next : {A E : Type 0} (r : Result A E) (old new : Sweep) (a : Touch) (x : TraceRecord)
-    → x ≡ records.Touch a
+pub touch-next : {A E : Type 0} (r : Result A E) (old new : Sweep) (a : Touch) (pc : Option ℕ)
+    (x : TraceRecord) → x ≡ records.Touch a pc
     → ((t : AccessList) → StandsFor t old → OnOk r (StandsFor (t ++ a ∷ []) new))
     → OnOk r (new.position ≡ old.position + 1) → new.size ≡ old.size
     → OnOk r (SweepsNext old new x)
-touch-next (Ok u) old new a x is stands next size =
+touch-next (Ok u) old new a pc x is stands next size =
     sweeps-next old new x (record {
       stands = λ t stood. subst (λ z. StandsFor (t ++ touches_in (z ∷ [])) new) (sym is)
           (stands t stood);
       position = next ∙ ap (λ z. old.position + length (touches_in (z ∷ []))) (sym is);
       size = size;
     })
-touch-next (Err e) old new a x is stands next size = tt
+touch-next (Err e) old new a pc x is stands next size = tt
 
 -- a record that is none
-pub other-next : (s : Sweep) (x : TraceRecord) → ((a : Touch) → x ≡ records.Touch a → ⊥)
+pub other-next : (s : Sweep) (x : TraceRecord) → ((a : Touch) (pc : Option ℕ) → x ≡ records.Touch a pc → ⊥)
     → SweepsNext s s x
-other-next s (records.Touch a) other = absurd (other a refl)
+other-next s (records.Touch a pc) other = absurd (other a pc refl)
 other-next s (records.Alloc addr size sites) other =
     sweeps-next s s (records.Alloc addr size sites) (quiet-next s _ refl)
 other-next s (records.Free addr) other =

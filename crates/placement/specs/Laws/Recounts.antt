@@ -104,11 +104,11 @@ recounted-nothing r = record {
 
 -- an access
 pub touch-recounted : {A E : Type 0} (r : Result A E) (old new : Recount) (a : Touch)
-    (x : TraceRecord) → x ≡ records.Touch a
+    (pc : Option ℕ) (x : TraceRecord) → x ≡ records.Touch a pc
     → ((t : AccessList) → RecountsFor t old → OnOk r (RecountsFor (t ++ a ∷ []) new))
     → OnOk r (new.position ≡ old.position + 1) → new.size ≡ old.size → new.plan ≡ old.plan
     → OnOk r (RecountsNext old new x)
-touch-recounted (Ok u) old new a x is stands next size plan =
+touch-recounted (Ok u) old new a pc x is stands next size plan =
     recounts-next old new x (record {
       stands = λ t stood. subst (λ z. RecountsFor (t ++ touches_in (z ∷ [])) new) (sym is)
           (stands t stood);
@@ -116,12 +116,12 @@ touch-recounted (Ok u) old new a x is stands next size plan =
       size = size;
       plan = plan;
     })
-touch-recounted (Err e) old new a x is stands next size plan = tt
+touch-recounted (Err e) old new a pc x is stands next size plan = tt
 
 -- a record that is none
-pub other-recounted : (r : Recount) (x : TraceRecord) → ((a : Touch) → x ≡ records.Touch a → ⊥)
+pub other-recounted : (r : Recount) (x : TraceRecord) → ((a : Touch) (pc : Option ℕ) → x ≡ records.Touch a pc → ⊥)
     → RecountsNext r r x
-other-recounted r (records.Touch a) other = absurd (other a refl)
+other-recounted r (records.Touch a pc) other = absurd (other a pc refl)
 other-recounted r (records.Alloc addr size sites) other = quiet-next r _ refl
 other-recounted r (records.Free addr) other = quiet-next r _ refl
 other-recounted r (records.Symbol kind addr size name) other = quiet-next r _ refl

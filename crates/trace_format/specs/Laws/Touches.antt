@@ -20,7 +20,7 @@ touched-push xs x =
     ap length (touches-push xs x) ∙ length-append (touches_in xs) (touches_in (x ∷ []))
 
 pub counted-one : (p : ℕ) (x : TraceRecord) → counted_after p x ≡ p + length (touches_in (x ∷ []))
-counted-one p (records.Touch a) = refl
+counted-one p (records.Touch a pc) = refl
 counted-one p (records.Alloc addr size sites) = sym (add-zero p)
 counted-one p (records.Free addr) = sym (add-zero p)
 counted-one p (records.Symbol kind addr size name) = sym (add-zero p)

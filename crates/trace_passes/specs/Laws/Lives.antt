@@ -21,7 +21,7 @@ position_after position items = position + length (touches_in items)
 
 counted : (p : ℕ) (x : TraceRecord) (xs : List TraceRecord) → position_after (counted_after p x) xs
     ≡ position_after p (x ∷ xs)
-counted p (records.Touch a) xs = omega arith
+counted p (records.Touch a pc) xs = omega arith
 counted p (records.Alloc addr size sites) xs = refl
 counted p (records.Free addr) xs = refl
 counted p (records.Symbol kind addr size name) xs = refl
@@ -74,7 +74,7 @@ lived-all p xs x (b ∷ bs) =
 
 made_by-push : (p : ℕ) (y : TraceRecord) (xs : List TraceRecord) (x : TraceRecord)
     → made_by p y (xs ++ x ∷ []) ≡ map (ended (position_after p (y ∷ xs)) x) (made_by p y xs)
-made_by-push p (records.Touch a) xs x = refl
+made_by-push p (records.Touch a pc) xs x = refl
 made_by-push p (records.Alloc addr size sites) xs x =
     ap (λ b. b ∷ []) (lived-push p xs x (newborn p addr size sites))
 made_by-push p (records.Free addr) xs x = refl

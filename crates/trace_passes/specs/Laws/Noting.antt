@@ -21,8 +21,8 @@ same_objects a b symbols blocks =
 -- one record more at a position, over any blocks
 pub blocks_noted : (before : Objects) (q : ℕ) (x : TraceRecord)
     → map (ended q x) before.blocks ++ made_by q x [] ≡ (objects_noted before x q).blocks
-blocks_noted before q (records.Touch a) = append-nil _
-    ∙ none_ended q (records.Touch a) (λ addr. refl) before.blocks
+blocks_noted before q (records.Touch a pc) = append-nil _
+    ∙ none_ended q (records.Touch a pc) (λ addr. refl) before.blocks
 blocks_noted before q (records.Alloc addr size sites) = refl
 blocks_noted before q (records.Free addr) = append-nil _
 blocks_noted before q (records.Symbol kind addr size name) =
@@ -33,7 +33,7 @@ blocks_noted before q (records.End e) = append-nil _
 symbols_noted : (o : Objects) (list : List Symbol) (x : TraceRecord) (q : ℕ)
     → o.symbols ≡ symbols_of list
     → (objects_noted o x q).symbols ≡ symbols_of (list ++ symbols_in (x ∷ []))
-symbols_noted o list (records.Touch a) q is = is ∙ ap symbols_of (sym (append-nil list))
+symbols_noted o list (records.Touch a pc) q is = is ∙ ap symbols_of (sym (append-nil list))
 symbols_noted o list (records.Alloc addr size sites) q is = is
     ∙ ap symbols_of (sym (append-nil list))
 symbols_noted o list (records.Free addr) q is = is ∙ ap symbols_of (sym (append-nil list))
