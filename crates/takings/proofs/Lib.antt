@@ -1,2 +1,4 @@
+pub mod BlameLaws
 pub mod TextLaws
+pub mod WorkedBlame
 pub mod WorkedTakings
