@@ -14,7 +14,7 @@ use Rattle.takings.specs.declared.blame_rows.TakenHead.{TakenHead}
 use Rattle.takings.specs.declared.blame_tables.LineTaken.{LineTaken}
 use Rattle.takings.specs.declared.sited.Sides.{Sides}
 use Rattle.takings.specs.declared.tables.Taken.{Taken}
-use Rattle.takings.specs.Blame.{TakenLine, is_taken, is_taken_more}
+use Rattle.takings.specs.Blame.{TakenLine}
 use Rattle.takings.specs.BlameKept.{Blamed, rows_in}
 use Rattle.takings.specs.BlameText.{blame_ends, blame_heads, blame_lines, lines_of_line}
 

@@ -1,5 +1,5 @@
 -- How often a line is taken, beside the counts from a later start.
-use Rattle.std.proofs.Common.{◌≡◌, ℕ, ◌+◌, ◌<◌, ◌≤◌, Bool, true, false, ltb, ◌&&◌, List, [], ◌∷◌, ◌++◌}
+use Rattle.std.proofs.Common.{◌≡◌, ℕ, ◌+◌, ◌<◌, ◌≤◌, Bool, true, false, ltb, List, [], ◌∷◌, ◌++◌}
 use Rattle.std.proofs.Common.{length, refl, sym, ap, ◌∙◌, subst, arith, inl, inr, Option, Some, None}
 use Rattle.std.proofs.lemmas.Bool.{cases_Bool, le-leb, lt-ltb}
 use Rattle.std.proofs.lemmas.Bool.Decides.{nat_tests}
@@ -10,7 +10,7 @@ use Rattle.std.specs.Option.{option_or}
 use Rattle.std.specs.Prelude.{if◌then◌else◌, is_some}
 use Rattle.base.specs.Levels.{Levels}
 use Rattle.base.specs.Lines.{Grid, line_number}
-use Rattle.base.specs.Touch.{Touch, is_write}
+use Rattle.base.specs.Touch.{Touch}
 use Rattle.sharing_rules.specs.AccessLists.{writes_to}
 use Rattle.sharing_rules.specs.Holders.{count_since, is_invalidation, line_count_since}
 use Rattle.sharing_rules.specs.Laws.Counts.{count_since-push}
@@ -28,7 +28,7 @@ use Rattle.takings.specs.Latest.{accesses_of}
 use Rattle.takings.specs.Laws.Latest.{accesses_of-push, length-accesses_of}
 use Rattle.takings.specs.Laws.Listed.{listed-counted}
 use Rattle.takings.specs.Laws.Takings.{at-last, at-left, count-push, some-taking}
-use Rattle.takings.specs.Takings.{is_taking, taking_at, taking_count, taking_of}
+use Rattle.takings.specs.Takings.{taking_at, taking_count, taking_of}
 
 -- a later start counts no more
 later-start : (line_of : ℕ → ℕ) (r s : ℕ) (t : List Touch)

@@ -1,6 +1,6 @@
 -- One access more of a list is one access more of what is kept of it.
-use Rattle.std.proofs.Common.{◌≡◌, ℕ, ◌+◌, ◌<◌, ◌≤◌, ◌^◌, Bool, true, false, eqb, List, [], ◌∷◌, ◌++◌}
-use Rattle.std.proofs.Common.{length, refl, sym, ap, ◌∙◌, subst, arith, inl, inr, Option, Some, None}
+use Rattle.std.proofs.Common.{◌≡◌, ℕ, ◌+◌, ◌≤◌, Bool, true, false, eqb, List, [], ◌∷◌, ◌++◌}
+use Rattle.std.proofs.Common.{length, refl, sym, ap, ◌∙◌, subst, arith, inl, inr}
 use Rattle.std.proofs.Common.{Result, Ok, Err}
 use Rattle.std.proofs.lemmas.Bool.{cases_Bool, eq-eqb, eqb-true}
 use Rattle.std.proofs.lemmas.Bool.Decides.{nat_tests}
@@ -27,9 +27,9 @@ use Rattle.takings.specs.Laws.BlameLines.{lines_in, lines_made, lines_made-push,
 use Rattle.takings.specs.Laws.BlameTables.{noted-other, noted-own}
 use Rattle.takings.specs.Laws.Groups.{sum-inserted}
 use Rattle.takings.specs.Laws.Sums.{table, table-more}
-use Rattle.takings.specs.Laws.Takings.{takings-empty, takings-push}
+use Rattle.takings.specs.Laws.Takings.{takings-push}
 use Rattle.takings.specs.Laws.Two.{taking-elsewhere, taking-two}
-use Rattle.takings.specs.Takings.{hart_pairs, harts_of, is_in, pairs, pcs_of, taking_of, takings}
+use Rattle.takings.specs.Takings.{harts_of, is_in, pcs_of, taking_of, takings}
 
 -- what an access takes is what it takes in the list
 taken-now : (g : Grid) (u : List Sited) (p : Parts) (s : Sited) → ArePartsOf g u p

@@ -1,14 +1,13 @@
 -- What one access more makes of what a list makes of each line.
-use Rattle.std.proofs.Common.{◌≡◌, ℕ, ◌+◌, Bool, true, false, eqb, List, [], ◌∷◌, ◌++◌, length}
-use Rattle.std.proofs.Common.{refl, sym, ap, ◌∙◌, subst, arith, inl, inr, None}
+use Rattle.std.proofs.Common.{◌≡◌, ℕ, true, false, eqb, List, [], ◌∷◌, ◌++◌, length}
+use Rattle.std.proofs.Common.{refl, sym, ap, ◌∙◌, subst, arith, inl, inr}
 use Rattle.std.proofs.lemmas.Bool.{cases_Bool, eq-eqb}
 use Rattle.std.proofs.lemmas.Bool.Decides.{nat_tests}
-use Rattle.std.proofs.lemmas.List.Sums.{sum_by-cons}
 use Rattle.std.specs.List.{list_any}
-use Rattle.std.specs.Prelude.{if◌then◌else◌, is_some, nat_eq, sum_by}
+use Rattle.std.specs.Prelude.{is_some, nat_eq}
 use Rattle.indexmap.specs.IndexMap.{insert_entry}
 use Rattle.base.specs.Lines.{Grid}
-use Rattle.misses.specs.Kept.{accessed_lines, lines_of}
+use Rattle.misses.specs.Kept.{accessed_lines}
 use Rattle.misses.specs.Laws.Entered.{AgreeBut, entries, insert-entries, lookup-entries}
 use Rattle.misses.specs.Laws.KeptLines.{note_arrival-any}
 use Rattle.misses.specs.Laws.KeptOf.{lines-push}
@@ -26,7 +25,7 @@ use Rattle.takings.specs.Latest.{accesses_of, latest, latest_place}
 use Rattle.takings.specs.Laws.Latest.{accesses_of-push}
 use Rattle.takings.specs.Laws.Takings.{count-push}
 use Rattle.takings.specs.Laws.Two.{taking-elsewhere, taking-two, two_of-elsewhere, two_of-push}
-use Rattle.takings.specs.Takings.{is_in, taking_count, taking_of}
+use Rattle.takings.specs.Takings.{is_in}
 
 abbrev line_with : LatestTwo → ℕ → LineTaken
 line_with x n = record { two = x; takings = n }

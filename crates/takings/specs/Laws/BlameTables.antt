@@ -1,10 +1,7 @@
 -- The rows of a line in a table of all lines.
-use Rattle.std.proofs.Common.{◌≡◌, ℕ, zero, suc, ◌+◌, ◌<◌, Bool, true, false, eqb, ◌&&◌, List, [], ◌∷◌}
-use Rattle.std.proofs.Common.{Option, Some, None, refl, sym, ap, ◌∙◌, subst, arith, inl, inr}
+use Rattle.std.proofs.Common.{◌≡◌, ℕ, false, eqb, ◌&&◌, List, [], ◌∷◌}
+use Rattle.std.proofs.Common.{Option, Some, None, refl, ap, ◌∙◌, subst, inl, inr}
 use Rattle.std.proofs.lemmas.Bool.{and_parts, cases_Bool, eq-eqb, eqb-true}
-use Rattle.std.proofs.lemmas.Bool.Decides.{nat_tests}
-use Rattle.std.specs.Map.{keys_of, lookup, values_of}
-use Rattle.std.specs.Prelude.{if◌then◌else◌, slice_get}
 use Rattle.indexmap.specs.IndexMap.{insert_entry}
 use Rattle.takings.specs.declared.blame_tables.InLine.{InLine}
 use Rattle.takings.specs.declared.sited.Sides.{Sides}

@@ -1,13 +1,11 @@
 -- The text of what is kept is that of the list that it stands for.
-use Rattle.std.proofs.Common.{◌≡◌, ℕ, Bool, true, false, eqb, List, [], ◌∷◌, ◌++◌, length, refl, sym, ap}
-use Rattle.std.proofs.Common.{◌∙◌, subst, arith, inl, inr, map, filter}
+use Rattle.std.proofs.Common.{◌≡◌, ℕ, false, eqb, List, [], ◌∷◌, ◌++◌, length, refl, sym, ap}
+use Rattle.std.proofs.Common.{◌∙◌, arith, inl, inr, map, filter}
 use Rattle.std.proofs.lemmas.Bool.{cases_Bool, eqb-true}
 use Rattle.std.proofs.lemmas.Bool.Decides.{nat_tests}
 use Rattle.std.proofs.lemmas.List.{length-map}
-use Rattle.std.specs.Map.{lookup}
 use Rattle.std.specs.Prelude.{flat_map, if◌then◌else◌, nat_eq}
 use Rattle.indexmap.specs.IndexMap.{insert_entry}
-use Rattle.base.specs.Lines.{Grid}
 use Rattle.base.specs.TextLines.{text_of}
 use Rattle.misses.specs.Laws.Entered.{entries}
 use Rattle.report.specs.Laws.Shown.{in_order-map}
@@ -22,7 +20,7 @@ use Rattle.takings.specs.declared.tables.Taken.{Taken}
 use Rattle.takings.specs.Blame.{TakenLine, all_takings, is_taken, is_taken_more, most_taken, taken_line}
 use Rattle.takings.specs.BlameKept.{ArePartsOf, Blamed, StandsFor, rows_in, taken_in_list}
 use Rattle.takings.specs.BlameRows.{gathered_at, gathered_lines, has_takings, head_of, heads_in_order}
-use Rattle.takings.specs.BlameRows.{heads_of, is_head_before, kept_text, with_rows}
+use Rattle.takings.specs.BlameRows.{heads_of, kept_text, with_rows}
 use Rattle.takings.specs.BlameText.{blame_ends, blame_heads, blame_lines, blame_text, lines_of_line}
 use Rattle.takings.specs.Laws.BlameLines.{lines_in}
 use Rattle.takings.specs.Takings.{pairs}

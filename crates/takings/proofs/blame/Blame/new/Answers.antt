@@ -1,4 +1,4 @@
-use Rattle.std.proofs.Common.{[], rules}
+use Rattle.std.proofs.Common.{[]}
 use Rattle.takings.specs.Laws.BlameKept.{stands-empty}
 use Rattle.takings.proofs.blame.Blame.new.Goals as goal
 

@@ -1,11 +1,11 @@
-use Rattle.std.proofs.Common.{◌≡◌, ◌+◌, ◌<◌, ◌^◌, ◌∷◌, ◌++◌, [], ap, arith, inl, inr, subst, sym}
+use Rattle.std.proofs.Common.{◌≡◌, ◌<◌, ◌^◌, ◌∷◌, ◌++◌, [], ap, arith, inl, inr, subst, sym}
 use Rattle.std.proofs.Common.{◌∙◌}
 use Rattle.std.proofs.lemmas.Bool.{cases_Bool}
 use Rattle.std.specs.Prelude.{if◌then◌else◌}
 use Rattle.base.specs.Lines.{line_number}
 use Rattle.takings.specs.BlameFits.{parts_of}
 use Rattle.takings.specs.BlameInside.{blamed_in}
-use Rattle.takings.specs.BlameKept.{Blamed, StandsFor, note_access}
+use Rattle.takings.specs.BlameKept.{Blamed, StandsFor}
 use Rattle.takings.specs.Laws.BlameFits.{few-harts, few-lines, few-pairs, total-few}
 use Rattle.takings.specs.Laws.BlameKept.{noted-by, stands-push}
 use Rattle.takings.specs.declared.sited.Sited.{Sited}
