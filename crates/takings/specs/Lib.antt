@@ -1,3 +1,9 @@
+pub mod Blame
+pub mod BlameFits
+pub mod BlameInside
+pub mod BlameKept
+pub mod BlameRows
+pub mod BlameText
 pub mod Groups
 pub mod Inside
 pub mod Kept

@@ -10,8 +10,17 @@
 //! beside its tables, and [`write_explain`] prints what it tells. [`explain_run`] runs a guest to
 //! its end without a detector: the explainer notes each access with the pc of the instruction that
 //! made it.
+//!
+//! [`Blame`] does so for all lines of a layout at once, from the first access on; what it tells is
+//! defined in `specs/Blame.antt`. Of each line it keeps these two accesses and a number, and it has
+//! one table of instructions and one of harts for all lines, since most lines have few rows.
+//! [`write_blame`] prints the lines that are taken, the most taken first.
 #![tactic(auto)]
 
+mod blame;
+mod blame_rows;
+mod blame_tables;
+mod blame_text;
 mod explainer;
 mod latest;
 mod laws;
@@ -21,9 +30,12 @@ mod tables;
 mod text;
 mod watch;
 
+pub use blame::Blame;
+pub use blame_text::write_blame;
 pub use explainer::Explainer;
 pub use laws::{
-    false_sharing_takes_no_word, listed_counts_are_told, takings_add_up, two_accesses_are_enough,
+    false_sharing_takes_no_word, lines_are_told_as_alone, listed_counts_are_told,
+    taken_lines_add_up, takings_add_up, takings_beside_later_counts, two_accesses_are_enough,
     victims_hold_the_line,
 };
 pub use sited::{Sides, Sited, Taking};

@@ -22,8 +22,8 @@ pub struct Taken {
     pub same: u64,
 }
 
-// One taking more.
-fn after(taken: Taken, same: bool) -> Taken
+/// One taking more.
+pub(crate) fn after(taken: Taken, same: bool) -> Taken
     requires { IsFew taken }
     ensures { result ≡ note_taken taken same }
 {
@@ -85,8 +85,8 @@ fn word_of_site(sites: &IndexMap<u32, Word>, pc: u32) -> Word
     }
 }
 
-// Puts a value at a site.
-fn put<V: Copy>(sites: &mut IndexMap<u32, V>, pc: u32, value: V) -> Result<(), NoMemory>
+/// Puts a value at a site, or at the number of a line.
+pub(crate) fn put<V: Copy>(sites: &mut IndexMap<u32, V>, pc: u32, value: V) -> Result<(), NoMemory>
     ensures put { OnOk result
         (sites.new.entries ≡ insert_entry nat_eq sites.old.entries pc value) }
     ensures refused { OnErr result (sites.new.entries ≡ sites.old.entries) }
