@@ -1,5 +1,5 @@
 // The text of the lines that are taken.
-ghost use Rattle.std.specs.Prelude.{◌≡◌, ◌∷◌, ◌++◌, IfOk, List, OnOk, codes, flat_map, length};
+ghost use Rattle.std.specs.Prelude.{◌≡◌, ◌++◌, IfOk, List, OnOk, codes, flat_map};
 ghost use Rattle.std.specs.Prelude.{map};
 ghost use Rattle.std.specs.Fmt.{decimal};
 ghost use Rattle.base.specs.TextLines.{text_of};

@@ -17,7 +17,7 @@ use Rattle.trace_format.specs.Spelling.{before_after, nothing_before, spell, spe
 use Rattle.trace_format.specs.Spelling.{spell_record}
 use Rattle.trace_format.specs.Rules.{IsGoodBefore, IsGoodHeader, IsGoodRecord, IsInner}
 use Rattle.trace_format.specs.Rules.{last_position}
-use Rattle.trace_format.specs.Rules.{longest_trace, touch_in, touches_in}
+use Rattle.trace_format.specs.Rules.{longest_trace, touches_in}
 use Rattle.trace_format.specs.Judging.{header_judged, record_extent, record_judged}
 use Rattle.trace_format.specs.Reading.{Reading, begin, byte_read, counted_after, ending_in}
 use Rattle.trace_format.specs.Reading.{ending_of, extent_at, header_read, part_at}

@@ -1,5 +1,5 @@
 // Accesses, in every version.
-ghost use Rattle.std.specs.Prelude.{◌≡◌, ◌%◌, ◌+◌, ◌∷◌, ◌++◌, [], OnOk, OnErr, None};
+ghost use Rattle.std.specs.Prelude.{◌≡◌, ◌%◌, ◌+◌, ◌∷◌, ◌++◌, OnOk, OnErr, None};
 ghost use Rattle.trace_format.specs.Tags.{half_of};
 ghost use Rattle.trace_format.specs.Numbers.{distance, groups};
 ghost use Rattle.trace_format.specs.Spelling.{nothing_before, pc_before, spell_short_touch};

@@ -1,5 +1,5 @@
 // Laws of what is read, for callers whose own clauses speak of traces.
-ghost use Rattle.std.specs.Prelude.{◌≡◌, ℕ, ◌^◌, ◌<◌, ◌≤◌, List, [], ◌++◌, length, Ok, Err};
+ghost use Rattle.std.specs.Prelude.{◌≡◌, ℕ, ◌<◌, ◌≤◌, List, [], ◌++◌, length, Ok, Err};
 ghost use Rattle.std.specs.List.{All};
 ghost use Rattle.base.specs.declared.ending.Ending.{Ending};
 ghost use Rattle.trace_format.specs.declared.before.Before.{Before};

@@ -1,7 +1,6 @@
 // One record, all of whose bytes are there.
-ghost use Rattle.std.specs.Prelude.{◌≡◌, ◌^◌, ◌+◌, ◌≤◌, ◌≢◌, Err, drop, length};
+ghost use Rattle.std.specs.Prelude.{◌≡◌, ◌^◌, ◌≤◌, ◌≢◌, Err, length};
 ghost use Rattle.trace_format.specs.Judging.{alloc_at, extent_of, record_extent};
-ghost use Rattle.trace_format.specs.Judging.{short_touch_extent, sited_touch_extent};
 ghost use Rattle.trace_format.specs.Judging.{record_judged, tagged_judged, touch_counted};
 ghost use Rattle.trace_format.specs.Tags.{IsTag};
 ghost use Rattle.trace_format.specs.Sound.{IsSound};
