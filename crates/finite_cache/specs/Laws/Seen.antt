@@ -9,7 +9,7 @@ use Rattle.trace_format.specs.Rules.{last_position, touches_in}
 use Rattle.trace_format.specs.declared.record.TraceRecord.{TraceRecord}
 use Rattle.trace_format.specs.declared.record.TraceRecord.TheVariants as records
 use Rattle.trace_format.specs.Laws.Touches.{position-next, position-quiet, room-next}
-use Rattle.trace_format.specs.Laws.Touches.{stands-next, stands-none, stands-quiet}
+use Rattle.trace_format.specs.Laws.Touches.{stands-next, stands-none as still-stands, stands-quiet}
 use Rattle.trace_passes.specs.Rooms.{HasRoom}
 use Rattle.base.specs.TextLines.{text_of}
 use Rattle.base.specs.Shapes.{CacheShape}
@@ -63,7 +63,7 @@ see-on (Ok v) old new x a pc is noted stands =
 -- nothing seen yet
 pub seen-none : (now : Kept) → HasSeen now now []
 seen-none now = record {
-  stands = stands-none StandsFor now;
+  stands = still-stands StandsFor now;
   position = omega arith;
   shape = refl;
 }
