@@ -24,13 +24,7 @@ pub(crate) enum Line {
     Exit(u32, u64, u64),
 }
 
-fn touch_of(
-    kind: Kind,
-    hart: u16,
-    addr: u32,
-    size: u8,
-    pc: Option<u32>,
-) -> Option<TraceRecord>
+fn touch_of(kind: Kind, hart: u16, addr: u32, size: u8, pc: Option<u32>) -> Option<TraceRecord>
     ensures { IfSome result (λ item. IsWritable item) }
 {
     let access = Access::new(Hart::new(hart)?, addr, kind, size)?;
