@@ -69,7 +69,7 @@ fn group_count(bytes: &[u8]) -> usize
 
 // Where the groups from a place on end, as far as they are there.
 #[inline(always)]
-fn end_of_groups(bytes: &[u8], place: usize) -> usize
+pub(crate) fn end_of_groups(bytes: &[u8], place: usize) -> usize
     requires { place ≤ 7 }
     ensures { result ≡ place + group_count (drop place bytes.now) }
 {
@@ -209,8 +209,33 @@ fn with_pc(
     Ok((access, Some(pc)))
 }
 
+// The access and the pc in the two parts of a record of version 3, which are all there.
+#[inline(always)]
+pub(crate) fn sited_touch_in(
+    front: &[u8],
+    told: &[u8],
+    kind: Kind,
+    size: u8,
+    harts: u16,
+    before: &Before,
+    place: u64,
+) -> Result<(Access, Option<u32>), TraceFault>
+    requires front_long { length front.now ≡ short_touch_extent front.now }
+    requires told_long { length told.now ≡ group_count told.now }
+    requires sized { IsTrue (is_access_size size) }
+    requires few { harts ≤ 256 }
+    requires low { place ≤ 2 ^ 44 }
+    ensures { result ≡ with_pc before.now (place + length front.now) told.now
+        (short_touch_judged kind size harts before.now.last place front.now) }
+{
+    let behind = place + front.len() as u64;
+    match short_touch_of(front, kind, size, harts, before.last, place) {
+        Ok(access) => with_pc(before, behind, told, access),
+        Err(fault) => Err(fault),
+    }
+}
+
 // The access in the bytes of a record of version 3, which are all there.
-#[tactic(auto, unfolding(crate::specs::Judging::sited_touch_judged))]
 #[inline(always)]
 pub(crate) fn sited_touch_of(
     bytes: &[u8],
@@ -227,9 +252,5 @@ pub(crate) fn sited_touch_of(
     ensures { result ≡ sited_touch_judged kind size harts before.now place bytes.now }
 {
     let (front, told) = bytes.split_at(short_touch_extent(bytes));
-    let behind = place + front.len() as u64;
-    match short_touch_of(front, kind, size, harts, before.last, place) {
-        Ok(access) => with_pc(before, behind, told, access),
-        Err(fault) => Err(fault),
-    }
+    sited_touch_in(front, told, kind, size, harts, before, place)
 }

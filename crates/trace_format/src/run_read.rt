@@ -10,7 +10,7 @@ ghost use Rattle.trace_format.specs.Sound.{IsSound};
 ghost use Rattle.trace_format.specs.ReaderStates.{HasAccess, HasSameHead, ReadsBut, reading_at};
 
 use crate::access_read::{
-    short_touch_extent, short_touch_of, sited_touch_extent, sited_touch_of, touch_of, without_pc,
+    end_of_groups, short_touch_extent, short_touch_of, sited_touch_in, touch_of, without_pc,
 };
 use crate::header_read::LAST_POSITION;
 use crate::reader_state::count_access;
@@ -97,13 +97,15 @@ fn sited_touch_ahead(progress: &ReadSoFar, kind: Kind, width: u8, bytes: &[u8]) 
     ensures { IfSome result (λ ahead. HasAccess progress.now bytes.now ahead.access ahead.pc
         ahead.size) }
 {
-    let size = sited_touch_extent(bytes);
+    let behind_front = short_touch_extent(bytes);
+    let size = end_of_groups(bytes, behind_front);
     if bytes.len() < size {
         return None;
     }
     let (part, _) = bytes.split_at(size);
+    let (front, told) = part.split_at(behind_front);
     let (harts, before, place) = (progress.header.harts, &progress.before, progress.place);
-    let sited = sited_touch_of(part, kind, width, harts, before, place);
+    let sited = sited_touch_in(front, told, kind, width, harts, before, place);
     placed(progress, sited, size)
 }
 

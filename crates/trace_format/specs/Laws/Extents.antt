@@ -155,6 +155,11 @@ pub front_whole : (bytes : List ℕ) (n : ℕ) → n ≡ short_touch_extent byte
 front_whole bytes n is some le =
     length-take-le n bytes le ∙ is ∙ sym ((short_touch_front n bytes some le).same (omega arith))
 
+-- they are as many in a beginning that has them all
+pub front_still : (bytes : List ℕ) (m : ℕ) → short_touch_extent bytes ≤ m → 1 ≤ m
+    → m ≤ length bytes → short_touch_extent (take m bytes) ≡ short_touch_extent bytes
+front_still bytes m enough some le = (short_touch_front m bytes some le).same enough
+
 -- The header and each record wait until they are whole.
 pub fronts_wait_at : (p : Option ReadSoFar) (e : Option Ending) (bytes : List ℕ)
     → FrontsWait p e bytes
