@@ -1,6 +1,6 @@
 -- The same records behind another access: how many bytes more they take at most.
 use Rattle.std.proofs.Common.{◌≡◌, ◌≢◌, ℕ, zero, suc, ◌+◌, ◌^◌, ◌≤◌, ◌<◌, inl, inr, List, [], ◌∷◌}
-use Rattle.std.proofs.Common.{◌++◌, length, set, slice_index, slice_set, Option, refl, sym, ap, ◌∙◌}
+use Rattle.std.proofs.Common.{length, set, slice_index, slice_set, Option, refl, sym, ap}
 use Rattle.std.proofs.Common.{arith, subst}
 use Rattle.std.proofs.lemmas.Bool.{cases_eq, cases_lt}
 use Rattle.std.proofs.lemmas.Grind.{get_or-set_at}

@@ -43,8 +43,10 @@ pub access-next : (old new : Kept) (a : Touch) (pc : Option ℕ) → HasNoted a 
     → ((t : AccessList) → StandsFor t old → StandsFor (t ++ a ∷ []) new)
     → SeesNext old new (records.Touch a pc)
 access-next old new a pc noted stands begun items seen =
-    let all : length (touches_in (items ++ records.Touch a pc ∷ [])) ≡ length (touches_in items) + 1 =
-    ap length (touches-push items (records.Touch a pc)) ∙ length-append (touches_in items) (a ∷ []) in
+    let all : length (touches_in (items ++ records.Touch a pc ∷ []))
+    ≡ length (touches_in items) + 1 =
+    ap length (touches-push items (records.Touch a pc))
+    ∙ length-append (touches_in items) (a ∷ []) in
     record {
       stands = λ t stood. subst (λ (list : AccessList). StandsFor list new)
           (append_assoc t (touches_in items) (a ∷ [])

@@ -1,5 +1,4 @@
-use Rattle.std.proofs.Common.{◌≡◌, ◌∙◌, length, refl, sym, ap, arith}
-use Rattle.trace_format.specs.Rules.{touches_in}
+use Rattle.std.proofs.Common.{◌∙◌, length, refl, sym, ap, arith}
 use Rattle.trace_format.specs.Spelling.{spell}
 use Rattle.trace_passes.specs.Passes.{spell_trace}
 use Rattle.trace_passes.specs.Laws.Spelled.{trace-spelled}
