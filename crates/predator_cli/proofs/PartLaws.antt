@@ -316,7 +316,7 @@ module _
 
         seen_good : All (IsGoodRecord t.version t.header.harts) seen
         seen_good = All-append (IsGoodRecord t.version t.header.harts) before (all_records part)
-        ready.good
+            ready.good
             (All-push (IsGoodRecord t.version t.header.harts) part.items (records.End part.ending)
             two.first_is.good.good.records two.first_is.good.good.ending)
 

@@ -64,8 +64,7 @@ module _ (at : ℕ) (t : Trace) (good : IsGoodTrace t.version t.header t.items t
 
     whole_good : All (IsGoodRecord t.version t.header.harts) (before ++ behind)
     whole_good = All-same (IsGoodRecord t.version t.header.harts) (before ++ behind) t.items
-    two.whole
-        good.records
+        two.whole good.records
 
     whole_inner : All IsInner (before ++ behind)
     whole_inner = All-same IsInner (before ++ behind) t.items two.whole good.inner
