@@ -1,9 +1,8 @@
 // The rows of the lines that are taken, gathered for the text.
-ghost use Rattle.std.specs.Prelude.{◌≡◌, ℕ, ◌++◌, ◌∷◌, ◌<◌, [], IfOk, IfSome, OnOk, Some, filter};
-ghost use Rattle.std.specs.Prelude.{map, nat_eq, option_to_list, slice_get, length, option_map};
+ghost use Rattle.std.specs.Prelude.{◌≡◌, ℕ, ◌++◌, ◌∷◌, [], IfOk, IfSome, OnOk, filter};
+ghost use Rattle.std.specs.Prelude.{nat_eq, option_to_list, slice_get, option_map};
 ghost use Rattle.std.specs.Ordering.{is_lt};
-ghost use Rattle.indexmap.specs.IndexMap.{index_of, insert_entry, set_value_at, values};
-ghost use Rattle.base.specs.Lines.{Grid};
+ghost use Rattle.indexmap.specs.IndexMap.{insert_entry, set_value_at, values};
 ghost use Rattle.sharing_rules.specs.Listed.{in_order};
 ghost use Rattle.takings.specs.BlameKept.{rows_in};
 ghost use Rattle.takings.specs.BlameRows.{gathered_at, has_takings, head_of, heads_in_order};
