@@ -3,6 +3,12 @@
 
 # How many words stand before those of a PROGRAM's own `main`, and which options name files that are written.
 # commands.toml: words
-declare -A names_before=([run]=1 [explain]=4)
+declare -gA names_before=([run]=1 [explain]=4)
 written_options=(--trace --output --save)
+# (so far)
+
+# Which commands read a TRACE, and the keys of the settings.
+# commands.toml: hints
+trace_readers="replay split convert sweep caches place misses"
+setting_keys=(harts memory stack tracking prediction report quantum budget line seed)
 # (so far)

@@ -8,56 +8,47 @@ _predator() {
         mapfile -t COMPREPLY < <(compgen -W "$commands help $own" -- "$word")
         return
     fi
-    case ${COMP_WORDS[1]} in
-        view)
-            local shows="--program --back --top --object --words --predicted --explain --type --sources --html --json --sarif --against --fail-above --by"
-            case $word in
-                -*) mapfile -t COMPREPLY < <(compgen -W "$shows --settings --schedule --trace --output --size --shift --help" -- "$word") ;;
-                *) mapfile -t COMPREPLY < <(((COMP_CWORD == 2)) && compgen -W "run replay" -- "$word"; compgen -f -- "$word") ;;
-            esac
+    local of=${COMP_WORDS[1]} at
+    if [ "$of" = help ]; then
+        mapfile -t COMPREPLY < <(compgen -W "$commands" -- "$word")
+        return
+    fi
+    # (what follows is the words of a program, or of snakemake)
+    for ((at = 2; at < COMP_CWORD; at++)); do
+        if [ "${COMP_WORDS[at]}" = -- ]; then
+            mapfile -t COMPREPLY < <([ "$of $at" != "native $((COMP_CWORD - 1))" ] || compgen -c -- "$word"; compgen -f -- "$word")
             return
-            ;;
-        campaign)
-            case $before:$word in
-                --profile:*) mapfile -t COMPREPLY < <(compgen -W "slurm ssh" -- "$word"; compgen -d -- "$word") ;;
-                --cores:*) ;;
-                *:-*) mapfile -t COMPREPLY < <(compgen -W "--to --profile --cores --check --help --" -- "$word") ;;
-                *) mapfile -t COMPREPLY < <(compgen -f -- "$word") ;;
-            esac
-            return
-            ;;
-        native)
-            local records="--built --quantum --all --marked --most --trace --table --report --settings --size --shift --mend --build --help"
-            case $word in
-                -*) mapfile -t COMPREPLY < <(compgen -W "$records" -- "$word") ;;
-                *) mapfile -t COMPREPLY < <(compgen -c -f -- "$word") ;;
-            esac
-            return
-            ;;
-        help)
-            mapfile -t COMPREPLY < <(compgen -W "$commands" -- "$word")
-            return
-            ;;
-        *) ;;
-    esac
-    case ${COMP_WORDS[1]} in
+        fi
+    done
+    if [ "$of" = view ] && ((COMP_CWORD > 2)) && [[ ${COMP_WORDS[2]} == @(run|replay|native|sweep) ]]; then of="view ${COMP_WORDS[2]}"; fi
+    case $of in
     # commands.toml: options
-        run) options="--settings --set --schedule --trace --output" ;;
-        replay) options="--settings --set --size --shift --save --resume" ;;
-        check) options="--settings --set" ;;
-        split) options="" ;;
-        gen) options="" ;;
-        convert) options="" ;;
-        sweep) options="--size" ;;
-        caches) options="--size --sets --ways" ;;
-        place) options="--size" ;;
-        misses) options="--size --shift" ;;
-        explain) options="--settings --set --schedule" ;;
+        'run') options="--settings --set --schedule --trace --output" ;;
+        'replay') options="--settings --set --size --shift --save --resume" ;;
+        'check') options="--settings --set" ;;
+        'split') options="" ;;
+        'gen') options="" ;;
+        'convert') options="" ;;
+        'sweep') options="--size" ;;
+        'caches') options="--size --sets --ways" ;;
+        'place') options="--size" ;;
+        'misses') options="--size --shift" ;;
+        'explain') options="--settings --set --schedule" ;;
+        'view') options="--top --object --words --library --predicted --explain --type --sources --html --json --sarif --against --fail-above --by --program --back" ;;
+        'campaign') options="--to --profile --cores --html --check" ;;
+        'native') options="--built --quantum --all --marked --most --trace --table --report --settings --size --shift --mend --build" ;;
+        'view run') options="--top --object --words --library --predicted --explain --type --sources --html --json --sarif --against --fail-above --by --settings --set --schedule --trace --output" ;;
+        'view replay') options="--top --object --words --library --predicted --explain --type --sources --html --json --sarif --against --fail-above --by --program --back --settings --set --size --shift --save --resume" ;;
+        'view sweep') options="--size --html" ;;
+        'view native') options="--top --object --words --library --predicted --explain --type --sources --html --json --sarif --against --fail-above --by --built --quantum --all --marked --most --settings --set --size --shift" ;;
     # (so far)
         *) return ;;
     esac
     local known
     case $before in
+        --by) known="useless count" ;;
+        --profile) known="slurm ssh $(compgen -d -- "$word")" ;;
+        --object | --type | --top | --explain | --fail-above | --cores | --quantum | --most) known= ;;
     # commands.toml: values
         --size) known="4 8 16 32 64 128 256 512 1024" ;;
         --shift) known="" ;;
@@ -68,6 +59,8 @@ _predator() {
         *)
             if [[ $word == -* ]]; then
                 mapfile -t COMPREPLY < <(compgen -W "$options --help" -- "$word")
+            elif [ "$of:$COMP_CWORD" = view:2 ]; then
+                mapfile -t COMPREPLY < <(compgen -W "run replay native sweep" -- "$word"; compgen -f -- "$word")
             else
                 mapfile -t COMPREPLY < <(compgen -f -- "$word")
             fi

@@ -33,6 +33,7 @@ Options:
   --to DIR      the folder of the results; without it PLAN without its ending, and `.campaign`
   --profile P   how jobs are started: slurm, ssh, or a profile of Snakemake's
   --cores N     how many jobs run at once on this machine (all processors)
+  --html F      writes a page too, with a strip of each object's numbers over the seeds
   --check       judges the plan, and tells how many runs and jobs it asks for
   --help, -h    this page
 
@@ -61,7 +62,7 @@ class Call:
                 self.more, words = words, []
             elif word in ("--help", "-h", "--check"):
                 self.options["help" if word == "-h" else word[2:]] = ""
-            elif name in ("--to", "--profile", "--cores"):
+            elif name in ("--to", "--profile", "--cores", "--html"):
                 if not has_value and not words:
                     raise Fault(f"a value is required for '{word}'")
                 if name[2:] in self.options:
@@ -247,8 +248,39 @@ def work(call: Call, campaign: Record) -> int:
     table = tables(call.folder)
     note_failed(call.folder, campaign, table)
     tell_failed(call.folder, table)
+    if "html" in call.options:
+        write_page(call.folder, campaign, call.options["html"])
     print(f"{table['runs']} runs, {len(table['failed'])} failed calls, {len(table['missing'])} missing jobs: {call.folder}/table.tsv")
     return 1 if table["failed"] or table["missing"] else 2 if status else 0
+
+
+def write_page(folder: str, campaign: Record, path: str) -> None:
+    """Writes the page of all results that there are."""
+    import sheet
+    import table
+
+    before = os.getcwd()
+    os.chdir(folder)
+    try:
+        text = sheet.sheet(campaign, *table.read(campaign))
+    finally:
+        os.chdir(before)
+    with open(path, "w", encoding="utf-8", errors="backslashreplace") as file:
+        file.write(text)
+
+
+def check_page(call: Call) -> None:
+    """Refuses a page that can't be written, before anything runs."""
+    path = call.options.get("html")
+    if path is None:
+        return
+    from drawing import templates
+
+    templates()
+    if os.path.exists(path) and os.path.samefile(path, call.plan):
+        raise Fault(f"{path}: it is the plan, and stays as it is")
+    if not os.path.isdir(os.path.dirname(path) or "."):
+        raise Fault(f"{path}: No such file or directory")
 
 
 def is_dry(words: Sequence[str]) -> bool:
@@ -284,6 +316,7 @@ def main(words: Sequence[str]) -> int:
             raise Fault(f"{lacking()} is missing: {PACKAGES}", 127)
         from plan import expanded
 
+        check_page(call)
         program = predator()
         campaign = expanded(call.plan, program, check_of(program["file"]))
         return check(campaign) if "check" in call.options else work(call, campaign)

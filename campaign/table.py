@@ -10,7 +10,7 @@ import re
 import sys
 import tempfile
 from collections import Counter
-from typing import Any, Iterable, Mapping, Sequence, cast
+from typing import Any, Iterable, Iterator, Mapping, Sequence, cast
 
 HERE = os.path.dirname(os.path.abspath(__file__))
 sys.path[:0] = [HERE, os.path.join(HERE, "..", "view")]
@@ -130,19 +130,29 @@ def rows_of(part: Part) -> tuple[Rows, Rows]:
     """Of each group, layout and kind the lines, and the objects by their worst line of each seed. A line that no seed lists, and that has
     no useless miss in any, is left out."""
     lines: Rows = {}
-    objects: dict[Under, dict[str, Family]] = {}
-    for (group, layout, kind, key), (names, seen) in part.lines.items():
-        if not any(count or useless for _, count, useless in seen):
-            continue
-        ranked = sorted(names, key=lambda it: (-names[it], it))
-        name, offset = own_name(key, ranked)
+    for under, (name, offset), ranked, seen in named(part):
         beside = list(dict.fromkeys(it[0] for it in ranked if it[0] != name))
-        lines.setdefault((group, layout, kind), []).append({"object": name, "offset": offset, "beside": beside, **numbers(seen)})
-        objects.setdefault((group, layout, kind), {}).setdefault(family(name), Family()).add(seen)
+        lines.setdefault(under, []).append({"object": name, "offset": offset, "beside": beside, **numbers(seen)})
     return (
         {under: sorted(own, key=weight) for under, own in lines.items()},
-        {under: sorted((of.row(it) for it, of in families.items()), key=weight) for under, families in objects.items()},
+        {under: sorted((of.row(it) for it, of in own.items()), key=weight) for under, own in families(part).items()},
     )
+
+
+def named(part: Part) -> Iterator[tuple[Under, Party, list[Party], list[Seen]]]:
+    """Each line that is kept: what it stands under, its object, all objects on it by their shares, and what the seeds say."""
+    for (group, layout, kind, key), (names, seen) in part.lines.items():
+        if any(count or useless for _, count, useless in seen):
+            ranked = sorted(names, key=lambda it: (-names[it], it))
+            yield (group, layout, kind), own_name(key, ranked), ranked, seen
+
+
+def families(part: Part) -> dict[Under, dict[str, "Family"]]:
+    """Of each group, layout and kind the objects."""
+    found: dict[Under, dict[str, Family]] = {}
+    for under, (name, _), _, seen in named(part):
+        found.setdefault(under, {}).setdefault(family(name), Family()).add(seen)
+    return found
 
 
 class Family:

@@ -24,7 +24,7 @@ shipped >"$work/shipped" 2>&1 &
 children+=("$!:shipped")
 cd "$here/tests" || exit 1
 workflow=$(sed -n 's/^    def \(test_[a-z_]*\).*/test_workflow.Workflow.\1/p' test_workflow.py)
-for it in test_plans test_tables $workflow; do
+for it in test_plans test_tables test_sheet $workflow; do
     "$python" -W ignore -m unittest "$it" >"$work/$it" 2>&1 &
     children+=("$!:$it")
 done

@@ -78,13 +78,16 @@ want_kit() {
 
 # OUT, then sources, then -- and flags.
 build() {
-    local out=$1 sources=() flags=() objects own kit count=0 made common tail=()
+    local out=$1 sources=() flags=() objects own kit count=0 made common tail=() it
     shift
     while (($# > 0)) && [ "$1" != -- ]; do
         sources+=("$1")
         shift
     done
     (($# > 0)) && shift
+    for it in "${sources[@]}"; do
+        [[ $it != *.@(cpp|cc|cxx|c++|C) ]] || fail "$it is C++: $here/c++ ${sources[*]} -o $out builds it"
+    done
     flags=("$@")
     flags_of_all
     kit=$(kit_of)

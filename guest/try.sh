@@ -110,6 +110,35 @@ try_launcher() {
     try "without rt, once built" 0 env PATH=/usr/bin:/bin "$predator" check "$here/built/counters.elf"
 }
 
+# completes WANTED WORD ..: what bash is offered for the last word.
+completes() {
+    local wanted=$1 got
+    shift
+    got=$(bash -c '. "$0/bin/predator.bash"; COMP_WORDS=(predator "$@"); COMP_CWORD=$#; _predator; echo "${COMPREPLY[*]}"' "$top" "$@")
+    tried=$((tried + 1))
+    [ "$got" = "$wanted" ] || { echo "completion of '$*': '$got', and not '$wanted'"; failed=$((failed + 1)); }
+}
+
+try_completion() {
+    completes "replay" rep
+    completes "--settings --set --schedule" run p --s
+    completes "--settings --set --size --shift --save" replay t --s
+    completes "--help" convert --
+    completes "--sources --sarif" view r --s
+    completes "--sources --sarif --settings --set --schedule" view run p --s
+    completes "--sources --sarif --settings --set --size --shift --save" view replay t --s
+    completes "--sources --sarif --settings --set --size --shift" view native p --s
+    completes "" view run p --ba
+    completes "--size --html --help" view sweep t --
+    completes "--back" view replay t --ba
+    completes "useless count" view run p --fail-above 3 --by ""
+    completes "run" view ru
+    completes "--cores --check" campaign p.yaml --c
+    completes "--trace --table" native --t
+    completes "" native -- ./a --t
+    completes "1 2 4 8 16 32 64 128 256 512 1024" caches t --sets ""
+}
+
 try_commands() {
     try "counters" 0 "$predator" run "$here/built/counters.elf"
     shows "counters" "sum 80000"
@@ -196,7 +225,25 @@ try_messages() {
     says "a word of other bytes" "a word isn't UTF-8, as all words of a call are, names of files too"
     { printf '\177ELF\2\1\1'; head -c 9 /dev/zero; printf '\3\0\76\0'; head -c 40 /dev/zero; } >x86
     try "another machine" 2 "$predator" check x86
-    says "another machine" "x86: an ELF file for x86-64: guest/build.sh builds for RV32IMA"
+    shows "another machine" "predator: \`predator native -- x86\` reports on a program of this machine, and \`predator view x86\` shows it" \
+        "predator: x86: an ELF file for x86-64: guest/build.sh builds for RV32IMA"
+    local by_hand="predator run PROGRAM --trace F"
+    try "a program of this machine as a trace" 5 "$predator" misses x86 --size 64
+    shows "a program of this machine as a trace" "predator: \`predator native --trace F -- x86\` writes a trace of a program of this machine" \
+        "predator: x86: not a trace: \`$by_hand\` writes one, tools/to_trace.py too"
+    try "a program as a trace" 5 "$predator" replay --set report=1 programs/counters.elf
+    shows "a program as a trace" "predator: programs/counters.elf is a program: \`predator run programs/counters.elf\` runs it, and with \`--trace F\` it writes a trace" \
+        "predator: programs/counters.elf: not a trace: \`$by_hand\` writes one, tools/to_trace.py too"
+    try "a trace as a program" 2 "$predator" run t
+    shows "a trace as a program" "predator: t is a trace: \`predator replay t\` counts it, and \`predator view t\` shows it" \
+        "predator: t: not an ELF file: guest/build.sh builds for RV32IMA"
+    head -c 1000 t >cut.t
+    try "a trace that was cut" 5 "$predator" replay cut.t
+    shows "a trace that was cut" "predator: cut.t: where a kill or Ctrl-C cut it, \`predator native --mend cut.t\` gives it an end" \
+        "predator: cut.t: it ends after 1000 bytes, before the trace does: write or copy it again"
+    try "an unknown object" 13 "$predator" place t missing
+    shows "an unknown object" "predator: no object symbol of the trace has this name, nor was exactly one block made at that address" \
+        "predator: objects on lines that are taken: counters"
     printf '#!/bin/sh\n' >$'a\nscript'
     try "a script" 2 "$predator" check $'a\nscript'
     says "a script" 'a\x0ascript: a script: guest/build.sh builds for RV32IMA'
@@ -208,7 +255,10 @@ try_messages() {
     try "a changed setting" 4 "$predator" check programs/counters.elf --settings settings --set harts=0
     says "a changed setting" "\`harts\` is a whole number from 1 to 256"
     try "no key of the settings" 1 "$predator" check programs/counters.elf --set turns=1
-    says "no key of the settings" "'turns=1' in --set names no key of the settings"
+    local keys="The keys are: harts memory stack tracking prediction report quantum budget line seed"
+    shows "no key of the settings" "predator: $keys" "predator: 'turns=1' in --set names no key of the settings"
+    try "a key with a slip" 1 "$predator" run programs/counters.elf --set=report=1,quantom=3
+    shows "a key with a slip" "predator: did you mean \`quantum\`? $keys" "predator: 'quantom=3' in --set names no key of the settings"
     printf 'memory = 65536\n' >small
     try "a small memory" 2 "$predator" run programs/counters.elf --settings small
     says "a small memory" "programs/counters.elf: its segments, the stacks and a heap have no room in the memory: set more \`memory\`, fewer \`harts\` or less \`stack\` in the settings"
@@ -404,6 +454,9 @@ C
     prints "what was built" "outcome exit 0"
     try "initialised variables" 0 grep -x 11 o
     try "a build without words" 1 "$here/build.sh"
+    cp init.c init.cpp
+    try "a build of C++" 1 "$here/build.sh" cxx.elf init.cpp
+    shows "a build of C++" "build.sh: init.cpp is C++: $here/c++ init.cpp -o cxx.elf builds it"
     # Alone, and with free lines before and behind.
     cat >alone.c <<'C'
 #include "predator.h"
@@ -562,7 +615,7 @@ try_unproved() {
 [ $# -gt 0 ] || set -- program install kit c_library
 for part in "$@"; do
     case $part in
-        program) for it in launcher commands refusals outputs shown messages streams; do "try_$it"; done ;;
+        program) for it in launcher completion commands refusals outputs shown messages streams; do "try_$it"; done ;;
         install | kit | c_library | unproved) "try_$part" ;;
         *)
             sed -n '2,/^[^#]/s/^# \{0,1\}//p' "$here/try.sh" >&2

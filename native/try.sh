@@ -242,6 +242,7 @@ refused "a text" 126 "this is no program" --trace t -- ./text
 refused "a script" 126 "this is a script" --trace t -- ./script
 refused "32 bits" 126 "no program for x86-64" --trace t -- ./elf32
 refused "another machine" 126 "no program for x86-64" --trace t -- ./arm
+refused "a program for RV32" 126 "this is a program for RV32; \`predator run $here/../guest/built/counters.elf\` runs it" --trace t -- "$here/../guest/built/counters.elf"
 refused "set-user-id" 126 "another user's" --trace t -- ./owned
 refused "the trace is a folder" 125 "this is a folder" --trace folder -- ./odd
 refused "the trace is the program" 125 "this is the program" --trace odd -- ./odd

@@ -25,6 +25,8 @@ NUMBERS = "crates/command_files/specs/Numbers.antt"
 USAGE = "crates/worked_runs/data/usage.txt"
 # What refuses memory to each command.
 MEMORY = "guest/refuse_memory.py"
+# The pages of help of what the launcher answers itself.
+PAGES = {"view": "view/calls.py", "campaign": "campaign/main.py", "native": "native/predator-native"}
 # Crates that repeat lines of usage, to test them.
 COPIES = ("_tests",)
 LAUNCHER = ("--help", "--version", "--prove")
@@ -158,10 +160,26 @@ def format_parts(table: dict[str, list[Row]]) -> dict[str, str]:
 # Scripts.
 
 
+def view_options(table: dict[str, list[Row]]) -> dict[str, list[str]]:
+    """The options of view, by what it does with a file: for a report alone, and for a program or a trace beside those of its command."""
+    own, recorder = (next(it for it in table["beside"] if it["name"] == name) for name in ("view", "native"))
+    of = {it["name"]: options_of(it) for it in table["command"]}
+    layout = [it for it in of["replay"] if it not in ("--save", "--resume")]
+    return {
+        "view": [*own["options"], *own["names"]],
+        "view run": [*own["options"], *of["run"]],
+        "view replay": [*own["options"], *own["names"], *of["replay"]],
+        "view sweep": [*of["sweep"], "--html"],
+        "view native": [*own["options"], *recorder["traces"], *layout],
+    }
+
+
 def completion_parts(table: dict[str, list[Row]]) -> dict[str, str]:
     """The parts of the completion, by the names of their marks."""
     names = " ".join(it["name"] for it in [*table["command"], *table["beside"]])
-    arms = [f"        {it['name']}) options=\"{' '.join(options_of(it))}\" ;;" for it in table["command"]]
+    options = {it["name"]: options_of(it) for it in table["command"]} | {it["name"]: it["options"] for it in table["beside"]}
+    options |= view_options(table)
+    arms = [f"        '{name}') options=\"{' '.join(own)}\" ;;" for name, own in options.items()]
     complete = [f"        {it['name']}) known=\"{' '.join(map(str, it['values']))}\" ;;" for it in table["option"] if "values" in it]
     complete += ["        --set) known= ;;"]
     return {
@@ -172,10 +190,15 @@ def completion_parts(table: dict[str, list[Row]]) -> dict[str, str]:
 
 
 def launcher_parts(table: dict[str, list[Row]]) -> dict[str, str]:
-    """What the launcher knows, by the name of its mark."""
+    """What the launcher knows, by the names of its marks."""
     counts = " ".join(f"[{it['name']}]={len(names_of(it))}" for it in table["command"] if it.get("main"))
     outputs = " ".join(it["name"] for it in table["option"] if it.get("writes"))
-    return {"words": f"declare -A names_before=({counts})\nwritten_options=({outputs})\n"}
+    readers = " ".join(it["name"] for it in table["command"] if "TRACE" in it.get("reads", ()))
+    keys = " ".join(it["key"] for it in table["setting"])
+    return {
+        "words": f"declare -gA names_before=({counts})\nwritten_options=({outputs})\n",
+        "hints": f'trace_readers="{readers}"\nsetting_keys=({keys})\n',
+    }
 
 
 def view_parts(table: dict[str, list[Row]]) -> dict[str, str]:
@@ -184,10 +207,14 @@ def view_parts(table: dict[str, list[Row]]) -> dict[str, str]:
     run = {it for command in table["command"] if command["name"] == "run" for it in options_of(command)}
     written = [it["name"] for it in table["option"] if it["name"] in run and it.get("writes")]
     asked = [it["name"] for it in table["option"] if it["name"] in run and not it.get("writes")]
-    lines = textwrap.wrap(usual, 130)
+    lines, keys = textwrap.wrap(usual, 130), ", ".join(quoted(it["key"]) for it in table["setting"])
+    shown = {it["name"]: options_of(it) for it in table["command"] if it["name"] in ("run", "replay", "sweep")}
+    own = "".join(f"    {quoted(name)}: [{', '.join(map(quoted, of))}],\n" for name, of in shown.items())
     return {
         "usual": "USUAL = {\n" + "\n".join(f"    {it}" for it in lines) + ",\n}\n",
-        "options": f"ASKED = ({', '.join(map(quoted, asked))})\nWRITTEN = ({', '.join(map(quoted, written))})\n",
+        "keys": f"KEYS = ({keys})\n",
+        "options": f"ASKED = ({', '.join(map(quoted, asked))})\nWRITTEN = ({', '.join(map(quoted, written))})\n"
+        + f"OPTIONS = {{\n{own}}}\n",
     }
 
 
@@ -268,6 +295,17 @@ def check_settings(program: str, table: dict[str, list[Row]]) -> Iterator[str]:
                 yield f"commands.toml: the program {'refuses' if is_allowed else 'takes'} {setting['key']} = {value}"
 
 
+def check_pages(table: dict[str, list[Row]]) -> Iterator[str]:
+    """Where a page of help describes other options than commands.toml has."""
+    for it in table["beside"]:
+        # (each stands at the beginning of a line, or behind another one with a comma)
+        option = r"(?:--[a-z-]+|-h)(?: [A-Z]+(?:=[A-Z]+)?| count)?"
+        rows = re.findall(rf"^(?:#  )? ((?: *{option},?)+)(?=  |$)", read(PAGES[it["name"]]), re.MULTILINE)
+        told = {name for row in rows for name in re.findall(r"--[a-z-]+", row)} - {"--help"}
+        for name in sorted(told ^ {*it["options"], *it.get("names", ())}):
+            yield f"commands.toml and {PAGES[it['name']]} have other options: {name}"
+
+
 def differences(table: dict[str, list[Row]], program: str | None) -> Iterator[str]:
     """All places that differ, in words."""
     for name, renew in PLACES.items():
@@ -287,6 +325,7 @@ def differences(table: dict[str, list[Row]], program: str | None) -> Iterator[st
     for command in table["command"]:
         if f'("{command["name"]}", ' not in read(MEMORY):
             yield f"{MEMORY}: it has no call of {command['name']}"
+    yield from check_pages(table)
     if program:
         yield from check_settings(program, table)
 

@@ -62,7 +62,7 @@ def is_shared(word: Told) -> bool:
 
 def is_packed(word: Told) -> bool:
     """Whether several fields or elements lie in a word, which counts as one."""
-    return ", " in word.name or PACKED.search(word.name) is not None
+    return word.kind.is_packed
 
 
 def is_waited_for(words: Sequence[Told]) -> bool:
@@ -84,7 +84,7 @@ def arrays(names: Sequence[str]) -> str | None:
 
 def array_of(words: Sequence[Told]) -> str | None:
     """The array in which some words first differ, or whose elements share the one word; or none."""
-    names = [it.name.partition(", ")[0] for it in words]
+    names = [it.whole().partition(", ")[0] for it in words]
     alone = PACKED.search(names[0]) if len(set(names)) == 1 else None
     return names[0][: alone.start()] if alone else arrays(names)
 
@@ -94,11 +94,11 @@ def groups(words: Iterable[Told]) -> Groups:
     found: Groups = {}
     for it in sorted(words, key=lambda it: -it.writes):
         if is_shared(it):
-            found.setdefault(Whose(SHARED, INDEX.sub("[..]", it.name)), []).append(it)
+            found.setdefault(Whose(SHARED, INDEX.sub("[..]", it.whole())), []).append(it)
         elif it.hart != "many":
             found.setdefault(Whose(f"hart {it.hart}", ""), []).append(it)
         elif it.writes:
-            found.setdefault(Whose("one hart", it.name), []).append(it)
+            found.setdefault(Whose("one hart", it.whole()), []).append(it)
     return found
 
 
@@ -106,7 +106,7 @@ def told(key: Whose, words: Sequence[Told], size: int, element: Element) -> str:
     """A group of words, and whose it is; of an array whose elements each belong apart, how."""
     array = array_of(words) if key.whose == SHARED and (is_waited_for(words) or all(map(is_packed, words))) else None
     if not array:
-        return f"{listing(it.name for it in words)} ({key.whose})"
+        return f"{listing(it.whole() for it in words)} ({key.whose})"
     return f"each element of {array} (shared; `alignas({size})` on {element(array) or 'the type of an element'})"
 
 
@@ -200,7 +200,11 @@ def neighbours(words: Sequence[Told], thing: Thing, names: Mapping[Key, str]) ->
 
 def cost(thing: Thing, words: Iterable[Told]) -> str:
     """What lines of their own would cost the words more, where they would."""
-    own = sum(it.useful or 0 for it in words if it.key == thing.key)
+    fields: dict[tuple[int, str], int] = {}
+    for it in words:
+        if it.key == thing.key:
+            fields[it.base, it.whole()] = max(fields.get((it.base, it.whole()), 0), it.useful or 0)
+    own = sum(fields.values())
     more = own - thing.useful - thing.useless
     return f"; a line for each of its words would miss {more} times more" if more > 0 else ""
 
@@ -234,21 +238,30 @@ def is_true(thing: Thing, is_counted: bool) -> bool:
     return {it.line.verdict for it in thing.spots if it.line} == {"true"}
 
 
-def packed_most(own: Sequence[Told]) -> str:
-    """Those of some shared words in which several fields or elements lie, if they are most of what is missed; else nothing."""
-    packed = [it for it in own if is_packed(it)]
-    return written_most(packed) if 2 * sum(it.useful or 1 for it in packed) > sum(it.useful or 1 for it in own) else ""
+def packed_most(own: Sequence[Told]) -> bool:
+    """Whether words with several fields or elements are most of what is missed of some shared words."""
+    return 2 * sum(it.useful or 1 for it in own if is_packed(it)) > sum(it.useful or 1 for it in own)
+
+
+def bytewise(own: Iterable[Told]) -> str:
+    """Those of some shared words in which harts may use different bytes, since several fields or elements lie there; or nothing."""
+    return written_most(it for it in own if is_packed(it))
 
 
 def truly(thing: Thing, words: Sequence[Told], own: Sequence[Told], is_counted: bool) -> str:
     """What to do about words that harts hand to each other, `own` of some."""
-    total, packed = thing.useful + thing.useless, packed_most(own)
+    total, packed = thing.useful + thing.useless, bytewise(own)
     much = f" ({thing.useful} of {total} misses bring what another hart wrote)" if is_counted else ""
     said = f"the sharing of {written_most(own) or thing.name} is true{much}"
-    if packed:
+    if packed and packed_most(own):
         how = "where harts use different ones, give each a line of its own and look again"
         return f"{said}, as far as whole words tell, and several fields or elements lie in one word there: {how}"
-    return f"{said}: write it less often, or give each hart its own; padding doesn't help" + cost(thing, words)
+    less = f"{said}: write it less often, or give each hart its own; "
+    if packed:
+        return less + f"several fields or elements lie in a word of {packed}: where harts use different ones, give each a line of its own"
+    if not all(it.kind.is_typed for it in own):
+        return less + "padding helps only where harts use different bytes of a word" + cost(thing, words)
+    return less + "padding doesn't help" + cost(thing, words)
 
 
 def in_turns(thing: Thing, words: Iterable[Told], turns: int) -> str:
@@ -263,7 +276,7 @@ def in_turns(thing: Thing, words: Iterable[Told], turns: int) -> str:
 
 def written_most(words: Iterable[Told]) -> str:
     """Some words by their names, those that are written most first."""
-    return listing(it.name for it in sorted(words, key=lambda it: -it.writes))
+    return listing(it.whole() for it in sorted(words, key=lambda it: -it.writes))
 
 
 def sentence(
@@ -287,11 +300,10 @@ def sentence(
         what = apart(words, thing, size, element)
     if not is_counted:
         return what
-    saved, packed = f"this saves up to {thing.useless} of {total} misses", packed_most(own)
-    if not truth:
-        return f"{what}; {saved}" + cost(thing, words)
-    if packed:
-        return f"{what}; {saved}, or more: several fields or elements lie in a word of {packed}"
+    saved, packed = f"this saves up to {thing.useless} of {total} misses", bytewise(own)
+    more = f", or more: several fields or elements lie in a word of {packed}" if packed else ""
+    if not truth or packed and packed_most(own):
+        return f"{what}; {saved}{more}" + ("" if packed else cost(thing, words))
     shared = written_most(own) or thing.name
     less = f"{thing.useful} of {total} misses bring what another hart wrote, so write {shared} less often"
-    return f"{less}; to save up to {thing.useless} more, {what}"
+    return f"{less}; to save up to {thing.useless} more, {what}{more}"

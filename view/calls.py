@@ -1,14 +1,20 @@
 """The words of a call of view."""
 
+import difflib
+import os
 import re
-from typing import Any, Literal, Sequence
+from typing import Any, Iterable, Iterator, Sequence
 
 from faults import Fault
-from settings import ASKED, WRITTEN
+from kinds import DOES, IS, How, how_of
+from settings import ASKED, KEYS, OPTIONS, WRITTEN
 
 USAGE = """usage: predator view run PROGRAM [options of run] [OPTIONS] [-- WORD ..]
        predator view replay TRACE [options of replay] [--program PROGRAM] [OPTIONS]
-       predator view REPORT [--program PROGRAM] [OPTIONS]          (the report - is standard input)"""
+       predator view native PROGRAM [options of native] [OPTIONS] [-- WORD ..]
+       predator view sweep TRACE --size N [--html F]
+       predator view REPORT [--program PROGRAM] [OPTIONS]          (the report - is standard input)
+       predator view FILE ..          (a program or a trace: as run, native or replay, by what the file is)"""
 HELP = (
     USAGE
     + """
@@ -21,52 +27,84 @@ Options:
   --back TABLE       the same for a program of this machine, by the table that `predator native` wrote; TRACE.table unless it is given
   --top N            shows N objects (10)
   --object NAME      shows this object alone, and those that share lines with it
-  --words            lists the words of each object's lines with their fields
+  --words            lists the words of each object's lines with their fields, and all instructions that fight over the worst one
+  --library          shows the objects of the C library and of the kernel too, which are one line else
   --predicted        shows all predicted lines, those too that say nothing more
   --explain N        looks for the instructions that fight over the worst lines of the first N objects (3); 0 for none
   --type SITE=TYPE   what the blocks of a call site hold, as arena.c:78=node; a type, or a variable that points to one
   --sources DIR      where the sources are, if they moved
-  --html F           writes a page to F
+  --html F           writes a page to F; of one of these three options F may be `-`: standard output, in place of the screen
   --json F           writes all that was found to F, by view/schema.json
   --sarif F          writes the same for editors and code hosts, as SARIF 2.1.0
   --against OLD      tells what got better and worse than in OLD, which --json wrote, or a kept report
-  --fail-above N     ends with 1 if an object has more than N useless misses, and with 3 if the run didn't end by exit 0
+  --fail-above N     ends with 1 if an object has more than N useless misses, and with 3 if the run didn't end by exit 0, or a thread
+                     didn't run since no hart was free
   --by count         judges by the report's count instead
   --help, -h         this page
 Words behind a `--` that follows PROGRAM are for its `main`.
 
-Status: 0 shown; 1 an object is above N; 2 refused, which standard error tells; 3 the run didn't end by exit 0 (with --fail-above); 127 a
-package is missing, or the program. Colours are for terminals, unless NO_COLOR is set."""
+Status: 0 shown; 1 an object is above N; 2 refused, which standard error tells; 3 (with --fail-above) the run didn't end by exit 0, or
+lacked a hart; 127 a package is missing, or the program. Colours are for terminals, unless NO_COLOR is set."""
 )
 # The options of view's own that have a value, and those that have none; `type` may come more than once.
 VALUES = ("top", "object", "html", "json", "sarif", "against", "fail-above", "by", "type", "program", "back", "sources", "explain")
-FLAGS = ("words", "predicted", "help")
+FLAGS = ("words", "predicted", "library", "help")
+# Options of `predator native` that have no value, and those that have one.
+MARKS = ("all", "marked", "built")
+RECORDS = ("--quantum", "--most")
+# What view writes.
+OUTPUTS = ("html", "json", "sarif")
 # How many objects the first screen shows, and how many of their lines are explained, where the call doesn't say.
 TOP, EXPLAIN = 10, 3
 
 
+def nearest(word: str, known: Iterable[str]) -> str:
+    """A question that names what a word may be meant for, or nothing."""
+    found = difflib.get_close_matches(word, list(known), 1)
+    return f"did you mean `{found[0]}`? " if found else ""
+
+
 class Call:
-    """What is asked: `how` is run, replay or file; `subject` the program, the trace or the report; `words` what goes to the program, and
-    `own` what its guest gets, with the `--` before it."""
+    """What is asked: `how` says what is done with the file; `subject` is the program, the trace or the report, and `named` what the
+    call names; `words` go to the program, `given` are the options among them, `marks` go to its recorder, and `own` is what its guest gets,
+    with the `--` before it."""
 
     def __init__(self, words: Sequence[str]) -> None:
         first = words[0] if words else ""
-        self.how: Literal["run", "replay", "file"] = "run" if first == "run" else "replay" if first == "replay" else "file"
+        named: dict[str, How] = {"run": "run", "replay": "replay", "native": "native", "sweep": "sweep"}
+        self.how = named.get(first, "file")
         # (each a text, but for `type`, which has several)
         self.options: dict[str, Any] = {"type": []}
         self.own: list[str] = []
-        self.words, names = self.split(words[1:] if self.how != "file" else words)
+        self.marks: list[str] = []
+        self.given: list[str] = []
+        self.words, names = self.split(words[1:] if first in named else words)
         if "help" in self.options:
             return
         if len(names) != 1:
-            what = {"run": "a program", "replay": "a trace", "file": "a report"}[self.how]
+            what = {"run": "a program", "native": "a program", "replay": "a trace", "sweep": "a trace", "file": "a report"}[self.how]
             raise Fault(f"{what} is wanted, one\n{USAGE}" if not names else f"'{names[1]}' is one word more than is wanted\n{USAGE}")
-        self.subject = names[0]
-        if self.how == "file" and self.words != [self.subject]:
-            strange = next(it for it in self.words if it != self.subject)
-            raise Fault(f"'{strange}' is no option of view\n{USAGE}")
+        self.subject = self.named = names[0]
+        self.judge_words()
         self.program = self.subject if self.how == "run" else self.options.get("program")
         self.judge()
+
+    def judge_words(self) -> None:
+        """Refuses words that what is done with the file doesn't take, and a file with which it can't be done."""
+        what = how_of(self.subject)
+        if what not in ("file", "replay" if self.how == "sweep" else self.how):
+            raise Fault(f"{self.subject} is {IS[what]}: `predator view {self.subject}` {DOES[what]} it")
+        known = [*OPTIONS.get("replay" if self.how == "native" else self.how, ()), *(RECORDS if self.how == "native" else ())]
+        for word in (it for it in self.given if it.partition("=")[0] not in known):
+            where = "view" if self.how == "file" else f"view {self.how}"
+            near = nearest(word.partition("=")[0], [*known, *(f"--{it}" for it in (*VALUES, *FLAGS))]).strip()
+            raise Fault(f"'{word}' is no option of {where}{near and '; '}{near}\n{USAGE}")
+        if self.marks and self.how != "native":
+            raise Fault(f"'{self.marks[0]}' is for a program of this machine")
+        for it in (one for value in self.values("--set") for one in value.split(",")):
+            key, is_set, _ = it.partition("=")
+            if is_set and key not in KEYS:
+                raise Fault(f"'{it}' in --set names no key of the settings; {nearest(key, KEYS)}the keys are: {', '.join(KEYS)}")
 
     def split(self, words: Sequence[str]) -> tuple[list[str], list[str]]:
         """The words that are the program's, and the names among them; view's own options are put down."""
@@ -76,9 +114,13 @@ class Call:
         while at < len(words):
             word, at = words[at], at + 1
             name, has_value, value = word.partition("=")
-            if word == "--" and self.how == "run" and names:
+            if word == "--" and self.how in ("run", "native") and names:
                 self.own = [*words[at - 1 :]]
                 return rest, names
+            if word == "--" and self.how == "native":
+                # (as `predator native -- PROGRAM ..` has it)
+                self.own = ["--", *words[at + 1 :]]
+                return [*rest, *words[at : at + 1]], [*words[at : at + 1]]
             if word == "--":
                 return [*rest, "--", *words[at:]], [*names, *words[at:]]
             if name[:2] == "--" and name[2:] in VALUES or word == "-h" or word[2:] in FLAGS and word[:2] == "--":
@@ -87,13 +129,18 @@ class Call:
                         raise Fault(f"a value is required for '{word}'")
                     value, at = words[at], at + 1
                 self.put("help" if word == "-h" else name[2:], value)
+            elif word[2:] in MARKS and word[:2] == "--":
+                self.marks.append(word)
             elif word.startswith("-") and word != "-":
+                self.given.append(word)
                 own = [word] if has_value or at == len(words) else [word, words[at]]
                 at += len(own) - 1
                 rest += own
             else:
                 rest.append(word)
                 names.append(word)
+                if self.how == "file" and len(names) == 1:
+                    self.how = how_of(word)
         return rest, names
 
     def put(self, name: str, value: str) -> None:
@@ -106,6 +153,8 @@ class Call:
 
     def judge(self) -> None:
         """Refuses values that an option can't have."""
+        if self.how == "sweep":
+            self.judge_sweep()
         for name in ("top", "fail-above", "explain"):
             value = self.options.get(name, "0")
             if not re.fullmatch("[0-9]{1,18}", value):
@@ -119,14 +168,24 @@ class Call:
             raise Fault("'--by' is for '--fail-above', which isn't there")
         if self.options["type"] and not self.has_types():
             raise Fault("'--type' wants the types of a program: '--program' names it")
-        if self.how == "run" and "program" in self.options:
+        if self.how in ("run", "native") and "program" in self.options:
             raise Fault("'--program' is for a trace or a report: the program that is run is named already")
-        if "back" in self.options and (self.how == "run" or "program" in self.options):
+        if "sources" in self.options and not os.path.isdir(self.options["sources"]):
+            raise Fault(f"'--sources' is a folder, and '{self.options['sources']}' is none")
+        if "back" in self.options and (self.how in ("run", "native") or "program" in self.options):
             raise Fault("'--back' is for a trace or a report of this machine's programs, and names the program itself")
+
+    def judge_sweep(self) -> None:
+        """Refuses what a sweep doesn't take."""
+        strange = [name for name, value in self.options.items() if name != "html" and value != []]
+        if strange:
+            raise Fault(f"'--{strange[0]}' isn't for a sweep, of which `--html` alone makes something")
+        if self.value_of("--size") is None:
+            raise Fault("a sweep is of lines of a size: '--size' names it")
 
     def has_types(self) -> bool:
         """Whether a program is named whose types can be looked up, by itself or by the table of a native one."""
-        if self.program or "back" in self.options:
+        if self.program or self.how == "native" or "back" in self.options:
             return True
         if self.how != "replay":
             return False
@@ -149,16 +208,28 @@ class Call:
             at += width
         return kept
 
-    def value_of(self, option: str) -> str | None:
-        """The value of one of the program's options, or none."""
+    def reads_once(self) -> bool:
+        """Whether the trace comes from a pipe or a terminal, and can be read once."""
+        is_pipe = self.subject == "-" or os.path.exists(self.subject) and not os.path.isfile(self.subject)
+        return self.how in ("replay", "sweep") and is_pipe
+
+    def words_of_pipe(self) -> list[str]:
+        """The words of a replay of standard input, in the place of a trace."""
+        return ["-" if it == self.subject else it for it in self.words]
+
+    def values(self, option: str) -> Iterator[str]:
+        """The values that the words give for one of the program's options."""
         for at, word in enumerate(self.words):
             if word == "--":
                 break
             if word == option and at + 1 < len(self.words):
-                return self.words[at + 1]
-            if word.startswith(option + "="):
-                return word.partition("=")[2]
-        return None
+                yield self.words[at + 1]
+            elif word.startswith(option + "="):
+                yield word.partition("=")[2]
+
+    def value_of(self, option: str) -> str | None:
+        """The value of one of the program's options, or none."""
+        return next(self.values(option), None)
 
     def words_to_run(self) -> list[str]:
         """The words of the same run without its outputs, which were written already, and without the guest's own."""

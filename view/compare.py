@@ -1,19 +1,31 @@
 """Better or worse than before: compares what two views found, by object, call sites and field, and by no address."""
 
 import json
-from typing import Any, Iterator
+import os
+import re
+from collections import Counter
+from typing import Any, Iterator, NamedTuple, Sequence
 
 from advice import listing
 from calls import Call
 from exports import FORMAT, Record, record
 from faults import Fault, plain
 from model import View
-from naming import Naming
+from naming import ALLOCATORS, Naming
 from reports import Report
 
+# Two objects that are the same one, either of which may not be there.
+Pair = tuple[Record | None, Record | None]
+# Where an object is declared or made: files and lines.
+Places = tuple[tuple[str, int], ...]
 
-# The objects of a record by their keys, and its outcome.
-Before = tuple[dict[str, Record], str]
+
+class Before(NamedTuple):
+    """An older record: its objects, its outcome, and all its misses, or none where these are unknown."""
+
+    objects: list[Record]
+    outcome: str
+    total: Record | None
 
 
 def loaded(path: str, call: Call) -> Before:
@@ -29,9 +41,11 @@ def loaded(path: str, call: Call) -> Before:
         found = json.loads(text)
         if found["format"] != FORMAT:
             raise Fault(f"{path}: it is of another version: its format isn't `{FORMAT}`")
-        if not isinstance(found["outcome"], str) or not all(is_thing(it) for it in found["objects"]):
+        total = found["total"]
+        is_good = total is None or all(is_number(total[it]) for it in ("useless", "useful"))
+        if not isinstance(found["outcome"], str) or not is_good or not all(is_thing(it) for it in found["objects"]):
             raise ValueError
-        return {it["key"]: it for it in found["objects"]}, found["outcome"]
+        return Before(found["objects"], found["outcome"], total)
     except (ValueError, KeyError, TypeError, AttributeError, RecursionError) as error:
         raise Fault(f"{path}: it isn't what `view --json` writes") from error
 
@@ -42,8 +56,11 @@ def is_number(it: object) -> bool:
 
 def is_thing(it: Any) -> bool:
     """Whether something has what is compared of an object."""
-    texts = [it["key"], it["name"], *it["beside"], *(word["field"] for word in it["words"])]
-    numbers = [it["count"], *(word["writes"] for word in it["words"]), *([] if it["useless"] is None else [it["useless"]])]
+    places = [*it["sites"], *([] if it["declared"] is None else [it["declared"]])]
+    texts = [it["key"], it["name"], *it["beside"], *(word["field"] for word in it["words"]), *(one["file"] for one in places)]
+    texts += [one["function"] for one in it["sites"]]
+    numbers = [it["count"], *(word["writes"] for word in it["words"]), *(one["line"] for one in places)]
+    numbers += [it[name] for name in ("useless", "useful") if it[name] is not None]
     return (
         all(isinstance(one, str) for one in texts)
         and all(map(is_number, numbers))
@@ -55,7 +72,7 @@ def of_report(text: str, path: str, call: Call) -> Before:
     report = Report(text, path)
     view = View(call, report, Naming(report))
     view.arrange()
-    return {it["key"]: it for it in record(view)["objects"]}, report.outcome
+    return Before(record(view)["objects"], report.outcome, None)
 
 
 def fields(thing: Record) -> dict[str, int]:
@@ -67,35 +84,100 @@ def fields(thing: Record) -> dict[str, int]:
     return found
 
 
-def change(before: int, after: int) -> str:
+def places(thing: Record) -> Places:
+    """Where an object is declared, or where its blocks are made, as far as that has lines."""
+    found = [it for it in thing["sites"] if it["function"] not in ALLOCATORS] or ([thing["declared"]] if thing["declared"] else [])
+    return tuple((os.path.basename(it["file"]), it["line"]) for it in found if it["line"])
+
+
+def shift(old: Sequence[Places], new: Sequence[Places]) -> int:
+    """By how many lines most places have moved; of several numbers the least."""
+    moves = [b[0][1] - a[0][1] for a in old for b in new if a and b and a[0][0] == b[0][0]]
+    much = Counter(moves)
+    return min(much, key=lambda it: (-much[it], abs(it), it), default=0)
+
+
+def matched(old: Sequence[Record], new: Sequence[Record]) -> Iterator[Pair]:
+    """Objects of one name or of the same functions, each with at most one: first those whose lines have moved alike, and then, if as many
+    are left of both, in the order of their lines."""
+    olds, news = (sorted(own, key=lambda it: (places(it), it["key"])) for own in (old, new))
+    by = shift([places(it) for it in olds], [places(it) for it in news])
+    # (all callers alike, and then the line alone)
+    for most in (None, 1):
+        for before in list(olds):
+            at = [(file, line + by) for file, line in places(before)][:most]
+            after = next((it for it in news if at and list(places(it)[:most]) == at), None)
+            if after:
+                olds.remove(before)
+                news.remove(after)
+                yield before, after
+    if len(olds) == len(news):
+        yield from zip(olds, news)
+    else:
+        yield from ((it, None) for it in olds)
+        yield from ((None, it) for it in news)
+
+
+def pairs(old: Sequence[Record], new: Sequence[Record]) -> Iterator[Pair]:
+    """Each object of two records, with what it is in the other one."""
+    groups: dict[str, tuple[list[Record], list[Record]]] = {}
+    for at, own in enumerate((old, new)):
+        for it in own:
+            groups.setdefault(re.sub(r" #\d+$", "", it["key"]), ([], []))[at].append(it)
+    for before, after in groups.values():
+        yield from matched(before, after)
+
+
+def change(before: int, after: int, words: tuple[str, str] = ("less", "more")) -> str:
     if before == after:
         return "the same"
-    return f"{'less' if after < before else 'more'}: {before} before, {after} now"
+    return f"{words[after > before]}: {before} before, {after} now"
 
 
-def compared(view: View, loaded: Before, path: str) -> Iterator[str]:
-    """The lines that tell of each object what became of it; `loaded` is what was loaded of the path."""
-    (old, outcome), new = loaded, {it["key"]: it for it in record(view)["objects"]}
+def row(before: Record | None, after: Record | None, by: str) -> str:
+    """What became of an object."""
+    if before is None or after is None:
+        one = before or after or {}
+        useful = f" useless and {one['useful']} useful" if one.get("useful") and by == "useless" else ""
+        return f"gone: {one[by]}{useful} before" if before else f"new: {one[by]}{useful}"
+    told = change(before[by], after[by])
+    if by == "useless" and before["useful"] != after["useful"]:
+        told += f"; useful {change(before['useful'], after['useful'])}"
+    return told + moved(before, after)
+
+
+def weight(it: Record | None, by: str) -> int:
+    """What a row stands in order by: all misses of an object, or its count."""
+    return 0 if it is None else it["useless"] + it["useful"] if by == "useless" else it["count"]
+
+
+def sums(view: View, old: Before, new: Record, by: str) -> list[tuple[str, int, int]]:
+    """What is compared of the whole: of one object where the call names it."""
     name = view.call.options.get("object")
-    if name is not None:
-        old = {key: it for key, it in old.items() if name in (it["name"], *it["beside"])}
-    by = "useless" if all(it["useless"] is not None for it in (*old.values(), *new.values())) else "count"
+    if by == "count" or name is not None or old.total is None:
+        own = [it for it in old.objects if name is None or name in (it["name"], *it["beside"])]
+        names = ("count",) if by == "count" else ("useless", "useful")
+        return [(it, sum(one[it] for one in own), sum(one[it] for one in new["objects"])) for it in names]
+    return [(it, old.total[it], new["total"][it]) for it in ("useless", "useful")]
+
+
+def compared(view: View, old: Before, path: str) -> Iterator[str]:
+    """The lines that tell what became of the whole, and of each object; `old` is what was loaded of the path."""
+    new, name = record(view), view.call.options.get("object")
+    olds = [it for it in old.objects if name is None or name in (it["name"], *it["beside"])]
+    is_known = new["total"] and all(it[what] is not None for it in (*olds, *new["objects"]) for what in ("useless", "useful"))
+    by = "useless" if is_known else "count"
     yield f"against {plain(path)}, by {'useless misses' if by == 'useless' else 'the count of the report'}:"
-    if outcome != view.report.outcome:
-        yield plain(f"  the outcome was {outcome}, and is {view.report.outcome}")
-    rows = []
-    for key in {**old, **new}:
-        before, after = old.get(key), new.get(key)
-        if before and after:
-            rows.append((after[by] - before[by], (after or before)["name"], change(before[by], after[by]), moved(before, after)))
-        elif before:
-            rows.append((-before[by], before["name"], f"gone: {before[by]} before", ""))
-        elif after:
-            rows.append((after[by], after["name"], f"new: {after[by]}", ""))
-    for _, name, what, more in sorted(rows, key=lambda it: (-it[0], it[1])):
-        yield plain(f"  {name}: {what}{more}")
-    total = [sum(it[by] for it in found.values()) for found in (old, new)]
-    yield f"  in all: {change(*total)}"
+    if old.outcome != view.report.outcome:
+        yield plain(f"  the outcome was {old.outcome}, and is {view.report.outcome}")
+    parts = sums(view, old, new, by)
+    whole = change(sum(it[1] for it in parts), sum(it[2] for it in parts), ("better", "worse"))
+    yield f"  all misses but cold ones: {whole}" if by == "useless" else f"  all counts: {whole}"
+    if by == "useless":
+        yield from (f"    {what}: {change(before, after)}" for what, before, after in parts)
+    found = [it for it in pairs(olds, new["objects"]) if weight(it[0], by) or weight(it[1], by)]
+    rows = [(weight(after, by) - weight(before, by), (after or before or {})["name"], row(before, after, by)) for before, after in found]
+    yield from (plain(f"  {name}: {what}") for _, name, what in sorted(rows, key=lambda it: (-it[0], it[1])))
 
 
 def moved(before: Record, after: Record) -> str:

@@ -88,7 +88,7 @@ def thing(view: View, it: Thing) -> Record:
         "words": [word(one, it.key) for one in seen.words],
         "fights": [
             {"taker": instruction(view, one.taker), "victim": instruction(view, one.victim), "taken": one.taken, "same": one.same}
-            for one in (explained.pairs[:8] if explained else [])
+            for one in seen.fights()[:8]
         ],
         "harts": [{"from": a, "to": b, "taken": taken} for (a, b), taken in (sorted(explained.harts.items()) if explained else [])],
     }
@@ -115,7 +115,7 @@ def record(view: View) -> Record:
     report, program = view.report, view.naming.program
     return {
         "format": FORMAT,
-        "subject": view.call.subject,
+        "subject": view.call.named,
         "program": {"file": program.path, "sha256": program.sha256} if program else None,
         "outcome": report.outcome,
         "steps": report.steps,
@@ -189,7 +189,7 @@ def foreseen(view: View, it: Foretold) -> Record:
 def sarif_text(view: View) -> str:
     """The objects, and the predicted lines that are shown, as results."""
     top = view.call.number("top", TOP)
-    results = [result(view, it) for it in view.chosen()[:top]] + [foreseen(view, it) for it in view.foretold() if it.is_shown]
+    results = [result(view, it) for it in view.listed()[:top]] + [foreseen(view, it) for it in view.foretold() if it.is_shown]
     rules = [
         {"id": name, "name": title, "shortDescription": {"text": title}, "fullDescription": {"text": text}}
         for name, (title, text) in RULES.items()

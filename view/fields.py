@@ -175,6 +175,19 @@ def paths(die: Die, low: int, high: int, depth: int = 0) -> list[str]:
     return folded(found)[:MOST] or [f"+{low // 8}"]
 
 
+def are_several(die: Die, low: int, high: int, depth: int = 0) -> bool:
+    """Whether several fields or elements lie side by side in a value's bits from low up to high. Members of a union lie in one place."""
+    die = bare(die)
+    if die is None or depth > DEEPEST or die.tag not in (*RECORDS, "DW_TAG_array_type"):
+        return False
+    parts = elements(die, low, high) if die.tag == "DW_TAG_array_type" else parts_of(die)
+    own = [it for it in parts if it[1] < high and low < it[1] + it[2]]
+    inner = [are_several(of, max(low - start, 0), min(high - start, wide), depth + 1) for _, start, wide, of in own]
+    if die.tag == "DW_TAG_union_type":
+        return bool(inner) and all(inner)
+    return len(own) > 1 or any(inner)
+
+
 def folded(names: list[str]) -> list[str]:
     """Names that differ in a last index alone become one: `[4].key`, `[5].key`, `[6].key` is `[4..6].key`."""
     parts = [found for it in names if (found := re.fullmatch(r"(.*)\[(\d+)\]([^\[]*)", it))]
@@ -229,6 +242,15 @@ class Program:
     def symbols(self) -> dict[tuple[int, int], str]:
         """The address and size of each symbol of data; none where the table is damaged."""
         return {(at, size): name for at, size, name in self.symbols_of("STT_OBJECT")}
+
+    def code(self) -> list[tuple[int, int]]:
+        """Where the program has code, as ranges of addresses."""
+
+        def found() -> list[tuple[int, int]]:
+            parts = [it for it in self.elf.iter_segments() if it["p_type"] == "PT_LOAD" and it["p_flags"] & 1]
+            return [(it["p_vaddr"], it["p_vaddr"] + it["p_memsz"]) for it in parts]
+
+        return sound(found, [])
 
     def thread_locals(self) -> list[tuple[int, int, str]]:
         """The place among a hart's own variables, the size and the name of each."""

@@ -10,11 +10,13 @@ from typing import TYPE_CHECKING
 sys.path.insert(0, os.path.dirname(os.path.abspath(__file__)))
 
 import compare  # noqa: E402
-from calls import HELP, TOP, Call  # noqa: E402
+from calls import HELP, OUTPUTS, TOP, Call, nearest  # noqa: E402
 from faults import Fault, plain  # noqa: E402
 from model import View, memory_of  # noqa: E402
 from naming import Naming  # noqa: E402
+from pipes import fed, kept  # noqa: E402
 from program import Predator  # noqa: E402
+from recording import recorded  # noqa: E402
 from reports import Report, Symbol  # noqa: E402
 from screen import Paint, screen  # noqa: E402
 from source_lines import Sources  # noqa: E402
@@ -54,8 +56,8 @@ def program_of(call: Call) -> "tuple[Program | NativeProgram | None, Sources | N
     elif call.program:
         from fields import Program
 
-        sources = Sources(call.program, folders)
-        program = Program(call.program)
+        program = guest = Program(call.program)
+        sources = Sources(call.program, folders, guest.code())
     else:
         return None, None
     if program.dwarf is None:
@@ -91,27 +93,39 @@ def stranger(program: "Program | NativeProgram", report: Report) -> str | None:
 def report_of(call: Call, predator: Predator | None) -> Report:
     if predator is None:
         return Report(read(call.subject), call.subject)
-    return predator.report([call.how, *call.words, *call.own])
+    if not call.reads_once():
+        return predator.report([call.how, *call.words, *call.own])
+    with fed(call.subject) as trace:
+        return predator.report([call.how, *call.words_of_pipe()], stdin=trace)
 
 
-def check_name(view: View) -> None:
+def check_name(name: str | None, naming: Naming) -> None:
     """Refuses the name of an object that the program hasn't: a test of it would say nothing."""
-    name, program = view.call.options.get("object"), view.naming.program
-    if name is None or view.chosen() or ":" in name or " " in name:
+    program = naming.program
+    if name is None or program is None or ":" in name or " " in name:
         return
-    if program is None:
-        if "fail-above" in view.call.options:
+    known = {naming.readable(it) for it in program.symbols().values()}
+    if name not in known:
+        near = nearest(name, known).strip()
+        raise Fault(f"'{name}' is no variable of {program.path}{near and '; '}{near}")
+
+
+def check_seen(view: View) -> None:
+    """Refuses a test of an object that nothing is seen of, where that may be since there is none."""
+    name = view.call.options.get("object")
+    if name is not None and not view.chosen():
+        if view.naming.program is None and "fail-above" in view.call.options:
             raise Fault(f"nothing is seen of '{name}', and without '--program' it can't be told whether there is such a variable")
-        return
-    if name not in {view.naming.readable(it) for it in program.symbols().values()}:
-        raise Fault(f"'{name}' is no variable of {program.path}")
+        check_name(name, view.naming)
 
 
 def look(call: Call) -> View:
     """All that is found."""
     program, sources = program_of(call)
+    if call.how == "run":
+        check_name(call.options.get("object"), Naming(None, program))
     if "html" in call.options:
-        from page import templates
+        from drawing import templates
 
         templates()
     predator = Predator() if call.how != "file" else None
@@ -124,11 +138,13 @@ def look(call: Call) -> View:
     memory = memory_of(call, predator)
     view = View(call, report, Naming(report, program, sources, call.options["type"], memory))
     view.count(predator)
+    view.look_for_overflow(predator)
     view.arrange()
-    check_name(view)
-    first = view.chosen()[: call.number("top", TOP)]
+    check_seen(view)
+    first = view.listed()[: call.number("top", TOP)]
     view.explain(predator, first)
     view.place(predator, first)
+    view.note_idle()
     return view
 
 
@@ -150,10 +166,16 @@ def status_of(view: View) -> int:
         return 0
     if not view.report.ended_well():
         return ENDED
+    if view.lacked:
+        say(view.lacked)
+        return ENDED
     return ABOVE if is_above(view) else 0
 
 
 def write(path: str, text: str) -> None:
+    if path == "-":
+        print(text, end="")
+        return
     try:
         with open(path, "w", encoding="utf-8", errors="backslashreplace") as file:
             file.write(text)
@@ -175,9 +197,11 @@ def keep_inputs(call: Call) -> None:
         for it in (call.subject, call.program, table_of(call), *call.words, *(word.partition("=")[2] for word in call.words))
         if it and it != "-"
     ]
-    for name in ("html", "json", "sarif"):
+    if [call.options.get(name) for name in OUTPUTS].count("-") > 1:
+        raise Fault("`-` is standard output, and can be one output alone")
+    for name in OUTPUTS:
         it, old = call.options.get(name), call.options.get("against") if name != "json" else None
-        if it is None:
+        if it is None or it == "-":
             continue
         if any(is_same(it, other) for other in (*taken, *([old] if old else []))):
             raise Fault(f"{it}: the same file is in use under another name, and stays as it is")
@@ -206,17 +230,38 @@ def outputs(view: View) -> None:
 def show(call: Call) -> int:
     """Does what a call asks, and gives its status."""
     keep_inputs(call)
+    if call.how == "sweep":
+        return show_sweep(call)
     # (before --json writes to the same file)
     old = compare.loaded(call.options["against"], call) if "against" in call.options else None
-    view = look(call)
-    outputs(view)
+    with kept(call), recorded(call):
+        view = look(call)
+        outputs(view)
+        if all(call.options.get(it) != "-" for it in OUTPUTS):
+            tell(view, old)
+    sys.stdout.flush()
+    return status_of(view)
+
+
+def show_sweep(call: Call) -> int:
+    import sweep
+
+    rows, page = sweep.show(call)
+    if page is not None:
+        write(call.options["html"], page)
+    if call.options.get("html") != "-":
+        print(*rows, sep="\n")
+    sys.stdout.flush()
+    return 0
+
+
+def tell(view: View, old: compare.Before | None) -> None:
+    """Prints the screen, and what got better and worse."""
     for it in screen(view, Paint()):
         print(it)
     if old is not None:
-        for it in compare.compared(view, old, call.options["against"]):
+        for it in compare.compared(view, old, view.call.options["against"]):
             print(it)
-    sys.stdout.flush()
-    return status_of(view)
 
 
 def main(words: list[str]) -> int:

@@ -1,8 +1,10 @@
 """All that a call of view has found: what the outputs are written from."""
 
 import concurrent.futures
+import contextlib
 import functools
 import os
+import re
 import tempfile
 from collections import Counter
 from typing import Iterable, Sequence, cast
@@ -10,8 +12,10 @@ from typing import Iterable, Sequence, cast
 import advice
 from calls import EXPLAIN, Call
 from keys import Key, OfBlocks, OfStack, OfSymbol, order_of
+from library import is_foreign
 from naming import Memory, Naming, shown
-from objects import Spot, Thing, Told, things_of, words_of, worst_word
+from objects import Spot, Thing, Told, field_at, things_of, words_of, worst_word
+from overflow import Overflow, last_of_file, last_of_run, overflow
 from predicted import Foretold, Layout, judged, layouts
 from program import Predator, Refused, each_line, misses_under, setting, stacks
 from reports import Block, Explained, Misses, Pair, Placed, Report, Symbol
@@ -30,9 +34,14 @@ class Seen:
     def worst(self) -> Told | None:
         return worst_word([it for it in self.words if it.key == self.thing.key])
 
+    def fights(self) -> list[Pair]:
+        """The pairs of instructions that take the object's worst line, those first that take it most often for nothing."""
+        pairs = self.explained.pairs if self.explained else []
+        return sorted(pairs, key=lambda it: (it.same - it.taken, -it.taken))
+
     def fight(self) -> Pair | None:
-        """The pair of instructions that takes the object's worst line most often, or none."""
-        return self.explained.pairs[0] if self.explained and self.explained.pairs else None
+        """The pair that takes the object's worst line most often for nothing, or none."""
+        return next(iter(self.fights()), None)
 
 
 class View:
@@ -51,7 +60,10 @@ class View:
         self.explained: dict[int, Explained] = {}
         self.placed: dict[Key, Placed] = {}
         self.cached: dict[Key, Seen] = {}
+        self.foreign: set[Key] = set()
+        self.lacked = ""
         self.label_counts: Counter[str] | None = None
+        self.overflow: Overflow | None = None
 
     def count(self, predator: Predator | None) -> None:
         """Has the misses counted, under the report's layout, for each word, and under the layouts of predicted lines."""
@@ -64,8 +76,10 @@ class View:
         own = self.report.size, self.report.offset
         wanted = list(dict.fromkeys([own, WORD, *layouts(self.report)]))
         trace = self.trace()
-        if trace == "-":
-            self.notes.append("a trace that is piped in can be read once, so its misses are unknown")
+        if self.call.reads_once():
+            self.notes.append(
+                "a trace from a pipe can be read once, so its misses, and places for its objects, are unknown: write it to a file for these"
+            )
             return
         with tempfile.TemporaryDirectory(prefix="predator-view-") as folder:
             settings = os.path.join(folder, "settings")
@@ -84,18 +98,37 @@ class View:
         if any(it.accesses != self.report.accesses for it in counted):
             self.notes.append("the trace is a part of what the report counts, so its misses are unknown")
             return
+        self.note_lacked(predator)
         # (the readers of `wanted` tell misses, and the one behind them a report)
         self.each, self.by_layout = cast(Report, counted.pop()), dict(zip(wanted, cast(list[Misses], counted)))
         self.misses, self.by_word = self.by_layout[own], self.by_layout[WORD]
 
+    def note_lacked(self, predator: Predator) -> None:
+        """Notes that a thread never ran since no hart was free."""
+        found = re.findall("^predator: (no hart was free for [^:\n]*)", predator.said, re.MULTILINE)
+        if found and self.call.how == "run":
+            harts = setting(self.call.settings_words(), "harts")
+            self.lacked = f"{found[-1]}, and what that shares isn't seen: `--set harts={min(2 * harts, 256)}` gives more"
+            self.notes.append(self.lacked)
+
+    def look_for_overflow(self, predator: Predator | None) -> None:
+        """Looks, where the run didn't end well, whether a hart ran out of its stack."""
+        if predator is None or self.report.ended_well() or not self.naming.memory.each or self.call.reads_once():
+            return
+        trace = self.trace()
+        with contextlib.suppress(Refused, OSError):
+            last = last_of_file(trace) if trace else last_of_run(predator, [*self.call.words_to_run(), *self.call.own])
+            self.overflow = overflow(last, self.naming.memory)
+
     def trace(self) -> str | None:
-        """The trace's file, where it is one."""
-        return self.call.subject if self.call.how == "replay" else self.call.value_of("--trace")
+        """The trace's file, where it is one that can be read again and again."""
+        path = self.call.subject if self.call.how == "replay" else self.call.value_of("--trace")
+        return path if path and os.path.isfile(path) and not self.call.reads_once() else None
 
     def place(self, predator: Predator | None, things: Sequence[Thing]) -> None:
         """Has a placement of the first objects counted, where the trace is a file that can be read again and again."""
         trace, most = self.trace(), self.call.number("explain", EXPLAIN)
-        if predator is None or trace is None or not os.path.isfile(trace) or not predator.has("place"):
+        if predator is None or trace is None or not predator.has("place"):
             return
         for it in things[:most]:
             name = it.name_to_place()
@@ -110,6 +143,7 @@ class View:
         self.things, self.all = things_of(self.report, self.misses, self.naming, self.each)
         for it in self.all.values():
             it.name = self.naming.key_name(it.key, it.example)
+        self.rank()
         self.keys = keys_over_builds(self.all.values(), self.naming)
         self.predicted = judged(self.report, self.misses, self.by_layout, self.naming)
         for line in self.predicted:
@@ -118,9 +152,33 @@ class View:
                     self.all[key] = Thing(key, example)
                     self.all[key].name = self.naming.key_name(key, example)
 
+    def rank(self) -> None:
+        """Puts the objects in order by the misses that lines of their own would save their words."""
+        needed: Counter[int] = Counter()
+        size, offset = self.report.size, self.report.offset
+        words = self.by_word.lines if self.by_word else {}
+        for addr, word in words.items():
+            # (two words that are missed as often are of one field, or brought by one load)
+            if addr % 8 != 4 or addr - 4 not in words or words[addr - 4].useful != word.useful:
+                needed[(addr - offset) // size * size + offset] += word.useful
+        for it in self.things if self.by_word else ():
+            missed = [(spot.missed.useless, spot.missed.useful, needed[spot.base]) for spot in it.spots if spot.missed]
+            it.saves = sum(max(0, min(useless, useless + useful - own)) for useless, useful, own in missed)
+        self.things.sort(key=Thing.rank)
+        self.foreign = {it.key for it in self.things if is_foreign(it, self.naming)}
+
     def chosen(self) -> list[Thing]:
         """The objects that the call wants to see."""
         return [it for it in self.things if self.is_named(it)]
+
+    def listed(self) -> list[Thing]:
+        """Those of them that have a row each."""
+        return [it for it in self.chosen() if it not in self.folded()]
+
+    def folded(self) -> list[Thing]:
+        """The objects of the C library, which have one row, unless the call asks for them."""
+        is_asked = "library" in self.call.options or "object" in self.call.options
+        return [] if is_asked else [it for it in self.things if it.key in self.foreign]
 
     def foretold(self) -> list[Foretold]:
         """The predicted lines of the objects that the call wants to see."""
@@ -179,7 +237,21 @@ class View:
                     self.notes.append(
                         f"the program under these settings doesn't make this trace, so `explain` says nothing of {spot.base:#010x}"
                     )
-        self.naming.prepare({at for it in self.explained.values() for pair in it.pairs[:8] for at in pair[:2]})
+        shown = None if "words" in self.call.options else 8
+        self.naming.prepare({at for it in self.explained.values() for pair in it.pairs[:shown] for at in pair[:2]})
+
+    def note_idle(self) -> None:
+        """Notes options that matched nothing: a type for blocks that aren't fought over, and a folder without a source of the program."""
+        blocks = [it.example for it in self.all.values() if isinstance(it.example, Block) and it.example.sites]
+        sites = [self.naming.names_of_site(it) for it in blocks]
+        for site in (site for site, _ in self.naming.types if not any(site in it for it in sites)):
+            made = sorted({self.naming.site(self.naming.chain(it.sites)[0]) or it.sites[0].name for it in blocks})
+            there = f"blocks that are fought over are made at {advice.listing(made)}" if made else "no block is fought over"
+            self.notes.append(f"`--type {site}=..` matches nothing: {there}")
+        folder, sources = self.call.options.get("sources", ""), self.naming.sources
+        files = sorted({it.file for frames in sources.places.values() for it in frames if it.file}) if folder and sources else []
+        if files and not any(os.path.isfile(os.path.join(folder, it)) for file in files for it in (file, os.path.basename(file))):
+            self.notes.append(f"`--sources {folder}` has none of the program's sources: {advice.listing(map(os.path.basename, files))}")
 
     def asked(self, predator: Predator, program: str, spot: Spot) -> Explained | Refused:
         """What `explain` says of a line, or how it refuses to."""
@@ -206,7 +278,7 @@ class View:
             return advice.little(thing, total)
         names = {key: self.label(self.all[key]) for key in thing.beside}
         todo = advice.sentence(thing, words, names, self.align_to(thing), self.misses is not None, self.element(thing), self.turns())
-        return todo + advice.placing(self.placed.get(thing.key), lambda addr: self.naming.word(addr, thing.example)[0])
+        return todo + advice.placing(self.placed.get(thing.key), lambda addr: field_at(addr, thing.example, self.naming))
 
     def turns(self) -> int:
         """How many steps a hart's turn has, or 0 where that isn't known."""

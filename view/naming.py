@@ -3,7 +3,7 @@
 import os
 import shutil
 import subprocess
-from typing import TYPE_CHECKING, Any, Iterable, Sequence, Union
+from typing import TYPE_CHECKING, Any, Iterable, NamedTuple, Sequence, Union
 
 from keys import Key, OfBlocks, OfMemory, OfStack, OfSymbol
 from reports import Block, Report, Site, Symbol
@@ -13,6 +13,14 @@ if TYPE_CHECKING:
     # (which are read where a program is named alone: they want pyelftools)
     from fields import Program
     from native import NativeProgram
+
+
+class WordKind(NamedTuple):
+    """Whether a word is of a known type, and whether several fields or elements lie in it."""
+
+    is_typed: bool
+    is_packed: bool
+
 
 # An object of a report; none is memory without one.
 Found = Union[Symbol, Block, None]
@@ -57,13 +65,13 @@ class Naming:
 
     def __init__(
         self,
-        report: Report,
+        report: Report | None,
         program: "Program | NativeProgram | None" = None,
         sources: Sources | None = None,
         types: Iterable[str] = (),
         memory: Memory | None = None,
     ) -> None:
-        self.where, self.program, self.sources, self.memory = report.where, program, sources, memory or Memory()
+        self.where, self.program, self.sources, self.memory = report.where if report else {}, program, sources, memory or Memory()
         self.names: dict[str, str] = {}
         self.keys: dict[tuple[Site, ...], tuple[str, ...]] = {}
         self.types = [it.partition("=")[::2] for it in types]
@@ -142,9 +150,13 @@ class Naming:
         """The type of a block's elements as the call tells it, or none."""
         if self.program is None or not block.sites:
             return None
-        chain = self.chain(block.sites)
-        known = {self.site(chain[0]), self.function(chain[0]), chain[0].name, shown(chain[0].addr)}
+        known = self.names_of_site(block)
         return next((self.program.type_named(it) for site, it in self.types if site in known), None)
+
+    def names_of_site(self, block: Block) -> set[str]:
+        """What a call may name the call site of a block by: its line, its function or its address."""
+        chain = self.chain(block.sites)
+        return {self.site(chain[0]), self.function(chain[0]), chain[0].name, shown(chain[0].addr)} - {""}
 
     def word(self, addr: int, thing: Found) -> tuple[str, str, str]:
         """The name of a word of an object, the one of its element, and that of the field in it."""
@@ -163,6 +175,30 @@ class Naming:
         from fields import sound
 
         return sound(lambda: self.field(thing, name, offset), None)
+
+    def typed_value(self, thing: Found, addr: int) -> tuple[Any, int] | None:
+        """The type of the value that a word lies in, and the word's place there, or none where that isn't known."""
+        if self.program is None or thing is None:
+            return None
+        if isinstance(thing, Symbol):
+            variable = self.program.variable(thing.addr)
+            return (variable.type, addr - thing.addr) if variable and variable.type is not None else None
+        from fields import size_of
+
+        element = None if thing.sites and thing.sites[0].name == OWN else self.type_of_block(thing)
+        return None if element is None else (element, (addr - thing.addr) % (size_of(element) or 1))
+
+    def kind(self, addr: int, thing: Found) -> WordKind:
+        """What a word is: of a known type or not, and with several fields or elements or with one."""
+        if self.program is None:
+            return WordKind(False, False)
+        from fields import are_several, sound
+
+        found = sound(lambda: self.typed_value(thing, addr), None)
+        if found is None:
+            return WordKind(False, False)
+        die, offset = found
+        return WordKind(True, sound(lambda: are_several(die, 8 * offset, 8 * offset + 32), False))
 
     def field(self, thing: Symbol | Block, name: str, offset: int) -> tuple[str, str, str] | None:
         if self.program is None:

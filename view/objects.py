@@ -3,11 +3,12 @@
 A line's numbers are told once: under the object that most of the line's accesses went to. The others on it are told beside it."""
 
 import heapq
+import re
 from collections import Counter
 from typing import Iterable, Iterator, NamedTuple, Sequence
 
 from keys import Key, OfBlocks, OfSymbol
-from naming import Found, Naming
+from naming import Found, Naming, WordKind
 from reports import Block, Line, Misses, Missed, Report, Symbol, Word, bytes_of, objects_of
 
 # So many lines of an object are looked at word by word: its first ones.
@@ -53,6 +54,8 @@ class Thing:
         self.lives: set[int] = set()
         self.beside: Counter[Key] = Counter()
         self.useless = self.useful = self.cold = self.count = 0
+        # (how many misses its words would save, each on a line of its own)
+        self.saves = 0
         self.first: list[Spot] = []
 
     def add(self, spot: Spot) -> None:
@@ -64,8 +67,8 @@ class Thing:
             self.useful += spot.missed.useful
             self.cold += spot.missed.cold
 
-    def rank(self) -> tuple[int, int, int, int]:
-        return -self.useless, -self.useful, -self.count, self.spots[0].base
+    def rank(self) -> tuple[int, int, int, int, int]:
+        return -self.saves, -self.useless, -self.useful, -self.count, self.spots[0].base
 
     def worst_first(self) -> list[Spot]:
         """Its first lines, at most so many as are looked at, the worst first."""
@@ -201,7 +204,7 @@ def things_of(report: Report, misses: Misses | None, naming: Naming, each: Repor
 
 class Told(NamedTuple):
     """A word on an object's lines: its line, its names, the object and where that begins, and how it was accessed; `useful` is what is
-    missed of it on a line of its own."""
+    missed of it on a line of its own, and `kind` what is known of its type."""
 
     addr: int
     base: int
@@ -214,6 +217,21 @@ class Told(NamedTuple):
     writes: int
     hart: str
     useful: int | None
+    kind: WordKind = WordKind(False, False)
+
+    def whole(self) -> str:
+        """The name of the field that the word is of."""
+        return whole(self.name, self.kind)
+
+
+def whole(name: str, kind: WordKind) -> str:
+    """The name of a field, by that of a word of it: one of eight bytes has two words."""
+    return re.sub(r"\+\d+$", "", name) if kind.is_typed else name
+
+
+def field_at(addr: int, thing: Found, naming: Naming) -> str:
+    """The name of the field of an object that a word is of."""
+    return whole(naming.word(addr, thing)[0], naming.kind(addr, thing))
 
 
 def words_of(spot: Spot, naming: Naming, by_word: Misses | None = None) -> list[Told]:
@@ -231,7 +249,10 @@ def words_of(spot: Spot, naming: Naming, by_word: Misses | None = None) -> list[
             useful = by_word.lines[it.addr].useful if it.addr in by_word.lines else 0
         begin = thing.addr if thing else 0
         found.append(
-            Told(it.addr, spot.base, name, element, field, key_of(thing, naming, it.addr), begin, it.reads, it.writes, it.hart, useful)
+            Told(
+                *(it.addr, spot.base, name, element, field, key_of(thing, naming, it.addr), begin),
+                *(it.reads, it.writes, it.hart, useful, naming.kind(it.addr, thing)),
+            )
         )
     return found
 

@@ -1,24 +1,19 @@
 """The page: one file of HTML that needs no network and no script. Its template, page.html, escapes every name."""
 
 import os
-from typing import TYPE_CHECKING, Any, Iterator, Sequence
+from typing import Iterator, Sequence
 
 from calls import TOP
-from faults import Fault
+from drawing import Given, templates
 from keys import Key, OfBlocks
 from model import Seen, View
+from library import row_of
 from naming import shown
 from objects import Spot, Thing, Told, words_of
 from predicted import Foretold
 from reports import Explained
-from screen import counted, place_of
-from source_lines import PACKAGES
+from screen import counted, next_step, place_of
 
-if TYPE_CHECKING:
-    import jinja2
-
-# What the template is given of something: texts, numbers and others of its kind, by name.
-Given = dict[str, Any]
 # Colours that the colour blind tell apart (Okabe and Ito); each hart has a letter too.
 COLOURS = ("#e69f00", "#56b4e9", "#009e73", "#f0e442", "#8fb8ff", "#ff9f6b", "#e6a9c9", "#bdbdbd")
 MANY = "background:repeating-linear-gradient(45deg,#fff 0 6px,#c9c9c9 6px 9px)"
@@ -101,8 +96,8 @@ def side(view: View, addr: int, role: str) -> Given:
     return {"role": role, "place": place_of(view.naming, addr) + at, "lines": lines, "lacks": lacks}
 
 
-def pairs(view: View, explained: Explained) -> Iterator[Given]:
-    for it in explained.pairs[:PAIRS]:
+def pairs(view: View, seen: Seen) -> Iterator[Given]:
+    for it in seen.fights()[:PAIRS]:
         sides = [side(view, it.taker, "takes the line"), side(view, it.victim, "loses it")]
         yield {"taken": counted(it.taken, "time"), "same": it.same, "sides": sides}
 
@@ -137,7 +132,7 @@ def thing(view: View, it: Thing) -> Given:
         "lives": len(it.lives),
         "is_block": isinstance(it.key, OfBlocks),
         "beside": [view.label(view.all[key]) for key in it.beside],
-        "worst": worst.name if worst else "",
+        "worst": worst.whole() if worst else "",
         "fight": [place_of(view.naming, at) for at in (fight.taker, fight.victim)] if fight else [],
         "declared": "{}:{}".format(*seen.declared) if seen.declared else "",
         "todo": in_code(seen.todo),
@@ -145,7 +140,7 @@ def thing(view: View, it: Thing) -> Given:
         "more": len(it.spots) - len(drawn),
         "explained": shown(seen.explained.base) if seen.explained else "",
         "matrix": matrix(seen.explained) if seen.explained and seen.explained.harts else None,
-        "pairs": list(pairs(view, seen.explained)) if seen.explained else [],
+        "pairs": list(pairs(view, seen)),
     }
 
 
@@ -172,19 +167,15 @@ def strip(view: View, foretold: Foretold, observed: dict[int, Spot]) -> Given:
     }
 
 
-def templates() -> "jinja2.Environment":
-    """Where the page's template stands: what it is given is escaped, and what it isn't given is a fault."""
-    try:
-        import jinja2
-    except ImportError as missing:
-        raise Fault(f"python3-jinja2 isn't installed: {PACKAGES}", 127) from missing
-    folder = os.path.dirname(os.path.abspath(__file__))
-    return jinja2.Environment(loader=jinja2.FileSystemLoader(folder), autoescape=True, undefined=jinja2.StrictUndefined, trim_blocks=True)
+def library(view: View) -> str:
+    """What is said of the objects of the C library, which aren't drawn, or nothing."""
+    numbers, text = row_of(view.folded(), view.misses is not None)
+    return "{} useless, {} useful, count {}, lines {}: {}".format(*numbers, text) if view.folded() else ""
 
 
 def page(view: View) -> str:
     """The whole page."""
-    chosen, top = view.chosen(), view.call.number("top", TOP)
+    chosen, top = view.listed(), view.call.number("top", TOP)
     objects = [thing(view, it) for it in chosen[:top]]
     is_all = "predicted" in view.call.options
     observed, foretold = {spot.base: spot for it in view.things for spot in it.spots if spot.line}, view.foretold()
@@ -198,12 +189,14 @@ def page(view: View) -> str:
         templates()
         .get_template("page.html")
         .render(
-            title=os.path.basename(view.call.subject),
+            title=os.path.basename(view.call.named),
             report=view.report,
+            next_step=next_step(view),
             total=view.misses.total if view.misses else None,
             notes=view.notes,
             objects=objects,
             more=max(0, len(chosen) - top),
+            library=library(view),
             harts=[{"hart": it, "letter": letter(it), "colour": colour(it)} for it in harts],
             has_many=any(it.hart == "many" for it in drawn),
             many=MANY,

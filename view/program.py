@@ -40,11 +40,15 @@ class Predator:
     def __init__(self) -> None:
         self.command = launcher()
         self.known: set[str] | None = None
+        # (what the run said whose trace was counted)
+        self.said = ""
 
     def text(self, words: Sequence[str | bytes], good: Sequence[int] = (0,), **how: Any) -> str:
         """What a call prints, which must end with one of these statuses."""
         ran = subprocess.run([self.command, *words], stdout=subprocess.PIPE, stdin=how.pop("stdin", subprocess.DEVNULL), **how)
         text = ran.stdout.decode("latin-1")
+        if ran.stderr:
+            self.said = ran.stderr.decode("utf-8", "replace")
         if ran.returncode not in good:
             said = text.partition("\n")[0] if text.startswith("predator: ") else f"status {ran.returncode}"
             if ran.stderr:
@@ -61,8 +65,8 @@ class Predator:
             self.known = set(re.findall(r"^usage: predator (\w+)", ran.stdout.decode("latin-1"), re.MULTILINE))
         return command in self.known
 
-    def report(self, words: Sequence[str]) -> Report:
-        return Report(self.text(words, REPORTED), "the report of " + words[0])
+    def report(self, words: Sequence[str], **how: Any) -> Report:
+        return Report(self.text(words, REPORTED, **how), "the report of " + words[0])
 
     def explained(self, words: Sequence[str]) -> Explained:
         return Explained(self.text(["explain", *words], REPORTED, stderr=subprocess.DEVNULL))
@@ -106,7 +110,7 @@ class Predator:
             copying = threading.Thread(target=copy, args=(take, mains))
             copying.start()
             try:
-                self.text(with_trace(words, f"/dev/fd/{give}"), REPORTED, pass_fds=(give,), stderr=subprocess.DEVNULL)
+                self.text(with_trace(words, f"/dev/fd/{give}"), REPORTED, pass_fds=(give,), stderr=subprocess.PIPE)
             finally:
                 os.close(give)
                 copying.join()

@@ -8,6 +8,7 @@ import sys
 from typing import Callable, ClassVar, Literal, NamedTuple, TypeVar, cast
 
 from faults import Fault
+from kinds import other
 
 SIZES = [1 << it for it in range(2, 11)]
 KINDS = ("observed", "shifted", "doubled")
@@ -195,6 +196,8 @@ class Report:
             raise Fault(f"{of}: it is empty, and no report")
         if first != "predator report 1":
             what = "a report of another version" if re.fullmatch(r"predator report \d+", first) else "no report"
+            if other(text):
+                raise Fault(f"{of}: it is no report, but {other(text)}")
             raise Fault(f"{of}: it is {what}: its first line isn't `predator report 1`")
         fields = head(text, of)
         self.outcome = fields.get("outcome", "")

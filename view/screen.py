@@ -9,9 +9,11 @@ from advice import listing
 from calls import TOP
 from faults import plain
 from keys import OfBlocks
+from library import row_of
 from model import View
 from naming import Naming
 from objects import Thing, Told
+from overflow import is_strange
 from predicted import Foretold, inside, together
 
 BOLD, RED, DIM, END = "1", "1;31", "2", "0"
@@ -43,23 +45,34 @@ def outcome(view: View, paint: Paint) -> Iterator[str]:
     told = report.outcome
     if told.startswith("trap") and naming.sources:
         told += f", at {place_of(naming, int(told.split(' ')[4], 16))}"
-    advice = {
-        "budget": "it took all steps of its `budget`; the setting may be larger",
-        "deadlock": "no hart could run any more",
-        "part": "it is a part of a trace that was cut",
-    }
-    if report.outcome.endswith(("load-misaligned", "store-misaligned")):
-        advice[
-            report.outcome
-        ] = "its address is no multiple of its size: use `memcpy`, or a type with `__attribute__((packed))`, which goes by bytes"
     if not report.ended_well():
         yield paint(RED, plain(f"!! THE RUN DIDN'T END BY EXIT 0: {told}"))
-        yield paint(RED, f"!! {advice.get(report.outcome, 'what follows is what it did until then')}")
+        yield paint(RED, f"!! {next_step(view)}")
     layout = f"lines of {report.size} bytes" + (f" at offset {report.offset}" if report.offset else "")
     yield plain(f"outcome {told}, {report.steps} steps, {report.accesses} accesses, {layout}")
     if view.misses:
         total = view.misses.total
         yield f"misses: {total['useless']} useless, {total['useful']} useful, {total['cold']} cold"
+
+
+def next_step(view: View) -> str:
+    """What to do about a run that didn't end by exit 0."""
+    outcome, sources = view.report.outcome, view.naming.sources
+    if view.overflow:
+        return view.overflow.told()
+    if outcome.endswith(("load-misaligned", "store-misaligned")):
+        return "its address is no multiple of its size: use `memcpy`, or a type with `__attribute__((packed))`, which goes by bytes"
+    if sources and is_strange(outcome, sources.code):
+        return (
+            "it jumped to where no code is: by a pointer to no function, or by a return address that was overwritten, as by a stack that "
+            "is too small (`--set stack=1048576`)"
+        )
+    advice = {
+        "budget": "it took all steps of its `budget`; the setting may be larger",
+        "deadlock": "no hart could run any more",
+        "part": "it is a part of a trace that was cut",
+    }
+    return advice.get(outcome, "what follows is what it did until then")
 
 
 def owner(word: Told) -> str:
@@ -83,11 +96,11 @@ def row(view: View, place: int, thing: Thing, paint: Paint, width: int) -> Itera
     near = f", beside {', '.join(beside[:3])}" + (f" and {len(beside) - 3} more" if len(beside) > 3 else "") if beside else ""
     cells = "".join(f" {it:>8}" for it in (*numbers, thing.count))
     yield f"{place:>3} {cells} {len(thing.spots):>6}  " + paint(BOLD, plain(view.label(thing))) + plain(lives + near)
-    worst, fight = seen.worst(), seen.fight()
+    worst = seen.worst()
     if worst:
         much = f"{counted(worst.writes, 'write')} and {counted(worst.reads, 'read')} by {owner(worst)}"
-        yield from fold(f"worst field  {worst.name}: {much}", " " * 8, " " * 21, width)
-    if fight:
+        yield from fold(f"worst field  {worst.whole()}: {much}", " " * 8, " " * 21, width)
+    for fight in seen.fights()[: None if "words" in view.call.options else 1]:
         one, other = (place_of(view.naming, it) for it in fight[:2])
         took = counted(fight.taken, "time") + (f", {fight.same} of them for the same word" if fight.same else ", never for the same word")
         yield from fold(f"fighting     {other} takes the line from {one}, {took}", " " * 8, " " * 21, width)
@@ -134,9 +147,9 @@ def screen(view: View, paint: Paint, width: int = 110) -> Iterator[str]:
     yield from outcome(view, paint)
     for it in view.notes:
         yield from fold(f"note: {it}", "", "      ", width)
-    chosen, top = view.chosen(), view.call.number("top", TOP)
+    chosen, top = view.listed(), view.call.number("top", TOP)
     name = view.call.options.get("object")
-    if not chosen:
+    if not view.chosen():
         yield f"nothing is fought over on {plain(name)}" if name else "no line is fought over"
     else:
         yield paint(DIM, "      useless   useful    count  lines  object")
@@ -146,6 +159,9 @@ def screen(view: View, paint: Paint, width: int = 110) -> Iterator[str]:
             needs = "" if view.by_word is None else "   needed"
             yield paint(DIM, f"        {'word':<10}    reads   writes{needs}  hart  field")
             yield from words_table(view, thing)
+    if view.folded():
+        numbers, text = row_of(view.folded(), view.misses is not None)
+        yield "    " + "".join(f" {it:>8}" for it in numbers[:3]) + f" {numbers[3]:>6}  {paint(DIM, text)}"
     if len(chosen) > top:
         yield paint(DIM, f"{counted(len(chosen) - top, 'more object')}: --top {len(chosen)} shows all")
     yield from predictions(view, paint, width)

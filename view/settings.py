@@ -8,8 +8,18 @@ USUAL = {
 }
 # (so far)
 
-# The options that say under what a program runs, and those whose files are written.
+# All keys of the settings.
+# commands.toml: keys
+KEYS = ("harts", "memory", "stack", "tracking", "prediction", "report", "quantum", "budget", "line", "seed")
+# (so far)
+
+# The options that say under what a program runs, those whose files are written, and all of a run and of a replay.
 # commands.toml: options
 ASKED = ("--settings", "--set", "--schedule")
 WRITTEN = ("--trace", "--output")
+OPTIONS = {
+    "run": ["--settings", "--set", "--schedule", "--trace", "--output"],
+    "replay": ["--settings", "--set", "--size", "--shift", "--save", "--resume"],
+    "sweep": ["--size"],
+}
 # (so far)

@@ -4,7 +4,7 @@ import json
 import os
 import shutil
 import subprocess
-from typing import Any, Iterable, NamedTuple
+from typing import Any, Iterable, NamedTuple, Sequence
 
 from faults import Fault
 
@@ -33,8 +33,8 @@ def places(told: dict[str, Any]) -> list[Place]:
 class Sources:
     """The lines of a program's addresses, and the texts of its sources as far as they are there."""
 
-    def __init__(self, program: str, folders: Iterable[str] = ()) -> None:
-        self.program = program
+    def __init__(self, program: str, folders: Iterable[str] = (), code: Sequence[tuple[int, int]] = ()) -> None:
+        self.program, self.code = program, code
         self.places: dict[int, list[Place]] = {}
         self.texts: dict[str, list[str]] = {}
         self.folders = [*folders, "", os.path.dirname(os.path.abspath(program))]
@@ -45,7 +45,10 @@ class Sources:
 
     def find(self, addresses: Iterable[int]) -> None:
         """Looks some addresses up in one call."""
-        wanted = sorted({it for it in addresses if it not in self.places})
+        unknown = {it for it in addresses if it not in self.places}
+        # (debug information has functions that were discarded, at address 0)
+        self.places.update({it: [] for it in unknown})
+        wanted = sorted(it for it in unknown if not self.code or any(low <= it < high for low, high in self.code))
         if not wanted:
             return
         ran = subprocess.run(
@@ -54,7 +57,6 @@ class Sources:
             stdout=subprocess.PIPE,
             stderr=subprocess.DEVNULL,
         )
-        self.places.update({it: [] for it in wanted})
         for row in ran.stdout.decode("utf-8", "replace").splitlines():
             told = json.loads(row)
             self.places[int(told["Address"], 16)] = places(told)

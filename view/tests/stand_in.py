@@ -1,7 +1,7 @@
 #!/usr/bin/python3
-"""Stands for the proved program in the tests of view, where that isn't built: `run`, `replay`, `misses`, `explain` and `check` of small
-programs and traces, by machine.py and the judges of tools/. STAND_IN_LACKS names commands that it hasn't, and `pipes` if it reads none;
-STAND_IN_PUTS is what a program puts out, and STAND_IN_SAYS what each run says on standard error beside it."""
+"""Stands for the proved program in the tests of view, where that isn't built: `run`, `replay`, `misses`, `explain`, `sweep` and `check`
+of small programs and traces, by machine.py and the judges of tools/. STAND_IN_LACKS names commands that it hasn't, and `pipes` if it
+reads none; STAND_IN_PUTS is what a program puts out, and STAND_IN_SAYS what each run says on standard error beside it."""
 
 import os
 import struct
@@ -25,6 +25,7 @@ USAGE = {
     "misses": "TRACE [--size N] [--shift N]",
     "explain": "PROGRAM BASE SIZE START [--settings F] [--schedule F]",
     "place": "TRACE NAME [--size N]",
+    "sweep": "TRACE --size N",
 }
 
 
@@ -173,9 +174,30 @@ def place(names, options):
     return lines
 
 
+def sweep(names, options):
+    """By the definition: of each shift the writes behind a line's first one that find it in the cache of another hart."""
+    size = int(options["--size"])
+    accesses = [(it[0], it[2], it[1]) for it in case_of(read(names[0]), settings_of(options), options).accesses]
+    totals = []
+    for shift in range(0, size, 4):
+        held, taken = {}, {}
+        for hart, addr, writes in accesses:
+            line = (addr - shift) // size
+            others = held.get(line, set()) - {hart}
+            if writes:
+                if others and line in taken:
+                    taken[line] += 1
+                taken.setdefault(line, 0)
+            held[line] = {hart} if writes else held.get(line, set()) | {hart}
+        totals.append((sum(taken.values()), shift, sum(map(bool, taken.values()))))
+    yield from (f"sweep {size}", f"accesses {len(accesses)}")
+    yield from (f"shift {shift} total {total} lines {lines}" for total, shift, lines in totals)
+    yield from ("least {1} total {0}".format(*min(totals)), "end")
+
+
 def main(words):
     known = {name: told for name, told in USAGE.items() if name not in LACKS}
-    works = {"run": run, "replay": replay, "check": check, "misses": misses, "explain": explain, "place": place}
+    works = {"run": run, "replay": replay, "check": check, "misses": misses, "explain": explain, "place": place, "sweep": sweep}
     if not words or words[0] not in known:
         print(*(f"usage: predator {name} {told}" for name, told in known.items()), sep="\n")
         return 1

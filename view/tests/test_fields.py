@@ -11,7 +11,7 @@ HERE = os.path.dirname(os.path.abspath(__file__))
 sys.path.insert(0, os.path.dirname(HERE))
 
 from faults import Fault  # noqa: E402
-from fields import Program, size_of, type_name, words_of  # noqa: E402
+from fields import Program, are_several, size_of, type_name, words_of  # noqa: E402
 from source_lines import Sources  # noqa: E402
 
 
@@ -46,6 +46,16 @@ class Fields(unittest.TestCase):
         self.assertEqual(names[5], "parts.text[4..5], .small[0][0]")
         self.assertEqual(names[6], "parts.small[0][1], [1][0]")
         self.assertEqual(self.variable(program, "parts").alignment(), 64)
+
+    def test_words_with_several_fields(self):
+        for name, variable, offsets in (
+            # (the members of the union `number` lie in one place, and `wide` has eight bytes)
+            ("odd.elf", "parts", {0: False, 4: True, 8: False, 12: False, 16: True, 20: True, 24: True}),
+            ("ring.elf", "ring", {0: False, 4: False, 8: False}),
+            ("shards.elf", "shards", {16: False, 20: True}),
+        ):
+            kind = self.variable(Program(built(name)), variable).type
+            self.assertEqual({it: are_several(kind, 8 * it, 8 * it + 32) for it in offsets}, offsets, name)
 
     def test_bit_fields_of_version_5(self):
         self.assertEqual(self.named(Program(built("shards.elf")), "shards", 20), ["shards[1].used, .is_full"])
@@ -90,6 +100,13 @@ class Fields(unittest.TestCase):
         self.assertIsNone(sources.place(0x900000))
         self.assertTrue(sources.text("ring.c")[0].startswith("// A ring"))
         self.assertEqual(sources.text("moved/elsewhere.c"), [])
+
+    def test_functions_that_were_discarded(self):
+        program = Program(built("ring.elf"))
+        self.assertIsNotNone(Sources(program.path).place(0))
+        sources = Sources(program.path, (), program.code())
+        self.assertIsNone(sources.place(0))
+        self.assertIsNotNone(sources.place(program.code()[0][0]))
 
 
 if __name__ == "__main__":

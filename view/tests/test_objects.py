@@ -7,15 +7,20 @@ import unittest
 from types import SimpleNamespace
 
 HERE = os.path.dirname(os.path.abspath(__file__))
-sys.path.insert(0, os.path.dirname(HERE))
+sys.path[:0] = [os.path.dirname(HERE), os.path.join(HERE, "..", "..", "tools")]
 
 import advice  # noqa: E402
+import compare  # noqa: E402
+import library  # noqa: E402
 from calls import Call  # noqa: E402
-from model import View  # noqa: E402
-from naming import Memory, Naming  # noqa: E402
-from objects import holder  # noqa: E402
+from model import Seen, View  # noqa: E402
+from judge_report import Access, Case, Ending, trace_of  # noqa: E402
+from keys import OfSymbol  # noqa: E402
+from naming import Memory, Naming, WordKind  # noqa: E402
+from objects import Spot, Thing, Told, holder  # noqa: E402
+from overflow import overflow  # noqa: E402
 from predicted import can_lie, judged, together  # noqa: E402
-from reports import Block, Line, Misses, Report, Symbol  # noqa: E402
+from reports import Block, Line, Misses, Pair, Report, Symbol  # noqa: E402
 from screen import Paint, screen  # noqa: E402
 
 HEAD = "predator report 1\noutcome exit 0\nsteps 9\naccesses 900\nlayout 64 0\nthresholds 16 64 100\n"
@@ -26,19 +31,115 @@ def report_of(rows):
     return Report(HEAD + f"lines {lines}\n" + "".join(f"{it}\n" for it in rows) + "end\n")
 
 
-def view_of(rows, misses=None, memory=None, each=None):
+def view_of(rows, misses=None, memory=None, each=None, by_word=None):
     """What is seen of a report of these rows."""
     report = report_of(rows)
     view = View(Call(["r"]), report, Naming(report, memory=memory))
     view.misses = Misses(misses) if misses else None
     view.each = report_of(each) if each else None
-    view.by_word = None
+    view.by_word = Misses(by_word) if by_word else None
     view.arrange()
     return view
 
 
 def word(addr, reads, writes, hart):
     return f"word 0x{addr:08x} reads {reads} writes {writes} {hart}"
+
+
+def made(useless, *lines, functions=("malloc", "make", "main"), useful=0):
+    """A record of blocks that are made at some lines of ring.c."""
+    sites = [{"function": it, "file": "/src/ring.c" if it != "malloc" else "", "line": at} for it, at in zip(functions, (0, *lines))]
+    key = "block " + " < ".join(functions[1:])
+    return {"key": key, "name": f"block made at ring.c:{lines[0]}", "useless": useless, "useful": useful, "count": 0, "beside": []} | {
+        "words": [],
+        "sites": sites,
+        "declared": None,
+    }
+
+
+class Compared(unittest.TestCase):
+    def pairs(self, old, new):
+        return sorted((a and a["useless"] or 0, b and b["useless"] or 0) for a, b in compare.pairs(old, new))
+
+    def test_blocks_whose_lines_have_moved(self):
+        old = [made(11, 9, 40), made(12, 100, 40), made(13, 20, 50)]
+        for by in (0, 7, -5):
+            new = [made(91, 9 + by, 40 + by), made(92, 100 + by, 40 + by), made(93, 20 + by, 50 + by)]
+            self.assertEqual(self.pairs(old, new), [(11, 91), (12, 92), (13, 93)])
+            # One that is gone, or new, isn't taken for another one.
+            self.assertEqual(self.pairs(old, new[1:]), [(11, 0), (12, 92), (13, 93)])
+            self.assertEqual(self.pairs(old[1:], new), [(0, 91), (12, 92), (13, 93)])
+
+    def test_callers_and_order(self):
+        old, new = [made(1, 9, 40), made(2, 9, 50)], [made(5, 9, 50)]
+        self.assertEqual(self.pairs(old, new), [(1, 0), (2, 5)])
+        self.assertEqual(self.pairs([made(1, 9), made(2, 30)], [made(5, 9), made(6, 33)]), [(1, 5), (2, 6)])
+        other = made(7, 9, functions=("malloc", "grow"))
+        self.assertEqual(self.pairs([other], [made(5, 9)]), [(0, 5), (7, 0)])
+        # (a kept report has no lines)
+        self.assertEqual(self.pairs([made(1, 0), made(2, 0)], [made(5, 0)]), [(0, 5), (1, 0), (2, 0)])
+
+    def test_rows(self):
+        self.assertEqual(compare.row(made(3, 9), made(3, 9), "useless"), "the same")
+        self.assertEqual(compare.row(made(3, 9), None, "useless"), "gone: 3 before")
+        self.assertEqual(compare.row(None, made(3, 9, useful=2), "useless"), "new: 3 useless and 2 useful")
+        told = "less: 300 before, 0 now; useful more: 1 before, 900 now"
+        self.assertEqual(compare.row(made(300, 9, useful=1), made(0, 9, useful=900), "useless"), told)
+
+    def test_what_was_saved_and_costs_more(self):
+        view = view_of([], "misses 64 0\naccesses 900\nlines 0\ntotal cold 4 useful 901 useless 0\nend\n")
+        before = compare.Before([made(300, 9, useful=1)], "exit 0", {"cold": 2, "useful": 1, "useless": 300})
+        rows = list(compare.compared(view, before, "old"))
+        self.assertEqual(rows[1], "  all misses but cold ones: worse: 301 before, 901 now")
+        self.assertEqual(rows[2:4], ["    useless: less: 300 before, 0 now", "    useful: more: 1 before, 901 now"])
+        self.assertEqual(rows[4:], ["  block made at ring.c:9: gone: 300 useless and 1 useful before"])
+        nothing = compare.Before([made(0, 9)], "exit 0", {"cold": 2, "useful": 0, "useless": 0})
+        self.assertEqual(list(compare.compared(view, nothing, "old"))[4:], [])
+
+
+LOCK = OfSymbol("symbol", "lock", 0x1000)
+
+
+def used(name, at, useful, kind=WordKind(True, False), hart="many"):
+    """A word of the object `lock` that harts use."""
+    return Told(0x1000 + at, 0x1000, name, "", name, LOCK, 0x1000, 100, 100, hart, useful, kind)
+
+
+class Advised(unittest.TestCase):
+    def todo(self, *words, useless=0, useful=300, turns=100):
+        thing = Thing(LOCK, Symbol("lock", 0x1000, 64))
+        thing.name, thing.useless, thing.useful = "lock", useless, useful
+        thing.spots.append(Spot(0x1000, None, SimpleNamespace(useless=useless, useful=useful)))
+        return advice.sentence(thing, words, {}, 64, True, lambda _: "", turns)
+
+    def test_several_fields_in_a_word(self):
+        state, flags = used("lock.state", 0, 200), used("lock.ready, .done", 4, 40, WordKind(True, True))
+        for turns in (1, 3, 100):
+            for useless, useful in ((0, 300), (100, 300), (300, 20)):
+                told = self.todo(state, flags, useless=useless, useful=useful, turns=turns)
+                self.assertIn("several fields or elements lie in a word of lock.ready, .done", told)
+                self.assertNotIn("padding", told)
+            self.assertIn("several fields or elements lie in one word there", self.todo(flags, turns=turns))
+        self.assertIn("padding doesn't help", self.todo(state))
+        # (what isn't known of memory without a type)
+        self.assertIn("padding helps only where harts use different bytes", self.todo(used("lock+8", 8, 200, WordKind(False, False))))
+
+    def test_a_field_of_eight_bytes_is_one(self):
+        words = [used("lock.sum", 0, 90), used("lock.sum+4", 4, 90), used("lock.own", 8, 0, hart="1"), used("lock.own+4", 12, 0, hart="1")]
+        told = self.todo(*words, useless=200, useful=90)
+        self.assertIn("before each: lock.sum (shared); lock.own (hart 1)", told)
+        self.assertNotIn("+4", told)
+        self.assertIn("the sharing of lock.sum is true", self.todo(*words[:2]))
+        # (each load brings both of its words)
+        self.assertNotIn("times more", self.todo(*words[:2], useful=90))
+        self.assertIn("a line for each of its words would miss 90 times more", self.todo(words[0], used("lock.other", 8, 90), useful=90))
+
+    def test_words_of_a_stack(self):
+        rows = ["line observed 0x0100ffc0 64 start 0 count 300 verdict true", word(0x100FFC0, 5, 50, "many")]
+        view = view_of(rows, memory=Memory((0xF90000, 0x1010000), 8))
+        (told,) = view.seen(view.things[0]).words
+        self.assertEqual((told.name, told.kind), ("0x0100ffc0, 64 below its top", WordKind(False, False)))
+        self.assertNotIn("several fields", view.seen(view.things[0]).todo)
 
 
 class Objects(unittest.TestCase):
@@ -65,6 +166,52 @@ class Objects(unittest.TestCase):
         counted += "line 0x00001000 cold 2 useful 0 useless 300\nobject symbol a 0x00001000 64\n"
         view = view_of(rows, counted + "total cold 4 useful 1 useless 800\nend\n")
         self.assertEqual([(it.name, it.useless, it.useful, it.count) for it in view.things], [("b", 500, 1, 0), ("a", 300, 0, 200)])
+
+    def test_what_a_repair_saves_stands_first(self):
+        counted = "misses 64 0\naccesses 900\nlines 2\n"
+        counted += "line 0x00001040 cold 2 useful 9 useless 500\nobject symbol a 0x00001040 64\n"
+        counted += "line 0x00001000 cold 2 useful 1 useless 300\nobject symbol b 0x00001000 64\n"
+        counted += "total cold 4 useful 10 useless 800\nend\n"
+        # (each load of a's line brought two words that are needed)
+        words = "misses 4 0\naccesses 900\nlines 3\nline 0x00001040 cold 1 useful 250 useless 0\n"
+        words += "line 0x00001048 cold 1 useful 250 useless 0\nline 0x00001000 cold 1 useful 1 useless 0\n"
+        words += "total cold 3 useful 501 useless 0\nend\n"
+        view = view_of([], counted, by_word=words)
+        self.assertEqual([(it.name, it.saves, it.useless) for it in view.things], [("b", 300, 300), ("a", 9, 500)])
+        self.assertEqual([it.name for it in view_of([], counted).things], ["a", "b"])
+
+    def test_what_the_c_library_has_is_one_row(self):
+        rows = []
+        for at, name in enumerate(("__malloc_lock", "queue", "_Impure", "_mine")):
+            base = 0x1000 + 64 * at
+            rows += [f"line observed 0x{base:08x} 64 start 0 count {300 + at} verdict true", f"object symbol {name} 0x{base:08x} 4"]
+            rows += [word(base, 5, 50, "many")]
+        view = view_of(rows)
+        self.assertEqual(view.folded(), [])
+        view.naming.program = SimpleNamespace(dwarf=1, variable=lambda _: None, declared=lambda _: None)
+        view.rank()
+        self.assertEqual([it.name for it in view.listed()], ["_mine", "queue"])
+        (shown,) = [it for it in screen(view, Paint(io.StringIO())) if "library" in it]
+        self.assertEqual(shown.split(), "- - 602 2 2 objects of the C library: --library shows them".split())
+        for option in ({"library": ""}, {"object": "__malloc_lock"}):
+            view.call.options.update(option)
+            self.assertEqual(view.folded(), [])
+            view.call.options = {"type": []}
+
+    def test_files_of_the_c_library(self):
+        for path in ("/usr/lib/x86_64-linux-gnu/libc.so.6", "/lib64/ld-linux-x86-64.so.2", "[vdso]", "libpthread-2.36.so"):
+            self.assertTrue(library.LIBRARIES.search(path), path)
+        for path in ("/usr/lib/libcap.so.2", "/home/me/libc/queue", "/usr/lib/libstdc++.so.6"):
+            self.assertFalse(library.LIBRARIES.search(path), path)
+        self.assertTrue(library.KIT.search("/opt/predator/guest/clib/heap.c"))
+        self.assertFalse(library.KIT.search("guest/examples/queue.c"))
+
+    def test_the_pair_that_takes_most_for_nothing_is_first(self):
+        pairs = [Pair(1, 2, 90, 90), Pair(3, 4, 50, 10), Pair(5, 6, 45, 4), Pair(7, 8, 40, 10)]
+        seen = Seen(None, [], SimpleNamespace(pairs=pairs), "", None)
+        self.assertEqual([it.victim for it in seen.fights()], [5, 3, 7, 1])
+        self.assertEqual(seen.fight().victim, 5)
+        self.assertIsNone(Seen(None, [], None, "", None).fight())
 
     def test_words_of_lines_that_are_not_listed(self):
         counted = "misses 64 0\naccesses 900\nlines 1\nline 0x00001000 cold 2 useful 1 useless 500\nobject symbol a 0x00001000 8\n"
@@ -152,6 +299,31 @@ class Objects(unittest.TestCase):
         for cause, told in (("load-misaligned", "`memcpy`"), ("store-misaligned", "`memcpy`"), ("load-outside", "until then")):
             view.report.outcome = f"trap hart 0 pc 0x00010000 {cause}"
             self.assertIn(told, "\n".join(screen(view, Paint(io.StringIO()))))
+
+    def test_a_trap_where_no_code_is(self):
+        view = view_of([])
+        view.naming.sources = SimpleNamespace(code=[(0x10000, 0x11000)], place=lambda _: None, near=lambda _: None, frames=lambda _: [])
+        for pc, told in ((0, "to where no code is"), (0x10FF0, "until then"), (0x11000, "`--set stack=1048576`")):
+            view.report.outcome = f"trap hart 0 pc {pc:#010x} illegal"
+            self.assertIn(told, "\n".join(screen(view, Paint(io.StringIO()))))
+
+    def overflow(self, *accesses):
+        """What is told of the stacks of harts that made some accesses."""
+        case = Case([Access(*it, 4) for it in accesses], [], Ending("exit 0", 9, (0, 0, 0, 0)), 8, 16, 64, 100, 64, None)
+        found = overflow(trace_of(case), Memory((0xF90000, 0x1010000), 8))
+        return found and found.told()
+
+    def test_a_stack_that_is_too_small(self):
+        down = [(1, True, at) for at in range(0xFFFFF0, 0xFFFFF0 - 0x18000, -32)]
+        self.assertIn("hart 1 ran out of its stack of 65536 bytes, and wrote 98288 bytes below its top", self.overflow(*down))
+        self.assertIn("`--set stack=131072` gives it more", self.overflow(*down))
+        deep = [(7, True, at) for at in range(0xF9FFF0, 0xF9FFF0 - 0x200000, -1024)]
+        self.assertIn("hart 7 ran out of its stack of 65536 bytes", self.overflow(*deep))
+        self.assertIn("it calls itself without end", self.overflow(*deep))
+        # What a hart reads there, or writes far from its stack, is data of others.
+        self.assertIsNone(self.overflow(*((hart, False, at) for hart, _, at in down)))
+        self.assertIsNone(self.overflow(*((1, True, at) for at in range(0xF80000, 0xF90000, 32))))
+        self.assertIsNone(self.overflow(*down[: 0x10000 // 32]))
 
     def test_thread_local_variables_have_names(self):
         rows = ["line observed 0x0100ffc0 64 start 0 count 300 verdict true", "object block 0x0100ffe0 8 born 0 live"]

@@ -7,7 +7,7 @@ import subprocess
 import tempfile
 import unittest
 
-from calling import STAND_IN, TOP, TURNS, built, joined, view
+from calling import PROGRAM, STAND_IN, TOP, TURNS, built, has, joined, view
 
 
 class Shown(unittest.TestCase):
@@ -24,6 +24,16 @@ class Screens(Shown):
         self.shows(text, "give each element of stats lines of its own: `alignas(64)` on `struct stats`")
         self.shows(text, "ring.c:34 (note < consumer) takes the line from ring.c:34 (note < producer), 142 times, never for the same word")
         self.shows(text, "2 44 314 331 2 ring", "314 of 358 misses bring what another hart wrote")
+
+    def test_options_that_match_nothing(self):
+        with tempfile.TemporaryDirectory() as folder:
+            words = ("--type", "arena.c:18=node", "--sources", folder, "--json", "-")
+            status, text, said = view("run", built("arena.elf"), *TURNS, "--explain", "0", *words)
+            self.assertEqual((status, said), (0, ""))
+            first, second = json.loads(text)["notes"]
+            self.assertEqual(first, "`--type arena.c:18=..` matches nothing: blocks that are fought over are made at arena.c:17")
+            self.assertIn(f"`--sources {folder}` has none of the program's sources: ", second)
+            self.assertIn("arena.c", second)
 
     def test_arena(self):
         _, text, _ = view("run", built("arena.elf"), *TURNS, "--type", "arena.c:17=node", "--words")
@@ -43,6 +53,22 @@ class Screens(Shown):
         self.assertEqual((status, said), (1, "predator view: stats has 298 useless misses, more than 297\n"))
         self.assertEqual(view(*words, "297", "--object", "ring")[0], 0)
         self.assertEqual(view("run", built("odd.elf"), *TURNS, "--explain", "0", "--fail-above", "9999")[0], 3)
+
+    def test_a_thread_for_which_no_hart_was_free(self):
+        says = "predator: no hart was free for the last thread that was to start: `harts` is 8, and in the settings it may be up to 256\n"
+        words = ("run", built("ring.elf"), *TURNS, "--explain", "0")
+        for lacks in ("", "pipes"):
+            status, text, _ = view(*words, STAND_IN_SAYS=says, lacks=lacks)
+            self.assertEqual(status, 0)
+            self.shows(text, "note: no hart was free for the last thread that was to start, and what that shares isn't seen")
+            self.shows(text, "`--set harts=16` gives more")
+            status, _, said = view(*words, "--fail-above", "9999", STAND_IN_SAYS=says, lacks=lacks)
+            self.assertEqual((status, "predator view: no hart was free" in said), (3, True))
+
+    def test_all_that_fight(self):
+        _, text, _ = view("run", built("ring.elf"), *TURNS, "--explain", "1", "--words")
+        self.shows(text, "fighting ring.c:34 (note < consumer) takes the line from ring.c:34 (note < producer), 142 times")
+        self.shows(text, "fighting ring.c:34 (note < producer) takes the line from ring.c:34 (note < consumer), 142 times")
 
     def test_without_misses_and_explain(self):
         status, text, _ = view("run", built("ring.elf"), *TURNS, lacks="misses explain")
@@ -115,7 +141,10 @@ class Screens(Shown):
         for words, said in (
             (("missing",), "missing: No such file or directory"),
             (("run", "missing.elf"), "missing.elf: No such file or directory"),
-            (("replay", built("ring.elf")), "`predator replay` was refused"),
+            (("replay", __file__), "`predator replay` was refused"),
+            (("replay", built("ring.elf")), "ring.elf is a program: `predator view"),
+            (("run", built("ring.elf"), "--object", "stat"), "ring.elf; did you mean `stats`?"),
+            (("run", built("ring.elf"), "--json", "-", "--html", "-"), "can be one output alone"),
             ((__file__,), "it is no report"),
             (("run", built("ring.elf"), "--html", "/no/where"), "/no/where: No such file or directory"),
             (("run", built("ring.elf"), "--html", built("../programs/ring.elf")), "the same file is in use under another name"),
@@ -186,6 +215,64 @@ class Screens(Shown):
             texts.append(text)
         self.assertIn(b"\033[1;31m!! THE RUN", texts[0])
         self.assertNotIn(b"\033", texts[1])
+
+
+class Pipes(Shown):
+    program = STAND_IN
+
+    def call(self, command, trace):
+        """What a command in bash prints, in which $view is view, and $1 the trace."""
+        own = {"PREDATOR_PROGRAM": self.program, "PREDATOR_BUILD": "no", "view": os.path.join(TOP, "bin", "predator") + " view"}
+        env = {**os.environ, **own}
+        ran = subprocess.run(["bash", "-c", command, "bash", trace], capture_output=True, encoding="utf-8", env=env, timeout=100)
+        self.assertEqual((ran.returncode, ran.stderr), (0, ""), command)
+        return ran.stdout
+
+    def test_a_trace_from_a_pipe(self):
+        with tempfile.TemporaryDirectory() as folder:
+            trace, fifo = os.path.join(folder, "t"), os.path.join(folder, "fifo")
+            subprocess.run([self.program, "run", built("ring.elf"), *TURNS, "--trace", trace], check=True, stdout=subprocess.DEVNULL)
+            os.mkfifo(fifo)
+            texts = {
+                self.call(it, trace)
+                for it in (
+                    'cat "$1" | $view replay -',
+                    '$view replay - <"$1"',
+                    f'cat "$1" >{fifo} & $view replay - <{fifo}; wait',
+                    '$view replay <(cat "$1")',
+                    f'cat "$1" >{fifo} & $view replay {fifo}; wait',
+                )
+            }
+            self.assertEqual(len(texts), 1)
+            self.shows(texts.pop(), "note: a trace from a pipe can be read once, so its misses, and places", "1 - - 331 1 ring")
+            _, whole, _ = view("replay", trace, program=self.program)
+            self.shows(whole, "1 298 0 284 1 stats")
+            # (settings and schedules that are pipes serve each run)
+            text = self.call(f"$view run {built('ring.elf')} --settings <(echo quantum = 3) --explain 1", trace)
+            self.assertEqual(text, view("run", built("ring.elf"), *TURNS, "--explain", "1", program=self.program)[1])
+
+
+@unittest.skipUnless(has(PROGRAM, "misses"), "the program isn't built, or has no misses")
+class PipesOfTheProgram(Pipes):
+    program = PROGRAM
+
+
+RECORDER = os.path.join(TOP, "native", "out", "predator-amd64-linux")
+
+
+@unittest.skipUnless(os.path.exists(RECORDER) and has(PROGRAM, "misses"), "the recorder of native/ or the program isn't built")
+class OfThisMachine(Shown):
+    def test_a_program_is_recorded(self):
+        with tempfile.TemporaryDirectory() as folder:
+            source = os.path.join(TOP, "native", "tries", "counters.c")
+            subprocess.run(["gcc", "-g", "-O1", "-pthread", source, "-o", "counters"], cwd=folder, check=True)
+            for words in (("--top=1", "counters"), ("native", "--top=1", "--quantum", "10", "--", "./counters")):
+                status, text, said = view(*words, program=PROGRAM, cwd=folder)
+                self.assertEqual((status, said), (0, "sum 80000\n"))
+                self.shows(text, "outcome exit 0, 0 steps", "counters worst field counters[1].count", "each element of counters")
+                self.assertRegex(text, r"[1-9] objects? of the C library: --library shows them")
+            status, _, said = view("native", "./counters", "--quantum", "0", program=PROGRAM, cwd=folder)
+            self.assertEqual((status, "'--quantum' is 1 to 100000" in said), (2, True))
 
 
 class Repairs(Shown):
@@ -270,15 +357,18 @@ class Against(unittest.TestCase):
             with open(old, encoding="utf-8") as file:
                 before = {it["name"]: it["useless"] for it in json.load(file)["objects"]}
             told = joined(text.partition("by useless misses:")[2])
+            self.assertRegex(told, "^all misses but cold ones: better: [0-9]+ before, 656 now useless: less: [0-9]+ before, 342 now")
             self.assertIn("stats: the same", told)
             self.assertIn(f"ring: less: {before['ring']} before, 44 now", told)
             _, text, _ = view("run", built("shards.elf"), *TURNS, "--explain", "0", "--against", old)
             told = joined(text.partition("by useless misses:")[2])
+            self.assertRegex(told, "^all misses but cold ones: worse: [0-9]+ before, 2147 now")
+            self.assertNotIn(": 0", told)
             self.assertIn("shards: new: 2147", told)
             self.assertIn(f"stats: gone: {before['stats']} before", told)
             status, text, _ = view("run", built("shards.elf"), *TURNS, "--explain", "0", "--against", old, "--json", old)
             self.assertEqual((status, "stats: gone" in text), (0, True))
-            head = '{"format": "predator view 1", "outcome": "exit 0", "objects": '
+            head = '{"format": "predator view 1", "outcome": "exit 0", "total": null, "objects": '
             things = (
                 "3",
                 "[3]",

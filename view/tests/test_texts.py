@@ -1,7 +1,9 @@
 """What is read: reports, counts of misses, what explains a line, the words of a call, and what is said of bad ones."""
 
+import functools
 import os
 import sys
+import tempfile
 import unittest
 
 HERE = os.path.dirname(os.path.abspath(__file__))
@@ -9,6 +11,7 @@ sys.path.insert(0, os.path.dirname(HERE))
 
 from calls import Call  # noqa: E402
 from faults import Fault, plain  # noqa: E402
+from recording import parted  # noqa: E402
 from reports import Explained, Misses, Report  # noqa: E402
 
 HEAD = "predator report 1\noutcome exit 0\nsteps 3\naccesses 3\nlayout 64 0\nthresholds 1 64 1\n"
@@ -73,6 +76,9 @@ class Texts(unittest.TestCase):
         self.fault("\n", "empty")
         self.fault("predator report 2\nend\n", "another version")
         self.fault("\x7fELF", "no report")
+        self.fault("PRDTRC01\1", "no report, but a trace: `predator view replay -`")
+        self.fault('{"format": 1}', "no report, but what --json wrote")
+        self.fault("PRDSTA01", "no report, but a saved state")
         self.fault("predator: trace BadMagic\n", "no report")
         for cut in range(30, len(WHOLE) - 4, 11):
             self.fault(WHOLE[:cut], "r: ")
@@ -151,7 +157,41 @@ class Words(unittest.TestCase):
         self.assertEqual(Call(["run", "--", "-p.elf"]).subject, "-p.elf")
         self.assertEqual(Call(["run", "p", "--type", "a.c:7=node", "--type=b=c"]).options["type"], ["a.c:7=node", "b=c"])
 
+    def test_sweeps(self):
+        call = Call(["sweep", "t", "--size", "64", "--html=f"])
+        self.assertEqual((call.how, call.subject, call.words), ("sweep", "t", ["t", "--size", "64"]))
+        self.assertIn("a sweep is of lines of a size", self.refused("sweep", "t"))
+        self.assertIn("'--json' isn't for a sweep", self.refused("sweep", "t", "--size=64", "--json=f"))
+        self.assertIn("'--shift' is no option of view sweep", self.refused("sweep", "t", "--size=64", "--shift", "4"))
+
+    def test_what_a_file_is(self):
+        with tempfile.TemporaryDirectory() as folder:
+            at = functools.partial(os.path.join, folder)
+            own = b"\x7fELF\2\1\1" + bytes(9) + b"\3\0\x3e\0"
+            for name, head in (("guest", b"\x7fELF\1\1\1"), ("own", own), ("trace", b"PRDTRC02")):
+                with open(at(name), "wb") as file:
+                    file.write(head)
+            call = Call([at("guest"), "--set", "quantum=3", "--top", "2", "--", "--words"])
+            self.assertEqual((call.how, call.program, call.own, call.options["top"]), ("run", at("guest"), ["--", "--words"], "2"))
+            self.assertEqual(call.words, [at("guest"), "--set", "quantum=3"])
+            self.assertEqual(Call([at("trace"), "--size=32"]).how, "replay")
+            call = Call(["--quantum", "10", "--all", at("own"), "--size", "32", "--", "a"])
+            self.assertEqual((call.how, call.named, call.own, call.marks), ("native", at("own"), ["--", "a"], ["--all"]))
+            self.assertEqual(parted(call.words, at("own")), (["--quantum", "10"], ["--size", "32"]))
+            call = Call(["native", "--all", "--", at("own"), "a", "--b"])
+            self.assertEqual((call.subject, call.own, call.marks), (at("own"), ["--", "a", "--b"], ["--all"]))
+            strange = ("run", "trace", "a trace"), ("run", "own", "a program of this machine"), ("replay", "guest", "a program")
+            for how, name, said in strange:
+                self.assertIn(f"{at(name)} is {said}: `predator view {at(name)}`", self.refused(how, at(name)))
+            self.assertIn("'--quantum' is no option of view run", self.refused(at("guest"), "--quantum", "10"))
+            self.assertIn("'--all' is for a program of this machine", self.refused(at("guest"), "--all"))
+            self.assertIn("'--sources' is a folder", self.refused(at("guest"), "--sources", at("trace")))
+
     def test_refusals(self):
+        self.assertIn("'--saves=1' is no option of view replay; did you mean `--save`?", self.refused("replay", "t", "--saves=1"))
+        near = "names no key of the settings; did you mean `quantum`? the keys are: harts"
+        self.assertIn(near, self.refused("run", "p", "--set=quantom=3"))
+        self.assertIn("'x=3' in --set names no key of the settings; the keys are", self.refused("run", "p", "--set", "quantum=1,x=3"))
         self.assertIn("a report is wanted", self.refused())
         self.assertIn("a program is wanted", self.refused("run", "--top", "3"))
         self.assertIn("'b' is one word more", self.refused("a", "b"))

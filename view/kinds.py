@@ -1,0 +1,41 @@
+"""What a file is, by its first bytes: view looks itself whether to run, to record, to replay or to show it."""
+
+import contextlib
+import os
+from typing import Literal
+
+# What is done with a file: a program for RV32 is run, one of this machine recorded, a trace replayed or swept, and a report shown.
+How = Literal["run", "native", "replay", "sweep", "file"]
+IS = {"run": "a program", "native": "a program of this machine", "replay": "a trace"}
+DOES = {"run": "runs", "native": "records", "replay": "replays"}
+# The number of x86-64 in an ELF file.
+X86_64 = b"\x3e\x00"
+
+
+def front(path: str) -> bytes:
+    """The first bytes of a file that can be read again, or none."""
+    if os.path.isfile(path):
+        with contextlib.suppress(OSError), open(path, "rb") as file:
+            return file.read(64)
+    return b""
+
+
+def how_of(path: str) -> How:
+    """What is done with a file. (What is wrong with a program for another machine the program says.)"""
+    head = front(path)
+    if head[:6] == b"PRDTRC":
+        return "replay"
+    if head[:4] == b"\x7fELF":
+        return "native" if head[4:5] == b"\2" and head[18:20] == X86_64 else "run"
+    return "file"
+
+
+def other(text: str) -> str:
+    """What a text is that is no report, as far as its beginning tells, and what to do with it."""
+    if text.startswith("PRDTRC"):
+        return "a trace: `predator view replay -` reads one from standard input"
+    if text.startswith("PRDSTA"):
+        return "a saved state, from which `predator replay --resume` goes on"
+    if text.startswith("{"):
+        return "what --json wrote, and `--against` compares with"
+    return ""
