@@ -36,7 +36,7 @@ _predator() {
         'explain') options="--settings --set --schedule" ;;
         'view') options="--top --object --words --library --predicted --explain --type --sources --html --json --sarif --against --fail-above --by --program --back" ;;
         'campaign') options="--to --profile --cores --html --check" ;;
-        'native') options="--built --quantum --all --marked --most --trace --table --report --settings --size --shift --mend --build" ;;
+        'native') options="--built --quantum --all --marked --pcs --most --trace --table --report --settings --size --shift --mend --build" ;;
         'view run') options="--top --object --words --library --predicted --explain --type --sources --html --json --sarif --against --fail-above --by --settings --set --schedule --trace --output" ;;
         'view replay') options="--top --object --words --library --predicted --explain --type --sources --html --json --sarif --against --fail-above --by --program --back --settings --set --size --shift --save --resume" ;;
         'view sweep') options="--size --html" ;;

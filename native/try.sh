@@ -412,8 +412,10 @@ wait $pid 2>/dev/null
 same "pipe: killed" "137 part" "$? $("$judge" end from-pipe)"
 within "pipe: killed: accesses" 300000 1000000000 "$("$judge" accesses from-pipe)"
 
-# The second way.
+# The second way, the instructions of accesses, and how all ends that is ended.
 . "$here/tries/built.sh"
+. "$here/tries/pcs.sh"
+. "$here/tries/ends.sh"
 
 # The report, where the proved program is built.
 PREDATOR_BUILD=no "$here/../bin/predator" >/dev/null 2>&1
@@ -431,8 +433,8 @@ if [ $? = 1 ]; then
     has "blocks: a line of the source" "heap.c:13" "$("$run" -- ./heap 2>&1 | grep "^where ")"
     has "blocks: a line of the source, built" "heap.c:13" "$("$run" --built -- ./heap.tsan 2>&1 | grep "^where ")"
     "$run" --report r --settings nowhere -- ./counters >r.out 2>r.log
-    same "no settings: the program's status" 0 "$?"
-    has "no settings" "the replay ended with status" "$(cat r.log)"
+    same "no settings: refused" 125 "$?"
+    has "no settings" "nowhere: No such file" "$(cat r.log)"
     head -c 100000 t >cut.t
     has "a cut trace" "Truncated 100000" "$("$here/../bin/predator" replay cut.t 2>&1)"
     "$run" --mend cut.t >/dev/null
@@ -482,6 +484,7 @@ if /usr/bin/python3 -c 'import elftools, jinja2' 2>/dev/null && command -v llvm-
     has "view: no table" "it is no table back" "$said"
     has "view: a table that isn't there" "No such file" "$(view replay t --back nowhere)"
     has "view: a run has no table" "'--back' is for" "$(view run x --back t.table)"
+    . "$here/tries/names.sh"
 else
     skip "view: its packages aren't installed (Debian: python3-pyelftools python3-jinja2 llvm)"
 fi

@@ -37,7 +37,7 @@ def instruction(view: View, addr: int) -> Record:
 
 def site(view: View, it: Site) -> Record:
     found = instruction(view, it.addr)
-    return {**found, "function": found["function"] or it.name}
+    return {**found, "function": found["function"] or view.naming.called(it)}
 
 
 def line(spot: Spot, size: int) -> Record:

@@ -21,6 +21,8 @@ except ImportError as missing:
     raise Fault(f"python3-pyelftools isn't installed: {PACKAGES}", 127) from missing
 
 RECORDS = ("DW_TAG_structure_type", "DW_TAG_class_type", "DW_TAG_union_type")
+SCOPES = ("DW_TAG_namespace", "DW_TAG_module", "DW_TAG_subprogram", "DW_TAG_enumeration_type")
+UNITS = ("DW_TAG_compile_unit", "DW_TAG_partial_unit", "DW_TAG_type_unit")
 NAMES_FOR = ("DW_TAG_typedef", "DW_TAG_const_type", "DW_TAG_volatile_type", "DW_TAG_atomic_type", "DW_TAG_restrict_type")
 POINTERS = ("DW_TAG_pointer_type", "DW_TAG_reference_type", "DW_TAG_rvalue_reference_type")
 # A unit's entry, by pyelftools, which has no types; a type is one, or none where it is void or isn't told.
@@ -41,17 +43,58 @@ def name_of(die: Die) -> str:
     return found.decode("utf-8", "replace") if isinstance(found, bytes) else ""
 
 
+def origins(die: Die) -> Iterator[Die]:
+    """An entry, and those that it goes on: the declaration of what it defines, and the function or variable that it is a copy of."""
+    for _ in range(DEEPEST):
+        yield die
+        link = next((it for it in ("DW_AT_specification", "DW_AT_abstract_origin") if it in die.attributes), None)
+        if link is None:
+            return
+        die = die.get_DIE_from_attribute(link)
+
+
+def qualified(die: Die) -> str:
+    """The name of an entry with the namespaces, types and functions that it is in."""
+    parts: list[str] = []
+    for _ in range(DEEPEST):
+        # (what is defined outside has its place by its declaration)
+        *_, die = origins(die)
+        if die.tag in (*RECORDS, *SCOPES) or not parts:
+            parts.insert(0, name_of(die) or ("(anonymous namespace)" if die.tag == "DW_TAG_namespace" else "(unnamed)"))
+        die = die.get_parent()
+        if die is None or die.tag in UNITS:
+            break
+    return "::".join(parts)
+
+
+def last_name(name: str) -> str:
+    """What a qualified name ends with."""
+    depth = 0
+    for at in range(len(name) - 1, 0, -1):
+        depth += (name[at] in ">)]}") - (name[at] in "<([{")
+        if depth == 0 and name[at - 1 : at + 1] == "::":
+            return name[at + 1 :]
+    return name
+
+
 def type_of(die: Die) -> Die:
     return die.get_DIE_from_attribute("DW_AT_type") if die is not None and "DW_AT_type" in die.attributes else None
 
 
 def bare(die: Die) -> Die:
-    """A type without the names and qualifiers before it; none where these lead round in a ring."""
+    """A type without the names and qualifiers before it, and the definition of one that is only declared; none where these lead round in a
+    ring."""
     for _ in range(DEEPEST):
         if die is None or die.tag not in NAMES_FOR:
-            return die
+            return die if die is None or "DW_AT_declaration" not in die.attributes else defined(die)
         die = type_of(die)
     return None
+
+
+def defined(die: Die) -> Die:
+    """The definition of a type that is declared here, by its program, and where it has none the declaration."""
+    program = getattr(die.dwarfinfo, "program", None)
+    return die if program is None else program.definition(die)
 
 
 def counts(die: Die) -> Iterator[Any]:
@@ -110,7 +153,7 @@ def type_name(die: Die) -> str:
         return type_name(type_of(die))
     heads = {"DW_TAG_structure_type": "struct ", "DW_TAG_union_type": "union ", "DW_TAG_enumeration_type": "enum "}
     is_c = value(die.cu.get_top_DIE(), "language", 0) in (0x01, 0x02, 0x0C, 0x1D, 0x2C)
-    return (heads.get(die.tag, "") if is_c else "") + (name_of(die) or "(unnamed)")
+    return heads.get(die.tag, "") + (name_of(die) or "(unnamed)") if is_c else qualified(die)
 
 
 def place_in(die: Die) -> tuple[int, int | None]:
@@ -166,7 +209,9 @@ def paths(die: Die, low: int, high: int, depth: int = 0) -> list[str]:
     elif die.tag in RECORDS:
         parts = parts_of(die)
     else:
-        return [f"+{low // 8}" if low >= 32 else ""]
+        # (where an address has 8 bytes, a number of 8 bytes is accessed as a whole)
+        is_whole = die.cu["address_size"] == 8 and size_of(die) == 8
+        return [f"+{low // 8}" if low >= 32 and not is_whole else ""]
     found: list[str] = []
     for name, start, wide, of in parts:
         if start < high and low < start + wide and len(found) < MOST:
@@ -207,13 +252,15 @@ def sound(told: Callable[[], A], usual: B) -> A | B:
 
 
 class Variable:
-    """A variable of the program: its name in the source, its type and where it is declared."""
+    """A variable of the program: its name in the source, its type and where it is defined. `dies` are its definition and its declarations."""
 
     def __init__(self, die: Die) -> None:
-        self.die, self.type, self.name = die, type_of(die), name_of(die)
+        self.dies = [*origins(die)]
+        self.type = next((type_of(it) for it in self.dies if "DW_AT_type" in it.attributes), None)
+        self.name = next((name_of(it) for it in self.dies if name_of(it)), "")
 
     def alignment(self) -> int:
-        return sound(lambda: max(value(self.die, "alignment", 1), alignment_of(self.type)), 1)
+        return sound(lambda: max([alignment_of(self.type), *(value(it, "alignment", 1) for it in self.dies)]), 1)
 
 
 class Program:
@@ -222,8 +269,9 @@ class Program:
     def __init__(self, path: str) -> None:
         self.path, self.scanned = path, False
         self.variables: dict[int, Variable] = {}
-        self.types: dict[str, Die] = {}
+        self.types: dict[str, list[Die]] = {}
         self.pointers: dict[str, Die] = {}
+        self.definitions: dict[str, Die] = {}
         self.own: list[tuple[int, int, str]] | None = None
         try:
             with open(path, "rb") as file:
@@ -238,6 +286,8 @@ class Program:
         self.dwarf: Any = None
         with contextlib.suppress(Exception):
             self.dwarf = self.elf.get_dwarf_info() if self.elf.has_dwarf_info() and self.elf.get_section_by_name(".debug_info") else None
+        if self.dwarf is not None:
+            self.dwarf.program = self
 
     def symbols(self) -> dict[tuple[int, int], str]:
         """The address and size of each symbol of data; none where the table is damaged."""
@@ -285,20 +335,14 @@ class Program:
     def note(self, die: Die) -> None:
         if die.tag == "DW_TAG_variable":
             at = self.address(die)
-            whole = die
-            while "DW_AT_type" not in whole.attributes and (
-                "DW_AT_specification" in whole.attributes or "DW_AT_abstract_origin" in whole.attributes
-            ):
-                link = "DW_AT_specification" if "DW_AT_specification" in whole.attributes else "DW_AT_abstract_origin"
-                whole = whole.get_DIE_from_attribute(link)
             if at is not None:
-                self.variables.setdefault(at, Variable(whole))
+                self.variables.setdefault(at, Variable(die))
         if die.tag in ("DW_TAG_variable", "DW_TAG_formal_parameter") and name_of(die):
             kind = bare(type_of(die))
             if kind is not None and kind.tag in POINTERS:
                 self.pointers.setdefault(name_of(die), type_of(kind))
         elif die.tag in (*RECORDS, "DW_TAG_typedef", "DW_TAG_base_type") and name_of(die) and "DW_AT_declaration" not in die.attributes:
-            self.types.setdefault(name_of(die), die)
+            self.types.setdefault(name_of(die), []).append(die)
 
     def address(self, die: Die) -> int | None:
         """Where a variable lies that has one fixed place, or none."""
@@ -317,23 +361,55 @@ class Program:
         return self.variables.get(addr)
 
     def type_named(self, text: str) -> Die:
-        """A type by its name, with or without `struct`, or that to which a pointer variable of this name points."""
+        """A type by its name, with or without `struct`, qualified or not, or that to which a pointer variable of this name points."""
         self.scan()
         name = re.sub(r"^(struct|union|class|enum) +", "", text.strip())
-        found = self.types.get(name) or self.pointers.get(name)
+        several = self.types.get(last_name(name), [])
+        found = chosen(several, name) or self.pointers.get(name)
         if found is None:
             raise Fault(f"'{text}' is no type of {self.path}, and no variable that points to one")
         return found
 
+    def named(self, *names: str) -> list[tuple[int, str]]:
+        """The place and the text of each entry that has one of these names. (llvm-dwarfdump finds it among those of a large library at
+        once.)"""
+        tool = shutil.which("llvm-dwarfdump")
+        words = [f"--name={it}" for it in names if it]
+        if tool is None or not words:
+            return []
+        told = subprocess.run([tool, *words, self.path], capture_output=True).stdout.decode("utf-8", "replace")
+        return [(int(it[1], 16), it[0]) for it in re.finditer(r"^(0x[0-9a-f]+): +DW_TAG_.*\n(?:.+\n)*", told, re.MULTILINE)]
+
+    def definition(self, die: Die) -> Die:
+        """The definition of a type, and where there is none its declaration."""
+        name = qualified(die)
+        if name not in self.definitions:
+            places = [at for at, text in self.named(name_of(die)) if die.tag in text and "DW_AT_declaration" not in text]
+            found = (self.dwarf.get_DIE_from_refaddr(it) for it in places)
+            self.definitions[name] = next((it for it in found if qualified(it) == name), die)
+        return self.definitions[name]
+
     def declared(self, variable: Variable) -> tuple[str, int] | None:
-        """The file and line of a variable's declaration, or none. (llvm-dwarfdump reads the tables of files that pyelftools 0.29
-        doesn't.)"""
-        tool, line = shutil.which("llvm-dwarfdump"), value(variable.die, "decl_line")
+        """The file and line of a variable's definition, or else of its declaration, or none. (llvm-dwarfdump reads the tables of files that
+        pyelftools 0.29 doesn't.)"""
+        tool, line = shutil.which("llvm-dwarfdump"), next((it for die in variable.dies if (it := value(die, "decl_line"))), None)
         if tool is None or not line:
             return None
-        ran = subprocess.run([tool, f"--debug-info={variable.die.offset:#x}", self.path], capture_output=True)
-        found = re.search(rb'DW_AT_decl_file\s*\("(.*)"\)', ran.stdout)
-        return (os.path.normpath(found[1].decode("utf-8", "replace")), line) if found else None
+        for die in variable.dies:
+            ran = subprocess.run([tool, f"--debug-info={die.offset:#x}", self.path], capture_output=True)
+            found = re.search(rb'DW_AT_decl_file\s*\("(.*)"\)', ran.stdout)
+            if found:
+                return os.path.normpath(found[1].decode("utf-8", "replace")), line
+        return None
+
+
+def chosen(several: list[Die], name: str) -> Die:
+    """The type of some of one plain name that has this qualified one, or ends with it; or the first one, or none."""
+    if len(several) < 2 and "::" not in name:
+        return next(iter(several), None)
+    whole = [(it, qualified(it)) for it in several]
+    exact = [it for it, own in whole if own == name] + [it for it, own in whole if own.endswith("::" + name)]
+    return next(iter(exact), None)
 
 
 def words_of(die: Die, name: str, offset: int) -> str:

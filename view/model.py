@@ -139,7 +139,9 @@ class View:
 
     def arrange(self) -> None:
         """Puts the lines together by objects."""
-        self.naming.prepare({it for one in (self.report, self.misses) if one for it in one.sites()})
+        told = [one for one in (self.report, self.misses) if one]
+        self.naming.learn("\n".join(one.text for one in told))
+        self.naming.prepare({it for one in told for it in one.sites()})
         self.things, self.all = things_of(self.report, self.misses, self.naming, self.each)
         for it in self.all.values():
             it.name = self.naming.key_name(it.key, it.example)
@@ -213,8 +215,8 @@ class View:
 
     def names_of(self, thing: Thing) -> set[str]:
         """What a call may name an object by: its own name, and those beside it."""
-        near = [self.all[it] for it in thing.beside]
-        return {it.name for it in (thing, *near)} | {it.name.partition(" made at ")[2].partition(" ")[0] for it in (thing, *near)}
+        own = {it.name for it in (thing, *(self.all[key] for key in thing.beside))}
+        return own | {self.naming.names.shortened(it) for it in own} | {it.partition(" made at ")[2].partition(" ")[0] for it in own}
 
     def explain(self, predator: Predator | None, things: Sequence[Thing]) -> None:
         """Has the worst lines of the first objects explained, side by side."""
@@ -312,7 +314,8 @@ class View:
             of = element_of(of) if element_of(of) is not None else (of if is_block else None)
             if of is None:
                 return ""
-            return f"`{type_name(of)}`" if bare(of).tag in RECORDS else f"a struct around each `{type_name(of)}`"
+            name = self.naming.names.note(type_name(of))
+            return f"`{name}`" if bare(of).tag in RECORDS else f"a struct around each `{name}`"
 
         return told
 
@@ -336,7 +339,7 @@ def keys_over_builds(things: Iterable[Thing], naming: Naming) -> dict[Key, str]:
     groups: dict[str, list[Thing]] = {}
     for it in sorted(things, key=lambda it: order_of(it.key)):
         if isinstance(it.key, OfSymbol):
-            text = f"symbol {it.key.name}"
+            text = f"symbol {naming.names.lasting(it.key.name)}"
         elif isinstance(it.key, OfBlocks):
             text = "block " + (
                 " < ".join(naming.functions(it.example.sites)) if isinstance(it.example, Block) and it.example.sites else "-"

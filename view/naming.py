@@ -1,11 +1,10 @@
 """What objects, words and instructions are called: by the program's debug information where it is there, and else by the report."""
 
 import os
-import shutil
-import subprocess
-from typing import TYPE_CHECKING, Any, Iterable, NamedTuple, Sequence, Union
+from typing import TYPE_CHECKING, Any, Iterable, Sequence, Union
 
 from keys import Key, OfBlocks, OfMemory, OfStack, OfSymbol
+from mangled import Names
 from reports import Block, Report, Site, Symbol
 from source_lines import Sources
 
@@ -36,8 +35,10 @@ OWN = "thread_locals"
 BEGINNINGS = {
     *("_start", "start", "predator_start", "thread_entry", "hart_entry", "predator_thread", "begin_thread", "-"),
     # (of programs of this machine)
-    *("__libc_start_call_main", "__libc_start_main", "start_thread", "clone", "clone3"),
+    *("__libc_start_call_main", "__libc_start_main", "start_thread", "clone", "clone3", "runtime.main", "runtime.goexit"),
 }
+# The same by how their names begin: code of the C library without one, and of Rust.
+BEGUN = ("libc.so.", "ld-linux", "std::rt::lang_start", "std::sys::backtrace::__rust_begin_short_backtrace", "std::sys_common::backtrace::__rust_begin_short")
 
 
 class Memory:
@@ -72,9 +73,13 @@ class Naming:
         memory: Memory | None = None,
     ) -> None:
         self.where, self.program, self.sources, self.memory = report.where if report else {}, program, sources, memory or Memory()
-        self.names: dict[str, str] = {}
+        self.names = Names()
         self.keys: dict[tuple[Site, ...], tuple[str, ...]] = {}
         self.types = [it.partition("=")[::2] for it in types]
+
+    def learn(self, text: str) -> None:
+        """Has the names of all symbols in a report told at once."""
+        self.names.learn(text)
 
     def prepare(self, addresses: Iterable[int]) -> None:
         """Looks lines up for many addresses at once."""
@@ -82,14 +87,21 @@ class Naming:
             self.sources.find(addresses)
 
     def readable(self, name: str) -> str:
-        """A symbol's name as its source has it, where that is C++."""
-        if not name.startswith("_Z"):
-            return name
-        if name not in self.names:
-            tool = shutil.which("llvm-cxxfilt")
-            ran = subprocess.run([tool], input=name.encode(), capture_output=True) if tool else None
-            self.names[name] = ran.stdout.decode("utf-8", "replace").strip() or name if ran else name
-        return self.names[name]
+        """A symbol's name as its source has it."""
+        return self.names.readable(name)
+
+    def library(self, addr: int) -> str:
+        """Of code without a name the library that it is in and the place there, or an empty text; reports of native programs tell it."""
+        from_file = getattr(self.program, "library", None)
+        return from_file(addr) if from_file else ""
+
+    def called(self, site: Site) -> str:
+        """The function of a call site, or where it has none its library."""
+        return self.readable(site.name) if site.name != "-" else self.library(site.addr) or site.name
+
+    def is_beginning(self, site: Site) -> bool:
+        name = self.called(site)
+        return site.name in BEGINNINGS and name in BEGINNINGS or name.startswith(BEGUN)
 
     def sites_key(self, sites: tuple[Site, ...]) -> tuple[str, ...]:
         """Call sites as another address of the same lines has them: a loop that was unrolled is one place."""
@@ -112,16 +124,17 @@ class Naming:
 
     def function(self, site: Site) -> str:
         place = self.sources.place(site.addr) if self.sources else None
-        return place.function if place and place.function else site.name
+        return self.names.note(place.function) if place and place.function else self.called(site)
 
     def chain(self, sites: Sequence[Site]) -> list[Site]:
         """The sites of a block from the one that wants it on: without the allocator's own, and without where harts begin."""
         own = [it for it in sites if it.name not in ALLOCATORS] or list(sites)
-        return [it for it in own if it.name not in BEGINNINGS] or own[:1]
+        return [it for it in own if not self.is_beginning(it)] or own[:1]
 
     def functions(self, sites: Sequence[Site]) -> list[str]:
         """The call sites by functions alone, which other builds of the program have too."""
-        return [it.name for it in self.chain(sites)]
+        own = [it for it in sites if it.name not in ALLOCATORS] or list(sites)
+        return [self.names.lasting(it.name) for it in [it for it in own if it.name not in BEGINNINGS] or own[:1]]
 
     def block(self, sites: Sequence[Site]) -> str:
         if not sites:
@@ -130,8 +143,9 @@ class Naming:
             return "thread-local variables"
         chain = self.chain(sites)
         at = self.site(chain[0])
-        rest = [it.name for it in chain[1:]]
-        first = at or ("an unknown function" if chain[0].name == "-" else chain[0].name)
+        rest = [self.called(it) for it in chain[1:]]
+        name = self.called(chain[0])
+        first = at or ("an unknown function" if name == "-" else name)
         # (a line says more with its function, unless that is named next anyway)
         first += f" ({self.function(chain[0])})" if at and not rest and chain[0].name != "main" else ""
         return ("block made at " if at else "block made in ") + " < ".join(
@@ -156,7 +170,7 @@ class Naming:
     def names_of_site(self, block: Block) -> set[str]:
         """What a call may name the call site of a block by: its line, its function or its address."""
         chain = self.chain(block.sites)
-        return {self.site(chain[0]), self.function(chain[0]), chain[0].name, shown(chain[0].addr)} - {""}
+        return {self.site(chain[0]), self.function(chain[0]), chain[0].name, self.called(chain[0]), shown(chain[0].addr)} - {""}
 
     def word(self, addr: int, thing: Found) -> tuple[str, str, str]:
         """The name of a word of an object, the one of its element, and that of the field in it."""

@@ -2,15 +2,16 @@
 program or of a library that it loaded, and their debug information says the rest. docs/NATIVE.md has the table."""
 
 import contextlib
+import functools
 import json
 import os
 import re
-import shutil
 import subprocess
-from typing import Iterable, NamedTuple
+from typing import Iterable, Iterator, NamedTuple
 
 from faults import Fault
-from fields import Die, Program, Variable
+from fields import Die, Program, Variable, chosen, last_name, sound
+from mangled import demangled
 from reports import Report
 from source_lines import Place, Sources, places
 
@@ -20,6 +21,10 @@ from elftools.elf.sections import SymbolTableSection
 PAGE = 4096
 # Where Debian's packages of debug information put it.
 DEBUG = "/usr/lib/debug/.build-id"
+
+
+# What follows `site` and `frame` in a table back; a file's name may have blanks.
+SITE, FRAME = re.compile(r"(0x\S+) (0x\S+) (\S+) (-|.*?:\d+) .*"), re.compile(r"(0x\S+) (-|.*?:\d+) (.*)")
 
 
 class Site(NamedTuple):
@@ -40,14 +45,15 @@ class Back:
         self.path, self.program = path, ""
         self.pages: dict[int, int] = {}
         self.maps: list[tuple[int, str]] = []
-        self.sites: dict[int, Site] = {}
+        self.sites: dict[int, list[Site]] = {}
+        self.frames: dict[int, list[Site]] = {}
         try:
             with open(path, encoding="utf-8", errors="surrogateescape") as file:
                 for row in file:
                     self.put(row.rstrip("\n"))
         except OSError as error:
             raise Fault(f"{path}: {error.strerror}") from error
-        except (ValueError, IndexError) as error:
+        except (ValueError, IndexError, AttributeError) as error:
             raise Fault(f"{path}: it is no table back, which native/ writes with a trace") from error
         if not self.program:
             raise Fault(f"{path}: it is no table back: its first line doesn't name a program")
@@ -60,8 +66,11 @@ class Back:
             *_, bias, file = rest.split(" ", 3)
             self.maps.append((int(bias, 16), file))
         elif kind == "site":
-            addr, _, function, line = rest.split(" ")[:4]
-            self.sites[int(addr, 16)] = Site(known(function), known(line))
+            addr, _, function, line = SITE.fullmatch(rest).groups()  # type: ignore[union-attr]
+            self.sites[int(addr, 16)] = [Site(known(function), known(line))]
+        elif kind == "frame":
+            addr, line, function = FRAME.fullmatch(rest).groups()  # type: ignore[union-attr]
+            self.frames.setdefault(int(addr, 16), []).append(Site(known(function), known(line)))
         elif kind:
             self.pages[int(kind, 16)] = int(rest, 16)
 
@@ -105,26 +114,25 @@ class File:
         return self.owner
 
     def variable(self, addr: int) -> "NativeVariable | None":
-        """The variable at an address of the file. (llvm-dwarfdump finds it among those of a large library at once.)"""
+        """The variable at an address of the file."""
         if addr not in self.found:
             self.found[addr] = None
-            tool, name = shutil.which("llvm-dwarfdump"), self.names.get(addr)
-            if tool and name:
-                told = subprocess.run([tool, f"--name={name}", self.debug], capture_output=True).stdout.decode("utf-8", "replace")
-                for offset, own in re.findall(r"^(0x[0-9a-f]+): +DW_TAG_variable\n((?:.+\n)*)", told, re.MULTILINE):
-                    place = re.search(r"DW_AT_location\s+\(DW_OP_addr (0x[0-9a-f]+)\)", own)
-                    if place and int(place[1], 16) == addr:
-                        with contextlib.suppress(Exception):
-                            self.found[addr] = self.made(int(offset, 16))
+            name = self.names.get(addr, "")
+            plain = last_name(demangled([name])[0]) if name[:2] in ("_Z", "_R") else ""
+            with contextlib.suppress(Exception):
+                self.found[addr] = next((it for it in self.defined(name, plain) if self.program().address(it.dies[0]) == addr), None)
         return self.found[addr]
 
-    def made(self, offset: int) -> "NativeVariable":
-        die = self.program().dwarf.get_DIE_from_refaddr(offset)
-        whole = die
-        while "DW_AT_type" not in whole.attributes:
-            link = next(it for it in ("DW_AT_specification", "DW_AT_abstract_origin") if it in whole.attributes)
-            whole = whole.get_DIE_from_attribute(link)
-        return NativeVariable(whole, self)
+    def type_named(self, text: str) -> Die:
+        """A type that is defined in this file, by its name, or none."""
+        places = [at for at, own in self.program().named(last_name(text)) if "_type\n" in own and "DW_AT_declaration" not in own]
+        return chosen([self.program().dwarf.get_DIE_from_refaddr(it) for it in places], text)
+
+    def defined(self, *names: str) -> Iterator["NativeVariable"]:
+        """The variables of some names that have a place."""
+        for offset, text in self.program().named(*names):
+            if "DW_TAG_variable" in text and "DW_AT_location" in text:
+                yield NativeVariable(self.program().dwarf.get_DIE_from_refaddr(offset), self)
 
 
 class NativeVariable(Variable):
@@ -164,8 +172,21 @@ class NativeProgram:
         """None: what each thread has for itself is no block here."""
         return []
 
+    def library(self, addr: int) -> str:
+        """The library that an address is in, and the place there; or an empty text."""
+        found = self.file(addr)
+        return f"{os.path.basename(found[0].path)}+{found[1]:#x}" if found else ""
+
     def type_named(self, text: str) -> Die:
-        return self.main.type_named(text)
+        """A type of the program, or else of one of its libraries."""
+        try:
+            return self.main.type_named(text)
+        except Fault:
+            for it in self.files:
+                found = sound(functools.partial(it.type_named, text), None)
+                if found is not None:
+                    return found
+            raise
 
     def declared(self, variable: Variable) -> tuple[str, int] | None:
         return variable.file.program().declared(variable) if isinstance(variable, NativeVariable) else None
@@ -196,8 +217,9 @@ class NativeSources(Sources):
             for (it, _, _), row in zip(asked, ran.stdout.decode("utf-8", "replace").splitlines()):
                 self.places[it] = places(json.loads(row))
         for it in wanted:
-            if not any(at.file and at.line for at in self.places[it]) and it in self.native.back.sites:
-                self.places[it] = told_by(self.native.back.sites[it]) or self.places[it]
+            if not any(at.file and at.line for at in self.places[it]):
+                told: list[Site] = self.native.back.frames.get(it) or self.native.back.sites.get(it) or []
+                self.places[it] = [place for own in told for place in told_by(own)] or self.places[it]
 
 
 def told_by(site: Site) -> list[Place]:

@@ -33,9 +33,9 @@ def place_of(naming: Naming, addr: int) -> str:
     """An instruction's line in the source and its function, or its address."""
     sources = naming.sources
     place = sources.place(addr) if sources else None
-    names = [it.function for it in sources.frames(addr) if it.function] if sources else []
+    names = [naming.names.note(it.function) for it in sources.frames(addr) if it.function] if sources else []
     near = sources.near(addr) if sources and place is None else None
-    told = place.short() if place else f"near {near.short()}" if near else f"0x{addr:08x}"
+    told = place.short() if place else f"near {near.short()}" if near else naming.library(addr) or f"0x{addr:08x}"
     return f"{told} ({' < '.join(names[:2])})" if names else told
 
 
@@ -89,30 +89,54 @@ def fold(text: str, first: str, rest: str, width: int) -> list[str]:
 
 def row(view: View, place: int, thing: Thing, paint: Paint, width: int) -> Iterator[str]:
     """One object: its numbers and name, and below it the worst field, the fighting lines and what to do."""
-    seen = view.seen(thing)
+    seen, short = view.seen(thing), view.naming.names.shortened
     numbers: list[int | str] = [thing.useless, thing.useful] if view.misses else ["-", "-"]
     lives = f" ({len(thing.lives)} lives)" if isinstance(thing.key, OfBlocks) and len(thing.lives) > 1 else ""
     beside = [view.label(view.all[it]) for it in thing.beside]
     near = f", beside {', '.join(beside[:3])}" + (f" and {len(beside) - 3} more" if len(beside) > 3 else "") if beside else ""
     cells = "".join(f" {it:>8}" for it in (*numbers, thing.count))
-    yield f"{place:>3} {cells} {len(thing.spots):>6}  " + paint(BOLD, plain(view.label(thing))) + plain(lives + near)
+    yield f"{place:>3} {cells} {len(thing.spots):>6}  " + paint(BOLD, plain(short(view.label(thing)))) + plain(lives + short(near))
     worst = seen.worst()
     if worst:
         much = f"{counted(worst.writes, 'write')} and {counted(worst.reads, 'read')} by {owner(worst)}"
-        yield from fold(f"worst field  {worst.whole()}: {much}", " " * 8, " " * 21, width)
+        yield from fold(f"worst field  {short(worst.whole())}: {much}", " " * 8, " " * 21, width)
     for fight in seen.fights()[: None if "words" in view.call.options else 1]:
         one, other = (place_of(view.naming, it) for it in fight[:2])
         took = counted(fight.taken, "time") + (f", {fight.same} of them for the same word" if fight.same else ", never for the same word")
-        yield from fold(f"fighting     {other} takes the line from {one}, {took}", " " * 8, " " * 21, width)
-    yield from fold(f"to do        {seen.todo}", " " * 8, " " * 21, width)
+        yield from fold(short(f"fighting     {other} takes the line from {one}, {took}"), " " * 8, " " * 21, width)
+    yield from fold(short(f"to do        {seen.todo}"), " " * 8, " " * 21, width)
+
+
+def is_one(word: Told, other: Told) -> bool:
+    """Whether two words are the halves of one number, which is accessed as a whole."""
+    halves = other.addr == word.addr + 4 and word.addr % 8 == 0 and word.name == other.name and ", " not in word.name
+    # (the first access that is counted may be that of the upper half)
+    is_near = abs(word.reads - other.reads) <= 1 and abs(word.writes - other.writes) <= 1
+    return halves and is_near and (word.key, word.hart) == (other.key, other.hart)
+
+
+def joined(word: Told, other: Told) -> Told:
+    """Two halves as one."""
+    useful = None if word.useful is None else max(word.useful, other.useful or 0)
+    return word._replace(reads=max(word.reads, other.reads), writes=max(word.writes, other.writes), useful=useful)
+
+
+def wholes(words: Sequence[Told]) -> Iterator[Told]:
+    """The words, those of two that are one number once."""
+    at = 0
+    while at < len(words):
+        both = at + 1 < len(words) and is_one(words[at], words[at + 1])
+        yield joined(words[at], words[at + 1]) if both else words[at]
+        at += 2 if both else 1
 
 
 def words_table(view: View, thing: Thing) -> Iterator[str]:
     """The words of an object's lines."""
-    for it in view.seen(thing).words:
+    short = view.naming.names.shortened
+    for it in wholes(view.seen(thing).words):
         needed = "" if it.useful is None else f"{it.useful:>9}"
-        other = "" if it.key == thing.key else f"  ({plain(view.all[it.key].name) if it.key in view.all else 'another object'})"
-        yield f"        0x{it.addr:08x}{it.reads:>9}{it.writes:>9}{needed}  {it.hart:<5} {plain(it.name)}{other}"
+        other = "" if it.key == thing.key else f"  ({plain(short(view.all[it.key].name)) if it.key in view.all else 'another object'})"
+        yield f"        0x{it.addr:08x}{it.reads:>9}{it.writes:>9}{needed}  {it.hart:<5} {plain(short(it.name))}{other}"
 
 
 def prediction(view: View, group: Sequence[Foretold]) -> str:
@@ -136,7 +160,7 @@ def predictions(view: View, paint: Paint, width: int) -> Iterator[str]:
     if shown:
         yield paint(BOLD, "Predicted: what would be so if data lay otherwise, or lines were longer")
     for it in together(shown):
-        yield from fold(prediction(view, it), "    ", "      ", width)
+        yield from fold(view.naming.names.shortened(prediction(view, it)), "    ", "      ", width)
     if folded:
         why = f"since {'it says' if folded == 1 else 'they say'} no more, or can't come to be: --predicted shows all"
         yield paint(DIM, f"{counted(folded, 'predicted line')} folded away, {why}")

@@ -6,15 +6,19 @@ SHOWN void __tsan_init(void);
 SHOWN void __tsan_init(void) {}
 
 SHOWN void __tsan_func_entry(void *pc);
-SHOWN void __tsan_func_entry(void *pc) { calls[depth++ % DEPTH] = (Addr)pc; }
+SHOWN void __tsan_func_entry(void *pc)
+{
+    steps++;
+    calls[depth++ % DEPTH] = (Addr)pc;
+}
 SHOWN void __tsan_func_exit(void);
 SHOWN void __tsan_func_exit(void) { depth--; }
 
 #define ACCESS(name, size, writes) \
     SHOWN void __tsan_##name(void *addr); \
-    SHOWN void __tsan_##name(void *addr) { touch(addr, size, writes); } \
+    SHOWN void __tsan_##name(void *addr) { touch(addr, size, writes, CALLER); } \
     SHOWN void __tsan_##name##_pc(void *addr, void *pc); \
-    SHOWN void __tsan_##name##_pc(void *addr, void *pc) { touch(addr, size, writes); }
+    SHOWN void __tsan_##name##_pc(void *addr, void *pc) { touch(addr, size, writes, (Addr)pc); }
 #define SIZES(prefix, writes) \
     ACCESS(prefix##1, 1, writes) ACCESS(prefix##2, 2, writes) ACCESS(prefix##4, 4, writes) ACCESS(prefix##8, 8, writes) ACCESS(prefix##16, 16, writes)
 SIZES(read, 0)
@@ -25,44 +29,50 @@ SIZES(unaligned_read, 0)
 SIZES(unaligned_write, 1)
 SIZES(unaligned_volatile_read, 0)
 SIZES(unaligned_volatile_write, 1)
+static inline void both(void *addr, unsigned size, Addr caller)
+{
+    ready();
+    note(addr, size, 0, caller);
+    note(addr, size, 1, caller);
+}
 #define BOTH(size) \
     SHOWN void __tsan_read_write##size(void *addr); \
-    SHOWN void __tsan_read_write##size(void *addr) { ready(); note(addr, size, 0); note(addr, size, 1); } \
+    SHOWN void __tsan_read_write##size(void *addr) { both(addr, size, CALLER); } \
     SHOWN void __tsan_unaligned_read_write##size(void *addr); \
-    SHOWN void __tsan_unaligned_read_write##size(void *addr) { ready(); note(addr, size, 0); note(addr, size, 1); }
+    SHOWN void __tsan_unaligned_read_write##size(void *addr) { both(addr, size, CALLER); }
 BOTH(1) BOTH(2) BOTH(4) BOTH(8) BOTH(16)
-static void range(const volatile void *addr, unsigned long size, int writes)
+static void range(const volatile void *addr, unsigned long size, int writes, Addr caller)
 {
     ready();
     while (size > 0) {
         unsigned piece = size < 64 ? size : 64;
-        note(addr, piece, writes);
+        note(addr, piece, writes, caller);
         addr = (const volatile char *)addr + piece;
         size -= piece;
     }
 }
 
 SHOWN void __tsan_read_range(void *addr, unsigned long size);
-SHOWN void __tsan_read_range(void *addr, unsigned long size) { range(addr, size, 0); }
+SHOWN void __tsan_read_range(void *addr, unsigned long size) { range(addr, size, 0, CALLER); }
 SHOWN void __tsan_write_range(void *addr, unsigned long size);
-SHOWN void __tsan_write_range(void *addr, unsigned long size) { range(addr, size, 1); }
+SHOWN void __tsan_write_range(void *addr, unsigned long size) { range(addr, size, 1, CALLER); }
 SHOWN void __tsan_vptr_update(void **addr, void *value);
-SHOWN void __tsan_vptr_update(void **addr, void *value) { touch(addr, 8, 1); }
+SHOWN void __tsan_vptr_update(void **addr, void *value) { touch(addr, 8, 1, CALLER); }
 SHOWN void __tsan_vptr_read(void **addr);
-SHOWN void __tsan_vptr_read(void **addr) { touch(addr, 8, 0); }
+SHOWN void __tsan_vptr_read(void **addr) { touch(addr, 8, 0, CALLER); }
 
 typedef __int128 Wide;
 #define ATOMIC(bits, type) \
     SHOWN type __tsan_atomic##bits##_load(const volatile type *at, int order); \
     SHOWN type __tsan_atomic##bits##_load(const volatile type *at, int order) \
     { \
-        touch(at, bits / 8, 0); \
+        touch(at, bits / 8, 0, CALLER); \
         return *at; \
     } \
     SHOWN void __tsan_atomic##bits##_store(volatile type *at, type value, int order); \
     SHOWN void __tsan_atomic##bits##_store(volatile type *at, type value, int order) \
     { \
-        touch(at, bits / 8, 1); \
+        touch(at, bits / 8, 1, CALLER); \
         *at = value; \
         __sync_synchronize(); \
     } \
@@ -73,16 +83,20 @@ typedef __int128 Wide;
     UPDATE(bits, type, fetch_or, was | value) \
     UPDATE(bits, type, fetch_xor, was ^ value) \
     UPDATE(bits, type, fetch_nand, ~(was & value)) \
-    SHOWN type __tsan_atomic##bits##_compare_exchange_val(volatile type *at, type wanted, type value, int good, int bad); \
-    SHOWN type __tsan_atomic##bits##_compare_exchange_val(volatile type *at, type wanted, type value, int good, int bad) \
+    static inline type swapped##bits(volatile type *at, type wanted, type value, Addr caller) \
     { \
         ready(); \
         type was = *at; \
-        note(at, bits / 8, was == wanted); \
+        note(at, bits / 8, was == wanted, caller); \
         if (was == wanted) \
             *at = value; \
         __sync_synchronize(); \
         return was; \
+    } \
+    SHOWN type __tsan_atomic##bits##_compare_exchange_val(volatile type *at, type wanted, type value, int good, int bad); \
+    SHOWN type __tsan_atomic##bits##_compare_exchange_val(volatile type *at, type wanted, type value, int good, int bad) \
+    { \
+        return swapped##bits(at, wanted, value, CALLER); \
     } \
     SWAP(bits, type, strong) \
     SWAP(bits, type, weak)
@@ -91,7 +105,7 @@ typedef __int128 Wide;
     SHOWN type __tsan_atomic##bits##_##name(volatile type *at, type value, int order); \
     SHOWN type __tsan_atomic##bits##_##name(volatile type *at, type value, int order) \
     { \
-        touch(at, bits / 8, 1); \
+        touch(at, bits / 8, 1, CALLER); \
         type was = *at; \
         *at = result; \
         __sync_synchronize(); \
@@ -101,7 +115,7 @@ typedef __int128 Wide;
     SHOWN int __tsan_atomic##bits##_compare_exchange_##name(volatile type *at, type *wanted, type value, int good, int bad); \
     SHOWN int __tsan_atomic##bits##_compare_exchange_##name(volatile type *at, type *wanted, type value, int good, int bad) \
     { \
-        type was = __tsan_atomic##bits##_compare_exchange_val(at, *wanted, value, good, bad); \
+        type was = swapped##bits(at, *wanted, value, CALLER); \
         int same = was == *wanted; \
         *wanted = was; \
         return same; \

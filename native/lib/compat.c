@@ -279,8 +279,11 @@ void predator_OSetWord_Insert(OSet *set, Addr key)
 struct DebugInfo {
     DebugInfo *next;
     HChar *path;
-    Addr base, text;
-    SizeT text_size;
+    Addr base;
+    struct {
+        Addr from;
+        SizeT size;
+    } code[8]; /* what of it may be executed; the rest has none of its own */
     const ElfW(Sym) * symbols;
     Int count;
     const HChar *names;
@@ -345,10 +348,10 @@ static int add_info(struct dl_phdr_info *about, size_t size, void *none)
     memset(it, 0, sizeof *it);
     it->base = about->dlpi_addr;
     it->path = predator_strdup("", path);
-    for (int at = 0; at < about->dlpi_phnum; at++)
-        if (about->dlpi_phdr[at].p_type == PT_LOAD && about->dlpi_phdr[at].p_flags & PF_X && it->text_size == 0) {
-            it->text = about->dlpi_addr + about->dlpi_phdr[at].p_vaddr;
-            it->text_size = about->dlpi_phdr[at].p_memsz;
+    for (int at = 0, count = 0; at < about->dlpi_phnum && count < 8; at++)
+        if (about->dlpi_phdr[at].p_type == PT_LOAD && about->dlpi_phdr[at].p_flags & PF_X) {
+            it->code[count].from = about->dlpi_addr + about->dlpi_phdr[at].p_vaddr;
+            it->code[count++].size = about->dlpi_phdr[at].p_memsz;
         }
     read_symbols(it);
     *last = it;
@@ -362,8 +365,8 @@ const DebugInfo *predator_next_DebugInfo(const DebugInfo *it)
     return it ? it->next : infos;
 }
 
-Addr predator_DebugInfo_get_text_avma(const DebugInfo *it) { return it->text; }
-SizeT predator_DebugInfo_get_text_size(const DebugInfo *it) { return it->text_size; }
+Addr predator_DebugInfo_get_text_avma(const DebugInfo *it) { return it->code[0].from; }
+SizeT predator_DebugInfo_get_text_size(const DebugInfo *it) { return it->code[0].size; }
 Word predator_DebugInfo_get_text_bias(const DebugInfo *it) { return it->base; }
 const HChar *predator_DebugInfo_get_filename(const DebugInfo *it) { return it->path; }
 Int predator_DebugInfo_syms_howmany(const DebugInfo *it) { return it->count; }
@@ -386,8 +389,9 @@ const DebugInfo *predator_find_DebugInfo(DiEpoch now, Addr addr)
 {
     const DebugInfo *it;
     for (it = infos; it; it = it->next)
-        if (it->text <= addr && addr < it->text + it->text_size)
-            return it;
+        for (int at = 0; at < 8; at++)
+            if (it->code[at].from <= addr && addr - it->code[at].from < it->code[at].size)
+                return it;
     return 0;
 }
 

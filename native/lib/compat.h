@@ -83,6 +83,7 @@ static inline Off64T predator_lseek(Int fd, Off64T to, Int how) { return CALL(SY
 #define predator_strcmp strcmp
 #define predator_strncmp strncmp
 #define predator_strstr strstr
+#define predator_strrchr strrchr
 #define predator_vsnprintf vsnprintf
 #define predator_sprintf sprintf
 void predator_printf(const HChar *format, ...) PRINTF_CHECK(1, 2);
@@ -116,6 +117,12 @@ const HChar *predator_DebugInfo_get_filename(const DebugInfo *);
 Int predator_DebugInfo_syms_howmany(const DebugInfo *);
 void predator_DebugInfo_syms_getidx(const DebugInfo *, Int, Addr *, UInt *, const HChar **, const HChar ***, Bool *, Bool *, Bool *);
 const DebugInfo *predator_find_DebugInfo(DiEpoch, Addr);
+#define MAPPED_FILE(addr) NULL /* (each file that is mapped is found by its segments) */
+typedef struct InlIPCursor InlIPCursor; /* (the lines of code, and what was inlined there, are found by the table back) */
+static inline InlIPCursor *predator_new_IIPC(DiEpoch now, Addr addr) { return NULL; }
+static inline Bool predator_next_IIPC(InlIPCursor *it) { return False; }
+static inline void predator_delete_IIPC(InlIPCursor *it) {}
+static inline const HChar *predator_describe_IP(DiEpoch now, Addr addr, const InlIPCursor *it) { return ""; }
 #define predator_current_DiEpoch() 0
 static inline Bool predator_get_filename_linenum(DiEpoch now, Addr addr, const HChar **file, const HChar **folder, UInt *line)
 {

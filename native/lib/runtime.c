@@ -3,21 +3,24 @@
    at a time and in an order that depends on nothing but the program.
 
    The environment says what is done: PREDATOR_TRACE is the trace, PREDATOR_TABLE the table back, PREDATOR_QUANTUM the length of a turn,
-   PREDATOR_ALL=1 records while one thread lives too, PREDATOR_MOST ends the trace after so many accesses. native/predator-native sets
-   them. */
+   PREDATOR_ALL=1 records while one thread lives too, PREDATOR_PCS=1 tells each access's instruction, PREDATOR_MOST ends the trace after so
+   many accesses. native/predator-native sets them. */
 #include "runtime.h"
 
-Hart harts[MOST_PLACES];
+Hart harts[MOST_PLACES + 1]; /* (the last is nobody's) */
 int top = 1, live = 1;
 unsigned long waits;
 long left = 100;
 __thread int self LOCAL = -1, inside LOCAL;
 __thread Addr calls[DEPTH] LOCAL, call_of_block LOCAL;
 __thread unsigned depth LOCAL;
+__thread unsigned long steps LOCAL;
 volatile int holder, recording;
 static int records_all, stopped;
 static volatile int busy;
 static unsigned long turns; /* were given so far */
+static volatile int ends_by; /* the signal that is to end the program */
+static void end_now(void);
 static long quantum = 100, own_process;
 #define DEFINED(name) __typeof__(name) *own_##name;
 #define FIND(name) OWN(name);
@@ -61,74 +64,108 @@ void give(int hart)
 
 /* What a thread that waits for its turn saw of the holder, when it looked. */
 typedef struct {
-    unsigned long turns; /* so many were given */
-    long long ran;       /* for so many ns the holder has had the processor, or -1 where it didn't sleep */
+    unsigned long turns, steps; /* so many turns were given, and so often was the holder here */
+    long left;
+    long long ran, since; /* for so many ns the holder has had the processor, and had when it was here last; or -1 where it wasn't looked at */
+    char does; /* S where it sleeps in a call of the system, R where it runs */
 } Look;
 
-/* For how long a thread has had the processor, if it waits in a call of the system, and not to write a trace; or -1. */
-static long long asleep(int tid)
+/* A thread that doesn't come here for so long, and runs, may wait for another one in code that isn't seen here: where one did, the next is
+   waited for less. */
+static long long patience = 1000000000;
+
+/* What a thread does, and how long it has had the processor: nothing where a trace is being written. */
+static void look_at(int tid, Look *it)
 {
     char path[60], text[300];
     const char *end;
     struct timespec ran;
+    it->ran = -1;
     snprintf(path, sizeof path, "/proc/self/task/%d/stat", tid);
     SysRes file = tid > 0 && !recording && calls_of_trace == 0 ? predator_open(path, O_RDONLY, 0) : (SysRes){-ENOENT};
     if (sr_isError(file))
-        return -1;
+        return;
     SysRes count = CALL(SYS_read, sr_Res(file), text, sizeof text - 1, 0);
     predator_close(sr_Res(file));
     text[sr_isError(count) ? 0 : sr_Res(count)] = 0;
     end = strrchr(text, ')');
     /* (the clock of a thread's time is named by its number) */
-    if (!end || end[1] != ' ' || end[2] != 'S' || calls_of_trace || sr_isError(CALL(SYS_clock_gettime, ~(UWord)tid << 3 | 6, &ran, 0, 0)))
-        return -1;
-    return ran.tv_sec * 1000000000LL + ran.tv_nsec;
+    if (!end || end[1] != ' ' || calls_of_trace || sr_isError(CALL(SYS_clock_gettime, ~(UWord)tid << 3 | 6, &ran, 0, 0)))
+        return;
+    it->does = end[2];
+    it->ran = ran.tv_sec * 1000000000LL + ran.tv_nsec;
+}
+
+/* Whether it has been asleep since the last look, or runs and hasn't been here for long. */
+static int is_silent(const Look *now, const Look *last)
+{
+    if (now->ran < 0 || last->ran < 0 || now->turns != last->turns || now->steps != last->steps || now->left != last->left)
+        return 0;
+    return now->does == 'S' ? last->does == 'S' && now->ran == last->ran : now->does == 'R' && now->ran - now->since >= patience;
+}
+
+/* The holder's turn is taken, if it is still silent then: from here on it can't go on without being seen. */
+static int is_taken(int it, const Look *now)
+{
+    static const struct timespec moment = {0, 1000000};
+    Look again = *now;
+    holder = -1;
+    __sync_synchronize();
+    if (now->does == 'R')
+        CALL(SYS_nanosleep, &moment, 0, 0, 0);
+    look_at(harts[it].tid, &again);
+    if (again.ran >= 0 && *harts[it].steps == now->steps && left == now->left && (now->does == 'R' || (again.does == 'S' && again.ran == now->ran))) {
+        harts[it].state = AWAY;
+        if (now->does == 'R')
+            patience = 5000000;
+        return 1;
+    }
+    holder = it;
+    return 0;
 }
 
 /* For a thread that has waited for its turn for some time. Where the holder has slept since the last look, in a call of the system that isn't
-   known here, it loses the turn: what it waits for may be another thread. */
+   known here, or runs in code that isn't, it loses the turn: what it waits for may be another thread. */
 static void look_at_holder(int me, Look *last)
 {
     enter();
-    Look now = {turns, -1};
     int it = holder;
+    Look now = {.turns = turns, .left = left, .ran = -1};
     if (harts[me].state == AWAY) /* its turn was taken in a signal's handler */
         harts[me].state = WANTS;
-    if (it >= 0 && it != me && harts[it].turn == 0 && next_of(it) == me)
-        now.ran = asleep(harts[it].tid);
-    if (it < 0 && harts[me].state == WANTS) {
-        give(me);
-    } else if (now.ran >= 0 && now.turns == last->turns && now.ran == last->ran) {
-        holder = -1;
-        __sync_synchronize();
-        /* (still: from here on it can't go on without being seen) */
-        if (asleep(harts[it].tid) == now.ran) {
-            harts[it].state = AWAY;
-            give(me);
-        } else {
-            holder = it;
-        }
+    if (it >= 0 && it != me && harts[it].turn == 0 && harts[it].steps && next_of(it) == me) {
+        now.steps = *harts[it].steps;
+        look_at(harts[it].tid, &now);
     }
+    now.since = last->ran >= 0 && now.turns == last->turns && now.steps == last->steps && now.left == last->left ? last->since : now.ran;
+    if (it < 0 && harts[me].state == WANTS)
+        give(me);
+    else if (is_silent(&now, last) && is_taken(it, &now))
+        give(me);
     *last = now;
     leave();
 }
 
 void rest(int me)
 {
-    static const struct timespec each = {0, 50000000};
-    Look last = {0, -1};
+    Look last = {.ran = -1};
     while (__atomic_load_n(&harts[me].turn, __ATOMIC_ACQUIRE) == 0 && __atomic_load_n(&holder, __ATOMIC_ACQUIRE) != me) {
+        struct timespec each = {0, patience < 50000000 ? patience : 50000000};
         SysRes waited = CALL(SYS_futex, &harts[me].turn, FUTEX_WAIT_PRIVATE, 0, &each);
         if (sr_isError(waited) && sr_Err(waited) == ETIMEDOUT)
             look_at_holder(me, &last);
     }
     harts[me].turn = 0;
     left = quantum;
+    if (ends_by)
+        end_now();
 }
 
 void pass(void)
 {
     int me = self, next, has_turn;
+    if (ends_by && holder == me)
+        end_now();
     enter();
     harts[me].state = WANTS;
     next = next_of(me);
@@ -260,6 +297,46 @@ void at_end(int status, void *none)
         trace_end(True, status & 0xff);
 }
 
+/* The trace ends, and the program by the signal that has come. Only who has the turn comes here. */
+static void end_now(void)
+{
+    sigset_t none;
+    inside++;
+    trace_end(False, 0);
+    signal(ends_by, SIG_DFL);
+    sigemptyset(&none);
+    pthread_sigmask(SIG_SETMASK, &none, 0);
+    for (;;)
+        CALL(SYS_kill, own_process, ends_by, 0, 0);
+}
+
+/* A signal from outside, to whatever thread. What was recorded is written by the thread that has the turn, once it comes here; by this one where
+   none has it; and where the turn isn't to be had for two seconds, what was written stays. */
+static void at_signal(int number)
+{
+    static const struct timespec each = {0, 20000000};
+    int before = errno, times = 0, me = self < 0 ? MOST_PLACES : self;
+    if (CALL(SYS_getpid, 0, 0, 0, 0).value != own_process) /* a child of vfork */
+        times = 101;
+    else if (ends_by == 0)
+        ends_by = number;
+    for (; !inside && times <= 100; times++) {
+        enter();
+        if (holder < 0)
+            holder = me;
+        int is_mine = holder == me;
+        leave();
+        if (is_mine)
+            end_now();
+        CALL(SYS_nanosleep, &each, 0, 0, 0);
+    }
+    if (times > 100) {
+        signal(number, SIG_DFL);
+        raise(number);
+    }
+    errno = before;
+}
+
 /* A fault of the program's own, which holds the turn. Where the program has a handler of its own, that is in this one's place. */
 static void at_fault(int number)
 {
@@ -276,6 +353,7 @@ static void first_thread(void)
     harts[0].state = WANTS;
     harts[0].thread = pthread_self();
     harts[0].tid = CALL(SYS_gettid, 0, 0, 0, 0).value;
+    harts[0].steps = &steps;
 }
 
 static void in_child(void)
@@ -283,7 +361,8 @@ static void in_child(void)
     int me = self;
     trace_leave();
     memset(harts, 0, sizeof harts);
-    busy = calls_of_trace = recording = 0;
+    busy = calls_of_trace = recording = ends_by = 0;
+    own_process = CALL(SYS_getpid, 0, 0, 0, 0).value;
     if (me >= 0)
         first_thread();
 }
@@ -314,6 +393,7 @@ void __attribute__((constructor)) begin(void)
     quantum = left = number_of("PREDATOR_QUANTUM", 1, 100000, 100);
     trace_most = number_of("PREDATOR_MOST", 1, 1L << 40, 0);
     records_all = number_of("PREDATOR_ALL", 0, 1, 0);
+    trace_pcs = number_of("PREDATOR_PCS", 0, 1, 0);
     first_thread();
     if (path && *path && !trace_begin(path, table && *table ? table : 0))
         _Exit(125);
@@ -326,6 +406,12 @@ void __attribute__((constructor)) begin(void)
         static const int faults[5] = {SIGSEGV, SIGBUS, SIGILL, SIGFPE, SIGABRT};
         struct sigaction action = {.sa_handler = at_fault, .sa_flags = SA_RESETHAND | SA_NODEFER};
         sigaction(faults[fault], &action, 0);
+    }
+    for (fault = 0; trace_is_open() && fault < 4; fault++) {
+        static const int ends[4] = {SIGTERM, SIGINT, SIGHUP, SIGQUIT};
+        struct sigaction action = {.sa_handler = at_signal, .sa_flags = SA_RESTART | SA_NODEFER}, own;
+        if (sigaction(ends[fault], 0, &own) == 0 && own.sa_handler == SIG_DFL)
+            sigaction(ends[fault], &action, 0);
     }
     judge();
 }

@@ -31,6 +31,7 @@ typedef struct {
     unsigned turn;       /* 1 once the turn was given to it */
     int detached;
     int tid; /* the system's number of it */
+    const volatile unsigned long *steps; /* its own */
     pthread_t thread;
     void *(*start)(void *);
     int (*start_c11)(void *); /* or this one */
@@ -38,7 +39,7 @@ typedef struct {
 } Hart;
 
 #define MOST_PLACES 2000 /* more than a trace has harts: the trace ends then, and the program goes on */
-extern Hart harts[MOST_PLACES];
+extern Hart harts[MOST_PLACES + 1];
 extern int top, live; /* no place from `top` on is in use; so many threads live */
 extern volatile int holder; /* whose turn it is, or -1 */
 extern volatile int recording; /* the holder is writing something down */
@@ -46,6 +47,7 @@ extern unsigned long waits;
 extern long left; /* so many accesses has the turn still */
 extern __thread int self LOCAL; /* the thread's hart, or -1 */
 extern __thread int inside LOCAL; /* it is in here, and a signal's handler that runs meanwhile does nothing here */
+extern __thread unsigned long steps LOCAL; /* grows as it comes here: where it doesn't, the thread does what isn't seen here */
 #define DEPTH 64
 extern __thread Addr calls[DEPTH] LOCAL; /* where its functions were called from, the last ones */
 extern __thread unsigned depth LOCAL;
@@ -67,17 +69,26 @@ int create(pthread_t *, const pthread_attr_t *, void *(*)(void *), int (*)(void 
 void judge(void);                 /* whether accesses are recorded now */
 void at_end(int status, void *none);
 
+/* (a thread whose turn is taken since it wasn't here for long sees that, or its step is seen) */
+static inline void step(void)
+{
+    steps++;
+    __asm__ volatile("" ::: "memory");
+}
 static inline void ready(void)
 {
+    step();
     if ((left <= 0 || holder != self) && self >= 0 && !inside)
         regain();
 }
 static inline void hold(void) /* gets the turn where it was lost */
 {
+    step();
     if (holder != self && self >= 0 && !inside)
         regain();
 }
-static inline void note(const volatile void *addr, unsigned size, int writes)
+/* `caller` is where the access's call of the runtime comes back to; its instruction is the last byte of the call, as of a call site. */
+static inline void note(const volatile void *addr, unsigned size, int writes, Addr caller)
 {
     if (self < 0 || inside)
         return;
@@ -85,13 +96,13 @@ static inline void note(const volatile void *addr, unsigned size, int writes)
     if (!trace_records)
         return;
     inside = recording = 1;
-    trace_access(self, writes, (Addr)addr, size);
+    trace_access(self, writes, (Addr)addr, size, trace_pcs ? trace_pc(caller - 1) : 0);
     inside = recording = 0;
 }
-static inline void touch(const volatile void *addr, unsigned size, int writes)
+static inline void touch(const volatile void *addr, unsigned size, int writes, Addr caller)
 {
     ready();
-    note(addr, size, writes);
+    note(addr, size, writes, caller);
 }
 
 #define CALLER ((Addr)__builtin_return_address(0))

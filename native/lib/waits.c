@@ -26,6 +26,7 @@ static void *begins(void *mine)
     void *result;
     self = it - harts;
     it->tid = CALL(SYS_gettid, 0, 0, 0, 0).value;
+    it->steps = &steps;
     rest(self);
     pthread_cleanup_push(ends, it);
     result = it->start_c11 ? (void *)(long)it->start_c11(it->argument) : it->start(it->argument);
@@ -168,9 +169,9 @@ static int wait_until(const void *at, clockid_t clock, const struct timespec *ti
 }
 
 #define TIMED(name, own, thing) \
-    SHOWN int name(thing *it, const struct timespec *time) { return own(it, CLOCK_REALTIME, time); }
+    SHOWN int name(thing *it, const struct timespec *time) { return own(it, CLOCK_REALTIME, time, CALLER); }
 #define CLOCKED(name, own, thing) \
-    SHOWN int name(thing *it, clockid_t clock, const struct timespec *time) { return own(it, clock, time); }
+    SHOWN int name(thing *it, clockid_t clock, const struct timespec *time) { return own(it, clock, time, CALLER); }
 
 SHOWN int pthread_tryjoin_np(pthread_t thread, void **result)
 {
@@ -194,10 +195,10 @@ SHOWN int pthread_timedjoin_np(pthread_t thread, void **result, const struct tim
 
 /* ---- Locks: a lock is a write of its first word, and so is its release ---- */
 
-static int locked(pthread_mutex_t *lock, clockid_t clock, const struct timespec *time)
+static int locked(pthread_mutex_t *lock, clockid_t clock, const struct timespec *time, Addr caller)
 {
     int error;
-    touch(lock, 4, 1);
+    touch(lock, 4, 1, caller);
     while ((error = OWN(pthread_mutex_trylock)(lock)) == EBUSY) {
         if (lock->__data.__owner == (int)CALL(SYS_gettid, 0, 0, 0, 0).value && lock->__data.__kind % 4 == PTHREAD_MUTEX_ERRORCHECK)
             return EDEADLK;
@@ -211,66 +212,66 @@ static int locked(pthread_mutex_t *lock, clockid_t clock, const struct timespec 
     return error;
 }
 
-static int unlocked(pthread_mutex_t *lock)
+static int unlocked(pthread_mutex_t *lock, Addr caller)
 {
-    touch(lock, 4, 1);
+    touch(lock, 4, 1, caller);
     int error = OWN(pthread_mutex_unlock)(lock);
     wake(lock, MOST_PLACES);
     return error;
 }
 
-SHOWN int pthread_mutex_lock(pthread_mutex_t *lock) { return self < 0 ? OWN(pthread_mutex_lock)(lock) : locked(lock, 0, 0); }
+SHOWN int pthread_mutex_lock(pthread_mutex_t *lock) { return self < 0 ? OWN(pthread_mutex_lock)(lock) : locked(lock, 0, 0, CALLER); }
 SHOWN int pthread_mutex_timedlock(pthread_mutex_t *lock, const struct timespec *time)
 {
-    return self < 0 ? OWN(pthread_mutex_timedlock)(lock, time) : locked(lock, CLOCK_REALTIME, time);
+    return self < 0 ? OWN(pthread_mutex_timedlock)(lock, time) : locked(lock, CLOCK_REALTIME, time, CALLER);
 }
 SHOWN int pthread_mutex_clocklock(pthread_mutex_t *lock, clockid_t clock, const struct timespec *time)
 {
-    return self < 0 ? OWN(pthread_mutex_clocklock)(lock, clock, time) : locked(lock, clock, time);
+    return self < 0 ? OWN(pthread_mutex_clocklock)(lock, clock, time) : locked(lock, clock, time, CALLER);
 }
-SHOWN int pthread_mutex_unlock(pthread_mutex_t *lock) { return self < 0 ? OWN(pthread_mutex_unlock)(lock) : unlocked(lock); }
+SHOWN int pthread_mutex_unlock(pthread_mutex_t *lock) { return self < 0 ? OWN(pthread_mutex_unlock)(lock) : unlocked(lock, CALLER); }
 SHOWN int pthread_mutex_trylock(pthread_mutex_t *lock)
 {
     if (self < 0)
         return OWN(pthread_mutex_trylock)(lock);
     ready();
     int error = OWN(pthread_mutex_trylock)(lock);
-    note(lock, 4, error == 0);
+    note(lock, 4, error == 0, CALLER);
     return error;
 }
 
-static int waited_for(pthread_cond_t *condition, pthread_mutex_t *lock, clockid_t clock, const struct timespec *time)
+static int waited_for(pthread_cond_t *condition, pthread_mutex_t *lock, clockid_t clock, const struct timespec *time, Addr caller)
 {
     int late = 0, error;
-    touch(condition, 4, 1);
+    touch(condition, 4, 1, caller);
     OWN(pthread_mutex_unlock)(lock);
     wake(lock, MOST_PLACES);
     if (time)
         late = wait_until(condition, clock, time);
     else
         wait_for(condition);
-    error = locked(lock, 0, 0);
+    error = locked(lock, 0, 0, caller);
     return error ? error : late ? ETIMEDOUT : 0;
 }
 SHOWN int pthread_cond_wait(pthread_cond_t *condition, pthread_mutex_t *lock)
 {
-    return self < 0 ? OWN(pthread_cond_wait)(condition, lock) : waited_for(condition, lock, 0, 0);
+    return self < 0 ? OWN(pthread_cond_wait)(condition, lock) : waited_for(condition, lock, 0, 0, CALLER);
 }
 SHOWN int pthread_cond_timedwait(pthread_cond_t *condition, pthread_mutex_t *lock, const struct timespec *time)
 {
     /* (where the C library keeps the clock that the condition was made with) */
     clockid_t clock = condition->__data.__wrefs & 2 ? CLOCK_MONOTONIC : CLOCK_REALTIME;
-    return self < 0 ? OWN(pthread_cond_timedwait)(condition, lock, time) : waited_for(condition, lock, clock, time);
+    return self < 0 ? OWN(pthread_cond_timedwait)(condition, lock, time) : waited_for(condition, lock, clock, time, CALLER);
 }
 SHOWN int pthread_cond_clockwait(pthread_cond_t *condition, pthread_mutex_t *lock, clockid_t clock, const struct timespec *time)
 {
-    return self < 0 ? OWN(pthread_cond_clockwait)(condition, lock, clock, time) : waited_for(condition, lock, clock, time);
+    return self < 0 ? OWN(pthread_cond_clockwait)(condition, lock, clock, time) : waited_for(condition, lock, clock, time, CALLER);
 }
 SHOWN int pthread_cond_signal(pthread_cond_t *condition)
 {
     if (self < 0)
         return OWN(pthread_cond_signal)(condition);
-    touch(condition, 4, 1);
+    touch(condition, 4, 1, CALLER);
     wake(condition, 1);
     return 0;
 }
@@ -278,16 +279,16 @@ SHOWN int pthread_cond_broadcast(pthread_cond_t *condition)
 {
     if (self < 0)
         return OWN(pthread_cond_broadcast)(condition);
-    touch(condition, 4, 1);
+    touch(condition, 4, 1, CALLER);
     wake(condition, MOST_PLACES);
     return 0;
 }
 
 #define RWLOCK(way) \
-    static int way##_locked(pthread_rwlock_t *lock, clockid_t clock, const struct timespec *time) \
+    static int way##_locked(pthread_rwlock_t *lock, clockid_t clock, const struct timespec *time, Addr caller) \
     { \
         int error; \
-        touch(lock, 4, 1); \
+        touch(lock, 4, 1, caller); \
         while ((error = OWN(pthread_rwlock_try##way##lock)(lock)) == EBUSY) { \
             if (time && is_late(clock, time)) \
                 return ETIMEDOUT; \
@@ -300,7 +301,7 @@ SHOWN int pthread_cond_broadcast(pthread_cond_t *condition)
     } \
     SHOWN int pthread_rwlock_##way##lock(pthread_rwlock_t *lock) \
     { \
-        return self < 0 ? OWN(pthread_rwlock_##way##lock)(lock) : way##_locked(lock, 0, 0); \
+        return self < 0 ? OWN(pthread_rwlock_##way##lock)(lock) : way##_locked(lock, 0, 0, CALLER); \
     } \
     TIMED(pthread_rwlock_timed##way##lock, way##_locked, pthread_rwlock_t) \
     CLOCKED(pthread_rwlock_clock##way##lock, way##_locked, pthread_rwlock_t)
@@ -308,7 +309,7 @@ RWLOCK(rd)
 RWLOCK(wr)
 SHOWN int pthread_rwlock_unlock(pthread_rwlock_t *lock)
 {
-    touch(lock, 4, 1);
+    touch(lock, 4, 1, CALLER);
     int error = OWN(pthread_rwlock_unlock)(lock);
     wake(lock, MOST_PLACES);
     return error;
@@ -320,13 +321,13 @@ SHOWN int pthread_spin_lock(pthread_spinlock_t *lock)
     if (self < 0)
         return OWN(pthread_spin_lock)(lock);
     do
-        touch(lock, 4, 1);
+        touch(lock, 4, 1, CALLER);
     while ((error = OWN(pthread_spin_trylock)(lock)) == EBUSY && (pass(), 1));
     return error;
 }
 SHOWN int pthread_spin_unlock(pthread_spinlock_t *lock)
 {
-    touch(lock, 4, 1);
+    touch(lock, 4, 1, CALLER);
     return OWN(pthread_spin_unlock)(lock);
 }
 
@@ -347,7 +348,7 @@ SHOWN int pthread_barrier_destroy(pthread_barrier_t *barrier) { return 0; }
 SHOWN int pthread_barrier_wait(pthread_barrier_t *barrier)
 {
     Barrier *it = (Barrier *)barrier;
-    touch(it, 4, 1);
+    touch(it, 4, 1, CALLER);
     unsigned phase = it->phase;
     if (++it->arrived == it->count) {
         it->arrived = 0;
@@ -360,9 +361,9 @@ SHOWN int pthread_barrier_wait(pthread_barrier_t *barrier)
     return 0;
 }
 
-static int waited(sem_t *semaphore, clockid_t clock, const struct timespec *time)
+static int waited(sem_t *semaphore, clockid_t clock, const struct timespec *time, Addr caller)
 {
-    touch(semaphore, 4, 1);
+    touch(semaphore, 4, 1, caller);
     while (OWN(sem_trywait)(semaphore)) {
         if (errno != EAGAIN)
             return -1;
@@ -377,12 +378,12 @@ static int waited(sem_t *semaphore, clockid_t clock, const struct timespec *time
     }
     return 0;
 }
-SHOWN int sem_wait(sem_t *semaphore) { return self < 0 ? OWN(sem_wait)(semaphore) : waited(semaphore, 0, 0); }
+SHOWN int sem_wait(sem_t *semaphore) { return self < 0 ? OWN(sem_wait)(semaphore) : waited(semaphore, 0, 0, CALLER); }
 TIMED(sem_timedwait, waited, sem_t)
 CLOCKED(sem_clockwait, waited, sem_t)
 SHOWN int sem_post(sem_t *semaphore)
 {
-    touch(semaphore, 4, 1);
+    touch(semaphore, 4, 1, CALLER);
     int error = OWN(sem_post)(semaphore);
     wake(semaphore, 1);
     return error;

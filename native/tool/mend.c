@@ -18,12 +18,37 @@
 
 static unsigned char bytes[PIECE + LONGEST];
 static uint64_t accesses;
+static char version;
 static enum { BEGINS, GOES_ON, ENDED, STRANGE } state;
 
 static int say(const char *path, const char *what)
 {
     fprintf(stderr, "predator native: %s: %s\n", path, what);
     return 1;
+}
+
+/* Of a number in groups of seven bits: its size, or 0 where that isn't told yet. */
+static size_t number_size(const unsigned char *it, size_t count)
+{
+    size_t size;
+    for (size = 1; size <= count && size <= 5; size++)
+        if (it[size - 1] < 128 || size == 5)
+            return size;
+    return 0;
+}
+
+/* The same of an access of a later version: its tag, its hart, and one number, or in version 3 two. */
+static size_t access_size(const unsigned char *it, size_t count)
+{
+    size_t size = 2, own;
+    int numbers;
+    for (numbers = version - '1'; numbers > 0; numbers--) {
+        own = size < count ? number_size(it + size, count - size) : 0;
+        if (own == 0)
+            return 0;
+        size += own;
+    }
+    return size;
 }
 
 /* The size of the record that begins here, or 0 where that isn't told yet or it is no record. */
@@ -39,7 +64,17 @@ static size_t size_of(const unsigned char *it, size_t count)
         return count < 12 ? 0 : 12 + (it[10] | it[11] << 8);
     case 1:
     case 2:
-        return 8;
+        if (version == '1')
+            return 8;
+        break;
+    case 0x11:
+    case 0x12:
+    case 0x14:
+    case 0x21:
+    case 0x22:
+    case 0x24:
+        if (version != '1')
+            return access_size(it, count);
     }
     state = STRANGE;
     return 0;
@@ -52,14 +87,15 @@ static size_t whole(const unsigned char *from, size_t count)
     if (state == BEGINS) {
         if (count < HEADER)
             return 0;
-        state = memcmp(from, "PRDTRC01", 8) == 0 ? GOES_ON : STRANGE;
+        version = from[7];
+        state = memcmp(from, "PRDTRC0", 7) == 0 && '1' <= version && version <= '3' ? GOES_ON : STRANGE;
         place = HEADER;
     }
     while (state == GOES_ON && place < count) {
         size = size_of(from + place, count - place);
         if (size == 0 || size > count - place)
             break;
-        accesses += from[place] <= 2;
+        accesses += from[place] <= 2 || from[place] > 6;
         if (from[place] == 6)
             state = ENDED;
         place += size;
@@ -144,7 +180,7 @@ int main(int argc, char **argv)
     if (state == ENDED && left == 0)
         return printf("%s: %llu accesses, and its end: it stays as it is\n", argv[1], (unsigned long long)accesses), 0;
     if (state != GOES_ON)
-        return say(argv[1], "this is no trace of version 1 that was cut");
+        return say(argv[1], "this is no trace that was cut");
     if (ftruncate(file, place) != 0 || lseek(file, place, SEEK_SET) < 0 || !put_end(file))
         return say(argv[1], strerror(errno));
     printf("%s: cut at byte %llu, behind %llu accesses, where it ends now\n", argv[1], (unsigned long long)place, (unsigned long long)accesses);

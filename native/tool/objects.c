@@ -1,9 +1,7 @@
-/* What has a name in a trace: symbols of data, call sites with the functions that they lie in, and blocks. They are told for the regions
-   that have a place: where a region gets one, those that lie in it, and from then on each block that is made in it. What reaches over
-   several regions is told in pieces. */
+/* What has a name in a trace: symbols of data, and blocks with their call sites (sites.c). They are told for the regions that have a place:
+   where a region gets one, those that lie in it, and from then on each block that is made in it. What reaches over several regions is told
+   in pieces. */
 #include "parts.h"
-
-#define NAME_MOST 1024
 
 /* ---- Symbols ---- */
 
@@ -17,8 +15,7 @@ static Symbol *symbols;
 static UInt symbol_count, symbol_room;
 Bool libraries_came;
 
-/* How long a name is without the version of a library behind it. */
-static UInt plain_length(const HChar *name)
+UInt plain_length(const HChar *name)
 {
     UInt length = 0;
     while (name[length] && name[length] != '@')
@@ -26,7 +23,7 @@ static UInt plain_length(const HChar *name)
     return length > 0 ? length : VG_(strlen)(name);
 }
 
-static void put_symbol(UInt kind, UInt addr, UInt size, const HChar *name)
+void put_symbol(UInt kind, UInt addr, UInt size, const HChar *name)
 {
     UChar bytes[12 + NAME_MOST];
     UInt length = plain_length(name);
@@ -56,13 +53,9 @@ void symbols_of(const Region *region)
         tell_symbol(region, &symbols[it]);
 }
 
-typedef struct {
-    Addr text;
-    const HChar *path;
-} Library;
-
-static Library libraries[4096];
-static UInt library_count;
+#define MOST_LIBRARIES 4096
+Library libraries[MOST_LIBRARIES];
+UInt library_count;
 
 static Bool is_known(Addr text, const HChar *path)
 {
@@ -70,91 +63,61 @@ static Bool is_known(Addr text, const HChar *path)
     for (it = 0; it < library_count; it++)
         if (libraries[it].text == text && VG_(strcmp)(libraries[it].path, path) == 0)
             return True;
-    return library_count == 4096;
+    return library_count == MOST_LIBRARIES;
 }
 
 void trace_library(void) { libraries_came = True; }
+
+static OSet *symbol_places; /* the addresses of those that were noted */
+
+void note_symbol(Addr addr, UInt size, const HChar *name, Bool only_new)
+{
+    Bool is_new = !VG_(OSetWord_Contains)(symbol_places, addr);
+    if (only_new && !is_new)
+        return;
+    if (is_new)
+        VG_(OSetWord_Insert)(symbol_places, addr);
+    if (symbol_count == symbol_room) {
+        symbol_room = symbol_room ? 2 * symbol_room : 4096;
+        symbols = VG_(realloc)("predator.symbols", symbols, symbol_room * sizeof *symbols);
+    }
+    symbols[symbol_count++] = (Symbol){addr, size, VG_(strdup)("predator.symbol", name)};
+}
+
+static void read_library(const DebugInfo *info, Addr text, SizeT text_size)
+{
+    Int count = VG_(DebugInfo_syms_howmany)(info), it;
+    for (it = 0; it < count; it++) {
+        Addr addr;
+        UInt size;
+        const HChar *name, **others;
+        Bool is_text, is_ifunc, is_global;
+        VG_(DebugInfo_syms_getidx)(info, it, &addr, &size, &name, &others, &is_text, &is_ifunc, &is_global);
+        if (!is_text && !is_ifunc && size > 0 && !(text <= addr && addr < text + text_size))
+            note_symbol(addr, size, name, False);
+    }
+}
 
 void read_libraries(void)
 {
     const DebugInfo *info;
     libraries_came = False;
     for (info = VG_(next_DebugInfo)(NULL); info; info = VG_(next_DebugInfo)(info)) {
-        Addr text = VG_(DebugInfo_get_text_avma)(info);
+        Addr text = VG_(DebugInfo_get_text_avma)(info), bias = VG_(DebugInfo_get_text_bias)(info);
         const HChar *path = VG_(DebugInfo_get_filename)(info);
-        Int count = VG_(DebugInfo_syms_howmany)(info), it;
         SizeT text_size = VG_(DebugInfo_get_text_size)(info);
-        UInt from = symbol_count, region;
+        UInt from = symbol_count, region, it;
         if (is_known(text, path) || VG_(strstr)(path, "/predator-amd64-linux"))
             continue;
-        libraries[library_count].text = text;
-        libraries[library_count++].path = VG_(strdup)("predator.library", path);
-        table_text("map 0x%lx 0x%lx 0x%lx %s\n", text, text + text_size, (UWord)VG_(DebugInfo_get_text_bias)(info), path);
-        for (it = 0; it < count; it++) {
-            Addr addr;
-            UInt size;
-            const HChar *name, **others;
-            Bool is_text, is_ifunc, is_global;
-            VG_(DebugInfo_syms_getidx)(info, it, &addr, &size, &name, &others, &is_text, &is_ifunc, &is_global);
-            if (is_text || is_ifunc || size == 0 || (text <= addr && addr < text + text_size))
-                continue;
-            if (symbol_count == symbol_room) {
-                symbol_room = symbol_room ? 2 * symbol_room : 4096;
-                symbols = VG_(realloc)("predator.symbols", symbols, symbol_room * sizeof *symbols);
-            }
-            symbols[symbol_count].addr = addr;
-            symbols[symbol_count].size = size;
-            symbols[symbol_count++].name = VG_(strdup)("predator.symbol", name);
-        }
+        sites_read(info, library_count);
+        libraries[library_count++] = (Library){text, VG_(strdup)("predator.library", path), bias};
+        table_text("map 0x%lx 0x%lx 0x%lx %s\n", text, text + text_size, bias, path);
+        read_library(info, text, text_size);
+        SYMBOLS_LEFT_OUT(path, bias);
         for (region = 0; region < region_count; region++)
             for (it = from; it < symbol_count; it++)
                 tell_symbol(&regions[region], &symbols[it]);
     }
-}
-
-/* ---- Call sites ---- */
-
-static OSet *sites; /* the addresses of those that were told */
-
-/* The site's address in the trace. The function that it lies in is told once, and where it stands in its source. */
-static UInt site_of(Addr addr)
-{
-    DiEpoch now = VG_(current_DiEpoch)();
-    const HChar *name = "-", *file, *folder, *object;
-    const DebugInfo *info;
-    UInt line;
-    Int index = region_of(addr, True);
-    if (index < 0)
-        return 0;
-    UInt place = folded(index, addr);
-    if (VG_(OSetWord_Contains)(sites, addr))
-        return place;
-    VG_(OSetWord_Insert)(sites, addr);
-    info = VG_(find_DebugInfo)(now, addr);
-    if (info) {
-        Int count = VG_(DebugInfo_syms_howmany)(info), it;
-        for (it = 0; it < count; it++) {
-            Addr from;
-            UInt size;
-            const HChar **others;
-            Bool is_text, is_ifunc, is_global;
-            VG_(DebugInfo_syms_getidx)(info, it, &from, &size, &name, &others, &is_text, &is_ifunc, &is_global);
-            if (is_text && from <= addr && addr < from + size) {
-                Addr first;
-                SizeT part = part_of(regions[index].region, from, size, &first);
-                put_symbol(2, folded(index, first), part, name);
-                break;
-            }
-            name = "-";
-        }
-    }
-    table_text("site 0x%08x 0x%lx %.*s ", place, addr, (Int)plain_length(name), name);
-    if (VG_(get_filename_linenum)(now, addr, &file, &folder, &line))
-        table_text("%s%s%s:%u", folder, folder[0] ? "/" : "", file, line);
-    else
-        table_text("-");
-    table_text(" %s\n", VG_(get_objname)(now, addr, &object) ? object : "-");
-    return place;
 }
 
 /* ---- Blocks ---- */
@@ -331,5 +294,6 @@ void tell_untold(void)
 void objects_begin(void)
 {
     blocks = VG_(OSetGen_Create)(0, NULL, VG_(malloc), "predator.blocks", VG_(free));
-    sites = VG_(OSetWord_Create)(VG_(malloc), "predator.sites", VG_(free));
+    symbol_places = VG_(OSetWord_Create)(VG_(malloc), "predator.places", VG_(free));
+    sites_begin();
 }

@@ -1,4 +1,4 @@
-/* What trace.c, which writes, and objects.c, which knows symbols, call sites and blocks, have of each other. */
+/* What trace.c, which writes, objects.c, which knows symbols and blocks, and sites.c, which knows where code stands, have of each other. */
 #ifndef PREDATOR_PARTS_H
 #define PREDATOR_PARTS_H
 
@@ -9,6 +9,7 @@
 #endif
 
 #define REGION (1UL << 20)
+#define PAGE 4096UL
 
 typedef struct {
     Addr region;    /* its first address */
@@ -24,6 +25,34 @@ SizeT part_of(Addr region, Addr addr, SizeT size, Addr *first); /* of a range, i
 void spell(UChar *at, ULong value, UInt bytes);
 void trace_put(const UChar *bytes, UInt count);   /* a record that is no access */
 void table_text(const HChar *format, ...) PRINTF_CHECK(1, 2);
+
+UInt code_page(Addr page);                        /* the place of a page of code, which gets one, or 0 */
+
+/* The name without the version of a library behind it, of at most so many bytes: its length. */
+#define NAME_MOST 1024
+UInt plain_length(const HChar *name);
+void put_symbol(UInt kind, UInt addr, UInt size, const HChar *name);
+
+/* A file that was mapped, with the address that its first byte of code and its address 0 have. */
+typedef struct {
+    Addr text;
+    const HChar *path;
+    Addr bias;
+} Library;
+extern Library libraries[];
+extern UInt library_count;
+
+void note_symbol(Addr addr, UInt size, const HChar *name, Bool only_new); /* one of data; or only where none is known at the address */
+void symbols_left_out(const HChar *path, Addr bias);
+#ifdef PREDATOR_RUNTIME
+#define SYMBOLS_LEFT_OUT(path, bias) (void)0 /* (all were read) */
+#else
+#define SYMBOLS_LEFT_OUT(path, bias) symbols_left_out(path, bias)
+#endif
+
+void sites_begin(void);
+void sites_read(const DebugInfo *, UInt library); /* the functions of a library */
+UInt site_of(Addr addr);                          /* what a call site is in the trace, which is told of it once */
 
 extern Bool libraries_came;
 void objects_begin(void);

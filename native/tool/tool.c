@@ -10,12 +10,13 @@
 #define ADDRESS_BITS 48
 #define SIZE_SHIFT 48
 #define WRITES (1UL << 63)
-#define SLACK 65536 /* more than one block of code can note */
+#define SLACK 65536 /* accesses: more than one block of code can note */
 
 static ULong quantum = 100;
 static const HChar *trace_path, *table_path;
 static Bool records_all, marked_only;
 
+static UInt stride = 1;                      /* words of each access in the buffer */
 static ULong *buffer, *noted, *limit, *most; /* the buffer, its next free word, the end of the turn, and where the buffer is full */
 static ThreadId noted_of;                    /* the thread whose accesses are in it */
 static Bool turn_is_over;
@@ -26,15 +27,57 @@ static Bool has_preload, had_threads;
 static UChar cpus[128]; /* the processors that the program may use, before it was put on one */
 static Int cpus_size;
 
+/* ---- Instructions, by their numbers from 1 on ---- */
+
+typedef struct {
+    Addr addr;
+    UInt place; /* in the trace, once it was told */
+} Instruction;
+
+typedef struct {
+    Addr addr;
+    UInt number;
+} Numbered;
+
+static Instruction *instructions;
+static UInt instruction_count, instruction_room;
+static OSet *numbers;
+
+static UInt number_of(Addr addr)
+{
+    Numbered *it = VG_(OSetGen_Lookup)(numbers, &addr);
+    if (it)
+        return it->number;
+    if (instruction_count + 1 >= instruction_room) {
+        instruction_room = instruction_room ? 2 * instruction_room : 4096;
+        instructions = VG_(realloc)("predator.instructions", instructions, instruction_room * sizeof *instructions);
+    }
+    it = VG_(OSetGen_AllocNode)(numbers, sizeof *it);
+    it->addr = addr;
+    it->number = ++instruction_count;
+    VG_(OSetGen_Insert)(numbers, it);
+    instructions[it->number] = (Instruction){addr, 0};
+    return it->number;
+}
+
+static UInt pc_of(ULong number)
+{
+    Instruction *it = &instructions[number];
+    if (!it->place)
+        it->place = trace_pc(it->addr);
+    return it->place;
+}
+
 /* ---- Recording ---- */
 
 static void write_noted(void)
 {
     ULong *it;
     if (trace_records && noted_of > 0)
-        for (it = buffer; it < noted && trace_records; it++) {
+        for (it = buffer; it < noted && trace_records; it += stride) {
             ULong word = *it;
-            trace_access(noted_of - 1, word >> 63, word & ((1UL << ADDRESS_BITS) - 1), word >> SIZE_SHIFT & 0x7fff);
+            UInt pc = stride > 1 ? pc_of(it[1]) : 0;
+            trace_access(noted_of - 1, word >> 63, word & ((1UL << ADDRESS_BITS) - 1), word >> SIZE_SHIFT & 0x7fff, pc);
         }
     limit -= noted - buffer;
     if (limit < buffer)
@@ -44,7 +87,7 @@ static void write_noted(void)
 
 static void begin_turn(void)
 {
-    limit = trace_records ? noted + quantum : most;
+    limit = trace_records ? noted + stride * quantum : most;
     turn_is_over = False;
 }
 
@@ -99,6 +142,8 @@ typedef struct {
     IRSB *out;
     IRExpr *base; /* the next free word, as it stood when the first of `count` accesses was noted */
     UInt count;
+    Addr addr;    /* the instruction, and its number once that was asked for */
+    UInt number;
 } Notes;
 
 static IRExpr *number(ULong value) { return IRExpr_Const(IRConst_U64(value)); }
@@ -129,16 +174,25 @@ static void set_noted(Notes *it, IRExpr *value)
 static void settle(Notes *it)
 {
     if (it->count > 0)
-        set_noted(it, named(it->out, Ity_I64, IRExpr_Binop(Iop_Add64, it->base, number(8 * it->count))));
+        set_noted(it, named(it->out, Ity_I64, IRExpr_Binop(Iop_Add64, it->base, number(8 * stride * it->count))));
+}
+
+static void store_word(Notes *it, UInt at, IRExpr *word)
+{
+    IRExpr *place = at == 0 ? it->base : named(it->out, Ity_I64, IRExpr_Binop(Iop_Add64, it->base, number(8 * at)));
+    addStmtToIRSB(it->out, IRStmt_Store(Iend_LE, place, word));
 }
 
 static void note_word(Notes *it, IRExpr *word)
 {
-    IRExpr *at;
     if (it->base == NULL)
         it->base = loaded(it->out, &noted);
-    at = it->count == 0 ? it->base : named(it->out, Ity_I64, IRExpr_Binop(Iop_Add64, it->base, number(8 * it->count)));
-    addStmtToIRSB(it->out, IRStmt_Store(Iend_LE, at, word));
+    store_word(it, stride * it->count, word);
+    if (stride > 1) {
+        if (it->number == 0)
+            it->number = number_of(it->addr);
+        store_word(it, stride * it->count + 1, number(it->number));
+    }
     it->count++;
 }
 
@@ -157,7 +211,7 @@ static void note_where(Notes *it, IRExpr *guard, Bool writes, IRExpr *addr, UInt
     from = loaded(it->out, &noted);
     it->base = from;
     note(it, writes, addr, size);
-    behind = named(it->out, Ity_I64, IRExpr_Binop(Iop_Add64, from, number(8)));
+    behind = named(it->out, Ity_I64, IRExpr_Binop(Iop_Add64, from, number(8 * stride)));
     set_noted(it, named(it->out, Ity_I64, IRExpr_ITE(guard, behind, from)));
 }
 
@@ -213,7 +267,7 @@ static Bool is_own(Addr addr)
 static IRSB *instrument(VgCallbackClosure *closure, IRSB *in, const VexGuestLayout *layout, const VexGuestExtents *extents,
                         const VexArchInfo *host, IRType guest_word, IRType host_word)
 {
-    Notes notes = {deepCopyIRSBExceptStmts(in), NULL, 0};
+    Notes notes = {deepCopyIRSBExceptStmts(in), NULL, 0, 0, 0};
     const IRExpr *swap = NULL;
     Int it = 0;
     if (!instruments || is_own(closure->readdr))
@@ -222,8 +276,11 @@ static IRSB *instrument(VgCallbackClosure *closure, IRSB *in, const VexGuestLayo
         addStmtToIRSB(notes.out, in->stmts[it++]);
     for (; it < in->stmts_used; it++) {
         IRStmt *one = in->stmts[it];
-        if (one->tag == Ist_IMark)
+        if (one->tag == Ist_IMark) {
             swap = swap_of(in, it);
+            notes.addr = one->Ist.IMark.addr;
+            notes.number = 0;
+        }
         if (one->tag == Ist_Exit)
             settle(&notes);
         addStmtToIRSB(notes.out, one);
@@ -461,6 +518,7 @@ static Bool on_option(const HChar *word)
     } else if (VG_STR_CLO(word, "--table", table_path)) {
     } else if (VG_BOOL_CLO(word, "--all", records_all)) {
     } else if (VG_BOOL_CLO(word, "--marked", marked_only)) {
+    } else if (VG_BOOL_CLO(word, "--pcs", trace_pcs)) {
     } else
         return False;
     return True;
@@ -478,9 +536,11 @@ static void after_options(void)
     vex->iropt_unroll_thresh = 0;
     /* No load is left out because nothing is made of it. */
     vex->iropt_register_updates_default = VexRegUpdAllregsAtEachInsn;
-    buffer = VG_(malloc)("predator.buffer", (room + 2 * SLACK) * sizeof *buffer);
+    stride = trace_pcs ? 2 : 1;
+    numbers = VG_(OSetGen_Create)(0, NULL, VG_(malloc), "predator.numbers", VG_(free));
+    buffer = VG_(malloc)("predator.buffer", stride * (room + 2 * SLACK) * sizeof *buffer);
     noted = buffer;
-    most = buffer + room;
+    most = buffer + stride * room;
     begin_turn();
     if (trace_path == NULL || !trace_begin(trace_path, table_path))
         VG_(exit)(125);

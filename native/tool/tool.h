@@ -15,6 +15,7 @@
 #include "pub_tool_mallocfree.h"
 #include "pub_tool_options.h"
 #include "pub_tool_debuginfo.h"
+#include "pub_tool_aspacemgr.h"
 #include "pub_tool_clientstate.h"
 #include "pub_tool_stacktrace.h"
 #include "pub_tool_machine.h"
@@ -39,6 +40,14 @@ typedef struct {
 extern ThreadHead *VG_(get_ThreadState)(ThreadId);
 extern ThreadId VG_(lwpid_to_vgtid)(Int lwp);
 enum { STATUS_RUNS = 2, STATUS_IN_CALL = 3, STATUS_YIELDS = 4 };
+
+/* The path of the file that is mapped at an address, or none. */
+static inline const HChar *mapped_file(Addr addr)
+{
+    const NSegment *it = VG_(am_find_nsegment)(addr);
+    return it ? VG_(am_get_filename)(it) : NULL;
+}
+#define MAPPED_FILE(addr) mapped_file(addr)
 
 #define CALL(number, a, b, c, d) VG_(do_syscall)(number, (UWord)(a), (UWord)(b), (UWord)(c), (UWord)(d), 0, 0, 0, 0)
 

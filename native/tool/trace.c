@@ -1,10 +1,10 @@
-/* What is written: the trace, version 1 of docs/FORMATS.md, and the table back.
+/* What is written: the trace, version 1 of docs/FORMATS.md or with instructions version 3, and the table back.
 
    Addresses of 64 bits become 32 while the program runs. Regions of 1 MiB get places of 1 MiB and 4 KiB in the order of their first
-   touch, so what lies side by side in a region stays so, and no two regions become neighbours. */
+   touch, so what lies side by side in a region stays so, and no two regions become neighbours. Pages of code, whose instructions are told
+   with the accesses, get theirs from the other end, so that data lies where it does without. */
 #include "parts.h"
 
-#define PAGE 4096UL
 #define FIRST 0x10000UL
 #define MOST_REGIONS 4080 /* the last place ends below 2^32 */
 #define PIECE (1 << 20)
@@ -20,10 +20,11 @@
 #define PROGRAM_PATH VG_(args_the_exename)
 #endif
 #define END_BYTES 25
+#define LONGEST_ACCESS 12
 enum { EXIT = 0, PART = 4 }; /* outcomes */
 
 ULong trace_accesses, trace_most;
-Bool trace_records;
+Bool trace_records, trace_pcs;
 
 /* A file that is written from its front. What stands of the trace is a whole trace after each piece: behind each piece stands an end,
    where the file can be written so. It is taken away before the next piece is written, so at any moment, also where a kill comes in the
@@ -225,8 +226,11 @@ void table_text(const HChar *format, ...)
 
 Region regions[MOST_REGIONS];
 UInt region_count;
+static ULong code_end = 1UL << 32; /* the lowest place that a page of code has */
 static UInt region_hash[16384];               /* an index and 1, or 0 */
 static struct { Addr region; UInt index; } near_regions[256]; /* the same for what was used last, index and 1 */
+
+static ULong place_of_region(UInt index) { return FIRST + index * (REGION + PAGE); }
 
 static UInt region_slot(Addr region)
 {
@@ -246,13 +250,13 @@ Int region_of(Addr addr, Bool places)
     if (region_hash[slot] == 0) {
         if (!places)
             return -1;
-        if (region_count == MOST_REGIONS) {
+        if (region_count == MOST_REGIONS || place_of_region(region_count) + REGION > code_end) {
             trace_stop("more than 4080 MiB of addresses were touched");
             return -1;
         }
         Region *it = &regions[region_count];
         it->region = region;
-        it->place = FIRST + region_count * (REGION + PAGE);
+        it->place = place_of_region(region_count);
         region_hash[slot] = ++region_count;
         symbols_of(it);
         blocks_of(it);
@@ -271,6 +275,17 @@ UInt folded(UInt index, Addr addr)
         table_text("0x%08x 0x%lx\n", it->place + page * (UInt)PAGE, it->region + page * PAGE);
     }
     return it->place + offset;
+}
+
+UInt code_page(Addr page)
+{
+    if (code_end - PAGE < place_of_region(region_count)) {
+        trace_stop("more than 4080 MiB of addresses were touched");
+        return 0;
+    }
+    code_end -= PAGE;
+    table_text("0x%08x 0x%lx\n", (UInt)code_end, page);
+    return code_end;
 }
 
 SizeT part_of(Addr region, Addr addr, SizeT size, Addr *first)
@@ -294,6 +309,7 @@ Bool trace_begin(const HChar *path, const HChar *table_path)
     }
     if (table_path && !file_open(&table, table_path, False))
         return False;
+    header[7] = trace_pcs ? '3' : '1';
     spell(header + 16, MOST_HARTS, 2);
     objects_begin();
     table_text("program %s%s%s\n", own[0] == '/' ? "" : VG_(get_startup_wd)(), own[0] == '/' ? "" : "/", own);
@@ -351,23 +367,44 @@ void trace_resume(void)
     tell_untold();
 }
 
-static void put_access(UInt hart, UInt tag, UInt addr, UInt size)
+static void put_plain(UInt hart, Bool writes, UInt addr, UInt size)
 {
-    ULong record = tag | (ULong)hart << 8 | (ULong)addr << 24 | (ULong)size << 56;
-    if (trace.count + 8 > PIECE)
-        trace_flush();
-    if (trace.fd < 0)
-        return;
+    ULong record = (writes ? 2 : 1) | (ULong)hart << 8 | (ULong)addr << 24 | (ULong)size << 56;
     /* (records of blocks have odd sizes) */
     __builtin_memcpy(trace.bytes + trace.count, &record, sizeof record);
     trace.count += 8;
-    if (++trace_accesses == trace_most)
-        trace_stop("that many accesses were asked for");
 }
 
-void trace_access(UInt hart, Bool writes, Addr addr, UInt size)
+/* Spells a number that stands for the one before it, in groups of seven bits. */
+static UChar *put_step(UChar *at, UInt number, UInt *before)
 {
-    UInt tag = writes ? 2 : 1;
+    UInt step = number - *before, rest = step << 1 ^ (UInt)((Int)step >> 31);
+    *before = number;
+    while (rest >= 128) {
+        *at++ = rest | 128;
+        rest >>= 7;
+    }
+    *at++ = rest;
+    return at;
+}
+
+static void put_sited(UInt hart, Bool writes, UInt addr, UInt size, UInt pc)
+{
+    static UInt last_addr, last_pc[MOST_HARTS];
+    UChar *at = trace.bytes + trace.count;
+    *at++ = (writes ? 0x20 : 0x10) | size;
+    *at++ = hart;
+    at = put_step(at, addr, &last_addr);
+    at = put_step(at, pc, &last_pc[hart]);
+    trace.count = at - trace.bytes;
+}
+
+void trace_access(UInt hart, Bool writes, Addr addr, UInt size, UInt pc)
+{
+    if (hart >= MOST_HARTS) {
+        trace_stop("more than 256 threads live at a time");
+        return;
+    }
     while (size > 0) {
         UInt piece = addr % 4 == 0 && size >= 4 ? 4 : addr % 2 == 0 && size >= 2 ? 2 : 1;
         if (libraries_came)
@@ -375,7 +412,17 @@ void trace_access(UInt hart, Bool writes, Addr addr, UInt size)
         Int index = region_of(addr, True);
         if (index < 0 || !trace_records)
             return;
-        put_access(hart, tag, folded(index, addr), piece);
+        UInt place = folded(index, addr);
+        if (trace.count + LONGEST_ACCESS > PIECE)
+            trace_flush();
+        if (trace.fd < 0)
+            return;
+        if (trace_pcs)
+            put_sited(hart, writes, place, piece, pc);
+        else
+            put_plain(hart, writes, place, piece);
+        if (++trace_accesses == trace_most)
+            trace_stop("that many accesses were asked for");
         addr += piece;
         size -= piece;
     }

@@ -9,7 +9,8 @@ extern ULong trace_accesses;
 Bool trace_begin(const HChar *path, const HChar *table);
 Bool trace_is_open(void);
 Bool trace_has(Int fd);                           /* one of its files */
-void trace_access(UInt hart, Bool writes, Addr addr, UInt size);
+void trace_access(UInt hart, Bool writes, Addr addr, UInt size, UInt pc);
+UInt trace_pc(Addr addr);                         /* what an instruction's address is in the trace, which is told of it once */
 void trace_flush(void);
 void trace_end(Bool by_exit, Int code);
 void trace_stop(const HChar *why);                /* the trace ends here; the program goes on */
@@ -20,6 +21,7 @@ void trace_block(ThreadId tid, Addr addr, SizeT size);
 void trace_free(ThreadId tid, Addr addr);
 void trace_revive(ThreadId tid, Addr addr);       /* the last block that this thread freed lives on */
 extern Bool trace_records;                        /* accesses are recorded now */
+extern Bool trace_pcs;                            /* each with its instruction; said before the trace begins */
 extern ULong trace_most;                          /* the trace ends after so many, or 0 */
 
 #endif

@@ -1,5 +1,5 @@
 #!/usr/bin/env python3
-"""What the tries of native/ ask of a trace of version 1, read by docs/FORMATS.md alone.
+"""What the tries of native/ ask of a trace of version 1 or 3, read by the formats' description alone.
 
     judge.py end TRACE            the end of a trace that is whole: `exit CODE` or `part`
     judge.py accesses TRACE       the number of accesses
@@ -9,28 +9,60 @@
     judge.py blocks TRACE NAME    the sizes of the blocks that were made by a call that a function of this name made, each with
                                   `live` or `freed`
     judge.py turns TRACE          the longest turn of a hart while another one has accesses before and after
+    judge.py alike TRACE OTHER    `alike` where a trace of version 3 without its instructions has the records of one of version 1
+    judge.py sites TRACE NAME AT  which instructions touch the word, by the table back: of each its rows in TRACE.table as
+                                  `FUNCTION LINE`, and behind it the frames that are inlined there, the innermost first
+    judge.py untold TRACE         how many distinct instructions have not exactly one row of their own in TRACE.table
+    judge.py each TRACE           bytes for each access, times 100
 """
 
+import os
+import re
 import struct
 import sys
+from itertools import zip_longest
+
+
+def step(data, place, before):
+    """What a number is that stands for the one before it, and the place behind."""
+    number, start = 0, place
+    while True:
+        byte = data[place]
+        number |= (byte & 127) << 7 * (place - start)
+        place += 1
+        if byte < 128:
+            break
+    if place - start > 5 or number >= 2**32 or (byte == 0 and place - start > 1):
+        sys.exit(f"a wrong number at {start}")
+    return (before + (-(number >> 1) - 1 if number & 1 else number >> 1)) % 2**32, place
 
 
 def records(trace, all_of_it):
     with open(trace, "rb") as file:
         data = file.read()
-    if data[:8] != b"PRDTRC01":
-        sys.exit("no trace of version 1")
+    if data[:8] not in (b"PRDTRC01", b"PRDTRC03"):
+        sys.exit("no trace of version 1 or 3")
     place, accesses, access = 20, 0, struct.Struct("<HIB").unpack_from
-    harts, whole = struct.unpack_from("<H", data, 16)[0], len(data)
+    harts, whole, has_pcs = struct.unpack_from("<H", data, 16)[0], len(data), data[7:8] == b"3"
+    last, pcs = 0, {}
     while place < whole:
         tag = data[place]
-        if tag in (1, 2):
+        if has_pcs and tag in (0x11, 0x12, 0x14, 0x21, 0x22, 0x24):
+            hart = data[place + 1]
+            last, behind = step(data, place + 2, last)
+            if last % (tag % 16) or hart >= harts:
+                sys.exit(f"a wrong access at {place}")
+            pcs[hart], place = step(data, behind, pcs.get(hart, 0))
+            accesses += 1
+            if all_of_it:
+                yield "access", hart, tag >= 0x20, last, tag % 16, pcs[hart]
+        elif not has_pcs and tag in (1, 2):
             hart, addr, size = access(data, place + 1)
             if size not in (1, 2, 4) or addr % size or hart >= harts:
                 sys.exit(f"a wrong access at {place}")
             accesses += 1
             if all_of_it:
-                yield "access", hart, tag == 2, addr
+                yield "access", hart, tag == 2, addr, size, None
             place += 8
         elif tag == 3:
             yield ("made", *struct.unpack_from("<II4I", data, place + 1))
@@ -104,6 +136,43 @@ def turns(all_records):
     return longest
 
 
+def alike(trace, other):
+    with_pcs, without = records(trace, True), records(other, True)
+    for number, (one, two) in enumerate(zip_longest(with_pcs, without)):
+        if one is None or two is None or one[:5] != two[:5]:
+            return f"record {number}: {one} and {two}"
+    return "alike"
+
+
+def rows_of(table):
+    """The rows of the instructions, each by its place: of a site its function and its line, of a frame the same."""
+    found = {}
+    with open(table, errors="surrogateescape") as file:
+        for row in file:
+            own = re.match(r"site (0x\S+) 0x\S+ (\S+) (-|.*?:\d+) (.*)$", row) or re.match(r"(frame) (0x\S+) (-|.*?:\d+) (.*)$", row)
+            if own and own[1] == "frame":
+                found.setdefault(int(own[2], 16), []).append(("frame", own[4], own[3]))
+            elif own:
+                found.setdefault(int(own[1], 16), []).append(("site", own[2], own[3]))
+    return found
+
+
+def sites(trace, name, behind):
+    all_records = list(records(trace, True))
+    at = place_of(all_records, name) + int(behind)
+    told = rows_of(f"{trace}.table")
+    texts = []
+    for pc in sorted({it[5] for it in all_records if it[0] == "access" and at <= it[3] < at + 4}):
+        texts.append(" < ".join(f"{own[1]} {own[2].rpartition('/')[2]}" for own in told.get(pc, [("", "unknown", "unknown")])))
+    return "; ".join(sorted(set(texts)))
+
+
+def untold(trace):
+    told = rows_of(f"{trace}.table")
+    pcs = {it[5] for it in records(trace, True) if it[0] == "access"}
+    return sum(sum(own[0] == "site" for own in told.get(it, [])) != 1 for it in pcs)
+
+
 def main(words):
     if len(words) < 2:
         sys.exit(__doc__)
@@ -111,6 +180,11 @@ def main(words):
     if what in ("end", "accesses"):
         *_, (_, outcome, value, accesses) = records(words[1], False)
         print(accesses if what == "accesses" else {0: f"exit {value}", 4: "part"}[outcome])
+    elif what in ("alike", "sites", "untold"):
+        print({"alike": alike, "sites": sites, "untold": untold}[what](words[1], *names))
+    elif what == "each":
+        *_, (_, _, _, accesses) = records(words[1], False)
+        print(round(100 * os.path.getsize(words[1]) / accesses))
     else:
         all_records = list(records(words[1], what not in ("blocks", "place")))
         if what == "place":

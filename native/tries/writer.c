@@ -63,7 +63,7 @@ int main(int count, char **words)
                 trace_resume();
             break;
         default:
-            trace_access(hart, draw(2), draw(3) ? place(which) + draw(64) : address(), 1 + draw(64));
+            trace_access(hart, draw(2), draw(3) ? place(which) + draw(64) : address(), 1 + draw(64), trace_pcs ? trace_pc((Addr)draw + draw(20000)) : 0);
         }
     }
     trace_end(True, 7);
