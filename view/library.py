@@ -45,7 +45,7 @@ def is_foreign_symbol(symbol: Symbol, naming: Naming) -> bool:
     if variable is None:
         # (the C library of guests has no debug information)
         return bool(RESERVED.match(symbol.name))
-    unit = variable.die.cu
+    unit = variable.dies[0].cu
     return bool(KIT.search(sound(lambda: name_of(unit.get_top_DIE()), "")))
 
 

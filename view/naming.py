@@ -1,7 +1,7 @@
 """What objects, words and instructions are called: by the program's debug information where it is there, and else by the report."""
 
 import os
-from typing import TYPE_CHECKING, Any, Iterable, Sequence, Union
+from typing import TYPE_CHECKING, Any, Iterable, NamedTuple, Sequence, Union
 
 from keys import Key, OfBlocks, OfMemory, OfStack, OfSymbol
 from mangled import Names
