@@ -284,7 +284,7 @@ whole_long harts symbols r =
     let head : List ℕ = spell_header One (record { first = 0; harts = harts }) in
     let end : List ℕ = spell_ending r.ending in
     ap (λ (l : List ℕ). length (head ++ (l ++ end)))
-    (spelled_each nothing_before (records_of symbols r) 
+    (spelled_each nothing_before (records_of symbols r)
     ∙ traced-append symbols (records_in r.events))
     ∙ length-append head ((traced symbols ++ traced (records_in r.events)) ++ end)
     ∙ ap (λ (n : ℕ). length head + n) (length-append

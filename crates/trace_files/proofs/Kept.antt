@@ -53,7 +53,7 @@ traced_long (k ∷ ks) =
 
 items_long : (count : ℕ) → length (spell_records One nothing_before (made_items count)) ≡ 8 * count
 items_long count =
-    ap length (spelled_each nothing_before (made_items count)) 
+    ap length (spelled_each nothing_before (made_items count))
     ∙ traced_long (range_with_len 0 count)
     ∙ ap (λ (n : ℕ). 8 * n) (length-range_with_len 0 count)
 
