@@ -17,7 +17,8 @@ failed=0 children=()
 shipped() {
     local predator=$here/../bin/predator
     PREDATOR_BUILD=no "$predator" check "$here/../guest/built/apart.elf" >/dev/null 2>&1 || { echo "skipped: the program isn't built"; return; }
-    PREDATOR_BUILD=no "$predator" campaign "$here/plans/first.yaml" --to "$work/first" || return
+    PREDATOR_BUILD=no "$predator" campaign "$here/plans/first.yaml" --to "$work/first" --html "$work/first.html" || return
+    grep -q "<h1>4 objects are fought over in 80 runs; the worst is counters" "$work/first.html" || { echo "its page says otherwise"; return 1; }
     cut -f 1,2,6,8,9 "$work/first/table.tsv" | grep -q -P "^counters\tquantum=100\tcounters\t20\t20$" || { echo "its table lacks the counters"; return 1; }
 }
 shipped >"$work/shipped" 2>&1 &

@@ -69,6 +69,18 @@ class Workflow(Folder):
         self.assertIn("batch.py plan.campaign one/usual/20-22.", said)
         self.assertEqual(self.runs(), ["run 20", "run 21", "run 21", "run 21"], "what came before is kept")
 
+    def test_a_page(self):
+        self.plan(PLAN)
+        for name, said in (("plan.yaml", "it is the plan"), ("none/p.html", "No such file")):
+            status, _, told = self.campaign("--html", name)
+            self.assertEqual((status, said in told, os.path.exists(self.at("plan.campaign"))), (2, True, False))
+        self.assertEqual(self.campaign("--html", "p.html")[::2], (0, ""))
+        text = self.read("p.html")
+        title = "2 objects are fought over in 12 runs; the worst is counters of one, usual: up to 112 counted, with seed 12"
+        self.assertIn(f"<h1>{title}</h1>", text)
+        self.assertEqual(text.count("<svg"), 2)
+        self.assertIn(f"predator view run {self.at('one')} --set seed=12", text)
+
     def test_a_change_makes_anew_what_stands_on_it(self):
         self.plan("programs: {one: one, two: two}\nseeds: 1-4\nbatch: 2\n")
         self.assertEqual(self.campaign()[0], 0)
