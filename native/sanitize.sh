@@ -49,13 +49,21 @@ for seed in 1 2 3; do
     timeout 60 ./writer "$seed" "$seed" 100000 >said 2>&1
     is "a trace of seed $seed" 0 "$?"
     is "its end" "exit 7" "$("$judge" end "$seed" 2>&1)"
+    timeout 60 ./writer pcs "$seed" 100000 pcs >said 2>&1
+    is "a trace of seed $seed with instructions" 0 "$?"
+    is "its end, and instructions that have not one row each" "exit 7 0" "$("$judge" end pcs 2>&1) $("$judge" untold pcs 2>&1)"
 done
 timeout 60 ./writer all 4 4000000 >said 2>&1
 is "more regions than there are places: $(tail -n 1 said)" "0 part" "$? $("$judge" end all 2>&1)"
 ./writer whole 5 2000 >said 2>&1
-size=$(stat -c %s whole)
-for cut in 0 1 19 20 21 $(seq 30 $((size / 25 + 1)) "$size"); do
-    head -c "$cut" whole >short
+./writer pcs 5 2000 pcs >said 2>&1
+cuts() { # FILE: where it is cut
+    local size
+    size=$(stat -c %s "$1")
+    printf "$1 %s\n" 0 1 19 20 21 $(seq 30 $((size / 25 + 1)) "$size")
+}
+while read -r file cut; do
+    head -c "$cut" "$file" >short
     ./mend - <short >piped 2>said
     is "a pipe that is cut at $cut" 0 "$?"
     ./mend short >said 2>&1
@@ -65,7 +73,7 @@ for cut in 0 1 19 20 21 $(seq 30 $((size / 25 + 1)) "$size"); do
     else
         is "a file that is cut at $cut" "0 part same" "$status $("$judge" end short 2>&1) $(cmp -s short piped && echo same)"
     fi
-done
+done < <(cuts whole; cuts pcs)
 head -c 300000 /dev/urandom >noise
 ./mend noise >said 2>&1
 is "a file that is no trace" 1 "$?"

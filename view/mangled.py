@@ -14,6 +14,7 @@ PACKAGE = re.compile(r"^[\w.~%-]+(?:/[\w.~%-]+)*/(?=[^/(\[]+\.)")
 STRING = re.compile(r"std::(?:__cxx11::|__1::)?basic_string<char, ?std::(?:__1::)?char_traits<char>, ?std::(?:__1::)?allocator<char> ?>")
 # A short name with more letters loses what stands in angle brackets.
 LONG = 48
+OPERATOR = re.compile(r"operator *(?:<=>|<<=|>>=|<<|>>|<=|>=|\(\)|<|>)")
 OPENS, CLOSES = "<([{", ">)]}"
 
 
@@ -32,8 +33,8 @@ def demangled(names: list[str]) -> list[str]:
 def depths(name: str) -> list[int]:
     """How deep in brackets each letter of a name is; a bracket is as deep as what is around it. Those of `operator<` and `->` are none."""
     found: list[int] = []
-    depth, plain = 0, re.sub(r"operator *(?:<=>|<<=|>>=|<<|>>|<=|>=|->\*|->|\(\)|<|>)", lambda it: "o" * len(it[0]), name.replace("->", "oo"))
-    for it in plain:
+    depth = 0
+    for it in OPERATOR.sub(lambda it: "o" * len(it[0]), name.replace("->", "oo")):
         depth -= it in CLOSES
         found.append(depth)
         depth += it in OPENS
@@ -52,7 +53,8 @@ def without(name: str, opening: str, kept: str, least: int = 0) -> str:
             continue
         end = next((it for it in range(at + 1, len(name)) if name[it] == closing and deep[it] == deep[at]), None) if is_one else None
         # (a bracket that a name begins with names a type: `<T as Trait>::name`)
-        if end is not None and (at > 0 and name[at - 1] not in " (<,"):
+        is_type = at == 0 or name[at - 1] in " (," or (name[at - 1] == "<" and deep[at] > deep[at - 1])
+        if end is not None and not is_type:
             out, at = out + kept, end + 1
         else:
             out, at = out + name[at], at + 1
@@ -60,14 +62,12 @@ def without(name: str, opening: str, kept: str, least: int = 0) -> str:
 
 
 def short(name: str) -> str:
-    """A name without what a reader of the screen doesn't need: parameters, return types, packages' paths and, where it is long, what stands in
+    """A name without what a reader of the screen doesn't need: parameters, return types, packages' paths and, where it is long, what is in
     angle brackets."""
     if "::" not in name and "(" not in name and "/" not in name:
         return name
     name = STRING.sub("std::string", PACKAGE.sub("", name)).replace("std::__cxx11::", "std::").replace("[abi:cxx11]", "")
-    if "::" in name or "<" in name:
-        name = re.sub(r"\) const\b", ")", name)
-        name = without(name, "(", "")
+    name = without(re.sub(r"\) const\b", ")", name), "(", "")
     if "operator" not in name and not re.search(r"(?:^|\W)\w+ for ", name) and not name.startswith("<"):
         deep = depths(name)
         name = name[max((at + 1 for at, it in enumerate(name) if it == " " and deep[at] == 0), default=0) :]
@@ -113,5 +113,3 @@ class Names:
     def lasting(self, name: str) -> str:
         """A symbol's name as another build has it too."""
         return self.readable(name) if re.search(r"17h[0-9a-f]{16}E|\.llvm\.\d+$|^_R", name) else name
-
-

@@ -38,7 +38,10 @@ BEGINNINGS = {
     *("__libc_start_call_main", "__libc_start_main", "start_thread", "clone", "clone3", "runtime.main", "runtime.goexit"),
 }
 # The same by how their names begin: code of the C library without one, and of Rust.
-BEGUN = ("libc.so.", "ld-linux", "std::rt::lang_start", "std::sys::backtrace::__rust_begin_short_backtrace", "std::sys_common::backtrace::__rust_begin_short")
+BEGUN = (
+    *("libc.so.", "ld-linux", "std::rt::lang_start"),
+    *("std::sys::backtrace::__rust_begin_short_backtrace", "std::sys_common::backtrace::__rust_begin_short"),
+)
 
 
 class Memory:

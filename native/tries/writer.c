@@ -1,6 +1,6 @@
 /* Drives what writes a trace, as the runtime does, with made-up harts, accesses and blocks (native/sanitize.sh):
 
-       writer TRACE SEED STEPS      ends by exit with code 7, or where all regions have their places */
+       writer TRACE SEED STEPS [pcs]      ends by exit with code 7, or where all regions have their places */
 #include "../lib/compat.h"
 
 #include <stdlib.h>
@@ -39,7 +39,8 @@ static SizeT size(UInt which) { return which < BLOCKS - LARGE ? 1 + draw(10240) 
 
 int main(int count, char **words)
 {
-    if (count != 4 || !trace_begin(words[1], NULL))
+    trace_pcs = count == 5;
+    if ((count != 4 && count != 5) || !trace_begin(words[1], NULL))
         return 1;
     drawn = strtoul(words[2], NULL, 10);
     for (long left = strtol(words[3], NULL, 10); left > 0 && trace_is_open(); left--) {
@@ -63,7 +64,7 @@ int main(int count, char **words)
                 trace_resume();
             break;
         default:
-            trace_access(hart, draw(2), draw(3) ? place(which) + draw(64) : address(), 1 + draw(64), trace_pcs ? trace_pc((Addr)draw + draw(20000)) : 0);
+            trace_access(hart, draw(2), draw(3) ? place(which) + draw(64) : address(), 1 + draw(64), trace_pcs ? trace_pc((Addr)draw + drawn % 20000) : 0);
         }
     }
     trace_end(True, 7);

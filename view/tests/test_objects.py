@@ -16,6 +16,7 @@ from calls import Call  # noqa: E402
 from model import Seen, View  # noqa: E402
 from judge_report import Access, Case, Ending, trace_of  # noqa: E402
 from keys import OfSymbol  # noqa: E402
+from mangled import Names, short  # noqa: E402
 from naming import Memory, Naming, WordKind  # noqa: E402
 from objects import Spot, Thing, Told, holder  # noqa: E402
 from overflow import overflow  # noqa: E402
@@ -402,6 +403,35 @@ class Objects(unittest.TestCase):
         self.assertEqual(advice.arrays(["s[0].x[1]", "s[0].x[2]"]), "s[0].x")
         self.assertIsNone(advice.arrays(["s.x[1]", "s.y[2]"]))
         self.assertEqual(Naming(view_of([]).report).readable("_ZN4ring5firstE"), "ring::first")
+
+    def test_short_names(self):
+        for whole, wanted in {
+            "counters": "counters",
+            "f(int)::local": "f::local",
+            "guard variable for f(int)::local": "guard variable for f::local",
+            "(anonymous namespace)::f(int, char)": "(anonymous namespace)::f",
+            "T<std::__cxx11::basic_string<char, std::char_traits<char>, std::allocator<char> >, int>::own": "T<std::string, int>::own",
+            "std::vector<int, std::allocator<int> > app::many<int>(std::map<int, int> const&)": "app::many<int>",
+            "a::operator()(int) const": "a::operator()",
+            "a::operator<(a const&)": "a::operator<",
+            "<ru::Tally<core::sync::atomic::AtomicU64> as ru::Count>::count": "<ru::Tally<..> as ru::Count>::count",
+            "github.com/org/repo/v2/pkg.(*T).Method": "pkg.(*T).Method",
+            "github.com/org/repo/pkg.counts": "pkg.counts",
+            "main.main": "main.main",
+        }.items():
+            self.assertEqual(short(whole), wanted)
+
+    def test_names_of_symbols(self):
+        names = Names()
+        names.learn("object symbol _ZN2ru5SLOTS17h014a019cd835f220E 0x00001000 64\nsite 0x00002000 _RNvCs4mUmuLXSNC_2ru4main")
+        self.assertEqual(names.readable("_ZN2ru5SLOTS17h014a019cd835f220E"), "ru::SLOTS")
+        self.assertEqual(names.readable("_RNvCs4mUmuLXSNC_2ru4main"), "ru::main")
+        self.assertEqual(names.readable("gopkg.in/yaml%2ev2.counts"), "gopkg.in/yaml.v2.counts")
+        self.assertEqual(names.readable("plain"), "plain")
+        names.note("f(int)")
+        self.assertEqual(names.shortened("block made in f(int) < gopkg.in/yaml.v2.counts"), "block made in f < yaml.v2.counts")
+        self.assertEqual(names.lasting("_ZN2ru5SLOTS17h014a019cd835f220E"), "ru::SLOTS")
+        self.assertEqual(names.lasting("_ZN4ring5firstE"), "_ZN4ring5firstE")
 
 
 if __name__ == "__main__":
