@@ -1,6 +1,6 @@
 -- Accesses that were put by, and noted one after another.
 use Rattle.std.proofs.Common.{◌≡◌, ◌∙◌, ℕ, suc, ◌+◌, ◌<◌, ◌≤◌, List, [], ◌∷◌, ◌++◌, length, take, drop}
-use Rattle.std.proofs.Common.{get_or, map, ap, append_assoc, arith, refl, subst, sym}
+use Rattle.std.proofs.Common.{None, get_or, map, ap, append_assoc, arith, refl, subst, sym}
 use Rattle.std.specs.List.{All}
 use Rattle.std.proofs.lemmas.List.{append-nil, length-append, map-append, take-append-drop}
 use Rattle.std.proofs.lemmas.List.{take_all, take_more}

@@ -12,4 +12,4 @@ returns-in-Some c =
 pub returns-in-None : goal.returns-in-None
 returns-in-None c =
     let missing : blank_entry ≡ map_entry c.args.self.now c.args.line = search rules in
-    missing ∙ sym (entry_at-entries_of (map_entry c.args.self.now) c.args.line c.requires)
+    c.blank.ensures ∙ missing ∙ sym (entry_at-entries_of (map_entry c.args.self.now) c.args.line c.requires)
