@@ -252,7 +252,7 @@ def sound(told: Callable[[], A], usual: B) -> A | B:
 
 
 class Variable:
-    """A variable of the program: its name in the source, its type and where it is defined. `dies` are its definition and what that is of."""
+    """A variable of the program: its name in the source, its type and where it is defined. `dies`: its definition and what that is of."""
 
     def __init__(self, die: Die) -> None:
         self.dies = [*origins(die)]
