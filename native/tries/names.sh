@@ -6,11 +6,11 @@
 
 printf '#include <stdlib.h>\nstatic __attribute__((noinline)) void *made(void) { void *it = malloc(64); __asm__("" : "+r"(it)); return it; }\nvoid *bare_make(void) { void *it = made(); __asm__("" : "+r"(it)); return it; }\n' >bare.c
 gcc -O1 -shared -fPIC bare.c -o libbare.so && strip libbare.so
-names() { # COMPILER PROGRAM: the two files of names.cpp
-    "$1" -std=c++20 -O1 -g -c "$here/tries/names.cpp" -o first.o && "$1" -std=c++20 -O1 -g -DHIDDEN -c "$here/tries/names.cpp" -o second.o &&
+names() { # COMPILER PROGRAM OPTION: the two files of names.cpp
+    "$1" -std=c++20 -O1 "$3" -c "$here/tries/names.cpp" -o first.o && "$1" -std=c++20 -O1 "$3" -DHIDDEN -c "$here/tries/names.cpp" -o second.o &&
         "$1" -pthread first.o second.o -o "$2" -L. -lbare -Wl,-rpath,"$work"
 }
-if command -v g++ >/dev/null && names g++ names; then
+if command -v g++ >/dev/null && names g++ names -g; then
     "$run" --trace n -- ./names
     said=$(view replay n --words --explain 0 --top 30 --json n.json)
     for it in "in_function::local[1].hits" "app::detail::slots[1].hits" "app::Pool::shared[1].misses" "app::detail::Table<..>::own[1].hits"; do
@@ -27,7 +27,8 @@ if command -v g++ >/dev/null && names g++ names; then
     has "names: a type by its qualified name" "[2].hits" "$said"
     has "names: a type that another file defines" ".right" "$said"
     has "names: a type by its plain name" "others[0..3]" "$(view replay n --words --explain 0 --top 30 --type "names.cpp:$lease=Slot")"
-    if command -v clang++ >/dev/null && names clang++ names.clang; then
+    # (valgrind 3.19 can't read the DWARF 5 of clang 14)
+    if command -v clang++ >/dev/null && names clang++ names.clang -gdwarf-4; then
         "$run" --trace n -- ./names.clang
         said=$(view replay n --words --explain 0 --top 30)
         for it in "in_function(int)::local[1].hits" "app::detail::slots[1].hits" "app::Pool::shared[1].misses" "app::detail::Table<..>::own[1].hits"; do
