@@ -34,8 +34,8 @@ use sightings::MissSightings;
 use std::alloc::Global;
 use trace_passes::a_trace_is_its_spelling;
 
-// Does what a command is asked for.
-fn work<S: Shelf>(alloc: Global, demand: &Demand<'_>, shelf: &mut S) -> Status
+/// Does what a command is asked for.
+pub fn work<S: Shelf>(alloc: Global, demand: &Demand<'_>, shelf: &mut S) -> Status
     requires bounded { IsBounded demand.now }
     requires asked { (words : List Text) × (demand_of words ≡ Some (meaning demand.now)) }
     ensures { Meets (Some (meaning demand.now)) (S.outside shelf.old) (S.outside shelf.new) result }
@@ -57,8 +57,8 @@ fn work<S: Shelf>(alloc: Global, demand: &Demand<'_>, shelf: &mut S) -> Status
     }
 }
 
-/// Does what words ask for, by what they were read as, or says why they ask for nothing.
-pub fn obey<'a, S: Shelf>(
+// Does what words ask for, by what they were read as, or says why they ask for nothing.
+fn obey<'a, S: Shelf>(
     alloc: Global,
     asked: &Result<Demand<'a>, WordsFault<'a>>,
     shelf: &mut S,

@@ -34,7 +34,7 @@ mod sweep;
 mod symbols;
 mod trace_faults;
 
-pub use command::{obey, predator};
+pub use command::predator;
 pub use command_files::{StateFault, Status, advice_on};
 pub use laws::{a_replay_goes_on_from_a_list, a_trace_counts_in_parts};
 pub use on_disk::{answer, call, shelf_beside};

@@ -12,7 +12,8 @@ ghost use Rattle.predator_cli.specs.Answer.{answer_of};
 ghost use Rattle.predator_cli.specs.Meets.{Meets};
 ghost use Rattle.predator_cli.specs.OnDisk.{AgreesWith, EndsOnDisk, EndsSo, IsAnswered};
 
-use crate::command::obey;
+use crate::command::work;
+use crate::endings::{refuse, refuse_words};
 use base::NoMemory;
 use command_files::{Status, advise, exit_code, file_to_look_at, give_up, trace_to_read, words_of};
 use command_line::{Demand, WordsFault, read_words};
@@ -71,6 +72,25 @@ fn front_of_refused<'a, R: Files + Print + Eprint + Clock + AllocGlobal, K: Cont
     Vec::new(runtime.alloc())
 }
 
+// Does what words ask for that were read so. (That is `obey`, which the borrow checker doesn't cover at
+// a shelf with a lifetime.)
+fn obey_on_disk<'a, R: Files + Print + Eprint + Clock + AllocGlobal, K: Contents>(
+    alloc: Global,
+    asked: &Result<Demand<'a>, WordsFault<'a>>,
+    shelf: &mut DiskShelf<'_, R, K>,
+) -> Status
+    requires bounded { IfOk asked.now IsBounded }
+    requires read { (words : List Text) × IsReadAs (demand_of words) asked.now }
+    ensures { (wanted : Option Wanted) → IsReadAs wanted asked.now
+        → Meets wanted (disk_outside K.files shelf.old) (disk_outside K.files shelf.new) result }
+{
+    match asked {
+        Ok(demand) => work(alloc, demand, shelf),
+        Err(WordsFault::Usage(_)) => refuse_words(shelf),
+        Err(WordsFault::NoMemory) => refuse(alloc, shelf, Status::NoMemory),
+    }
+}
+
 // Does what words ask for that were read so, and says on standard error what there is to say.
 fn obey_and_tell<'a, R: Files + Print + Eprint + Clock + Env + AllocGlobal, K: Contents>(
     runtime: &R,
@@ -84,7 +104,7 @@ fn obey_and_tell<'a, R: Files + Print + Eprint + Clock + Env + AllocGlobal, K: C
         → EndsSo wanted K.files shelf.new result }
 {
     expect_trace(asked, shelf);
-    let status = obey(runtime.alloc(), asked, shelf);
+    let status = obey_on_disk(runtime.alloc(), asked, shelf);
     let front = front_of_refused(runtime, asked, &status, shelf);
     shelf.tell_run_end();
     advise(runtime, asked, &status, front.as_slice());

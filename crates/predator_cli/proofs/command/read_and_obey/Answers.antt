@@ -2,8 +2,5 @@ use Rattle.command_line.specs.Demands.{texts}
 use Rattle.command_line.specs.Words.{demand_of}
 use Rattle.predator_cli.proofs.command.read_and_obey.Goals as goal
 
-pub obey-requires-read : goal.obey-requires-read
-obey-requires-read g c = (texts c.args.words.now, c.read_words.ensures.read)
-
 pub returns : goal.returns
 returns g c = c.obey.ensures (demand_of (texts c.args.words.now)) c.read_words.ensures.read
