@@ -5,12 +5,10 @@ use Rattle.command_line.specs.Words.{Demand}
 use Rattle.shelf.specs.Laws.Told.{told_map}
 use Rattle.shelf.specs.Shelf.{Files, Outside, content}
 use Rattle.trace_passes.specs.Passes.{Trace, trace_of}
-use Rattle.command_files.specs.Readings.{IsAccepted, IsStopped, Reading}
+use Rattle.command_files.specs.Readings.{IsAccepted, Reading}
 use Rattle.command_files.specs.Works.{Work, done_with}
-use Rattle.command_files.specs.declared.status.Status.{Status}
-use Rattle.predator_cli.specs.Commands.{readings_of}
 use Rattle.predator_cli.specs.Counters.{IsCount}
-use Rattle.predator_cli.specs.Counting.{IsTextOf, IsToTell, counted_readings, counted_work}
+use Rattle.predator_cli.specs.Counting.{IsTextOf, IsToTell, counted_work}
 use Rattle.predator_cli.specs.Meets.{IsAnswered}
 
 text_told : (says : Trace → List ℕ) (name : List ℕ) (files : Files) (bytes text : List ℕ)
@@ -32,8 +30,3 @@ module _ (d : Demand) (says : Trace → List ℕ) (name : List ℕ) (is : IsCoun
           ready.read.whole;
       again = is.repeats;
     }
-
-    pub counted_stopped : (s : Status) → IsStopped (counted_readings name) a b s
-        → IsStopped (readings_of d) a b s
-    counted_stopped s stopped =
-        subst (λ (rs : List Reading). IsStopped rs a b s) (sym is.readings) stopped
