@@ -1,4 +1,5 @@
 pub mod Faults
+pub mod FilesRead
 pub mod Laws
 pub mod Numbers
 pub mod ProgramFiles

@@ -1,10 +1,12 @@
 // Which files a command reads, by their names in the words, and which of them a refusal is of.
+ghost use Rattle.std.specs.Prelude.{◌≡◌, None, Some, option_map};
+ghost use Rattle.command_line.specs.Words.{meaning, trace_of};
+ghost use Rattle.command_files.specs.FilesRead.{trace_meant};
 
 use crate::state_faults::HARTS;
 use crate::status::{StateFault, Status};
-use command_line::{Demand, WordsFault, read_words};
+use command_line::Demand;
 use settings::{Changes, Key, SettingsFault};
-use std::alloc::Global;
 
 /// A trace that words have read.
 #[derive(Clone, Copy, PartialEq, Eq, Debug)]
@@ -26,7 +28,9 @@ struct FilesRead<'a> {
     schedule: Option<&'a str>,
 }
 
-fn no_files<'a>() -> FilesRead<'a> {
+fn no_files<'a>() -> FilesRead<'a>
+    ensures { result.trace ≡ None }
+{
     FilesRead {
         settings: None,
         set: Changes::none(),
@@ -37,9 +41,12 @@ fn no_files<'a>() -> FilesRead<'a> {
     }
 }
 
-fn of_trace(name: &str, again: bool) -> FilesRead<'_> {
+fn of_trace(name: &str, again: bool) -> FilesRead<'_>
+    ensures { option_map trace_meant result.trace
+        ≡ Some (record { name = name.entry.now; again = again }) }
+{
     FilesRead {
-        trace: Some(read_so(name, again)),
+        trace: Some(TraceToRead { name, again }),
         ..no_files()
     }
 }
@@ -49,7 +56,9 @@ fn of_program<'a>(
     settings: Option<&'a str>,
     set: Changes,
     schedule: Option<&'a str>,
-) -> FilesRead<'a> {
+) -> FilesRead<'a>
+    ensures { result.trace ≡ None }
+{
     FilesRead {
         settings,
         set,
@@ -59,7 +68,9 @@ fn of_program<'a>(
     }
 }
 
-fn files_of<'a>(demand: &Demand<'a>) -> FilesRead<'a> {
+fn files_of<'a>(demand: &Demand<'a>) -> FilesRead<'a>
+    ensures { option_map trace_meant result.trace ≡ trace_of (meaning demand.now) }
+{
     match demand {
         Demand::Replay(options) => FilesRead {
             settings: options.settings,
@@ -92,27 +103,11 @@ fn files_of<'a>(demand: &Demand<'a>) -> FilesRead<'a> {
     }
 }
 
-fn read_so(name: &str, again: bool) -> TraceToRead<'_> {
-    TraceToRead { name, again }
-}
-
-/// The trace that words have read, where they have one read.
-pub fn trace_to_read<'a>(alloc: Global, words: &'a [String]) -> Option<TraceToRead<'a>> {
-    match read_words(alloc, words) {
-        Ok(Demand::Replay(options)) => Some(read_so(options.trace, false)),
-        Ok(Demand::Split(options)) => Some(read_so(options.trace, true)),
-        Ok(Demand::Convert(options)) => Some(read_so(options.trace, true)),
-        Ok(Demand::Sweep(options)) => Some(read_so(options.trace, false)),
-        Ok(Demand::Caches(options)) => Some(read_so(options.trace, false)),
-        Ok(Demand::Place(options)) => Some(read_so(options.trace, true)),
-        Ok(Demand::Misses(options)) => Some(read_so(options.trace, false)),
-        Ok(Demand::Run(_)) => None,
-        Ok(Demand::Check(_)) => None,
-        Ok(Demand::Gen(_)) => None,
-        Ok(Demand::Explain(_)) => None,
-        Err(WordsFault::Usage(_)) => None,
-        Err(WordsFault::NoMemory) => None,
-    }
+/// The trace that a command reads, where it reads one.
+pub fn trace_to_read<'a>(demand: &Demand<'a>) -> Option<TraceToRead<'a>>
+    ensures { option_map trace_meant result ≡ trace_of (meaning demand.now) }
+{
+    files_of(demand).trace
 }
 
 // What a trace is called in a message.
@@ -158,36 +153,12 @@ pub fn file_refused<'a>(demand: &Demand<'a>, status: &Status) -> Option<&'a str>
     }
 }
 
-// Of a program and settings, the file that is refused.
-fn refused_of<'a>(
-    program: Option<&'a str>,
-    settings: Option<&'a str>,
-    status: &Status,
-) -> Option<&'a str> {
-    match status {
-        Status::Elf(_) => program,
-        Status::Settings(_) => settings,
-        _ => None,
-    }
-}
-
 /// The name of a file that is refused whose beginning says more of why: a program or settings.
-pub fn file_to_look_at<'a>(alloc: Global, words: &'a [String], status: &Status) -> Option<&'a str> {
-    match read_words(alloc, words) {
-        Ok(Demand::Replay(options)) => refused_of(None, options.settings, status),
-        Ok(Demand::Check(options)) => refused_of(Some(options.program), options.settings, status),
-        Ok(Demand::Run(options)) => refused_of(Some(options.program), options.settings, status),
-        Ok(Demand::Explain(options)) => {
-            refused_of(Some(options.program), options.settings, status)
-        }
-        Ok(Demand::Split(_)) => None,
-        Ok(Demand::Gen(_)) => None,
-        Ok(Demand::Convert(_)) => None,
-        Ok(Demand::Sweep(_)) => None,
-        Ok(Demand::Caches(_)) => None,
-        Ok(Demand::Place(_)) => None,
-        Ok(Demand::Misses(_)) => None,
-        Err(WordsFault::Usage(_)) => None,
-        Err(WordsFault::NoMemory) => None,
+pub fn file_to_look_at<'a>(demand: &Demand<'a>, status: &Status) -> Option<&'a str> {
+    let files = files_of(demand);
+    match status {
+        Status::Elf(_) => files.program,
+        Status::Settings(_) => files.settings,
+        _ => None,
     }
 }

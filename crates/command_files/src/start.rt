@@ -1,8 +1,8 @@
 // How the program starts and ends: its words, and its exit status.
-ghost use Rattle.std.specs.Prelude.{◌≡◌, [], drop, IfOk, MatchResult};
+ghost use Rattle.std.specs.Prelude.{◌≡◌, ◌≤◌, ◌⊎◌, [], drop, IfOk, MatchResult};
 ghost use Rattle.std.specs.Process.{exit_status};
 ghost use Rattle.std.specs.Vec.Iter.{into_iter_items};
-ghost use Rattle.shelf.specs.Shelf.{AddsFront, OnlyPrints};
+ghost use Rattle.shelf.specs.Shelf.{AddsFront, OnlyPrints, Rose};
 ghost use Rattle.command_files.specs.Faults.{fault_text};
 ghost use Rattle.command_files.specs.declared.status.Status.TheVariants as status;
 ghost use Rattle.command_files.specs.Numbers.{number_of};
@@ -50,6 +50,10 @@ pub fn give_up<S: Shelf>(shelf: &mut S) -> Status
     ensures prints { AddsFront (S.outside shelf.old).printed (S.outside shelf.new).printed
         (fault_text status.NoMemory) }
     ensures only { OnlyPrints (S.outside shelf.old) (S.outside shelf.new) }
+    ensures later { (S.outside shelf.old).print_faults ≤ (S.outside shelf.new).print_faults }
+    // Printing failed, or its faults are as many as they were.
+    ensures faults { ((S.outside shelf.new).print_faults ≡ (S.outside shelf.old).print_faults)
+        ⊎ Rose (S.outside shelf.old).print_faults (S.outside shelf.new).print_faults }
 {
     match shelf.print(NO_MEMORY_LINE.as_bytes()) {
         Ok(()) | Err(_) => Status::NoMemory,

@@ -7,8 +7,8 @@ use Rattle.shelf.specs.Shelf.{Files, Outside, content}
 use Rattle.trace_passes.specs.Passes.{Trace, trace_of}
 use Rattle.command_files.specs.Readings.{IsAccepted, Reading}
 use Rattle.command_files.specs.Works.{Work, done_with}
-use Rattle.predator_cli.specs.Commands.{RepeatsReport, readings_of, work_of}
-use Rattle.predator_cli.specs.Counting.{IsTextOf, IsToTell, counted_readings, counted_work}
+use Rattle.predator_cli.specs.Counters.{IsCount}
+use Rattle.predator_cli.specs.Counting.{IsTextOf, IsToTell, counted_work}
 use Rattle.predator_cli.specs.Meets.{IsAnswered}
 
 text_told : (says : Trace → List ℕ) (name : List ℕ) (files : Files) (bytes text : List ℕ)
@@ -19,16 +19,14 @@ text_told says name files bytes text whole is =
     in
     ap (λ (b : List ℕ). work (trace_of b)) (sym whole) ∙ ap work is.is ∙ ap done_with is.same
 
-pub counted_answered : (d : Demand) (says : Trace → List ℕ) (name : List ℕ) (a b : Outside)
-    (text : List ℕ)
-    → readings_of d ≡ counted_readings name
-    → ((files : Files) → work_of d files ≡ counted_work says name files)
-    → ((files : Files) → RepeatsReport d files)
-    → IsToTell says name a b text
-    → IsAnswered d a b text
-counted_answered d says name a b text readings works again ready = record {
-  accepted = subst (λ (rs : List Reading). IsAccepted rs a b) (sym readings) ready.accepted;
-  work = told_map b.held (λ files whole. works files
-      ∙ text_told says name files ready.read.bytes text whole ready.read.given) ready.read.whole;
-  again = again;
-}
+module _ (d : Demand) (says : Trace → List ℕ) (name : List ℕ) (is : IsCount d says name)
+    (a b : Outside)
+  where
+    pub counted_answered : (text : List ℕ) → IsToTell says name a b text → IsAnswered d a b text
+    counted_answered text ready = record {
+      accepted = subst (λ (rs : List Reading). IsAccepted rs a b) (sym is.readings) ready.accepted;
+      work = told_map b.held (λ files whole. is.work files
+          ∙ text_told says name files ready.read.bytes text whole ready.read.given)
+          ready.read.whole;
+      again = is.repeats;
+    }

@@ -1,4 +1,5 @@
 pub mod AllowedLaws
+pub mod CallLaws
 pub mod CopyEnds
 pub mod CountingEnds
 pub mod CutLaws
@@ -10,15 +11,14 @@ pub mod GoOnAnswers
 pub mod GoOnLaws
 pub mod GoodLaws
 pub mod ListedCounts
+pub mod OnDiskLaws
 pub mod PartLaws
 pub mod PlaceApart
 pub mod PlaceEnds
 pub mod ReplayEnds
 pub mod ReplayLaws
-pub mod Rows
 pub mod RunEnds
 pub mod RunLaws
-pub mod Sizes
 pub mod Sound
 pub mod SpelledAgain
 pub mod Standing

@@ -6,6 +6,7 @@ pub mod Check
 pub mod Commands
 pub mod Convert
 pub mod Copies
+pub mod Counters
 pub mod Counting
 pub mod Explain
 pub mod Gen
@@ -14,6 +15,7 @@ pub mod Judged
 pub mod ListedCounts
 pub mod Meets
 pub mod Misses
+pub mod OnDisk
 pub mod Parts
 pub mod Place
 pub mod Recounts

@@ -1,7 +1,9 @@
 // The top call.
-ghost use Rattle.std.specs.Prelude.{◌≡◌, ◌⊎◌, false, None};
+ghost use Rattle.std.specs.Prelude.{◌≡◌, ◌⊎◌, false, IfOk, List, None, Option, Some};
+ghost use Rattle.clap.specs.Words.{Text};
 ghost use Rattle.command_line.specs.Demands.{texts};
-ghost use Rattle.command_line.specs.Words.{demand_of};
+ghost use Rattle.command_line.specs.Words.{Demand as Wanted, IsBounded, IsReadAs, demand_of};
+ghost use Rattle.command_line.specs.Words.{meaning};
 ghost use Rattle.command_files.specs.Statuses.{hides_no_memory, kind_of};
 ghost use Rattle.predator_cli.specs.Meets.{EndsAs, IsCaused, IsComplete, Meets, Prints};
 ghost use Rattle.predator_cli.specs.Meets.{ReadsInPeace};
@@ -14,6 +16,7 @@ ghost use Rattle.shelf.specs.Shelf.{Files, Narrows, Told};
 
 use crate::check::check;
 use crate::convert::convert;
+use crate::counting::count;
 use crate::endings::{refuse, refuse_words};
 use crate::explain::explain;
 use crate::generate::generate;
@@ -21,36 +24,64 @@ use crate::place::place;
 use crate::replay::replay;
 use crate::run::run;
 use crate::split::split;
-use crate::sweep::sweep;
-use crate::tell_caches::tell_caches;
-use crate::tell_misses::tell_misses;
 use command_files::Status;
-use command_line::{Demand, WordsFault, read_words};
+use command_line::{Demand, WordsFault, read_words, what_is_asked_is_bounded};
+use finite_cache::Caches;
 use guest::runs_are_short;
+use layout_sweep::Sweep;
 use shelf::Shelf;
+use misses::MissSightings;
 use std::alloc::Global;
 use trace_passes::a_trace_is_its_spelling;
 
-// Does what the words ask for.
-fn obey<S: Shelf>(alloc: Global, words: &[String], shelf: &mut S) -> Status
-    ensures { Meets (demand_of (texts words.now))
-        (S.outside shelf.old) (S.outside shelf.new) result }
+/// Does what a command is asked for.
+pub fn work<S: Shelf>(alloc: Global, demand: &Demand<'_>, shelf: &mut S) -> Status
+    requires bounded { IsBounded demand.now }
+    requires asked { (words : List Text) × (demand_of words ≡ Some (meaning demand.now)) }
+    ensures { Meets (Some (meaning demand.now)) (S.outside shelf.old) (S.outside shelf.new) result }
 {
-    match read_words(alloc, words) {
-        Ok(Demand::Replay(options)) => replay(alloc, &options, shelf),
-        Ok(Demand::Check(options)) => check(alloc, &options, shelf),
-        Ok(Demand::Run(options)) => run(alloc, &options, shelf),
-        Ok(Demand::Split(options)) => split(alloc, &options, shelf),
-        Ok(Demand::Gen(options)) => generate(alloc, &options, shelf),
-        Ok(Demand::Convert(options)) => convert(alloc, &options, shelf),
-        Ok(Demand::Sweep(options)) => sweep(alloc, &options, shelf),
-        Ok(Demand::Caches(options)) => tell_caches(alloc, &options, shelf),
-        Ok(Demand::Place(options)) => place(alloc, &options, shelf),
-        Ok(Demand::Misses(options)) => tell_misses(alloc, &options, shelf),
-        Ok(Demand::Explain(options)) => explain(alloc, &options, shelf),
+    match demand {
+        Demand::Replay(options) => replay(alloc, options, shelf),
+        Demand::Check(options) => check(alloc, options, shelf),
+        Demand::Run(options) => run(alloc, options, shelf),
+        Demand::Split(options) => split(alloc, options, shelf),
+        Demand::Gen(options) => generate(alloc, options, shelf),
+        Demand::Convert(options) => convert(alloc, options, shelf),
+        Demand::Sweep(options) => count::<S, Sweep>(alloc, shelf, options.trace, options.size),
+        Demand::Caches(options) => count::<S, Caches>(alloc, shelf, options.trace, options.shape),
+        Demand::Place(options) => place(alloc, options, shelf),
+        Demand::Misses(options) => {
+            count::<S, MissSightings>(alloc, shelf, options.trace, options.layout)
+        }
+        Demand::Explain(options) => explain(alloc, options, shelf),
+    }
+}
+
+// Does what words ask for, by what they were read as, or says why they ask for nothing.
+fn obey<'a, S: Shelf>(
+    alloc: Global,
+    asked: &Result<Demand<'a>, WordsFault<'a>>,
+    shelf: &mut S,
+) -> Status
+    requires bounded { IfOk asked.now IsBounded }
+    requires read { (words : List Text) × IsReadAs (demand_of words) asked.now }
+    ensures { (wanted : Option Wanted) → IsReadAs wanted asked.now
+        → Meets wanted (S.outside shelf.old) (S.outside shelf.new) result }
+{
+    match asked {
+        Ok(demand) => work(alloc, demand, shelf),
         Err(WordsFault::Usage(_)) => refuse_words(shelf),
         Err(WordsFault::NoMemory) => refuse(alloc, shelf, Status::NoMemory),
     }
+}
+
+// Reads the words, and does what they ask for.
+fn read_and_obey<S: Shelf>(alloc: Global, words: &[String], shelf: &mut S) -> Status
+    ensures { Meets (demand_of (texts words.now))
+        (S.outside shelf.old) (S.outside shelf.new) result }
+{
+    let asked = read_words(alloc, words);
+    obey(alloc, &asked, shelf)
 }
 
 /// All that the program does, by the words after its name.
@@ -152,5 +183,6 @@ pub fn predator<S: Shelf>(alloc: Global, words: &[String], shelf: &mut S) -> Sta
 {
     runs_are_short();
     a_trace_is_its_spelling();
-    obey(alloc, words, shelf)
+    what_is_asked_is_bounded();
+    read_and_obey(alloc, words, shelf)
 }

@@ -12,6 +12,7 @@
 //! (specs/Meets.antt).
 #![tactic(auto)]
 
+mod caches;
 mod check;
 mod command;
 mod convert;
@@ -21,6 +22,8 @@ mod endings;
 mod explain;
 mod generate;
 mod laws;
+mod miss_counts;
+mod on_disk;
 mod place;
 mod replay;
 mod run;
@@ -29,14 +32,10 @@ mod state_file;
 mod steady;
 mod sweep;
 mod symbols;
-mod tell_caches;
-mod tell_misses;
 mod trace_faults;
 
 pub use command::predator;
-pub use command_files::{
-    StateFault, Status, advice_on, advise, exit_code, file_to_look_at, give_up, trace_to_read,
-    words_of,
-};
+pub use command_files::{StateFault, Status, advice_on};
 pub use laws::{a_replay_goes_on_from_a_list, a_trace_counts_in_parts};
+pub use on_disk::{answer, call, shelf_beside};
 pub use steady::predator_steady;
