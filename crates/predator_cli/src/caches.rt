@@ -2,7 +2,6 @@
 
 use crate::counting::Counter;
 use base::{NoMemory, Shape};
-
 use finite_cache::{Caches, write_caches};
 use std::alloc::Global;
 
