@@ -29,8 +29,8 @@ use command_line::{Demand, WordsFault, read_words, what_is_asked_is_bounded};
 use finite_cache::Caches;
 use guest::runs_are_short;
 use layout_sweep::Sweep;
-use shelf::Shelf;
 use misses::MissSightings;
+use shelf::Shelf;
 use std::alloc::Global;
 use trace_passes::a_trace_is_its_spelling;
 

@@ -18,10 +18,10 @@ returns-in-Sweep g c =
 
 pub returns-in-Caches : goal.returns-in-Caches
 returns-in-Caches g c =
-    rw c.in-Caches.is (c.count-2.ensures (caches (caches_meaning c.in-Caches.options.now))
+    rw c.in-Caches.is (c.count-in-Caches.ensures (caches (caches_meaning c.in-Caches.options.now))
     (record { readings = refl; work = λ files. refl; repeats = λ files. tt }))
 
 pub returns-in-Misses : goal.returns-in-Misses
 returns-in-Misses g c =
-    rw c.in-Misses.is (c.count-3.ensures (misses (misses_meaning c.in-Misses.options.now))
+    rw c.in-Misses.is (c.count-in-Misses.ensures (misses (misses_meaning c.in-Misses.options.now))
     (record { readings = refl; work = λ files. refl; repeats = λ files. tt }))
