@@ -1,6 +1,6 @@
 // How fast traces are read: `benches traces VERSION PIECES` reads so many pieces of 8192 accesses
-// each, of version 1, 2 or 3, and prints how many accesses it read. Each piece ends inside a record.
-// Without words it reads two pieces of version 1.
+// each, of version 1, 2 or 3, and prints how many accesses it read. Each piece ends inside a
+// record. Without words it reads two pieces of version 1.
 ghost use Rattle.std.specs.Prelude.{◌<◌};
 
 use crate::{Words, number_or};

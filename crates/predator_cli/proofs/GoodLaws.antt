@@ -34,7 +34,8 @@ life_kept position born None before life = no_more born position before
 life_kept position born (Some d) before life =
     rw (no_more born d life.0) (no_more d position life.1)
 
-module _ (w : Version) (harts : ℕ) (items : List TraceRecord) (good : All (IsGoodRecord w harts) items) where
+module _ (w : Version) (harts : ℕ) (items : List TraceRecord)
+    (good : All (IsGoodRecord w harts) items) where
   saved_block : (b : Block) → IsBlockOf items b → IsSavedBlock (length (touches_in items)) b
   saved_block b of =
       let made : (b.addr < 2 ^ 32) × (b.size < 2 ^ 32) × (length b.sites ≡ 4)
@@ -77,7 +78,8 @@ module _ (w : Version) (harts : ℕ) (items : List TraceRecord) (good : All (IsG
 
 -- ---- the accesses
 
-of_one_more : (w : Version) (harts : ℕ) (item : TraceRecord) (items : List TraceRecord) → IsGoodRecord w harts item
+of_one_more : (w : Version) (harts : ℕ) (item : TraceRecord) (items : List TraceRecord)
+    → IsGoodRecord w harts item
     → AreOf harts (touches_in items) → AreOf harts (touches_in (item ∷ items))
 of_one_more w harts (records.Touch a pc) items good rest =
     All-cons (λ (a : Touch). (a.hart < harts) × (a.addr < 2 ^ 32)) a (touches_in items)
@@ -87,7 +89,8 @@ of_one_more w harts (records.Free addr) items good rest = rest
 of_one_more w harts (records.Symbol kind addr size name) items good rest = rest
 of_one_more w harts (records.End e) items good rest = rest
 
-pub of_harts : (w : Version) (harts : ℕ) (items : List TraceRecord) → All (IsGoodRecord w harts) items
+pub of_harts : (w : Version) (harts : ℕ) (items : List TraceRecord)
+    → All (IsGoodRecord w harts) items
     → AreOf harts (touches_in items)
 of_harts w harts [] good = All-nil (λ (a : Touch). (a.hart < harts) × (a.addr < 2 ^ 32))
 of_harts w harts (item ∷ items) good =

@@ -84,7 +84,8 @@ second_bytes first name bytes other apart =
 in_range : (harts : ℕ) → 1 ≤ harts → harts ≤ 256 → IsTrue (is_from_to 1 256 harts)
 in_range harts some few = grind (arith, nat_tests)
 
-pub may_stand : (g : Grid) (v : Levels) (w : Version) (harts : ℕ) (items : List TraceRecord) → IsUnder g v
+pub may_stand : (g : Grid) (v : Levels) (w : Version) (harts : ℕ) (items : List TraceRecord)
+    → IsUnder g v
     → 1 ≤ harts → harts ≤ 256 → All (IsGoodRecord w harts) items
     → length (touches_in items) ≤ 2 ^ 40
     → IsSavable (length (touches_in items)) (objects_of items)
@@ -314,7 +315,8 @@ module _
             ∙ one_bytes c.state (state_of_records grid levels t.header.harts seen))
 
         seen_good : All (IsGoodRecord t.version t.header.harts) seen
-        seen_good = All-append (IsGoodRecord t.version t.header.harts) before (all_records part) ready.good
+        seen_good = All-append (IsGoodRecord t.version t.header.harts) before (all_records part)
+            ready.good
             (All-push (IsGoodRecord t.version t.header.harts) part.items (records.End part.ending)
             two.first_is.good.good.records two.first_is.good.good.ending)
 
@@ -328,7 +330,8 @@ module _
 
         seen_stands : MayStand grid levels t.header.harts seen
         seen_stands =
-            may_stand grid levels t.version t.header.harts seen under ready.whole.good.good.header.some
+            may_stand grid levels t.version t.header.harts seen under
+            ready.whole.good.good.header.some
             ready.whole.good.good.header.few seen_good
             (omega (arith, seen_count, two.second_is.good.good.positions))
             (objects grid levels t.version t.header.harts seen seen_good seen_short) seen_short

@@ -49,7 +49,8 @@ trace_harts spelled bytes t small is =
     let good = (spelled bytes t small is).good in
     let few = good.header.few in
     let all : All (IsGoodRecord t.version t.header.harts) (all_records t) =
-    All-push (IsGoodRecord t.version t.header.harts) t.items (records.End t.ending) good.records good.ending
+    All-push (IsGoodRecord t.version t.header.harts) t.items (records.End t.ending) good.records
+    good.ending
     in
     λ a there.
     let low = hart-few t.header.harts (touches_in (all_records t))

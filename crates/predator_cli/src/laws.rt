@@ -81,9 +81,11 @@ pub fn a_replay_goes_on_from_a_list()
         → trace_of bytes ≡ Some whole
         → IsCutIn whole (first_half at whole ∷ []) (second_half at whole) }
     // the objects and the accesses of good records may stand in a state
-    ensures good { (v : Format) (harts : ℕ) (before : List Record) → All (IsGoodRecord v harts) before
+    ensures good { (v : Format) (harts : ℕ) (before : List Record)
+        → All (IsGoodRecord v harts) before
         → length before < 2 ^ 64 → IsSavable (length (touches_in before)) (objects_of before) }
-    ensures of_harts { (v : Format) (harts : ℕ) (before : List Record) → All (IsGoodRecord v harts) before
+    ensures of_harts { (v : Format) (harts : ℕ) (before : List Record)
+        → All (IsGoodRecord v harts) before
         → AreOf harts (touches_in before) }
 {
     the_state_of_a_list_is_taken_up();

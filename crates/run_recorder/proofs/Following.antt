@@ -116,7 +116,8 @@ follows_more given start guest after whole rest first now later files one two th
           (given_more given first now later (records_in x.events) (records_in events) x.given_on
           on);
       good = subst (All (IsGoodRecord One harts)) (sym records)
-          (All-append (IsGoodRecord One harts) (records_in x.events) (records_in events) x.good good);
+          (All-append (IsGoodRecord One harts) (records_in x.events) (records_in events) x.good
+          good);
       noted = λ earlier before is.
           subst (λ (l : List TraceRecord). AreNoted harts l (output_in (x.events ++ events)) files
           three before new)

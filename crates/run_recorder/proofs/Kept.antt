@@ -33,7 +33,8 @@ use Rattle.run_recorder.proofs.Records.{traced-one}
 
 -- ---- symbols
 
-pub symbol_good : (harts : ℕ) (item : TraceRecord) → IsSymbolRecord item → IsGoodRecord One harts item
+pub symbol_good : (harts : ℕ) (item : TraceRecord) → IsSymbolRecord item
+    → IsGoodRecord One harts item
 symbol_good harts (records.Touch a pc) is = absurd is
 symbol_good harts (records.Alloc addr size sites) is = absurd is
 symbol_good harts (records.Free addr) is = absurd is
@@ -83,7 +84,8 @@ symbol_long : (kind : SymbolKind) (addr size : ℕ) (name : List ℕ)
 unfolding spell_symbol
 symbol_long kind addr size name = twelve_more (length name)
 
-symbol_short : (item : TraceRecord) → IsSymbolRecord item → length (spell_record One nothing_before item) ≤ 1036
+symbol_short : (item : TraceRecord) → IsSymbolRecord item
+    → length (spell_record One nothing_before item) ≤ 1036
 symbol_short (records.Touch a pc) is = absurd is
 symbol_short (records.Alloc addr size sites) is = absurd is
 symbol_short (records.Free addr) is = absurd is
@@ -102,7 +104,8 @@ symbols_short [] all = omega arith
 symbols_short (item ∷ symbols) all =
     let one = symbol_short item (All-head IsSymbolRecord item symbols all) in
     let rest = symbols_short symbols (All-tail IsSymbolRecord item symbols all) in
-    let all : length (traced (item ∷ symbols)) ≡ length (spell_record One nothing_before item) + length
+    let all : length (traced (item ∷ symbols)) ≡ length (spell_record One nothing_before item)
+    + length
     (traced symbols) =
     length-append (spell_record One nothing_before item) (traced symbols) in
     at_most (length (traced (item ∷ symbols))) (length (spell_record One nothing_before item))
@@ -154,7 +157,8 @@ free_long : (at : ℕ) → length (spell_free at) ≡ 5
 unfolding spell_free
 free_long at = refl
 
-item_alone : (item : TraceRecord) → length (traced (item ∷ [])) ≡ length (spell_record One nothing_before item)
+item_alone : (item : TraceRecord)
+    → length (traced (item ∷ [])) ≡ length (spell_record One nothing_before item)
 item_alone item = ap length (traced-one item)
 
 event_short : (harts : ℕ) (e : RunEvent) → All (IsGoodRecord One harts) (record_in e)
@@ -179,7 +183,8 @@ good_front : (harts : ℕ) (e : RunEvent) (events : List RunEvent)
 good_front harts quiet events good = (All-nil (IsGoodRecord One harts), good)
 good_front harts (touch a pc) events good =
     let h = All-head (IsGoodRecord One harts) (records.Touch a None) (records_in events) good in (
-      All-cons (IsGoodRecord One harts) (records.Touch a None) [] h (All-nil (IsGoodRecord One harts)),
+      All-cons (IsGoodRecord One harts) (records.Touch a None) [] h
+          (All-nil (IsGoodRecord One harts)),
       All-tail (IsGoodRecord One harts) (records.Touch a None)
           (records_in events) good,
     )
@@ -199,7 +204,8 @@ good_front harts (free at) events good =
     )
 good_front harts (output at bytes) events good = (All-nil (IsGoodRecord One harts), good)
 
-events_short : (harts : ℕ) (events : List RunEvent) → All (IsGoodRecord One harts) (records_in events)
+events_short : (harts : ℕ) (events : List RunEvent)
+    → All (IsGoodRecord One harts) (records_in events)
     → length (traced (records_in events)) ≤ 25 * length events
 events_short harts [] good = omega arith
 events_short harts (e ∷ events) good =
@@ -278,7 +284,8 @@ whole_long harts symbols r =
     let head : List ℕ = spell_header One (record { first = 0; harts = harts }) in
     let end : List ℕ = spell_ending r.ending in
     ap (λ (l : List ℕ). length (head ++ (l ++ end)))
-    (spelled_each nothing_before (records_of symbols r) ∙ traced-append symbols (records_in r.events))
+    (spelled_each nothing_before (records_of symbols r)
+    ∙ traced-append symbols (records_in r.events))
     ∙ length-append head ((traced symbols ++ traced (records_in r.events)) ++ end)
     ∙ ap (λ (n : ℕ). length head + n) (length-append
     (traced symbols ++ traced (records_in r.events)) end
@@ -322,7 +329,8 @@ kept_rules harts symbols s r some most told few short budget good end =
     record {
       header = record { position = omega arith; some = some; few = most };
       records = All-append (IsGoodRecord One harts) symbols (records_in r.events)
-          (All-weaker IsSymbolRecord (IsGoodRecord One harts) (symbol_good harts) symbols told) good;
+          (All-weaker IsSymbolRecord (IsGoodRecord One harts) (symbol_good harts) symbols told)
+          good;
       inner = All-append IsInner symbols (records_in r.events)
           (All-weaker IsSymbolRecord IsInner symbol_inner symbols told) (events_inner r.events);
       ending = record {

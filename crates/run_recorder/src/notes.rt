@@ -1,6 +1,6 @@
 // What is noted while a run goes on: an observer sees each record, and each file gets what its
 // content says.
-ghost use Rattle.std.specs.Prelude.{◌≡◌, ◌<◌, ◌++◌, ◌∷◌, [], List, ℕ, IfErr, OnOk, length};
+ghost use Rattle.std.specs.Prelude.{◌≡◌, ◌<◌, ◌++◌, ◌∷◌, [], List, None, ℕ, IfErr, OnOk, length};
 ghost use Rattle.std.specs.List.{All};
 ghost use Rattle.shelf.specs.Shelf.{Outside};
 ghost use Rattle.shelf.specs.OnTheirWay.{AreBegun, names_of as waiting_names};
@@ -59,7 +59,7 @@ pub(crate) fn note_record<S: Shelf, O: Observer>(
 // The record of an access, which is of an allowed size and place, as its hart says.
 #[inline(always)]
 pub(crate) fn touch_record(access: Access) -> TraceRecord
-    ensures value { result ≡ records.Touch access }
+    ensures value { result ≡ records.Touch access None }
     ensures good { (harts : ℕ) → access.hart < harts → IsGoodRecord One harts result }
 {
     let _hart = access.hart();

@@ -21,7 +21,8 @@ use Rattle.trace_format.specs.Laws.Bytes.{bytes_of, from_part, last_part, spelle
 use Rattle.trace_format.specs.Found.{IsFound}
 use Rattle.trace_format.specs.Judging.{alloc_at, record_extent, record_judged}
 use Rattle.base.specs.Fields.{number_at}
-use Rattle.trace_format.specs.Spelling.{spell_alloc}
+use Rattle.trace_format.specs.Spelling.{nothing_before, spell_alloc}
+use Rattle.trace_format.specs.Laws.Before.{nothing_good}
 use Rattle.trace_format.specs.Laws.Spelling.{record_whole}
 use Rattle.saved_state.specs.ObjectJudging.{block_at, block_form, block_read, death_of, is_life}
 use Rattle.saved_state.specs.ObjectRules.{IsSavedBlock}
@@ -102,7 +103,7 @@ module _ (records_found : RecordsFound) (position : ℕ) where
       ∙ sym (alloc_there front first) in
       let found : IsFound alone front (fields_of unit) =
       subst (IsFound alone front) (same_fields unit)
-      (records_found alone front (alloc_at front) (omega arith) (omega arith)
+      (records_found alone front (alloc_at front) (omega arith) nothing_good
       (All-take IsByte 25 unit fits) long (judged_alloc front first)) in
       let good = found.good in (
         record {
@@ -173,7 +174,7 @@ alloc_length : (addr size : ℕ) (sites : List ℕ) → addr < 2 ^ 32 → size <
     → length (spell_alloc addr size sites) ≡ 25
 unfolding spell_alloc
 alloc_length addr size sites small_addr small_size four each =
-    sym (record_whole One 1 0 (records.Alloc addr size sites) (small_addr, small_size, four, each))
+    sym (record_whole One 1 nothing_before (records.Alloc addr size sites) (small_addr, small_size, four, each))
     ∙ alloc_there (spell_alloc addr size sites) refl
 
 same_item : (a b : TraceRecord) → (let r : Result TraceRecord TraceFault = Ok a in r ≡ Ok b) → a ≡ b
@@ -184,7 +185,7 @@ alloc_again : (addr size : ℕ) (sites : List ℕ) → addr < 2 ^ 32 → size < 
     → alloc_at (spell_alloc addr size sites) ≡ records.Alloc addr size sites
 unfolding spell_alloc
 alloc_again addr size sites small_addr small_size four each =
-    let judged = record_again alone (records.Alloc addr size sites) (omega arith) (omega arith)
+    let judged = record_again alone (records.Alloc addr size sites) (omega arith) nothing_good
     (small_addr, small_size, four, each) tt in
     same_item (alloc_at (spell_alloc addr size sites)) (records.Alloc addr size sites)
     (sym (judged_alloc (spell_alloc addr size sites) refl) ∙ judged)

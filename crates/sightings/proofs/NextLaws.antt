@@ -1,6 +1,6 @@
 -- What has been seen, with one record more.
 use Rattle.std.proofs.Common.{◌≡◌, ℕ, ◌+◌, ◌≤◌, List, [], ◌∷◌, ◌++◌, length, map, refl, sym, ap}
-use Rattle.std.proofs.Common.{◌∙◌, append_assoc, Result, Ok, Err}
+use Rattle.std.proofs.Common.{◌∙◌, append_assoc, Option, Result, Ok, Err}
 use Rattle.std.proofs.Math.Nat.{add-zero}
 use Rattle.std.proofs.lemmas.List.{append-nil}
 use Rattle.std.proofs.lemmas.List.Elements.{filter_map-append}

@@ -10,6 +10,7 @@ use Rattle.detector.specs.Watch.{Watch, nothing_seen, takes_memory, watched}
 use Rattle.report.specs.Reports.{report_lines}
 use Rattle.report.specs.Shown.{listed_tracks}
 use Rattle.base.specs.TextLines.{text_of}
+use Rattle.trace_passes.specs.Lives.{objects_noted}
 use Rattle.trace_format.specs.declared.record.TraceRecord.{TraceRecord}
 use Rattle.trace_format.specs.declared.record.TraceRecord.TheVariants as records
 

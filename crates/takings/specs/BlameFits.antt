@@ -1,16 +1,16 @@
 -- The tables of the program as the parts that are kept, numbers that can be counted on, and room.
 use Rattle.std.specs.Prelude.{◌≡◌, ℕ, ◌<◌, ◌^◌, IfNone, IfSome, List, None, Option, length}
 use Rattle.indexmap.specs.IndexMap.{IndexMap, get, index_of, spare}
+use Rattle.takings.specs.declared.blame_tables.BlameTables.{BlameTables}
 use Rattle.takings.specs.declared.blame_tables.InLine.{InLine}
 use Rattle.takings.specs.declared.blame_tables.LineTaken.{LineTaken}
 use Rattle.takings.specs.declared.tables.Taken.{Taken}
 use Rattle.takings.specs.BlameKept.{Parts, in_line_eq, taken_in_line, taken_of}
 use Rattle.takings.specs.Kept.{IsFew}
 
-abbrev pub parts_of : {S T U : Type 0} → IndexMap ℕ LineTaken S → IndexMap InLine Taken T
-    → IndexMap InLine Taken U → Parts
-parts_of lines pairs harts =
-    record { lines = lines.entries; pairs = pairs.entries; harts = harts.entries }
+abbrev pub parts_of : BlameTables → Parts
+parts_of t =
+    record { lines = t.lines.entries; pairs = t.pairs.entries; harts = t.harts.entries }
 
 -- counts below 2^40, in a table and of each line
 abbrev pub AreFew : List (InLine × Taken) → Type 0

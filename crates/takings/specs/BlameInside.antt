@@ -10,7 +10,7 @@ blamed_in b = record {
   grid = b.layout;
   position = b.position;
   total = b.total;
-  parts = parts_of b.tables.lines b.tables.pairs b.tables.harts;
+  parts = parts_of b.tables;
 }
 
 -- it stands for some list, since it began before its first access

@@ -1,5 +1,7 @@
 // The takings of all lines.
 ghost use Rattle.std.specs.Prelude.{◌≡◌, ◌<◌, ◌^◌, ◌++◌, ◌∷◌, [], IsFalse, IsOk, List, OnErr, OnOk};
+ghost use Rattle.std.specs.Prelude.{length};
+ghost use Rattle.takings.specs.Blame.{all_takings};
 ghost use Rattle.takings.specs.BlameKept.{StandsFor, note_access, nothing_blamed, wants_memory};
 ghost use Rattle.takings.specs.declared.sited.Sited.{Sited as ASited};
 
@@ -62,14 +64,17 @@ impl Blame {
 
     /// How many accesses were noted.
     pub fn position(&self) -> u64
-        ensures { result ≡ self.now.position }
+        ensures kept { result ≡ self.now.position }
+        ensures stands { (u : List ASited) → StandsFor u self.now → result ≡ length u }
     {
         self.position
     }
 
     /// How many takings there were.
     pub fn total(&self) -> u64
-        ensures { result ≡ self.now.total }
+        ensures kept { result ≡ self.now.total }
+        ensures stands { (u : List ASited) → StandsFor u self.now
+            → result ≡ all_takings self.now.grid u }
     {
         self.total
     }

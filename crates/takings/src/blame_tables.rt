@@ -4,7 +4,8 @@ ghost use Rattle.std.specs.Prelude.{Some, eqb, false, is_some, length, nat_eq};
 ghost use Rattle.std.specs.Map.{lookup};
 ghost use Rattle.indexmap.specs.IndexMap.{index_of, insert_entry, spare};
 ghost use Rattle.takings.specs.BlameFits.{AreFew, AreFewTaken, IsPlace, parts_of};
-ghost use Rattle.takings.specs.BlameKept.{has_new_sides, in_line, in_line_eq, is_new, note_line, note_parts};
+ghost use Rattle.takings.specs.BlameKept.{has_new_sides, in_line, in_line_eq, is_new, note_line};
+ghost use Rattle.takings.specs.BlameKept.{note_parts};
 ghost use Rattle.takings.specs.BlameKept.{note_sides_in, note_taking_in, taken_in_line, taken_of};
 ghost use Rattle.takings.specs.BlameKept.{taking_in, untouched, wants_memory_in};
 ghost use Rattle.takings.specs.Kept.{IsFew, taking_by};
@@ -250,16 +251,13 @@ impl BlameTables {
         requires few { AreFewTaken self.old.lines.entries }
         requires few_pairs { AreFew self.old.pairs.entries }
         requires few_harts { AreFew self.old.harts.entries }
-        ensures noted { OnOk result (parts_of self.new.lines self.new.pairs self.new.harts
-            ≡ note_parts (parts_of self.old.lines self.old.pairs self.old.harts) line position
-            sited) }
-        ensures told { IfOk result (λ taken. taken ≡ is_some (taking_in
-            (parts_of self.old.lines self.old.pairs self.old.harts) line position sited)) }
-        ensures refused { OnErr result (parts_of self.new.lines self.new.pairs self.new.harts
-            ≡ parts_of self.old.lines self.old.pairs self.old.harts) }
-        ensures known { IsFalse (has_new_sides (parts_of self.old.lines self.old.pairs self.old.harts) line
-            (taking_in (parts_of self.old.lines self.old.pairs self.old.harts) line position sited))
-            → IsOk result }
+        ensures noted { OnOk result (parts_of self.new
+            ≡ note_parts (parts_of self.old) line position sited) }
+        ensures told { IfOk result (λ taken. taken
+            ≡ is_some (taking_in (parts_of self.old) line position sited)) }
+        ensures refused { OnErr result (parts_of self.new ≡ parts_of self.old) }
+        ensures known { IsFalse (has_new_sides (parts_of self.old) line
+            (taking_in (parts_of self.old) line position sited)) → IsOk result }
     {
         let taking = taking_at(&self.lines, line, index, position, &sited);
         let taken = match count_if_taken(&mut self.pairs, &mut self.harts, line, taking) {
@@ -273,14 +271,11 @@ impl BlameTables {
     // Notes the first access of a line, which takes nothing.
     fn note_new(&mut self, line: u32, sited: Sited) -> Result<bool, NoMemory>
         requires { lookup (eqb line) self.old.lines.entries ≡ None }
-        ensures noted { (position : ℕ)
-            → OnOk result (parts_of self.new.lines self.new.pairs self.new.harts
-            ≡ note_parts (parts_of self.old.lines self.old.pairs self.old.harts) line position
-            sited) }
-        ensures told { (position : ℕ) → IfOk result (λ taken. taken ≡ is_some (taking_in
-            (parts_of self.old.lines self.old.pairs self.old.harts) line position sited)) }
-        ensures refused { OnErr result (parts_of self.new.lines self.new.pairs self.new.harts
-            ≡ parts_of self.old.lines self.old.pairs self.old.harts) }
+        ensures noted { (position : ℕ) → OnOk result (parts_of self.new
+            ≡ note_parts (parts_of self.old) line position sited) }
+        ensures told { (position : ℕ) → IfOk result (λ taken. taken
+            ≡ is_some (taking_in (parts_of self.old) line position sited)) }
+        ensures refused { OnErr result (parts_of self.new ≡ parts_of self.old) }
     {
         match note_first(&mut self.lines, line, sited) {
             Ok(()) => Ok(false),
@@ -294,15 +289,12 @@ impl BlameTables {
         requires few { AreFewTaken self.old.lines.entries }
         requires few_pairs { AreFew self.old.pairs.entries }
         requires few_harts { AreFew self.old.harts.entries }
-        ensures noted { OnOk result (parts_of self.new.lines self.new.pairs self.new.harts
-            ≡ note_parts (parts_of self.old.lines self.old.pairs self.old.harts) line position
-            sited) }
-        ensures told { IfOk result (λ taken. taken ≡ is_some (taking_in
-            (parts_of self.old.lines self.old.pairs self.old.harts) line position sited)) }
-        ensures refused { OnErr result (parts_of self.new.lines self.new.pairs self.new.harts
-            ≡ parts_of self.old.lines self.old.pairs self.old.harts) }
-        ensures known { IsFalse (wants_memory_in
-            (parts_of self.old.lines self.old.pairs self.old.harts) line position sited)
+        ensures noted { OnOk result (parts_of self.new
+            ≡ note_parts (parts_of self.old) line position sited) }
+        ensures told { IfOk result (λ taken. taken
+            ≡ is_some (taking_in (parts_of self.old) line position sited)) }
+        ensures refused { OnErr result (parts_of self.new ≡ parts_of self.old) }
+        ensures known { IsFalse (wants_memory_in (parts_of self.old) line position sited)
             → IsOk result }
     {
         match self.lines.get_index_of(&line) {

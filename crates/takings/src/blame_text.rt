@@ -211,7 +211,7 @@ fn text_of_rows(
 /// The text of the lines that are taken: of each, by takings falling, how often, by which pairs of
 /// instructions and by which harts; and how many takings all lines have.
 ///
-/// NoMemory comes where there is no memory for the text, or for the lines, their rows and their sort.
+/// NoMemory comes where there is no memory for the text, the lines, their rows and their sort.
 pub fn write_blame(alloc: Global, blame: &Blame) -> Result<Vec<u8>, NoMemory>
     ensures kept { IfOk result (λ text. text.items ≡ kept_text blame.now) }
     // where it stands for a list, it is the text of the list

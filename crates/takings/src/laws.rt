@@ -70,8 +70,8 @@ pub fn takings_add_up()
         → taken_in (hart_pairs l start u) ≡ taking_count l start u }
 {}
 
-/// The takings that are told of a line add up: those of its pairs of instructions to its own number,
-/// and so do those of its pairs of harts.
+/// The takings that are told of a line add up to its number: those of its pairs of instructions,
+/// and those of its pairs of harts.
 pub fn taken_lines_add_up()
     ensures pairs { (l : Line) (u : List Sited)
         → taken_in (taken_line u l).pairs ≡ (taken_line u l).takings }

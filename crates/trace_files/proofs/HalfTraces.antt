@@ -63,8 +63,8 @@ module _ (at : ℕ) (t : Trace) (good : IsGoodTrace t.version t.header t.items t
         ∙ ap (λ (n : ℕ). n - cut) (sym good.counted)
 
     whole_good : All (IsGoodRecord t.version t.header.harts) (before ++ behind)
-    whole_good = All-same (IsGoodRecord t.version t.header.harts) (before ++ behind) t.items two.whole
-        good.records
+    whole_good = All-same (IsGoodRecord t.version t.header.harts) (before ++ behind) t.items
+        two.whole good.records
 
     whole_inner : All IsInner (before ++ behind)
     whole_inner = All-same IsInner (before ++ behind) t.items two.whole good.inner
@@ -95,7 +95,8 @@ module _ (at : ℕ) (t : Trace) (good : IsGoodTrace t.version t.header t.items t
 
     second_good : IsGoodTrace t.version (second_half at t).header behind (second_half at t).ending
     second_good =
-        let goods = all_of_second (IsGoodRecord t.version t.header.harts) before behind whole_good in
+        let goods = all_of_second (IsGoodRecord t.version t.header.harts) before behind whole_good
+        in
         let short = second_short t.version t.header.harts (second_half at t).header t.header before
         behind (second_half at t).ending t.ending
         (all_of_first (IsGoodRecord t.version t.header.harts) before behind whole_good) goods in

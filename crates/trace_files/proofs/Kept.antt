@@ -44,14 +44,17 @@ traced_long : (ks : List ℕ) → length (traced (map made_item ks)) ≡ 8 * len
 traced_long [] = refl
 traced_long (k ∷ ks) =
     let a : ATouch = _ in
-    eight_more (length (traced (map made_item (k ∷ ks)))) (length (spell_touch One nothing_before a None))
+    eight_more (length (traced (map made_item (k ∷ ks))))
+    (length (spell_touch One nothing_before a None))
     (length (traced (map made_item ks))) (length ks)
-    (length-append (spell_touch One nothing_before a None) (traced (map made_item ks))) (touch_long a)
+    (length-append (spell_touch One nothing_before a None) (traced (map made_item ks)))
+    (touch_long a)
     (traced_long ks)
 
 items_long : (count : ℕ) → length (spell_records One nothing_before (made_items count)) ≡ 8 * count
 items_long count =
-    ap length (spelled_each nothing_before (made_items count)) ∙ traced_long (range_with_len 0 count)
+    ap length (spelled_each nothing_before (made_items count))
+    ∙ traced_long (range_with_len 0 count)
     ∙ ap (λ (n : ℕ). 8 * n) (length-range_with_len 0 count)
 
 whole_long : (count : ℕ) → length (spell_trace (made count)) ≡ 45 + 8 * count

@@ -70,7 +70,8 @@ same_files first second v old new same = λ i seen.
 -- a writer of the half that the record went to, and one of the other half
 pub writer_behind : (v : Version) (w : Writing) (xs ys : List TraceRecord) (item : TraceRecord)
     → w ≡ record { version = v; before = before_behind nothing_before xs } → ys ≡ xs ++ item ∷ []
-    → record w { before = before_after w.before item } ≡ record { version = v; before = before_behind nothing_before ys }
+    → record w { before = before_after w.before item }
+    ≡ record { version = v; before = before_behind nothing_before ys }
 writer_behind v w xs ys item is more =
     writer-more v w xs item is
     ∙ ap (λ (l : List TraceRecord). let y : Writing =

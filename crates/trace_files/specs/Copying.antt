@@ -57,9 +57,15 @@ halves_so_far first second v s seen = halves_with first second v s (halves_of s.
 pub record HasSplit (s : Splitting) (seen : List TraceRecord) : Type 0 where
   pub splitter : HasSeen seen s.splitter
   pub first : s.first_writer
-      ≡ record { version = s.version; before = before_behind nothing_before (halves_of s.splitter.cut seen).0 }
+      ≡ record {
+        version = s.version;
+        before = before_behind nothing_before (halves_of s.splitter.cut seen).0;
+      }
   pub second : s.second_writer
-      ≡ record { version = s.version; before = before_behind nothing_before (halves_of s.splitter.cut seen).1 }
+      ≡ record {
+        version = s.version;
+        before = before_behind nothing_before (halves_of s.splitter.cut seen).1;
+      }
   pub count : length s.files ≡ 2
 
 -- ---- two readings

@@ -21,8 +21,8 @@ pub fn the_halves_have_the_accesses_of_the_whole()
     a_trace_is_cut_in_two();
 }
 
-/// A converted trace of at most 2^44 bytes is a trace with the same accesses. Where the first one is of
-/// version 1 or 2, converting that gives the first one's bytes. Nothing is done.
+/// A converted trace of at most 2^44 bytes is a trace with the same accesses. Where the first one
+/// is of version 1 or 2, converting that gives the first one's bytes. Nothing is done.
 pub fn a_trace_converted_twice_is_itself()
     ensures trace { (bytes : List ℕ) (t : Trace) → All (λ b. b < 256) bytes
         → trace_of bytes ≡ Some t

@@ -159,7 +159,8 @@ impl<'a> TraceOutputs<'a> {
         ensures outputs { OnOk result ((outputs : List Output) (before : Outside)
             → IsOutputs self.old outputs before (S.outside shelf.old)
             → IsOutputs self.new
-            (outputs_with outputs place (spell_record writer.old.version writer.old.before item.now))
+            (outputs_with outputs place
+            (spell_record writer.old.version writer.old.before item.now))
             before (S.outside shelf.new)) }
         ensures cut { IfErr result (λ error. (outputs : List Output) (before : Outside)
             → IsOutputs self.old outputs before (S.outside shelf.old)

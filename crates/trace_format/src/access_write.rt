@@ -69,6 +69,7 @@ pub(crate) fn put_bytes(bytes: &[u8], into: &mut Vec<u8>) -> Result<(), NoMemory
 
 // Appends two bytes and the groups of a number. At `NoMemory` nothing is appended.
 #[tactic(auto, using(std::proofs::lemmas::Bool::Decides::nat_tests))]
+#[inline(always)]
 fn put_groups(tag: u8, hart: u8, z: u32, into: &mut Vec<u8>) -> Result<(), NoMemory>
     ensures ok { OnOk result (into.new.items ≡ into.old.items ++ tag ∷ hart ∷ groups z) }
     ensures err { OnErr result (into.new.items ≡ into.old.items) }
@@ -101,6 +102,7 @@ fn put_groups(tag: u8, hart: u8, z: u32, into: &mut Vec<u8>) -> Result<(), NoMem
 }
 
 // Appends an access against the address of the one before. At `NoMemory` nothing is appended.
+#[inline(always)]
 fn put_short_touch(last: u32, access: &Access, into: &mut Vec<u8>) -> Result<(), NoMemory>
     ensures ok { OnOk result (into.new.items ≡ into.old.items ++ spell_short_touch last access.now) }
     ensures err { OnErr result (into.new.items ≡ into.old.items) }
@@ -112,6 +114,7 @@ fn put_short_touch(last: u32, access: &Access, into: &mut Vec<u8>) -> Result<(),
 
 // Appends the groups of a number. At `NoMemory` nothing is appended.
 #[tactic(auto, using(std::proofs::lemmas::Bool::Decides::nat_tests))]
+#[inline(never)]
 fn put_number(z: u32, into: &mut Vec<u8>) -> Result<(), NoMemory>
     ensures ok { OnOk result (into.new.items ≡ into.old.items ++ groups z) }
     ensures err { OnErr result (into.new.items ≡ into.old.items) }
@@ -127,6 +130,7 @@ fn put_number(z: u32, into: &mut Vec<u8>) -> Result<(), NoMemory>
 }
 
 // Appends an access and its pc. At `NoMemory` nothing is appended.
+#[inline(never)]
 fn put_sited_touch(
     before: &Before,
     access: &Access,

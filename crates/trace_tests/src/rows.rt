@@ -25,9 +25,9 @@ const LAST_WORD: [u8; 48] = [
     6, 0, 0, 0, 0, 0, 0, 0, 0, 1, 0, 0, 0, 0, 0, 0, 0, 1, 0, 0, 0, 0, 0, 0, 0, // end
 ];
 
-// A write of 4 bytes at 0x11008 by hart 0, a read of a byte at 0x11004 and a write there by hart 1, and
-// a read of a byte at 0x11005 by hart 2, in version 3. Their pcs are 0x10004, 0x1003c, 0x10044 and
-// 0x1003c.
+// A write of 4 bytes at 0x11008 by hart 0, a read of a byte at 0x11004 and a write there by hart
+// 1, and a read of a byte at 0x11005 by hart 2, in version 3. Their pcs are 0x10004, 0x1003c, 0x10044
+// and 0x1003c.
 const FOUR_SITED: [u8; 69] = [
     0x50, 0x52, 0x44, 0x54, 0x52, 0x43, 0x30, 0x33, 0, 0, 0, 0, 0, 0, 0, 0, 8, 0, 0, 0, // header
     0x24, 0, 0x90, 0xc0, 8, 0x88, 0x80, 8, 0x11, 1, 7, 0xf8, 0x80, 8, // by harts 0 and 1

@@ -86,7 +86,8 @@ touch-next (Ok u) old new a pc x is stands next size =
 touch-next (Err e) old new a pc x is stands next size = tt
 
 -- a record that is none
-pub other-next : (s : Sweep) (x : TraceRecord) → ((a : Touch) (pc : Option ℕ) → x ≡ records.Touch a pc → ⊥)
+pub other-next : (s : Sweep) (x : TraceRecord) → ((a : Touch) (pc : Option ℕ)
+    → x ≡ records.Touch a pc → ⊥)
     → SweepsNext s s x
 other-next s (records.Touch a pc) other = absurd (other a pc refl)
 other-next s (records.Alloc addr size sites) other =

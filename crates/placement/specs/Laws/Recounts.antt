@@ -119,7 +119,8 @@ touch-recounted (Ok u) old new a pc x is stands next size plan =
 touch-recounted (Err e) old new a pc x is stands next size plan = tt
 
 -- a record that is none
-pub other-recounted : (r : Recount) (x : TraceRecord) → ((a : Touch) (pc : Option ℕ) → x ≡ records.Touch a pc → ⊥)
+pub other-recounted : (r : Recount) (x : TraceRecord) → ((a : Touch) (pc : Option ℕ)
+    → x ≡ records.Touch a pc → ⊥)
     → RecountsNext r r x
 other-recounted r (records.Touch a pc) other = absurd (other a pc refl)
 other-recounted r (records.Alloc addr size sites) other = quiet-next r _ refl

@@ -1,4 +1,4 @@
--- No number that is kept of all lines is above the number of accesses; and entries by their indices.
+-- No number that is kept of all lines is above that of accesses; and entries by their indices.
 use Rattle.std.proofs.Common.{◌≡◌, ℕ, zero, suc, ◌<◌, ◌≤◌, ◌^◌, Bool, true, false, List, [], ◌∷◌}
 use Rattle.std.proofs.Common.{length, refl, sym, ap, ◌∙◌, subst, arith, Option, Some, None, get_or}
 use Rattle.std.proofs.lemmas.List.Quantifiers.{position-Some}

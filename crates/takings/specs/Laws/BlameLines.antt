@@ -8,7 +8,8 @@ use Rattle.std.specs.Prelude.{is_some, nat_eq}
 use Rattle.indexmap.specs.IndexMap.{insert_entry}
 use Rattle.base.specs.Lines.{Grid}
 use Rattle.misses.specs.Kept.{accessed_lines}
-use Rattle.misses.specs.Laws.Entered.{AgreeBut, entries, insert-entries, lookup-entries}
+use Rattle.sharing_rules.specs.Laws.Sums.{AgreeBut}
+use Rattle.misses.specs.Laws.Entered.{entries, insert-entries, lookup-entries}
 use Rattle.misses.specs.Laws.KeptLines.{note_arrival-any}
 use Rattle.misses.specs.Laws.KeptOf.{lines-push}
 use Rattle.sharing_rules.specs.Arrivals.{note_arrival}

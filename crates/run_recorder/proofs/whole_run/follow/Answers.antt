@@ -186,7 +186,8 @@ returns-in-Ok-note_touches-clause-good g c =
     c.in-Ok-note_touches.ensures.begun in
     let same : (rest_of c.args.guest.now).events ≡ x.events = all_seen x.events
     (rest_of c.args.guest.now) (ended_run end) end x.goes refl in
-    subst (λ (l : List RunEvent). All (IsGoodRecord One c.args.guest.now.setup.harts) (records_in l))
+    subst (λ (l : List RunEvent). All (IsGoodRecord One c.args.guest.now.setup.harts)
+    (records_in l))
     (sym same) x.good
 
 pub returns-in-Ok-note_touches-clause-noted : goal.returns-in-Ok-note_touches-clause-noted

@@ -15,7 +15,7 @@ returns c =
     (rw (
       c.in_ok-push_lines.ensures,
       c.in_ok-push_heads.ensures,
-      c.total.ensures,
-      c.position.ensures,
+      c.total.ensures.kept,
+      c.position.ensures.kept,
       c.layout.ensures,
     ) at c.in_ok-push_ends.ensures)

@@ -25,7 +25,8 @@ note_record-requires-clause-room g c =
 pub returns-in-Err-clause-cut : goal.returns-in-Err-clause-cut
 returns-in-Err-clause-cut g c = λ before on.
     cut_access c.args.file.now c.loop-place.file c.args.count c.loop-place.place
-    (records.Touch c.access_at-access.result None) before (g.S.Shelf.outside c.note_record.new.shelf)
+    (records.Touch c.access_at-access.result None) before
+    (g.S.Shelf.outside c.note_record.new.shelf)
     c.in-Err.error c.loop-place.invariant.files_stay c.loop-place-test.true
     (item_is c.loop-place.place c.loop-place.state c.next_state-next.result
     c.access_at-access.result

@@ -41,14 +41,13 @@ invariant_of-self-2 c =
     let k = blamed_in c.self.inside in
     let own = c.number_of-line.ensures.value
     ∙ ap (line_number c.self.inside.layout.size c.self.inside.layout.offset) c.addr.ensures in
-    let t = c.note.new.self in
     let counted : c.from.result ≡ (if c.in-Ok.taken then 1 else 0) =
     elim (cases_Bool c.in-Ok.taken) [
       | inl e ↦ rw e (rw e at c.from.ensures)
       | inr e ↦ rw e (rw e at c.from.ensures)
     ] in
     let noted = noted-by k s c.number_of-line.result c.from.result c.in-Ok.taken
-    (parts_of t.lines t.pairs t.harts) own c.in-Ok.ensures.told counted
+    (parts_of c.note.new.self) own c.in-Ok.ensures.told counted
     c.in-Ok.ensures.noted in (
       c.self.invariant.0 ++ s ∷ [],
       subst (StandsFor (c.self.invariant.0 ++ s ∷ [])) (sym noted)
@@ -61,14 +60,13 @@ returns-clause-stands c = λ u stands.
     let k = blamed_in c.self.inside in
     let own = c.number_of-line.ensures.value
     ∙ ap (line_number c.self.inside.layout.size c.self.inside.layout.offset) c.addr.ensures in
-    let t = c.note.new.self in
     let counted : c.from.result ≡ (if c.in-Ok.taken then 1 else 0) =
     elim (cases_Bool c.in-Ok.taken) [
       | inl e ↦ rw e (rw e at c.from.ensures)
       | inr e ↦ rw e (rw e at c.from.ensures)
     ] in
     let noted = noted-by k s c.number_of-line.result c.from.result c.in-Ok.taken
-    (parts_of t.lines t.pairs t.harts) own c.in-Ok.ensures.told counted
+    (parts_of c.note.new.self) own c.in-Ok.ensures.told counted
     c.in-Ok.ensures.noted in
     subst (StandsFor (u ++ s ∷ [])) (sym noted)
     (stands-push u k s (subst (StandsFor u) (sym c.self.view_is) stands))

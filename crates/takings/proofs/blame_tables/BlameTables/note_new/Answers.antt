@@ -6,12 +6,10 @@ use Rattle.takings.proofs.blame_tables.BlameTables.note_new.Goals as goal
 
 pub returns-in-Ok-clause-noted : goal.returns-in-Ok-clause-noted
 returns-in-Ok-clause-noted c = λ position.
-    let t = c.args.self.now in
-    parts-new (parts_of t.lines t.pairs t.harts) c.args.line position c.args.sited
+    parts-new (parts_of c.args.self.now) c.args.line position c.args.sited
     c.note_first.new.lines.entries c.requires c.in-Ok.ensures.noted
 
 pub returns-in-Ok-clause-told : goal.returns-in-Ok-clause-told
 returns-in-Ok-clause-told c = λ position.
-    let t = c.args.self.now in
-    ap is_some (sym (taking-new (parts_of t.lines t.pairs t.harts) c.args.line position
+    ap is_some (sym (taking-new (parts_of c.args.self.now) c.args.line position
     c.args.sited c.requires))
