@@ -155,7 +155,7 @@ class View:
                     self.all[key].name = self.naming.key_name(key, example)
 
     def rank(self) -> None:
-        """Puts the objects in order by the misses that lines of their own would save their words."""
+        """Puts the objects in order by the misses that lines of their own could save their words at most."""
         needed: Counter[int] = Counter()
         size, offset = self.report.size, self.report.offset
         words = self.by_word.lines if self.by_word else {}
