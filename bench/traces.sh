@@ -25,11 +25,12 @@ def taken(words):
 
 
 runs = [
-    (taken([program, "traces", "1", str(pieces)]), taken([program, "traces", "2", str(pieces)]), taken(["sha256sum", name]))
+    [taken([program, "traces", version, str(pieces)]) for version in "123"] + [taken(["sha256sum", name])]
     for _ in range(5)
 ]
-one, two, digest = (min(run[i] for run in runs) for i in range(3))
+one, two, three, digest = (min(run[i] for run in runs) for i in range(4))
 each = 1e9 / (pieces * accesses)
 print(f"version 1 {one * each:.1f} ns an access, {one / digest:.2f} of sha256sum")
 print(f"version 2 {two * each:.1f} ns an access, {two / one:.2f} of version 1")
+print(f"version 3 {three * each:.1f} ns an access, {three / two:.2f} of version 2")
 PY

@@ -1,0 +1,129 @@
+"""Tries the study without timing: the arithmetic on a made-up table, and of each pair, that both forms compute the same on this machine and
+as guests, and that padding takes away what it is to take away."""
+
+import os
+import shutil
+import tempfile
+from concurrent.futures import ThreadPoolExecutor
+from typing import Iterator, Sequence
+
+from counts import Count, can_run, guest_count
+from judge import Row, bands, correlated, ranks, spearman
+from page import Box, named, page
+from pairs import FORMS, Built, Program, Trouble, build_all, programs
+from tables import Study, counts_of, kept, markdown, saved, told_counts, values
+from timing import Timed, once, usual_rounds
+
+# The status for a part of bin/try that skips itself.
+SKIPPED = 77
+THREADS = 2
+# Guests run so: short turns, so that even what meets seldom does.
+QUANTUM = 10
+
+
+def made_row(name: str, kind: str, useless: Sequence[int], ns: Sequence[float]) -> Row:
+    """A row whose guest makes 1000 steps, with so many useless misses in both forms, and which takes so long."""
+    timed = [Timed(100, it, it * 0.9, it * 1.1, 5, 5, 1, 0, 0) for it in ns]
+    counts = {(form, quantum): Count(1000, 500, 3, it, 2 * it, 1) for form, it in zip(FORMS, useless) for quantum in (1, 10, 100, 1000)}
+    return Row(Program(name, kind, "made up", ""), 2, 100, timed, counts, {})
+
+
+def made_study() -> Study:
+    rows = [
+        made_row("none", "true", [0, 0], [100, 100]),
+        made_row("some", "mixed", [2, 0], [150, 100]),
+        made_row("more", "handover", [5, 1], [90, 100]),
+        made_row("many", "false", [10, 0], [400, 100]),
+        made_row("most", "false", [20, 0], [900, 100]),
+    ]
+    return Study({"machine": "made up <&>"}, {"0 and 1": 50.0, "0 and 2": 60.0, "1 and 2": 55.0}, 0.5, rows)
+
+
+def wrong(name: str, found: object, wanted: object) -> Iterator[str]:
+    if found != wanted:
+        yield f"{name}: {found!r}, and not {wanted!r}"
+
+
+def arithmetic() -> Iterator[str]:
+    """What is wrong on the made-up table."""
+    study = made_study()
+    rows = study.rows
+    yield from wrong("ranks", ranks([5.0, 1.0, 5.0, 9.0]), [2.5, 1.0, 2.5, 4.0])
+    yield from wrong("spearman up", spearman([(1, 10), (2, 20), (3, 30)]), 1.0)
+    yield from wrong("spearman down", spearman([(1, 3), (2, 2), (3, 1)]), -1.0)
+    yield from wrong("spearman of equal ones", spearman([(1, 3), (1, 2), (1, 1)]), None)
+    # (the third has the least slowdown: the ranks are 2, 3, 1, 4, 5)
+    yield from wrong("correlated", correlated(rows, lambda row: row.rate()), 1 - 6 * (1 + 1 + 4) / (5 * 24))
+    wanted = [
+        ["below 0.05", 1, 1.0, 1.0, 1.0],
+        ["0.05 to 3", 1, 1.5, 1.5, 1.5],
+        ["3 to 8", 1, 0.9, 0.9, 0.9],
+        ["8 and more", 2, 4.0, 6.5, 9.0],
+    ]
+    yield from wrong("bands", bands(rows), wanted)
+    yield from wrong("latency", study.latency(), 55.0)
+    yield from wrong("saved", rows[3].saved(), 600.0)
+    yield from wrong("bound", rows[3].bound(55.0), 550.0)
+    yield from wrong("at most", rows[3].at_most(50.0, 0.5), 0.5)
+    yield from wrong("share", rows[3].share(), 0.75)
+    yield from wrong("the record", kept(saved(study)), study)
+    counted = {"some": rows[1].counts, "many": rows[3].counts}
+    yield from wrong("the record of counts", counts_of(told_counts(counted)), counted)
+    yield from wrong("lines of the table", len(values(study).splitlines()), 6)
+    yield from wrong("lines of the text", sum("made up" in it for it in markdown(study).splitlines()), 1)
+    yield from of_the_page(study)
+
+
+def of_the_page(study: Study) -> Iterator[str]:
+    """What is wrong with names on the picture, and with the page where it can be made."""
+    spread = named([(100.0, 100.0, "one"), (101.0, 100.0, "other"), (102.0, 101.0, "third")])
+    boxes = [Box(it["x"], it["y"] - 9, it["x"] + 5.6 * len(it["text"]), it["y"]) for it in spread]
+    yield from wrong("names", [a.meets(b) for at, a in enumerate(boxes) for b in boxes[:at]], [False] * 3)
+    text = page(study)
+    if text is not None:
+        yield from wrong("points of the page", text.count("<g transform"), 5)
+        yield from wrong("escaped names", "made up &lt;&amp;&gt;" in text, True)
+
+
+def of_a_pair(pair: Sequence[Built]) -> Iterator[str]:
+    """What is wrong with a pair: its results, and what padding takes away."""
+    program = pair[0].program
+    results = {once(it, usual_rounds(it), (), 120).result for it in pair}
+    if pair[0].guest:
+        counts = [guest_count(it, QUANTUM) for it in pair]
+        results |= {it.result for it in counts}
+        missed = [it.useful + it.useless for it in counts]
+        if program.kind == "false" and not missed[1] < missed[0] / 2:
+            yield f"{program.name}: {missed[0]} misses as it is, and {missed[1]} padded"
+        if program.kind in ("false", "mixed") and program.name != "bytes" and not counts[1].useless < counts[0].useless:
+            yield f"{program.name}: {counts[0].useless} useless misses as it is, and {counts[1].useless} padded"
+        if program.kind in ("true", "none") and counts[0].useless > counts[0].steps / 1000:
+            yield f"{program.name}: {counts[0].useless} useless misses, and it is to have none"
+    if len(results) > 1:
+        yield f"{program.name} computes {sorted(results)}"
+
+
+def tried(pair: Sequence[Built]) -> list[str]:
+    try:
+        return list(of_a_pair(pair))
+    except Trouble as error:
+        return [str(error)]
+
+
+def check(only: Sequence[str]) -> int:
+    """Prints what is wrong: the status is 1 if something is, and 77 without a compiler."""
+    found = list(arithmetic())
+    if not shutil.which("gcc"):
+        print("gcc isn't installed")
+        return 1 if found else SKIPPED
+    guests = can_run() and all(map(shutil.which, ("clang", "ld.lld", "llvm-readelf", "llvm-objcopy")))
+    with tempfile.TemporaryDirectory() as folder:
+        built = build_all(programs(only), [THREADS], 64, folder, guests)
+        with ThreadPoolExecutor(os.cpu_count()) as pool:
+            for own in pool.map(tried, zip(built[::2], built[1::2])):
+                found += own
+    for it in found:
+        print(it)
+    told = "on this machine and as guests" if guests else "on this machine alone: clang, lld, llvm or the program isn't there"
+    print(f"{len(built) // 2} pairs, {told}; {len(found)} wrong")
+    return 1 if found else 0
