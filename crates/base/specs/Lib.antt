@@ -1,8 +1,11 @@
 pub mod Addresses
+pub mod Fields
+pub mod Laws
 pub mod Levels
 pub mod Lines
 pub mod Names
 pub mod PrintedNames
 pub mod Ranges
+pub mod Shapes
 pub mod TextLines
 pub mod Touch

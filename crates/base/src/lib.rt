@@ -1,6 +1,6 @@
 //! The values that every crate speaks of: harts and their accesses, layouts and lines, thresholds,
-//! names, how a run ends, and a counter of steps that costs nothing; and how addresses, names and
-//! lines of words are written.
+//! the shape of private caches, names, how a run ends, and a counter of steps that costs nothing;
+//! and how addresses, names and lines of words are written.
 //!
 //! Each type holds only allowed values, and its constructor says exactly which those are.
 //!
@@ -14,10 +14,12 @@ mod access;
 mod addresses;
 mod ending;
 mod faults;
+mod fields;
 mod hart;
 mod layout;
 mod name;
 mod printed_names;
+mod shape;
 mod steps;
 mod thresholds;
 
@@ -25,9 +27,11 @@ pub use access::{Access, Kind};
 pub use addresses::{address, push_address, push_address_past};
 pub use ending::{Cause, Ending, Outcome};
 pub use faults::{NoMemory, ResumeFault};
+pub use fields::{behind, u16_at, u32_at, u64_at};
 pub use hart::Hart;
 pub use layout::{Layout, Range};
 pub use name::Name;
 pub use printed_names::{printed_name, push_name};
+pub use shape::Shape;
 pub use steps::Steps;
 pub use thresholds::Thresholds;

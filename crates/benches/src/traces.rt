@@ -1,6 +1,6 @@
 // How fast traces are read: `benches traces VERSION PIECES` reads so many pieces of 8192 accesses
-// each, of version 1 or 2, and prints how many accesses it read. Each piece ends inside a record.
-// Without words it reads two pieces of version 1.
+// each, of version 1, 2 or 3, and prints how many accesses it read. Each piece ends inside a
+// record. Without words it reads two pieces of version 1.
 ghost use Rattle.std.specs.Prelude.{◌<◌};
 
 use crate::{Words, number_or};
@@ -30,7 +30,8 @@ fn access_of(i: u32) -> Option<Access>
 fn put_accesses(writer: &mut TraceWriter, into: &mut Vec<u8>) -> Result<(), NoMemory> {
     for i in 0..ACCESSES {
         if let Some(access) = access_of(i) {
-            writer.item(&TraceRecord::Touch(access), into)?;
+            let pc = 0x10000 + 4 * (i % 64);
+            writer.item(&TraceRecord::Touch(access, Some(pc)), into)?;
         }
     }
     Ok(())
@@ -80,6 +81,7 @@ fn read(alloc: Global, version: Version, pieces: u64) -> Result<u64, TraceFault>
 pub(crate) fn bench<R: Print + AllocGlobal>(rt: &R, words: &mut Words) -> io::Result<()> {
     let version = match words.next().as_deref() {
         Some("2") => Version::Two,
+        Some("3") => Version::Three,
         _ => Version::One,
     };
     match read(rt.alloc(), version, number_or(words, 2)) {

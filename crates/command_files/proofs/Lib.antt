@@ -1,3 +1,4 @@
 mod FrontLaws
 pub mod SaveLaws
+pub mod Refusals
 pub mod Usual

@@ -1,7 +1,7 @@
 -- The command `caches`: what its words ask for.
 use Rattle.std.specs.Prelude.{ℕ, if◌then◌else◌, List, [], ◌∷◌, Option, Some, None, codes}
 use Rattle.std.specs.Prelude.{option_map, option_and_then}
-use Rattle.cache_shape.specs.Shapes.{CacheShape, is_shape}
+use Rattle.base.specs.Shapes.{CacheShape, is_shape}
 use Rattle.clap.specs.Words.{App, Row, Text, first_of}
 use Rattle.command_line.specs.Apps.{plain_app, with_option, with_word}
 use Rattle.command_line.specs.Asked.{asked}

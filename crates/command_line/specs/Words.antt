@@ -1,6 +1,7 @@
 -- What the words of the command line ask for. What a command refuses, and what each of its
 -- arguments gets, is what `clap` says.
-use Rattle.std.specs.Prelude.{Bool, false, if◌then◌else◌, List, [], ◌∷◌, map, flat_map, Option}
+use Rattle.std.specs.Prelude.{Bool, false, true, if◌then◌else◌, List, [], ◌∷◌, map, flat_map, Option}
+use Rattle.std.specs.Prelude.{◌≡◌, Result, Ok, Err}
 use Rattle.std.specs.Prelude.{Some, None, IsTrue, ◌≤◌, ◌^◌, option_map, option_and_then, codes}
 use Rattle.std.specs.Str.{bytes_eq}
 use Rattle.clap.specs.Words.{Text}
@@ -30,6 +31,8 @@ use Rattle.command_line.specs.Explain.{explain_usage, ExplainDemand, asked_of_ex
 use Rattle.command_line.specs.Explain.{explain_inputs, explain_meaning, explain_outputs}
 use Rattle.command_line.specs.declared.demand.Demand as code
 use Rattle.command_line.specs.declared.demand.Demand.TheVariants as code_demand
+use Rattle.command_line.specs.declared.demand.WordsFault.{WordsFault}
+use Rattle.command_line.specs.declared.demand.WordsFault.TheVariants.{Usage, NoMemory}
 
 -- ---- the commands, a row each
 
@@ -85,33 +88,57 @@ commands =
     ∷ named (codes "explain") explain_usage asked_of_explain explain
     ∷ []
 
+-- a trace that is read, and whether it is read again, from its front, once it was read to its end
+pub record TraceRead : Type 0 where
+  pub name : Text
+  pub again : Bool
+
 -- the files that a demand has read, in the order in which they are, those that it has written, in
--- the order in which they are begun, and the bounds that it is within
+-- the order in which they are begun, the trace among those that are read, and the bounds that it is
+-- within
 pub record Terms : Type 1 where
   pub inputs : List Text
   pub outputs : List Text
+  pub trace : Option TraceRead
   pub IsWithin : Type 0
 
 -- any demand is allowed
 abbrev pub terms : List Text → List Text → Terms
-terms inputs outputs = record { inputs = inputs; outputs = outputs; IsWithin = Unit {0} }
+terms inputs outputs = record {
+  inputs = inputs;
+  outputs = outputs;
+  trace = None;
+  IsWithin = Unit {0};
+}
+
+-- one of a trace that is read once, and one of a trace that is read again
+abbrev pub terms_once : Text → List Text → List Text → Terms
+terms_once name inputs outputs =
+    record (terms inputs outputs) { trace = Some (record { name = name; again = false }) }
+
+abbrev pub terms_again : Text → List Text → List Text → Terms
+terms_again name inputs outputs =
+    record (terms inputs outputs) { trace = Some (record { name = name; again = true }) }
 
 abbrev pub terms_of : Demand → Terms
 terms_of (run demand) = terms (run_inputs demand) (run_outputs demand)
-terms_of (replay demand) = terms (replay_inputs demand) (replay_outputs demand)
+terms_of (replay demand) = terms_once demand.trace (replay_inputs demand) (replay_outputs demand)
 terms_of (check demand) = terms (check_inputs demand) (check_outputs demand)
-terms_of (split demand) = terms (split_inputs demand) (split_outputs demand)
+terms_of (split demand) = terms_again demand.trace (split_inputs demand) (split_outputs demand)
 terms_of (gen demand) =
     record (terms (gen_inputs demand) (gen_outputs demand)) { IsWithin = demand.count ≤ 10 ^ 9 }
-terms_of (convert demand) = terms (convert_inputs demand) (convert_outputs demand)
-terms_of (sweep demand) = record (terms (sweep_inputs demand) (sweep_outputs demand)) {
-  IsWithin = IsTrue (is_swept_size demand.size);
-}
-terms_of (caches demand) = terms (caches_inputs demand) (caches_outputs demand)
-terms_of (place demand) = record (terms (place_inputs demand) (place_outputs demand)) {
-  IsWithin = IsTrue (is_line_size demand.size);
-}
-terms_of (misses demand) = terms (misses_inputs demand) (misses_outputs demand)
+terms_of (convert demand) =
+    terms_again demand.trace (convert_inputs demand) (convert_outputs demand)
+terms_of (sweep demand) =
+    record (terms_once demand.trace (sweep_inputs demand) (sweep_outputs demand)) {
+      IsWithin = IsTrue (is_swept_size demand.size);
+    }
+terms_of (caches demand) = terms_once demand.trace (caches_inputs demand) (caches_outputs demand)
+terms_of (place demand) =
+    record (terms_again demand.trace (place_inputs demand) (place_outputs demand)) {
+      IsWithin = IsTrue (is_line_size demand.size);
+    }
+terms_of (misses demand) = terms_once demand.trace (misses_inputs demand) (misses_outputs demand)
 terms_of (explain demand) = terms (explain_inputs demand) (explain_outputs demand)
 
 -- ---- what follows from the rows
@@ -121,6 +148,9 @@ inputs demand = (terms_of demand).inputs
 
 abbrev pub outputs : Demand → List Text
 outputs demand = (terms_of demand).outputs
+
+abbrev pub trace_of : Demand → Option TraceRead
+trace_of demand = (terms_of demand).trace
 
 abbrev pub IsBounded : code.Demand → Type 0
 IsBounded demand = (terms_of (meaning demand)).IsWithin
@@ -155,3 +185,9 @@ given_apart say asked = option_and_then with_names_apart (option_map say asked)
 abbrev pub demand_of : List Text → Option Demand
 demand_of [] = None
 demand_of (command ∷ rest) = option_and_then with_names_apart (asked_of command (command ∷ rest))
+
+-- words that ask for this, if for anything, were read so; want of memory says nothing of them
+abbrev pub IsReadAs : Option Demand → Result code.Demand WordsFault → Type 0
+IsReadAs asked (Ok demand) = asked ≡ Some (meaning demand)
+IsReadAs asked (Err (Usage reason)) = asked ≡ None
+IsReadAs asked (Err NoMemory) = Unit {0}

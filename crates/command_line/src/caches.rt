@@ -9,7 +9,7 @@ use crate::demand::{Demand, WordsFault};
 use crate::forms::{matches_of, value_of};
 use crate::layout::number;
 use crate::reason::Reason;
-use cache_shape::Shape;
+use base::Shape;
 use clap::ArgMatches;
 use std::alloc::Global;
 

@@ -10,6 +10,7 @@
 #![tactic(auto)]
 
 mod address;
+mod bounds;
 mod caches;
 mod check;
 mod convert;
@@ -29,6 +30,7 @@ mod split;
 mod sweep;
 mod words;
 
+pub use bounds::what_is_asked_is_bounded;
 pub use caches::CachesOptions;
 pub use check::CheckOptions;
 pub use convert::ConvertOptions;

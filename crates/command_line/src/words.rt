@@ -3,7 +3,7 @@ ghost use Rattle.std.specs.Prelude.{◌≡◌, ◌≢◌, ◌↔◌, IfOk, IfErr
 ghost use Rattle.std.specs.Prelude.{false, option_and_then};
 ghost use Rattle.command_line.specs.Demands.{texts, IsUsage, UnlessMemory};
 ghost use Rattle.command_line.specs.Words.{IsBounded, asked_of, demand_of, is_command, meaning};
-ghost use Rattle.command_line.specs.Words.{with_names_apart};
+ghost use Rattle.command_line.specs.Words.{IsReadAs, with_names_apart};
 
 use crate::caches::read_caches;
 use crate::check::read_check;
@@ -77,6 +77,8 @@ pub fn read_words<'a>(alloc: Global, words: &'a [String]) -> Result<Demand<'a>, 
         ↔ (demand_of (texts words.now) ≡ None) }
     // What is asked for is within its bounds.
     ensures bounded { IfOk result IsBounded }
+    // The first two in one.
+    ensures read { IsReadAs (demand_of (texts words.now)) result }
     // Words that name no command want no memory.
     ensures unknown { is_command (texts words.now) ≡ false → IsErrAnd result IsUsage }
 {

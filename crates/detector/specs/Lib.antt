@@ -7,7 +7,6 @@ pub mod Entries
 pub mod Index
 pub mod Laws
 pub mod Lending
-pub mod MapEntries
 pub mod Named
 pub mod Noting
 pub mod Openings

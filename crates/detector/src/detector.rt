@@ -21,15 +21,13 @@ ghost use Rattle.detector.specs.Watch.{nothing_seen, searches_at, takes_memory, 
 use crate::LineIndex;
 use crate::adding::{add_saved, place_of, set_writes};
 use crate::dues::Dues;
+use crate::line_entry::LAST_LINE;
 use crate::touch::touch;
 use base::{Access, Layout, NoMemory, Steps, Thresholds};
 use line_tracks::{History, LineKind, Shadow, Track, Tracks};
 use std::alloc::Global;
 use std::marker::Model;
 use std::sync::ledger::Ledger;
-
-// The greatest line number.
-const LAST_LINE: u64 = 1 << 30;
 
 /// What is known of the accesses so far, under a layout and thresholds, over an index of lines.
 ///

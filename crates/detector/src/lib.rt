@@ -7,8 +7,8 @@
 //! threshold, the pairs of the line are searched, and what opens has a track from then on.
 //!
 //! An index is a map from line numbers to entries, in which every line that was never touched has
-//! the entry with no write and no track. [`MapIndex`] is an ordered map, and [`PagedIndex`] a
-//! directory of pages. [`Totals`] says what the tracks of a detector come to.
+//! the entry with no write and no track. [`PagedIndex`] is a directory of pages. [`Totals`] says
+//! what the tracks of a detector come to.
 #![tactic(auto)]
 
 mod adding;
@@ -17,7 +17,6 @@ mod dues;
 mod laws;
 mod line_entry;
 mod line_index;
-mod map_index;
 mod one_access;
 mod openings;
 mod paged_index;
@@ -31,10 +30,9 @@ mod write_count;
 
 pub use detector::Detector;
 pub use laws::an_access_changes_what_it_meets;
-pub use line_entry::{LineEntry, Place};
+pub use line_entry::{LAST_LINE, LineEntry, Place};
 pub use line_index::LineIndex;
 pub use line_tracks::Track;
-pub use map_index::MapIndex;
 pub use one_access::see;
 pub use paged_index::PagedIndex;
 pub use totals::{Totals, count_tracks};

@@ -10,7 +10,7 @@ use Rattle.sightings.specs.Sights.{Sighted}
 
 -- it moves it on by one at most
 pub counted_one_more : (p : ℕ) (x : TraceRecord) → counted_after p x ≤ p + 1
-counted_one_more p (records.Touch a) = omega arith
+counted_one_more p (records.Touch a pc) = omega arith
 counted_one_more p (records.Alloc addr size sites) = omega arith
 counted_one_more p (records.Free addr) = omega arith
 counted_one_more p (records.Symbol kind addr size name) = omega arith

@@ -8,10 +8,10 @@ use Rattle.objects.specs.Objects.{Objects}
 use Rattle.objects.specs.Symbols.{Symbol}
 use Rattle.trace_format.specs.declared.record.TraceRecord.{TraceRecord}
 use Rattle.trace_format.specs.declared.record.TraceRecord.TheVariants as records
-use Rattle.sightings.specs.Lives.{objects_after, objects_of}
+use Rattle.trace_passes.specs.Lives.{objects_after, objects_of}
 
 a_write : TraceRecord
-a_write = records.Touch (record { hart = 0; addr = 0x2000; kind = Write; size = 4 })
+a_write = records.Touch (record { hart = 0; addr = 0x2000; kind = Write; size = 4 }) None
 
 made : ℕ → ℕ → TraceRecord
 made addr size = records.Alloc addr size (1 ∷ 2 ∷ 3 ∷ 0 ∷ [])

@@ -2,9 +2,10 @@
 ghost use Rattle.std.specs.Prelude.{◌≡◌};
 ghost use Rattle.detector.specs.Entries.{no_entries};
 
+use crate::MapIndex;
 use crate::random_lists::{Numbers, list};
 use base::{Access, Layout, Thresholds};
-use detector::{Detector, LineIndex, MapIndex, PagedIndex, Track, see};
+use detector::{Detector, LineIndex, PagedIndex, Track, see};
 use sharing_oracle::{TrackedLine, may_predict, tracked};
 use std::alloc::Global;
 use std::process::Abort;

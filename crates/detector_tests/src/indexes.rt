@@ -2,8 +2,9 @@
 ghost use Rattle.std.specs.Prelude.{◌≡◌, ◌≢◌, ℕ, ◌≤◌, ◌^◌, IsOk, IsTrue, OnErr, OnOk};
 ghost use Rattle.detector.specs.Entries.{entry_at};
 
+use crate::MapIndex;
 use base::NoMemory;
-use detector::{LineEntry, LineIndex, MapIndex, PagedIndex, Place};
+use detector::{LineEntry, LineIndex, PagedIndex, Place};
 use std::process::Abort;
 use std::test::Fail;
 

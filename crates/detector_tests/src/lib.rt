@@ -1,5 +1,6 @@
 //! Tests of the detector and its parts, of the plain slow program and of saved states, on lists
-//! worked by hand; and the detector against the plain slow program, over random short lists.
+//! worked by hand; and the detector against the plain slow program, over random short lists. The
+//! detector is tried over its own index and over a plain one, [`MapIndex`].
 #![tactic(auto)]
 
 #[cfg(test)]
@@ -12,6 +13,7 @@ mod histories;
 mod indexes;
 #[cfg(test)]
 mod lists;
+mod map_index;
 #[cfg(test)]
 mod pairs;
 #[cfg(test)]
@@ -38,3 +40,5 @@ mod tracks;
 mod verdicts;
 #[cfg(test)]
 mod written;
+
+pub use map_index::MapIndex;

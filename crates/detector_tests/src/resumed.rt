@@ -2,9 +2,10 @@
 ghost use Rattle.std.specs.Prelude.{◌≡◌};
 ghost use Rattle.detector.specs.Entries.{no_entries};
 
+use crate::MapIndex;
 use crate::saved::{ACROSS, Told, saved_after, state_over};
 use base::ResumeFault;
-use detector::{LineIndex, MapIndex, PagedIndex};
+use detector::{LineIndex, PagedIndex};
 use saved_state::resume_detector;
 use std::alloc::Global;
 use std::process::Abort;

@@ -2,9 +2,10 @@
 ghost use Rattle.std.specs.Prelude.{◌≡◌};
 ghost use Rattle.detector.specs.Entries.{no_entries};
 
+use crate::MapIndex;
 use base::Kind::{Read, Write};
 use base::{Access, Hart, Kind, Layout, Thresholds};
-use detector::{Detector, LineIndex, MapIndex, PagedIndex, see};
+use detector::{Detector, LineIndex, PagedIndex, see};
 use saved_state::save_detector;
 use std::alloc::Global;
 use std::process::Abort;

@@ -36,7 +36,7 @@ enum Told {
 fn write(hart: u16, addr: u32) -> Result<TraceRecord, Fail> {
     let hart = Hart::new(hart).ok_or("a hart")?;
     let access = Access::new(hart, addr, Write, 4).ok_or("a word")?;
-    Ok(TraceRecord::Touch(access))
+    Ok(TraceRecord::Touch(access, None))
 }
 
 fn symbol(

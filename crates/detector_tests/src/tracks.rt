@@ -2,10 +2,11 @@
 ghost use Rattle.std.specs.Prelude.{◌≡◌};
 ghost use Rattle.detector.specs.Entries.{no_entries};
 
+use crate::MapIndex;
 use crate::told::{Told, access_of};
 use base::Kind::{Read, Write};
 use base::{Kind, Layout, Thresholds};
-use detector::{Detector, LineIndex, MapIndex, PagedIndex, see};
+use detector::{Detector, LineIndex, PagedIndex, see};
 use line_tracks::LineKind::{Doubled, Observed, Shifted};
 use line_tracks::{LineKind, Track};
 use sharing_oracle::may_predict;

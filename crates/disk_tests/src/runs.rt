@@ -22,7 +22,7 @@ pub(crate) fn trace(alloc: Global, list: &[Touched]) -> Result<Vec<u8>, Fail> {
     for (hart, addr, kind) in list {
         let hart = Hart::new(*hart).ok_or("a hart")?;
         let access = Access::new(hart, *addr, *kind, 4).ok_or("an access")?;
-        writer.item(&TraceRecord::Touch(access), &mut bytes)?;
+        writer.item(&TraceRecord::Touch(access, None), &mut bytes)?;
     }
     let count = list.len() as u64;
     let ending = Ending {

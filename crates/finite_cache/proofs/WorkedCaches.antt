@@ -5,7 +5,7 @@ use Rattle.base.specs.declared.access.Kind.TheVariants.{Read, Write}
 use Rattle.sharing_rules.specs.Places.{count_places, first_place}
 use Rattle.finite_cache.specs.Bounded.{bounded}
 use Rattle.finite_cache.specs.Rows.{rows_of, totals_of}
-use Rattle.cache_shape.specs.Shapes.{CacheShape}
+use Rattle.base.specs.Shapes.{CacheShape}
 use Rattle.finite_cache.specs.declared.rows.CacheRow.{CacheRow}
 use Rattle.finite_cache.specs.declared.rows.Totals.{Totals}
 

@@ -8,7 +8,7 @@ use Rattle.base.specs.Lines.{line_number}
 use Rattle.base.specs.Touch.{Touch, is_write}
 use Rattle.sharing_rules.specs.AccessLists.{AccessList}
 use Rattle.sharing_rules.specs.Places.{Question}
-use Rattle.cache_shape.specs.Shapes.{CacheShape}
+use Rattle.base.specs.Shapes.{CacheShape}
 
 -- the line of an address; line 1 begins at address 0
 abbrev pub line_in : CacheShape → ℕ → ℕ

@@ -3,7 +3,7 @@ use Rattle.std.specs.Prelude.{◌≡◌, ℕ, ◌<◌, ◌≤◌, ◌^◌, eqb, 
 use Rattle.std.specs.List.{AllByRecursion, list_any}
 use Rattle.finite_cache.specs.Bounded.{has, set_of}
 use Rattle.finite_cache.specs.Kept.{Parts, WaySet, harts_of, lists_of, use_of}
-use Rattle.cache_shape.specs.Shapes.{CacheShape}
+use Rattle.base.specs.Shapes.{CacheShape}
 use Rattle.finite_cache.specs.declared.rows.Tally.{Tally}
 
 -- each list has room for so many lines

@@ -15,7 +15,7 @@ use Rattle.finite_cache.specs.Bounded.{bounded, bounded_step, has, left, line_in
 use Rattle.finite_cache.specs.Counts.{one_if}
 use Rattle.finite_cache.specs.Rows.{all_evicted, bounded_count, evicted_count, start_of}
 use Rattle.finite_cache.specs.Rows.{unbounded_count}
-use Rattle.cache_shape.specs.Shapes.{CacheShape, grid_of}
+use Rattle.base.specs.Shapes.{CacheShape, grid_of}
 use Rattle.finite_cache.specs.declared.rows.CacheRow.{CacheRow}
 use Rattle.finite_cache.specs.declared.rows.Tally.{Tally}
 use Rattle.finite_cache.specs.declared.rows.Totals.{Totals}

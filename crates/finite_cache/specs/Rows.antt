@@ -9,7 +9,7 @@ use Rattle.sharing_rules.specs.Observed.{written_lines}
 use Rattle.sharing_rules.specs.Places.{Question, count_places, first_place}
 use Rattle.finite_cache.specs.Bounded.{is_any_eviction, is_bounded_invalidation, is_eviction}
 use Rattle.finite_cache.specs.Bounded.{line_in}
-use Rattle.cache_shape.specs.Shapes.{CacheShape, grid_of}
+use Rattle.base.specs.Shapes.{CacheShape, grid_of}
 use Rattle.finite_cache.specs.declared.rows.CacheRow.{CacheRow}
 use Rattle.finite_cache.specs.declared.rows.Totals.{Totals}
 

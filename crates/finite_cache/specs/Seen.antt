@@ -3,7 +3,7 @@ use Rattle.std.specs.Prelude.{◌≡◌, ℕ, ◌+◌, List, ◌++◌, length}
 use Rattle.sharing_rules.specs.AccessLists.{AccessList}
 use Rattle.trace_format.specs.Rules.{touches_in}
 use Rattle.trace_format.specs.declared.record.TraceRecord.{TraceRecord}
-use Rattle.cache_shape.specs.Shapes.{CacheShape}
+use Rattle.base.specs.Shapes.{CacheShape}
 use Rattle.finite_cache.specs.Kept.{Kept, StandsFor}
 use Rattle.finite_cache.specs.Texts.{caches_text}
 

@@ -8,7 +8,7 @@ use Rattle.base.specs.TextLines.{text_of}
 use Rattle.sharing_rules.specs.AccessLists.{AccessList}
 use Rattle.sharing_rules.specs.Listed.{in_order}
 use Rattle.finite_cache.specs.Rows.{rows_of, totals_of}
-use Rattle.cache_shape.specs.Shapes.{CacheShape}
+use Rattle.base.specs.Shapes.{CacheShape}
 use Rattle.finite_cache.specs.declared.rows.CacheRow.{CacheRow}
 use Rattle.finite_cache.specs.declared.rows.Totals.{Totals}
 

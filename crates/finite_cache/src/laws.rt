@@ -3,7 +3,7 @@ ghost use Rattle.std.specs.Prelude.{◌≡◌, ◌≤◌, ℕ, IsTrue, length};
 ghost use Rattle.sharing_rules.specs.AccessLists.{AccessList};
 ghost use Rattle.finite_cache.specs.Bounded.{bounded};
 ghost use Rattle.finite_cache.specs.Rows.{bounded_count, evicted_count, unbounded_count};
-ghost use Rattle.cache_shape.specs.Shapes.{CacheShape, is_shape};
+ghost use Rattle.base.specs.Shapes.{CacheShape, is_shape};
 
 /// A line is taken from a hart in bounded caches no more often than in unbounded ones, and as often
 /// where it was never evicted.

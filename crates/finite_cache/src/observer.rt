@@ -16,7 +16,7 @@ fn see(caches: &mut Caches, item: &TraceRecord) -> Result<(), NoMemory>
     ensures { OnOk result (SeesNext caches.old caches.new item.now) }
 {
     match item {
-        TraceRecord::Touch(access) => caches.on_access(access),
+        TraceRecord::Touch(access, _) => caches.on_access(access),
         TraceRecord::Alloc { .. } => Ok(()),
         TraceRecord::Free { .. } => Ok(()),
         TraceRecord::Symbol { .. } => Ok(()),

@@ -4,8 +4,7 @@ ghost use Rattle.std.specs.NonZero.{non_zero_usize_get};
 ghost use Rattle.finite_cache.specs.Bounded.{line_in, set_of};
 ghost use Rattle.finite_cache.specs.Kept as kept;
 
-use base::Hart;
-use cache_shape::Shape;
+use base::{Hart, Shape};
 use std::num::NonZeroUsize;
 
 /// The line of an address.

@@ -14,7 +14,7 @@ ghost use Rattle.finite_cache.specs.Counts.{one_if};
 ghost use Rattle.finite_cache.specs.Kept.{IsStep, MeanTheSame, cell_of, evicted_now, harts_of};
 ghost use Rattle.finite_cache.specs.Kept.{lines_at, lists_of, use_of, wants_memory};
 ghost use Rattle.finite_cache.specs.KeptParts.{parts_of};
-ghost use Rattle.cache_shape.specs.Shapes.{is_shape};
+ghost use Rattle.base.specs.Shapes.{is_shape};
 ghost use Rattle.finite_cache.specs.Sweeps.{had_by_another, is_cell_of_another};
 
 use crate::line_use::LineUse;
@@ -22,8 +22,7 @@ use crate::rows::{Tally, one_if};
 use crate::shape::{capacity, cell_of, line_of};
 use crate::tables::{arrive, bring, evict, settle, take_back, take_out};
 use crate::way_set::WaySet;
-use base::{Access, Hart, Kind, NoMemory};
-use cache_shape::Shape;
+use base::{Access, Hart, Kind, NoMemory, Shape};
 use indexmap::IndexMap;
 
 // Takes a line out of the list of a hart, if it is another one, and says whether it was there.

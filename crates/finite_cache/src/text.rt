@@ -8,7 +8,7 @@ ghost use Rattle.report.specs.Added.{AddsLine, AddsLines, AddsText};
 ghost use Rattle.report.specs.Lines.{rest_of_line};
 ghost use Rattle.sharing_rules.specs.AccessLists.{AccessList};
 ghost use Rattle.trace_format.specs.declared.record.TraceRecord.{TraceRecord as Record};
-ghost use Rattle.cache_shape.specs.Shapes.{CacheShape};
+ghost use Rattle.base.specs.Shapes.{CacheShape};
 ghost use Rattle.finite_cache.specs.Kept.{StandsFor, nothing_kept, row_kept};
 ghost use Rattle.finite_cache.specs.Seen.{HasSeen, caches_of_records};
 ghost use Rattle.finite_cache.specs.Texts.{caches_text, comes_first, count_words, end_lines};
@@ -17,8 +17,7 @@ ghost use Rattle.finite_cache.specs.Texts.{told_rows, total_line};
 
 use crate::caches::Caches;
 use crate::rows::{CacheRow, Totals};
-use base::{NoMemory, push_address_past};
-use cache_shape::Shape;
+use base::{NoMemory, Shape, push_address_past};
 use std::alloc::{AllocError, Global};
 use std::cmp::Ordering;
 

@@ -44,6 +44,10 @@ harts_after harts hart = range_with_len (hart + 1) (harts - (hart + 1)) ++ range
 abbrev pub goes_on : List Bool → AStreak → Bool
 goes_on runnable streak = is_runnable runnable streak.hart && nat_lt 0 streak.left
 
+-- how many turns in a row a hart has left after the list: those of the streak, if it is its hart
+abbrev pub turns_left : Plan → ℕ → ℕ
+turns_left plan hart = option_map_or (λ s. if nat_eq s.hart hart then s.left else 0) plan.streak 0
+
 -- the choice in turn after a streak
 abbrev pub choice_after : List Bool → ℕ → AStreak → Option ℕ
 choice_after runnable harts streak =

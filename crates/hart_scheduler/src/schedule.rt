@@ -4,7 +4,7 @@ ghost use Rattle.std.specs.Prelude.{Bool, IsTrue, List};
 ghost use Rattle.std.specs.Bool.{OnTrue};
 ghost use Rattle.hart_scheduler.specs.Choices.{AreOf, is_runnable, NoneRunnable, choice};
 ghost use Rattle.hart_scheduler.specs.Choices.{drawn_turns, going_on, plan_after, plan_after_all};
-ghost use Rattle.hart_scheduler.specs.Choices.{plan_with, shortened};
+ghost use Rattle.hart_scheduler.specs.Choices.{plan_with, shortened, turns_left};
 ghost use Rattle.hart_scheduler.specs.Draws.{next_state, number_in};
 ghost use Rattle.hart_scheduler.specs.Texts.{plan_of};
 
@@ -206,11 +206,12 @@ impl Schedule {
         }
     }
 
-    /// How many turns the hart that was last chosen after the list has left in a row, if it is this
-    /// one, and 0 for others: while it can run, so many choices are sure to be of it.
+    /// How many turns in a row this hart has left, if it was the last one chosen after the list, and
+    /// 0 for others: while it can run, so many choices are sure to be of it.
     #[inline(always)]
     pub fn turns_left(&self, hart: Hart) -> u32
-        ensures { (runnable : List Bool) → IsTrue (is_runnable runnable hart)
+        ensures left { result ≡ turns_left self.now hart }
+        ensures sure { (runnable : List Bool) → IsTrue (is_runnable runnable hart)
             → AreOf runnable self.now result hart }
     {
         if self.latest.is_of(hart) {

@@ -17,7 +17,7 @@ fn note_record(sweep: &mut Sweep, item: &TraceRecord) -> Result<(), NoMemory>
     ensures { OnOk result (SweepsNext sweep.old sweep.new item.now) }
 {
     match item {
-        TraceRecord::Touch(access) => see(sweep, *access),
+        TraceRecord::Touch(access, _) => see(sweep, *access),
         _ => Ok(()),
     }
 }

@@ -1,1 +1,3 @@
+pub mod RowOrder
+pub mod SeenLaws
 pub mod WorkedMisses

@@ -1,6 +1,6 @@
 -- What is kept of each line, and what one access makes of it.
 use Rattle.std.specs.Prelude.{◌≡◌, ℕ, ◌+◌, ◌/◌, Bool, not, ◌&&◌, ◌||◌, ◌==◌, eqb, nat_lt, nat_eq}
-use Rattle.std.specs.Prelude.{List, []}
+use Rattle.std.specs.Prelude.{false, is_some, List, []}
 use Rattle.std.specs.Prelude.{if◌then◌else◌, filter, length, map, slice_index_or}
 use Rattle.std.specs.Prelude.{slice_set}
 use Rattle.std.specs.Option.{option_map_or}
@@ -49,6 +49,14 @@ blank_line n =
 -- the visits of a hart
 abbrev pub visits_of : List (ℕ × Visits) → ℕ → Visits
 visits_of es h = option_map_or (λ v. v) (lookup (eqb h) es) no_visits
+
+-- whether a hart came to a line, and to the line of a number: only an access by one that didn't may
+-- want memory
+abbrev pub has_come : LineEntry → ℕ → Bool
+has_come l h = is_some (lookup (eqb h) l.harts)
+
+abbrev pub has_come_to : List (ℕ × LineEntry) → ℕ → ℕ → Bool
+has_come_to lines r h = option_map_or (λ l. has_come l h) (lookup (eqb r) lines) false
 
 -- with no visit an access is cold; it misses where another hart wrote since, and needs a load where
 -- there was none, or where another hart was the last to write the word since

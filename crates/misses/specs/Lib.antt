@@ -4,5 +4,7 @@ pub mod Kept
 pub mod Laws
 pub mod Misses
 pub mod Rows
+pub mod Seen
+pub mod Texts
 pub mod WordLines
 pub mod WordsApart

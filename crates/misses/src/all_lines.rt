@@ -1,12 +1,14 @@
 // The misses of all lines.
 ghost use Rattle.std.specs.Prelude.{◌≡◌, ◌/◌, ◌<◌, ◌≤◌, ◌^◌, ◌∷◌, ◌++◌, [], length, OnOk};
-ghost use Rattle.std.specs.Prelude.{OnErr, IfOk, IfSome, IsSome, slice_get, nat_eq, option_map};
+ghost use Rattle.std.specs.Prelude.{OnErr, IfOk, IfSome, IsOk, IsSome, IsTrue, slice_get, nat_eq};
+ghost use Rattle.std.specs.Prelude.{option_map};
 ghost use Rattle.indexmap.specs.IndexMap.{insert_entry, set_value_at, values};
+ghost use Rattle.base.specs.Lines.{line_number};
 ghost use Rattle.sharing_rules.specs.AccessLists.{AccessList};
 ghost use Rattle.sharing_rules.specs.Lines.{word_place};
 ghost use Rattle.misses.specs.Fits.{AreFit};
 ghost use Rattle.misses.specs.Kept.{StandsFor, blank_line, cost_in, cost_of, kept_of};
-ghost use Rattle.misses.specs.Kept.{note_access, note_line};
+ghost use Rattle.misses.specs.Kept.{has_come, has_come_to, note_access, note_line};
 
 use crate::line_misses::{Cost, Costs, Counts, LineMisses};
 use base::{Access, Layout, NoMemory};
@@ -72,6 +74,8 @@ fn note_known(
         (λ l. lines.new.entries ≡ set_value_at lines.old.entries index
         (note_line l position place access.now))) }
     ensures refused { OnErr result (lines.new.entries ≡ lines.old.entries) }
+    ensures known { IfSome (slice_get (values lines.old) index)
+        (λ l. IsTrue (has_come l access.now.hart) → IsOk result) }
 {
     match lines.get_index_mut(index) {
         Some(line) => line.note(position, place, access),
@@ -123,6 +127,8 @@ fn note_in(
     ensures noted { OnOk result (lines.new.entries ≡ Rattle.misses.specs.Kept.note_in
         lines.old.entries line position access.now) }
     ensures refused { OnErr result (lines.new.entries ≡ lines.old.entries) }
+    ensures known { IsTrue (has_come_to lines.old.entries line.number access.now.hart)
+        → IsOk result }
 {
     let number = line.number();
     let place = line.word_place(access.addr());
@@ -212,6 +218,9 @@ impl Misses {
         ensures stands { (t : AccessList) → StandsFor t self.old
             → OnOk result (StandsFor (t ++ access.now ∷ []) self.new) }
         ensures refused { OnErr result (self.new ≡ self.old) }
+        ensures known { IsTrue (has_come_to self.old.lines
+            (line_number self.old.grid.size self.old.grid.offset access.now.addr)
+            access.now.hart) → IsOk result }
     {
         let number = self.layout.number_of(access.addr());
         let line = CacheLine::numbered(self.layout, number);

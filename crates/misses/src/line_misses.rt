@@ -1,7 +1,7 @@
 // What is kept of a line.
 ghost use Rattle.std.specs.Prelude.{◌≡◌, ◌+◌, ◌<◌, ◌^◌, length, slice_set, OnOk};
-ghost use Rattle.std.specs.Prelude.{OnErr, IfOk};
-ghost use Rattle.misses.specs.Kept.{blank_line, cost_of, counts_after};
+ghost use Rattle.std.specs.Prelude.{OnErr, IfOk, IsOk, IsTrue};
+ghost use Rattle.misses.specs.Kept.{blank_line, cost_of, counts_after, has_come};
 ghost use Rattle.misses.specs.Kept.{misses_now, needs_now, note_line};
 ghost use Rattle.misses.specs.Fits.{IsFew};
 ghost use Rattle.misses.specs.Kept.{visits_after, visits_of};
@@ -220,6 +220,7 @@ impl LineMisses {
         ensures told { IfOk result (λ cost. cost ≡ cost_of self.old place access.now.hart) }
         ensures noted { OnOk result (self.new ≡ note_line self.old position place access.now) }
         ensures refused { OnErr result (self.new ≡ self.old) }
+        ensures known { IsTrue (has_come self.old access.now.hart) → IsOk result }
     {
         let hart = access.hart().number();
         let visits = self.visits(hart);

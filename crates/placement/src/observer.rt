@@ -16,7 +16,7 @@ fn note_record(owners: &mut Owners, item: &TraceRecord)
     ensures { OwnsNext owners.old owners.new item.now }
 {
     match item {
-        TraceRecord::Touch(access) => owners.note(*access),
+        TraceRecord::Touch(access, _) => owners.note(*access),
         TraceRecord::Alloc { .. } => (),
         TraceRecord::Free { .. } => (),
         TraceRecord::Symbol { .. } => (),
@@ -43,7 +43,7 @@ fn recount_record(recount: &mut Recount, item: &TraceRecord) -> Result<(), NoMem
     ensures { OnOk result (RecountsNext recount.old recount.new item.now) }
 {
     match item {
-        TraceRecord::Touch(access) => recount.note(*access),
+        TraceRecord::Touch(access, _) => recount.note(*access),
         _ => Ok(()),
     }
 }

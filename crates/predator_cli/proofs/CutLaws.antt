@@ -12,7 +12,7 @@ use Rattle.base.specs.Lines.{Grid}
 use Rattle.base.specs.declared.ending.Ending.{Ending}
 use Rattle.report.specs.OfLists.{report_of}
 use Rattle.sharing_rules.specs.AccessLists.{AccessList}
-use Rattle.sightings.specs.Lives.{objects_after, objects_of}
+use Rattle.trace_passes.specs.Lives.{objects_after, objects_of}
 use Rattle.sightings.specs.Seen.{report_of_records}
 use Rattle.sightings.specs.Laws.Seen.{objects_after-end}
 use Rattle.saved_state.specs.OfLists.{state_of_list}
@@ -21,7 +21,7 @@ use Rattle.trace_format.specs.declared.record.TraceRecord.{TraceRecord}
 use Rattle.trace_format.specs.declared.record.TraceRecord.TheVariants as records
 use Rattle.trace_files.specs.Copies.{first_half, second_half}
 use Rattle.trace_passes.specs.Passes.{Trace, all_records}
-use Rattle.trace_parts.specs.Halves.{AreHalves}
+use Rattle.trace_files.specs.Halves.{AreHalves}
 use Rattle.predator_cli.specs.GoesOn.{IsCutIn, TellsItsCount, work_of_both}
 use Rattle.predator_cli.specs.Replay.{ended_at, shown, work_after}
 use Rattle.predator_cli.specs.States.{state_of_records}

@@ -25,7 +25,7 @@ use Rattle.report.specs.OfLists.{report_of}
 use Rattle.sharing_rules.specs.AccessLists.{AccessList}
 use Rattle.sharing_rules.specs.Listed.{may_predict}
 use Rattle.shelf.specs.Shelf.{Files, content}
-use Rattle.sightings.specs.Lives.{objects_after, objects_of}
+use Rattle.trace_passes.specs.Lives.{objects_after, objects_of}
 use Rattle.sightings.specs.Seen.{HasSeen, IsNotable, report_of_records}
 use Rattle.sightings.specs.Sights.{Sighted, report_of_sighted, sighted_after}
 use Rattle.saved_state.specs.OfLists.{MayKeep, state_of_list}

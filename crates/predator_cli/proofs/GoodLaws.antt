@@ -15,12 +15,13 @@ use Rattle.objects.specs.declared.block.Block.{Block}
 use Rattle.saved_state.specs.ObjectJudging.{is_life}
 use Rattle.saved_state.specs.ObjectRules.{IsSavable, IsSavedBlock, IsSavedSymbol}
 use Rattle.base.specs.Touch.{Touch}
-use Rattle.sightings.specs.Lives.{objects_of}
+use Rattle.trace_passes.specs.Lives.{objects_of}
 use Rattle.sightings.specs.Origins.{IsBlockOf, IsSymbolOf}
 use Rattle.saved_state.specs.OfLists.{AreOf}
 use Rattle.trace_format.specs.Rules.{IsGoodRecord, IsGoodSymbol, touches_in}
 use Rattle.trace_format.specs.declared.record.TraceRecord.{TraceRecord}
 use Rattle.trace_format.specs.declared.record.TraceRecord.TheVariants as records
+use Rattle.trace_format.specs.declared.record.Version.{Version}
 
 -- ---- the objects
 
@@ -33,12 +34,13 @@ life_kept position born None before life = no_more born position before
 life_kept position born (Some d) before life =
     rw (no_more born d life.0) (no_more d position life.1)
 
-module _ (harts : ℕ) (items : List TraceRecord) (good : All (IsGoodRecord harts) items) where
+module _ (w : Version) (harts : ℕ) (items : List TraceRecord)
+    (good : All (IsGoodRecord w harts) items) where
   saved_block : (b : Block) → IsBlockOf items b → IsSavedBlock (length (touches_in items)) b
   saved_block b of =
       let made : (b.addr < 2 ^ 32) × (b.size < 2 ^ 32) × (length b.sites ≡ 4)
       × All (λ site. site < 2 ^ 32) b.sites =
-      All-contains (IsGoodRecord harts) items (records.Alloc b.addr b.size b.sites) good of.made
+      All-contains (IsGoodRecord w harts) items (records.Alloc b.addr b.size b.sites) good of.made
       in
       record {
         addr_in_range = made.0;
@@ -51,7 +53,7 @@ module _ (harts : ℕ) (items : List TraceRecord) (good : All (IsGoodRecord hart
   saved_symbol : (s : Symbol) → IsSymbolOf items s → IsSavedSymbol s
   saved_symbol s of =
       let told : IsGoodSymbol s.addr s.size of.told_name =
-      All-contains (IsGoodRecord harts) items
+      All-contains (IsGoodRecord w harts) items
       (records.Symbol s.kind s.addr s.size of.told_name) good of.told in
       subst (IsGoodSymbol s.addr s.size)
       (sym (of.name ∙ take_all longest_name of.told_name told.short)) told
@@ -76,19 +78,21 @@ module _ (harts : ℕ) (items : List TraceRecord) (good : All (IsGoodRecord hart
 
 -- ---- the accesses
 
-of_one_more : (harts : ℕ) (item : TraceRecord) (items : List TraceRecord) → IsGoodRecord harts item
+of_one_more : (w : Version) (harts : ℕ) (item : TraceRecord) (items : List TraceRecord)
+    → IsGoodRecord w harts item
     → AreOf harts (touches_in items) → AreOf harts (touches_in (item ∷ items))
-of_one_more harts (records.Touch a) items good rest =
+of_one_more w harts (records.Touch a pc) items good rest =
     All-cons (λ (a : Touch). (a.hart < harts) × (a.addr < 2 ^ 32)) a (touches_in items)
-    (good.hart, good.allowed.addr_in_range) rest
-of_one_more harts (records.Alloc addr size sites) items good rest = rest
-of_one_more harts (records.Free addr) items good rest = rest
-of_one_more harts (records.Symbol kind addr size name) items good rest = rest
-of_one_more harts (records.End e) items good rest = rest
+    (good.0.hart, good.0.allowed.addr_in_range) rest
+of_one_more w harts (records.Alloc addr size sites) items good rest = rest
+of_one_more w harts (records.Free addr) items good rest = rest
+of_one_more w harts (records.Symbol kind addr size name) items good rest = rest
+of_one_more w harts (records.End e) items good rest = rest
 
-pub of_harts : (harts : ℕ) (items : List TraceRecord) → All (IsGoodRecord harts) items
+pub of_harts : (w : Version) (harts : ℕ) (items : List TraceRecord)
+    → All (IsGoodRecord w harts) items
     → AreOf harts (touches_in items)
-of_harts harts [] good = All-nil (λ (a : Touch). (a.hart < harts) × (a.addr < 2 ^ 32))
-of_harts harts (item ∷ items) good =
-    of_one_more harts item items (All-head (IsGoodRecord harts) item items good)
-    (of_harts harts items (All-tail (IsGoodRecord harts) item items good))
+of_harts w harts [] good = All-nil (λ (a : Touch). (a.hart < harts) × (a.addr < 2 ^ 32))
+of_harts w harts (item ∷ items) good =
+    of_one_more w harts item items (All-head (IsGoodRecord w harts) item items good)
+    (of_harts w harts items (All-tail (IsGoodRecord w harts) item items good))

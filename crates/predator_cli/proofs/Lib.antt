@@ -29,4 +29,5 @@ pub mod SummaryLaws
 pub mod SymbolLaws
 pub mod TraceFiles
 pub mod TrackLaws
+pub mod Wanted
 pub mod WriteEnds

@@ -16,7 +16,7 @@ use Rattle.base.specs.declared.layout.Range.{Range}
 use Rattle.command_line.specs.Explain.{ExplainDemand}
 use Rattle.guest.specs.GuestCalls.{RunEvent, quiet, touch, alloc, free, output}
 use Rattle.guest.specs.Runs.{Run, sited_among}
-use Rattle.line_watch.specs.Watched.{sited, sited_run}
+use Rattle.takings.specs.Watched.{sited, sited_run}
 use Rattle.objects.specs.Symbols.{Symbol, symbols_of as kept_symbols}
 use Rattle.program_files.specs.Symbols.{symbols_of}
 use Rattle.run_recorder.specs.Recorded.{records_in, trace_for}
@@ -35,7 +35,7 @@ use Rattle.sharing_rules.specs.Laws.Lists.{slice_cases}
 use Rattle.sharing_rules.specs.Laws.Opened.{doubled-some, observed-some, opened_shifted-has}
 use Rattle.sharing_rules.specs.Laws.Orders.{in_order-permutes}
 use Rattle.shelf.specs.Shelf.{Files, content}
-use Rattle.sightings.specs.Lives.{symbols_in}
+use Rattle.trace_passes.specs.Lives.{symbols_in}
 use Rattle.takings.specs.Kept.{kept_of}
 use Rattle.takings.specs.Latest.{accesses_of}
 use Rattle.takings.specs.Laws.Listed.{listed-counted}

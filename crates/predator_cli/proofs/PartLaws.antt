@@ -27,13 +27,14 @@ use Rattle.saved_state.specs.ObjectRules.{IsSavable}
 use Rattle.settings.specs.declared.values.Settings.{Settings}
 use Rattle.shelf.specs.Files.{bytes_for}
 use Rattle.shelf.specs.Shelf.{Files, content}
-use Rattle.sightings.specs.Lives.{objects_of}
+use Rattle.trace_passes.specs.Lives.{objects_of}
 use Rattle.trace_files.specs.Copies.{any, first_half, halves, second_half}
 use Rattle.trace_files.specs.Laws.Copies.{trace_unrefused}
 use Rattle.trace_format.specs.Rules.{IsGoodRecord, touch_in, touches_in}
 use Rattle.trace_format.specs.declared.record.TraceRecord.{TraceRecord}
 use Rattle.trace_format.specs.declared.record.TraceRecord.TheVariants as records
-use Rattle.trace_parts.specs.Halves.{AreHalves, IsWhole}
+use Rattle.trace_format.specs.declared.record.Version.{Version}
+use Rattle.trace_files.specs.Halves.{AreHalves, IsWhole}
 use Rattle.trace_passes.specs.Passes.{Trace, all_records, header_refusal, refusal_of as refuses}
 use Rattle.trace_passes.specs.Passes.{spell_trace, trace_of}
 use Rattle.predator_cli.specs.Again.{replayed}
@@ -83,18 +84,19 @@ second_bytes first name bytes other apart =
 in_range : (harts : ℕ) → 1 ≤ harts → harts ≤ 256 → IsTrue (is_from_to 1 256 harts)
 in_range harts some few = grind (arith, nat_tests)
 
-pub may_stand : (g : Grid) (v : Levels) (harts : ℕ) (items : List TraceRecord) → IsUnder g v
-    → 1 ≤ harts → harts ≤ 256 → All (IsGoodRecord harts) items
+pub may_stand : (g : Grid) (v : Levels) (w : Version) (harts : ℕ) (items : List TraceRecord)
+    → IsUnder g v
+    → 1 ≤ harts → harts ≤ 256 → All (IsGoodRecord w harts) items
     → length (touches_in items) ≤ 2 ^ 40
     → IsSavable (length (touches_in items)) (objects_of items)
     → length (state_of_records g v harts items) ≤ 2 ^ 40 → MayStand g v harts items
-may_stand g v harts items under some few good counted objects short = record {
+may_stand g v w harts items under some few good counted objects short = record {
   kept = record {
     layout = under.layout;
     predictable = under.predictable;
     levels = under.levels;
     few_harts = in_range harts some few;
-    all = of_harts harts items good;
+    all = of_harts w harts items good;
     short = counted;
   };
   objects = objects;
@@ -115,7 +117,7 @@ pub record IsReady (how : Counting) (s : Settings) (resume : Option (List ℕ)) 
   pub settings : settings_in how.settings files ≡ Ok s
   pub whole : IsWhole t
   pub first : t.header.first ≡ length (touches_in before)
-  pub good : All (IsGoodRecord t.header.harts) before
+  pub good : All (IsGoodRecord t.version t.header.harts) before
   pub from : From (layout_of how.layout s) (levels_of how.layout s) resume files t.header.harts
       before
 
@@ -249,8 +251,8 @@ module _
     (before : List TraceRecord) (full first final : Trace) → AreHalves full first final
     → work_of_both save g v harts (before ++ all_records first) final
     ≡ work_of_both save g v harts before full)
-    (objects : (g : Grid) (v : Levels) (harts : ℕ) (items : List TraceRecord)
-    → All (IsGoodRecord harts) items → length (state_of_records g v harts items) ≤ 2 ^ 40
+    (objects : (g : Grid) (v : Levels) (w : Version) (harts : ℕ) (items : List TraceRecord)
+    → All (IsGoodRecord w harts) items → length (state_of_records g v harts items) ≤ 2 ^ 40
     → IsSavable (length (touches_in items)) (objects_of items))
     (how : Counting) (s : Settings) (under : IsUnder (layout_of how.layout s)
     (levels_of how.layout s))
@@ -312,9 +314,10 @@ module _
             ∙ ap (λ (w : Work). bytes_for w.outputs c.state) part_work
             ∙ one_bytes c.state (state_of_records grid levels t.header.harts seen))
 
-        seen_good : All (IsGoodRecord t.header.harts) seen
-        seen_good = All-append (IsGoodRecord t.header.harts) before (all_records part) ready.good
-            (All-push (IsGoodRecord t.header.harts) part.items (records.End part.ending)
+        seen_good : All (IsGoodRecord t.version t.header.harts) seen
+        seen_good = All-append (IsGoodRecord t.version t.header.harts) before (all_records part)
+            ready.good
+            (All-push (IsGoodRecord t.version t.header.harts) part.items (records.End part.ending)
             two.first_is.good.good.records two.first_is.good.good.ending)
 
         seen_count : rest.header.first ≡ length (touches_in seen)
@@ -327,10 +330,11 @@ module _
 
         seen_stands : MayStand grid levels t.header.harts seen
         seen_stands =
-            may_stand grid levels t.header.harts seen under ready.whole.good.good.header.some
+            may_stand grid levels t.version t.header.harts seen under
+            ready.whole.good.good.header.some
             ready.whole.good.good.header.few seen_good
             (omega (arith, seen_count, two.second_is.good.good.positions))
-            (objects grid levels t.header.harts seen seen_good seen_short) seen_short
+            (objects grid levels t.version t.header.harts seen seen_good seen_short) seen_short
 
         pub rest_ready : IsReady how s (Some c.state) c.at_second rest seen
         rest_ready = record {
@@ -378,7 +382,7 @@ module _
           settings = settings;
           whole = full;
           first = first;
-          good = All-nil (IsGoodRecord t.header.harts);
+          good = All-nil (IsGoodRecord t.version t.header.harts);
           from = refl;
         } in
         all_counted cuts None name files t [] ready is find

@@ -48,12 +48,13 @@ trace_harts : TracesAreSpelled → (bytes : List ℕ) (t : Trace) → All (λ b.
 trace_harts spelled bytes t small is =
     let good = (spelled bytes t small is).good in
     let few = good.header.few in
-    let all : All (IsGoodRecord t.header.harts) (all_records t) =
-    All-push (IsGoodRecord t.header.harts) t.items (records.End t.ending) good.records good.ending
+    let all : All (IsGoodRecord t.version t.header.harts) (all_records t) =
+    All-push (IsGoodRecord t.version t.header.harts) t.items (records.End t.ending) good.records
+    good.ending
     in
     λ a there.
     let low = hart-few t.header.harts (touches_in (all_records t))
-    (of_harts t.header.harts (all_records t) all) a there in
+    (of_harts t.version t.header.harts (all_records t) all) a there in
     omega (arith, low, few)
 
 -- owners of one group are the same

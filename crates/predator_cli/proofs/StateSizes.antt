@@ -10,7 +10,7 @@ use Rattle.objects.specs.declared.block.Block.{Block}
 use Rattle.saved_state.specs.ObjectSpelling.{spell_block, spell_counts, spell_objects}
 use Rattle.saved_state.specs.ObjectSpelling.{spell_saved_symbol}
 use Rattle.saved_state.specs.OfLists.{state_of_list}
-use Rattle.sightings.specs.Lives.{objects_of}
+use Rattle.trace_passes.specs.Lives.{objects_of}
 use Rattle.trace_format.specs.Rules.{touches_in}
 use Rattle.trace_format.specs.Spelling.{spell_alloc, spell_symbol}
 use Rattle.trace_format.specs.declared.record.TraceRecord.{TraceRecord}

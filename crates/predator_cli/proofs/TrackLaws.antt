@@ -20,7 +20,7 @@ use Rattle.predator_cli.specs.declared.state_file.Begun.{Begun}
 watch_after : (items : List TraceRecord) (s : Sighted)
     → (sighted_after s items).watch ≡ watched_all s.watch (touches_in items)
 watch_after [] s = refl
-watch_after (records.Touch a ∷ items) s = watch_after items (noted s (records.Touch a))
+watch_after (records.Touch a pc ∷ items) s = watch_after items (noted s (records.Touch a pc))
 watch_after (records.Alloc addr size sites ∷ items) s =
     watch_after items (noted s (records.Alloc addr size sites))
 watch_after (records.Free addr ∷ items) s = watch_after items (noted s (records.Free addr))

@@ -1,6 +1,6 @@
 -- The command `caches`: what is left of a trace's invalidations in private caches of a shape.
 use Rattle.std.specs.Prelude.{ℕ, List}
-use Rattle.cache_shape.specs.Shapes.{CacheShape}
+use Rattle.base.specs.Shapes.{CacheShape}
 use Rattle.command_line.specs.Caches.{CachesDemand}
 use Rattle.finite_cache.specs.Seen.{caches_of_records}
 use Rattle.shelf.specs.Shelf.{Files}

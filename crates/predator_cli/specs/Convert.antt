@@ -5,7 +5,7 @@ use Rattle.shelf.specs.Shelf.{Files}
 use Rattle.trace_files.specs.Copies.{conversion, other_version}
 use Rattle.trace_format.specs.Rules.{touches_in}
 use Rattle.trace_format.specs.declared.record.Version.{Version}
-use Rattle.trace_format.specs.declared.record.Version.TheVariants.{One, Two}
+use Rattle.trace_format.specs.declared.record.Version.TheVariants.{One, Two, Three}
 use Rattle.trace_passes.specs.Passes.{Trace}
 use Rattle.command_files.specs.Readings.{Reading}
 use Rattle.command_files.specs.Works.{Work}
@@ -17,6 +17,7 @@ convert_readings demand = copied_reading demand.trace ∷ []
 abbrev pub version_number : Version → ℕ
 version_number One = 1
 version_number Two = 2
+version_number Three = 3
 
 -- which version was written, and how many accesses there are
 abbrev pub convert_text : Trace → List ℕ

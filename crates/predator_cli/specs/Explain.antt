@@ -3,11 +3,11 @@ use Rattle.std.specs.Prelude.{◌≡◌, List, [], None}
 use Rattle.command_line.specs.Explain.{ExplainDemand}
 use Rattle.command_line.specs.Run.{RunDemand}
 use Rattle.guest.specs.Runs.{Run}
-use Rattle.line_watch.specs.Watched.{sited_run}
+use Rattle.takings.specs.Watched.{sited_run}
 use Rattle.objects.specs.Symbols.{symbols_of}
 use Rattle.shelf.specs.Shelf.{Files, Outside, Told, content}
 use Rattle.sharing_rules.specs.Lines.{line_at}
-use Rattle.sightings.specs.Lives.{symbols_in}
+use Rattle.trace_passes.specs.Lives.{symbols_in}
 use Rattle.takings.specs.Text.{explain_text}
 use Rattle.trace_format.specs.declared.record.TraceRecord.{TraceRecord}
 use Rattle.command_files.specs.Readings.{IsAccepted, Reading}

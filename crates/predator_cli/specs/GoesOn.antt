@@ -10,7 +10,7 @@ use Rattle.base.specs.Levels.{Levels}
 use Rattle.base.specs.Lines.{Grid}
 use Rattle.base.specs.declared.ending.Ending.{Ending}
 use Rattle.shelf.specs.Shelf.{Files, content}
-use Rattle.sightings.specs.Lives.{objects_of}
+use Rattle.trace_passes.specs.Lives.{objects_of}
 use Rattle.sightings.specs.Seen.{report_of_records}
 use Rattle.sightings.specs.Sights.{Sighted, report_of_sighted, sighted_after}
 use Rattle.saved_state.specs.OfLists.{MayKeep}

@@ -3,7 +3,7 @@ use Rattle.std.specs.Prelude.{ℕ, List}
 use Rattle.command_line.specs.Misses.{MissesDemand}
 use Rattle.base.specs.Lines.{Grid}
 use Rattle.shelf.specs.Shelf.{Files}
-use Rattle.sightings.specs.MissTexts.{misses_of_records}
+use Rattle.misses.specs.Texts.{misses_of_records}
 use Rattle.trace_passes.specs.Passes.{Trace, all_records}
 use Rattle.command_files.specs.Readings.{Reading}
 use Rattle.command_files.specs.Works.{Work}

@@ -13,7 +13,7 @@ use Rattle.saved_state.specs.ObjectSpelling.{spell_objects}
 use Rattle.base.specs.Levels.{Levels}
 use Rattle.base.specs.Lines.{Grid}
 use Rattle.base.specs.declared.faults.ResumeFault.{ResumeFault}
-use Rattle.sightings.specs.Lives.{objects_of}
+use Rattle.trace_passes.specs.Lives.{objects_of}
 use Rattle.sightings.specs.Sights.{Sighted}
 use Rattle.saved_state.specs.OfLists.{state_of_list}
 use Rattle.saved_state.specs.Spelling.{spell_state}

@@ -21,6 +21,7 @@ fn version_number(version: Version) -> u64
     match version {
         Version::One => 1,
         Version::Two => 2,
+        Version::Three => 3,
     }
 }
 

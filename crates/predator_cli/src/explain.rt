@@ -8,7 +8,7 @@ ghost use Rattle.guest.specs.Runs.{rest_of};
 ghost use Rattle.objects.specs.Symbols.{Symbol, symbols_of};
 ghost use Rattle.settings.specs.Allowed.{IsAllowed};
 ghost use Rattle.shelf.specs.Shelf.{Outside};
-ghost use Rattle.sightings.specs.Lives.{symbols_in};
+ghost use Rattle.trace_passes.specs.Lives.{symbols_in};
 ghost use Rattle.predator_cli.specs.Explain.{IsToExplain, as_run, explained};
 ghost use Rattle.predator_cli.specs.Meets.{Meets};
 
@@ -17,11 +17,11 @@ use crate::run::{Loaded, load_guest, status_of};
 use base::{Layout, NoMemory};
 use command_files::Status;
 use command_line::{ExplainOptions, RunOptions};
-use line_watch::{Explained, explain_run};
 use objects::ObjectTable;
 use sharing_rules::CacheLine;
 use shelf::Shelf;
 use std::alloc::Global;
+use takings::{Explained, explain_run};
 use trace_format::TraceRecord;
 
 // Notes a symbol of the program.
@@ -36,7 +36,7 @@ fn note_symbol(table: &mut ObjectTable, item: &TraceRecord) -> Result<(), NoMemo
             size,
             name,
         } => table.note_symbol(*kind, *addr, *size, name.bytes()),
-        TraceRecord::Touch(_) => Ok(()),
+        TraceRecord::Touch(_, _) => Ok(()),
         TraceRecord::Alloc { .. } => Ok(()),
         TraceRecord::Free { .. } => Ok(()),
         TraceRecord::End(_) => Ok(()),

@@ -12,10 +12,11 @@ ghost use Rattle.saved_state.specs.ObjectRules.{IsSavable};
 ghost use Rattle.base.specs.Levels.{Levels};
 ghost use Rattle.base.specs.Lines.{Grid};
 ghost use Rattle.shelf.specs.Shelf.{Files, content};
-ghost use Rattle.sightings.specs.Lives.{objects_of};
+ghost use Rattle.trace_passes.specs.Lives.{objects_of};
 ghost use Rattle.saved_state.specs.OfLists.{AreOf};
 ghost use Rattle.trace_format.specs.Rules.{IsGoodRecord, touches_in};
 ghost use Rattle.trace_format.specs.declared.record.TraceRecord.{TraceRecord as Record};
+ghost use Rattle.trace_format.specs.declared.record.Version.{Version as Format};
 ghost use Rattle.trace_files.specs.Copies.{first_half, second_half};
 ghost use Rattle.trace_passes.specs.Passes.{Trace, all_records, trace_of};
 ghost use Rattle.predator_cli.specs.Answer.{answer_of};
@@ -30,7 +31,7 @@ ghost use Rattle.predator_cli.specs.declared.state_file.Begun.{Begun};
 use detector::an_access_changes_what_it_meets;
 use saved_state::{the_state_of_a_list_is_taken_up, what_is_resumed_was_saved};
 use sightings::{what_is_noted_is_seen, what_stands_was_noted};
-use trace_parts::the_halves_are_traces;
+use trace_files::the_halves_are_traces;
 use trace_passes::a_trace_is_its_spelling;
 
 /// A replay that goes on from the state of some records gives the report, and saves the state, of
@@ -80,9 +81,11 @@ pub fn a_replay_goes_on_from_a_list()
         → trace_of bytes ≡ Some whole
         → IsCutIn whole (first_half at whole ∷ []) (second_half at whole) }
     // the objects and the accesses of good records may stand in a state
-    ensures good { (harts : ℕ) (before : List Record) → All (IsGoodRecord harts) before
+    ensures good { (v : Format) (harts : ℕ) (before : List Record)
+        → All (IsGoodRecord v harts) before
         → length before < 2 ^ 64 → IsSavable (length (touches_in before)) (objects_of before) }
-    ensures of_harts { (harts : ℕ) (before : List Record) → All (IsGoodRecord harts) before
+    ensures of_harts { (v : Format) (harts : ℕ) (before : List Record)
+        → All (IsGoodRecord v harts) before
         → AreOf harts (touches_in before) }
 {
     the_state_of_a_list_is_taken_up();

@@ -12,8 +12,8 @@ use crate::endings::stop;
 use base::NoMemory;
 use command_files::Status;
 use command_line::MissesOptions;
+use misses::MissSightings;
 use shelf::Shelf;
-use sightings::MissSightings;
 use std::alloc::Global;
 
 // The misses of the trace of a name, or why there is no text of them.

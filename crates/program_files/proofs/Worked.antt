@@ -2,9 +2,8 @@
 use Rattle.std.proofs.Common.{◌≡◌, ℕ, ◌+◌, ◌*◌, List, [], ◌∷◌, ◌++◌, Some, None, true, false, take}
 use Rattle.std.proofs.Common.{refl}
 use Rattle.std.specs.List.{flat_map}
-use Rattle.byteorder.specs.Endian.{little_bytes}
+use Rattle.std.specs.Int.{to_le_bytes, w32}
 use Rattle.objects.specs.declared.symbol.SymbolKind.TheVariants.{Function}
-use Rattle.program_files.specs.Fields.{field16, field32}
 use Rattle.program_files.specs.Faults.{read_fault, symbols_fault}
 use Rattle.program_files.specs.Programs.{segments_of}
 use Rattle.program_files.specs.Symbols.{symbols_of}
@@ -20,7 +19,7 @@ use Rattle.program_files.specs.declared.fault.ElfFault.TheVariants.{BadSymbols, 
 
 -- the bytes of words
 bytes : List ℕ → List ℕ
-bytes words = flat_map (little_bytes 4) words
+bytes words = flat_map (to_le_bytes w32) words
 
 -- A file header: entry 0x10000, program headers behind it and section headers at 152, so many of
 -- each.
@@ -43,7 +42,7 @@ file : ℕ → ℕ → ℕ → List ℕ
 file machine flags file_size = header machine flags 1 0 ++ segment 84 0x10000 file_size 12 ++ code
 
 accepted : read_fault (file 243 0 12) ≡ None
-unfolding field16 field32 file header segment code bytes
+unfolding file header segment code bytes
 accepted = refl
 
 placed : segments_of (file 243 0 12) ≡ record {
@@ -52,7 +51,7 @@ placed : segments_of (file 243 0 12) ≡ record {
   flags = 7;
   content = 147 ∷ 8 ∷ 208 ∷ 5 ∷ 19 ∷ 5 ∷ 112 ∷ 0 ∷ 115 ∷ 0 ∷ 0 ∷ 0 ∷ [];
 } ∷ []
-unfolding field16 field32 file header segment code bytes
+unfolding file header segment code bytes
 placed = refl
 
 -- 16 MiB of memory, and a stack of 64 KiB for each of 8 harts
@@ -60,7 +59,7 @@ space : Space
 space = record { memory = 0x1000000; stack = 0x10000; harts = 8 }
 
 has_room : place_fault space (file 243 0 12) ≡ None
-unfolding field16 field32 file header segment code bytes space
+unfolding file header segment code bytes space
 has_room = refl
 
 placed_in : Image
@@ -68,15 +67,15 @@ placed_in = image_of space (file 243 0 12)
 
 heap_and_stacks : (placed_in.heap_start ≡ 0x11000) × (placed_in.heap_end ≡ 0xf90000)
     × (placed_in.top ≡ 0x1010000)
-unfolding placed_in field16 field32 file header segment code bytes space
+unfolding placed_in file header segment code bytes space
 heap_and_stacks = (refl, refl, refl)
 
 byte_of_code : image_byte (segments_of (file 243 0 12)) 0x10002 ≡ 208
-unfolding field16 field32 file header segment code bytes
+unfolding file header segment code bytes
 byte_of_code = refl
 
 byte_behind : image_byte (segments_of (file 243 0 12)) 0x1000c ≡ 0
-unfolding field16 field32 file header segment code bytes
+unfolding file header segment code bytes
 byte_behind = refl
 
 page_of_code : image_page (segments_of (file 243 0 12)) 0x11000 0x1010000 0x10ffc ≡ record {
@@ -84,7 +83,7 @@ page_of_code : image_page (segments_of (file 243 0 12)) 0x11000 0x1010000 0x10ff
   writable = true;
   executable = true;
 }
-unfolding field16 field32 file header segment code bytes
+unfolding file header segment code bytes
 page_of_code = refl
 
 page_of_the_heap : image_page (segments_of (file 243 0 12)) 0x11000 0x1010000 0x11000 ≡ record {
@@ -92,31 +91,31 @@ page_of_the_heap : image_page (segments_of (file 243 0 12)) 0x11000 0x1010000 0x
   writable = true;
   executable = false;
 }
-unfolding field16 field32 file header segment code bytes
+unfolding file header segment code bytes
 page_of_the_heap = refl
 
 cut_in_the_file_header : read_fault (take 51 (file 243 0 12)) ≡ Some TooShort
-unfolding field16 field32 file header segment code bytes
+unfolding file header segment code bytes
 cut_in_the_file_header = refl
 
 cut_in_the_program_headers : read_fault (take 83 (file 243 0 12)) ≡ Some HeadersOutside
-unfolding field16 field32 file header segment code bytes
+unfolding file header segment code bytes
 cut_in_the_program_headers = refl
 
 cut_in_the_segment : read_fault (take 95 (file 243 0 12)) ≡ Some SegmentOutsideFile
-unfolding field16 field32 file header segment code bytes
+unfolding file header segment code bytes
 cut_in_the_segment = refl
 
 other_machine : read_fault (file 62 0 12) ≡ Some BadMachine
-unfolding field16 field32 file header segment code bytes
+unfolding file header segment code bytes
 other_machine = refl
 
 compressed : read_fault (file 243 1 12) ≡ Some BadFlags
-unfolding field16 field32 file header segment code bytes
+unfolding file header segment code bytes
 compressed = refl
 
 longer_in_the_file : read_fault (file 243 0 16 ++ code) ≡ Some SegmentSizes
-unfolding field16 field32 file header segment code bytes
+unfolding file header segment code bytes
 longer_in_the_file = refl
 
 -- A segment of a page, and one of a byte. The first is 4096 bytes long, so that they may touch.
@@ -124,11 +123,11 @@ two : ℕ → List ℕ
 two addr = header 243 0 2 0 ++ segment 0 0x10000 0 4096 ++ segment 0 addr 0 1
 
 touching : read_fault (two 0x11000) ≡ None
-unfolding field16 field32 two header segment bytes
+unfolding two header segment bytes
 touching = refl
 
 overlapping : read_fault (two 0x10fff) ≡ Some SegmentOverlap
-unfolding field16 field32 two header segment bytes
+unfolding two header segment bytes
 overlapping = refl
 
 section : ℕ → ℕ → ℕ → ℕ → ℕ → List ℕ
@@ -146,18 +145,18 @@ with_symbols name link =
     ++ section 0 0 0 0 0 ++ section 2 96 48 link 16 ++ section 3 144 8 0 0
 
 named : symbols_fault (with_symbols 1 2) ≡ None
-unfolding field16 field32 with_symbols header segment section code bytes
+unfolding with_symbols header segment section code bytes
 named = refl
 
 kept : symbols_of (with_symbols 1 2)
     ≡ record { kind = Function; addr = 0x10000; size = 12; name = 114 ∷ 117 ∷ 110 ∷ [] } ∷ []
-unfolding field16 field32 with_symbols header segment section code bytes
+unfolding with_symbols header segment section code bytes
 kept = refl
 
 name_outside : symbols_fault (with_symbols 8 2) ≡ Some BadSymbolName
-unfolding field16 field32 with_symbols header segment section code bytes
+unfolding with_symbols header segment section code bytes
 name_outside = refl
 
 no_names : symbols_fault (with_symbols 1 0) ≡ Some BadSymbols
-unfolding field16 field32 with_symbols header segment section code bytes
+unfolding with_symbols header segment section code bytes
 no_names = refl

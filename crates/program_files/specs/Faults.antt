@@ -12,7 +12,9 @@ use Rattle.program_files.specs.declared.fault.ElfFault.TheVariants.{BadHeaderSiz
 use Rattle.program_files.specs.declared.fault.ElfFault.TheVariants.{Dynamic, SegmentOutsideFile}
 use Rattle.program_files.specs.declared.fault.ElfFault.TheVariants.{SegmentSizes, SegmentOverlap}
 use Rattle.program_files.specs.declared.fault.ElfFault.TheVariants.{BadSymbols, BadSymbolName}
-use Rattle.program_files.specs.Fields.{field16, field32, lies_in, program_offset, program_row_size}
+use Rattle.program_files.specs.Fields.{lies_in, program_offset, program_row_size}
+use Rattle.base.specs.Fields.{number_at}
+use Rattle.std.specs.Int.{w16, w32}
 use Rattle.program_files.specs.Fields.{program_count, section_offset, section_row_size}
 use Rattle.program_files.specs.Fields.{section_count}
 use Rattle.program_files.specs.Programs.{program_headers, is_dynamic, is_outside, has_wrong_size}
@@ -45,10 +47,10 @@ header_faults =
     ∷ (BadMagic, λ file. not (starts_with nat_eq file magic))
     ∷ (BadClass, λ file. not (slice_index file 4 == 1))
     ∷ (BadData, λ file. not (slice_index file 5 == 1))
-    ∷ (BadVersion, λ file. not (slice_index file 6 == 1) || not (field32 file 20 == 1))
-    ∷ (BadType, λ file. not (field16 file 16 == 2))
-    ∷ (BadMachine, λ file. not (field16 file 18 == 243))
-    ∷ (BadFlags, λ file. not (field32 file 36 % 16 == 0))
+    ∷ (BadVersion, λ file. not (slice_index file 6 == 1) || not (number_at w32 20 file == 1))
+    ∷ (BadType, λ file. not (number_at w16 16 file == 2))
+    ∷ (BadMachine, λ file. not (number_at w16 18 file == 243))
+    ∷ (BadFlags, λ file. not (number_at w32 36 file % 16 == 0))
     ∷ []
 
 -- what it must say of the two tables

@@ -2,14 +2,8 @@
 -- Numbers are little endian.
 use Rattle.std.specs.Prelude.{ℕ, ◌+◌, List, take, drop, length, Bool, nat_le}
 use Rattle.std.specs.Simd.{first_chunks}
-use Rattle.byteorder.specs.Endian.{little_number}
-
--- the numbers of two and of four bytes at a place
-unfoldable pub field16 : List ℕ → ℕ → ℕ
-field16 bytes place = little_number 2 (drop place bytes)
-
-unfoldable pub field32 : List ℕ → ℕ → ℕ
-field32 bytes place = little_number 4 (drop place bytes)
+use Rattle.std.specs.Int.{w16, w32}
+use Rattle.base.specs.Fields.{number_at}
 
 -- a range of the file lies in it; sums do not wrap
 abbrev pub lies_in : List ℕ → ℕ → ℕ → Bool
@@ -25,24 +19,24 @@ rows size n place file = first_chunks size n (drop place file)
 -- ---- the file header
 
 abbrev pub entry_of : List ℕ → ℕ
-entry_of file = field32 file 24
+entry_of file = number_at w32 24 file
 
 -- where the program headers begin, how long each is, and how many there are
 abbrev pub program_offset : List ℕ → ℕ
-program_offset file = field32 file 28
+program_offset file = number_at w32 28 file
 
 abbrev pub program_row_size : List ℕ → ℕ
-program_row_size file = field16 file 42
+program_row_size file = number_at w16 42 file
 
 abbrev pub program_count : List ℕ → ℕ
-program_count file = field16 file 44
+program_count file = number_at w16 44 file
 
 -- the same of the section headers
 abbrev pub section_offset : List ℕ → ℕ
-section_offset file = field32 file 32
+section_offset file = number_at w32 32 file
 
 abbrev pub section_row_size : List ℕ → ℕ
-section_row_size file = field16 file 46
+section_row_size file = number_at w16 46 file
 
 abbrev pub section_count : List ℕ → ℕ
-section_count file = field16 file 48
+section_count file = number_at w16 48 file

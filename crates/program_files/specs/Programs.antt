@@ -2,19 +2,21 @@
 use Rattle.std.specs.Prelude.{ℕ, ◌+◌, ◌^◌, ◌==◌, Bool, false, not, ◌&&◌, ◌||◌, nat_lt, List, []}
 use Rattle.std.specs.Prelude.{◌∷◌, map, filter}
 use Rattle.std.specs.List.{list_any}
-use Rattle.program_files.specs.Fields.{field32, lies_in, part, rows, program_offset, program_count}
+use Rattle.program_files.specs.Fields.{lies_in, part, rows, program_offset, program_count}
+use Rattle.base.specs.Fields.{number_at}
+use Rattle.std.specs.Int.{w32}
 use Rattle.program_files.specs.declared.program.ProgramHeader.{ProgramHeader}
 
 -- the header that a row of 32 bytes says
 abbrev pub program_header : List ℕ → ProgramHeader
 program_header row =
     record {
-      kind = field32 row 0;
-      offset = field32 row 4;
-      addr = field32 row 8;
-      file_size = field32 row 16;
-      size = field32 row 20;
-      flags = field32 row 24;
+      kind = number_at w32 0 row;
+      offset = number_at w32 4 row;
+      addr = number_at w32 8 row;
+      file_size = number_at w32 16 row;
+      size = number_at w32 20 row;
+      flags = number_at w32 24 row;
     }
 
 -- the program headers, in their order

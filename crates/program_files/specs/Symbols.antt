@@ -7,7 +7,9 @@ use Rattle.std.specs.List.{list_any, take_while}
 use Rattle.objects.specs.declared.symbol.SymbolKind.{SymbolKind}
 use Rattle.objects.specs.declared.symbol.SymbolKind.TheVariants.{Object, Function}
 use Rattle.objects.specs.Symbols.{Symbol}
-use Rattle.program_files.specs.Fields.{field16, field32, lies_in, part, rows, section_offset}
+use Rattle.program_files.specs.Fields.{lies_in, part, rows, section_offset}
+use Rattle.base.specs.Fields.{number_at}
+use Rattle.std.specs.Int.{w16, w32}
 use Rattle.program_files.specs.Fields.{section_count}
 use Rattle.program_files.specs.declared.section.SectionHeader.{SectionHeader}
 use Rattle.program_files.specs.declared.symbol.SymbolEntry.{SymbolEntry}
@@ -18,11 +20,11 @@ use Rattle.program_files.specs.declared.symbol.SymbolEntry.{SymbolEntry}
 abbrev pub section_header : List ℕ → SectionHeader
 section_header row =
     record {
-      kind = field32 row 4;
-      offset = field32 row 16;
-      size = field32 row 20;
-      link = field32 row 24;
-      entry_size = field32 row 36;
+      kind = number_at w32 4 row;
+      offset = number_at w32 16 row;
+      size = number_at w32 20 row;
+      link = number_at w32 24 row;
+      entry_size = number_at w32 36 row;
     }
 
 -- the section headers, in their order
@@ -46,11 +48,11 @@ is_table file s = (s.entry_size == 16) && ((s.size % 16 == 0) && lies_in file s.
 -- the symbol that a row of 16 bytes says
 abbrev pub symbol_entry : List ℕ → SymbolEntry
 symbol_entry row = record {
-  name = field32 row 0;
-  addr = field32 row 4;
-  size = field32 row 8;
+  name = number_at w32 0 row;
+  addr = number_at w32 4 row;
+  size = number_at w32 8 row;
   info = slice_index row 12;
-  section = field16 row 14;
+  section = number_at w16 14 row;
 }
 
 -- the symbols, and the bytes among which their names stand

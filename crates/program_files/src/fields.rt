@@ -1,24 +1,6 @@
-// Numbers and tables at their places in a file.
+// Tables and ranges at their places in a file.
 ghost use Rattle.std.specs.Prelude.{◌≡◌, ◌+◌, ◌*◌, ◌<◌, ◌≤◌, length};
-ghost use Rattle.program_files.specs.Fields.{field16, field32, part, rows};
-
-use byteorder::{ByteOrder, LittleEndian};
-
-#[tactic(auto, unfolding(crate::specs::Fields::field16))]
-pub(crate) fn u16_at(bytes: &[u8], place: usize) -> u16
-    requires { place + 2 ≤ length bytes.now }
-    ensures { result ≡ field16 bytes.now place }
-{
-    LittleEndian::read_u16(&bytes[place..])
-}
-
-#[tactic(auto, unfolding(crate::specs::Fields::field32))]
-pub(crate) fn u32_at(bytes: &[u8], place: usize) -> u32
-    requires { place + 4 ≤ length bytes.now }
-    ensures { result ≡ field32 bytes.now place }
-{
-    LittleEndian::read_u32(&bytes[place..])
-}
+ghost use Rattle.program_files.specs.Fields.{part, rows};
 
 // The rows of a table, of N bytes each.
 #[tactic(auto, using(crate::proofs::Tables::rows_within))]

@@ -7,7 +7,8 @@ ghost use Rattle.program_files.specs.Faults.{has_other_rows};
 ghost use Rattle.program_files.specs.Faults.{is_table_outside};
 
 use crate::fault::ElfFault;
-use crate::fields::{rows_at, u16_at, u32_at};
+use crate::fields::rows_at;
+use base::{u16_at, u32_at};
 
 // The bytes of the file header, and of a row of each table.
 const HEADER_SIZE: usize = 52;

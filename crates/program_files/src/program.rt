@@ -6,7 +6,8 @@ ghost use Rattle.program_files.specs.Programs.{loaded, segments_in, program_head
 ghost use Rattle.program_files.specs.Programs.{is_outside, has_wrong_size, is_segment, overlap};
 ghost use Rattle.program_files.specs.Programs.{some_pair};
 
-use crate::fields::{part_of, u32_at};
+use crate::fields::part_of;
+use base::u32_at;
 use std::marker::Model;
 
 const PT_LOAD: u32 = 1;

@@ -4,7 +4,8 @@ ghost use Rattle.std.specs.Option.{option_map, option_and_then};
 ghost use Rattle.program_files.specs.Symbols.{section_header, is_symbols, is_names, is_table};
 ghost use Rattle.program_files.specs.Symbols.{names_in};
 
-use crate::fields::{part_of, u32_at};
+use crate::fields::part_of;
+use base::u32_at;
 
 const SHT_SYMTAB: u32 = 2;
 

@@ -6,7 +6,7 @@ ghost use Rattle.program_files.specs.Fields.{rows};
 ghost use Rattle.program_files.specs.Symbols.{symbol_entry, kind_of, kept_kind, ends, name_at};
 ghost use Rattle.program_files.specs.Symbols.{has_open_name, symbol_in};
 
-use crate::fields::{u16_at, u32_at};
+use base::{u16_at, u32_at};
 use objects::SymbolKind;
 use std::marker::Model;
 

@@ -11,11 +11,12 @@ ghost use Rattle.program_files.specs.Faults.{symbols_fault};
 ghost use Rattle.program_files.specs.Faults.{is_table_outside};
 
 use crate::fault::ElfFault;
-use crate::fields::{rows_at, u32_at};
+use crate::fields::rows_at;
 use crate::header::{header_fault, program_rows, section_rows, tables_fault};
 use crate::program::{Segments, some_dynamic, some_outside, some_overlap, some_wrong_size};
 use crate::section::{SectionHeader, linked_names, symbol_section};
 use crate::symbol::{SymbolRows, Symbols};
+use base::u32_at;
 use std::marker::Model;
 
 // The first fault of the program headers.

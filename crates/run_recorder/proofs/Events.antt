@@ -10,8 +10,8 @@ use Rattle.trace_format.specs.declared.record.TraceRecord.{TraceRecord}
 use Rattle.trace_format.specs.declared.record.TraceRecord.TheVariants as records
 use Rattle.trace_format.specs.declared.record.Version.TheVariants.{One}
 use Rattle.trace_format.specs.declared.record.Header.{Header}
-use Rattle.trace_format.specs.Spelling.{spell_records}
-use Rattle.trace_format.specs.Writing.{begun_with, last_behind}
+use Rattle.trace_format.specs.Spelling.{nothing_before, spell_records}
+use Rattle.trace_format.specs.Writing.{before_behind, begun_with}
 use Rattle.trace_format.specs.Laws.Writing.{begun-all, begun-append, begun-more, spelled_alone}
 use Rattle.guest.specs.Runs.{Run, output_of}
 use Rattle.run_recorder.specs.declared.run_file.Content.{Content}
@@ -42,7 +42,7 @@ record_bytes : (harts : ℕ) (items : List TraceRecord) (put : List ℕ) (item :
     ≡ bytes_so_far harts (items ++ item ∷ []) put content
 record_bytes harts items put item Trace =
     ap (λ (l : List ℕ). begun_with One (head harts) items ++ l)
-    (sym (spelled_alone (last_behind 0 items) item))
+    (sym (spelled_alone (before_behind nothing_before items) item))
     ∙ begun-more One (head harts) items item
 record_bytes harts items put item Output = append-nil put
 
@@ -73,7 +73,7 @@ output_put harts files items put bytes =
 more_spelled : (harts : ℕ) (items more : List TraceRecord) → (rest : List ℕ)
     × (begun_with One (head harts) (items ++ more) ≡ begun_with One (head harts) items ++ rest)
 more_spelled harts items more = (
-  spell_records One (last_behind 0 items) more,
+  spell_records One (before_behind nothing_before items) more,
   begun-append One (head harts) items more,
 )
 

@@ -13,6 +13,7 @@ use Rattle.shelf.specs.OneFile.{Waiting}
 use Rattle.shelf.specs.OnTheirWay.{AreBegun, names_of as waiting_names}
 use Rattle.trace_format.specs.declared.record.TraceRecord.{TraceRecord}
 use Rattle.trace_format.specs.declared.record.TraceRecord.TheVariants as records
+use Rattle.trace_format.specs.declared.record.Version.TheVariants.{One}
 use Rattle.trace_format.specs.Rules.{IsGoodRecord, touches_in as touches_among, last_position}
 use Rattle.trace_passes.specs.Rooms.{HasRoom}
 use Rattle.guest.specs.GuestCalls.{RunEvent}
@@ -43,7 +44,7 @@ pub record Follows {A : Type 0} (given : A → A → List TraceRecord → Type 0
     (files : List RunFile) (one two : List Waiting) (old new : Outside) : Type 0 where
   pub events : List RunEvent
   pub given_on : IsGivenOn given first now (records_in events)
-  pub good : All (IsGoodRecord start.setup.harts) (records_in events)
+  pub good : All (IsGoodRecord One start.setup.harts) (records_in events)
   pub noted : (earlier : List TraceRecord) (before : Outside)
       → AreNoted start.setup.harts earlier [] files one before old
       → AreNoted start.setup.harts (earlier ++ records_in events)
@@ -70,7 +71,7 @@ pub follows_start : {A : Type 0} (given : A → A → List TraceRecord → Type 
 follows_start given start first files one outside begun = record {
   events = [];
   given_on = λ b earlier so. subst (given b first) (sym (append-nil earlier)) so;
-  good = All-nil (IsGoodRecord start.setup.harts);
+  good = All-nil (IsGoodRecord One start.setup.harts);
   noted = λ earlier before on. subst (λ (l : List TraceRecord). AreNoted start.setup.harts l []
       files one before outside)
       (sym (append-nil earlier)) on;
@@ -96,7 +97,7 @@ pub follows_more : {A : Type 0} (given : A → A → List TraceRecord → Type 0
     (one two three : List Waiting) (old mid new : Outside) (events : List RunEvent)
     → Follows given start guest whole first now files one two old mid
     → whole ≡ led_with events rest → IsGivenOn given now later (records_in events)
-    → All (IsGoodRecord start.setup.harts) (records_in events)
+    → All (IsGoodRecord One start.setup.harts) (records_in events)
     → ((items : List TraceRecord) (put : List ℕ) (before : Outside)
     → AreNoted start.setup.harts items put files two before mid
     → AreNoted start.setup.harts (items ++ records_in events) (put ++ output_in events) files three
@@ -114,8 +115,9 @@ follows_more given start guest after whole rest first now later files one two th
       given_on = subst (IsGivenOn given first later) (sym records)
           (given_more given first now later (records_in x.events) (records_in events) x.given_on
           on);
-      good = subst (All (IsGoodRecord harts)) (sym records)
-          (All-append (IsGoodRecord harts) (records_in x.events) (records_in events) x.good good);
+      good = subst (All (IsGoodRecord One harts)) (sym records)
+          (All-append (IsGoodRecord One harts) (records_in x.events) (records_in events) x.good
+          good);
       noted = λ earlier before is.
           subst (λ (l : List TraceRecord). AreNoted harts l (output_in (x.events ++ events)) files
           three before new)

@@ -1,6 +1,6 @@
 -- The trace of a run keeps the rules of the format.
 use Rattle.std.proofs.Common.{◌≡◌, ℕ, suc, ◌+◌, ◌*◌, ◌^◌, ◌≤◌, List, [], ◌∷◌, ◌++◌, length, refl}
-use Rattle.std.proofs.Common.{sym, ap, ◌∙◌, arith}
+use Rattle.std.proofs.Common.{None, sym, ap, ◌∙◌, arith}
 use Rattle.std.specs.Int.{w32, to_le_bytes}
 use Rattle.std.specs.List.{All, flat_map}
 use Rattle.std.proofs.Math.Nat.{mul-suc}
@@ -19,7 +19,7 @@ use Rattle.trace_format.specs.Rules.{FitsFields, IsAllowedEnd, IsGoodRecord, IsI
 use Rattle.trace_format.specs.Rules.{longest_trace}
 use Rattle.trace_format.specs.Rules.{touches_in as touches_among}
 use Rattle.trace_format.specs.Spelling.{spell, spell_alloc, spell_ending, spell_free, spell_header}
-use Rattle.trace_format.specs.Spelling.{spell_record, spell_symbol}
+use Rattle.trace_format.specs.Spelling.{nothing_before, spell_record, spell_symbol}
 use Rattle.trace_format.specs.Spelling.{spell_touch}
 use Rattle.guest.specs.GuestCalls.{RunEvent, quiet, touch, alloc, free, output}
 use Rattle.guest.specs.SeenTurns.{IsEndOf}
@@ -33,29 +33,30 @@ use Rattle.run_recorder.proofs.Records.{traced-one}
 
 -- ---- symbols
 
-pub symbol_good : (harts : ℕ) (item : TraceRecord) → IsSymbolRecord item → IsGoodRecord harts item
-symbol_good harts (records.Touch a) is = absurd is
+pub symbol_good : (harts : ℕ) (item : TraceRecord) → IsSymbolRecord item
+    → IsGoodRecord One harts item
+symbol_good harts (records.Touch a pc) is = absurd is
 symbol_good harts (records.Alloc addr size sites) is = absurd is
 symbol_good harts (records.Free addr) is = absurd is
 symbol_good harts (records.Symbol kind addr size name) is = is
 symbol_good harts (records.End e) is = absurd is
 
 pub symbol_writable : (item : TraceRecord) → IsSymbolRecord item → IsWritable item
-symbol_writable (records.Touch a) is = absurd is
+symbol_writable (records.Touch a pc) is = absurd is
 symbol_writable (records.Alloc addr size sites) is = absurd is
 symbol_writable (records.Free addr) is = absurd is
 symbol_writable (records.Symbol kind addr size name) is = (is.some, is.no_zero)
 symbol_writable (records.End e) is = absurd is
 
 symbol_inner : (item : TraceRecord) → IsSymbolRecord item → IsInner item
-symbol_inner (records.Touch a) is = absurd is
+symbol_inner (records.Touch a pc) is = absurd is
 symbol_inner (records.Alloc addr size sites) is = absurd is
 symbol_inner (records.Free addr) is = absurd is
 symbol_inner (records.Symbol kind addr size name) is = tt
 symbol_inner (records.End e) is = absurd is
 
 symbol_untouched : (item : TraceRecord) → IsSymbolRecord item → touches_among (item ∷ []) ≡ []
-symbol_untouched (records.Touch a) is = absurd is
+symbol_untouched (records.Touch a pc) is = absurd is
 symbol_untouched (records.Alloc addr size sites) is = absurd is
 symbol_untouched (records.Free addr) is = absurd is
 symbol_untouched (records.Symbol kind addr size name) is = refl
@@ -83,8 +84,9 @@ symbol_long : (kind : SymbolKind) (addr size : ℕ) (name : List ℕ)
 unfolding spell_symbol
 symbol_long kind addr size name = twelve_more (length name)
 
-symbol_short : (item : TraceRecord) → IsSymbolRecord item → length (spell_record One 0 item) ≤ 1036
-symbol_short (records.Touch a) is = absurd is
+symbol_short : (item : TraceRecord) → IsSymbolRecord item
+    → length (spell_record One nothing_before item) ≤ 1036
+symbol_short (records.Touch a pc) is = absurd is
 symbol_short (records.Alloc addr size sites) is = absurd is
 symbol_short (records.Free addr) is = absurd is
 symbol_short (records.Symbol kind addr size name) is = omega
@@ -102,10 +104,11 @@ symbols_short [] all = omega arith
 symbols_short (item ∷ symbols) all =
     let one = symbol_short item (All-head IsSymbolRecord item symbols all) in
     let rest = symbols_short symbols (All-tail IsSymbolRecord item symbols all) in
-    let all : length (traced (item ∷ symbols)) ≡ length (spell_record One 0 item) + length
+    let all : length (traced (item ∷ symbols)) ≡ length (spell_record One nothing_before item)
+    + length
     (traced symbols) =
-    length-append (spell_record One 0 item) (traced symbols) in
-    at_most (length (traced (item ∷ symbols))) (length (spell_record One 0 item))
+    length-append (spell_record One nothing_before item) (traced symbols) in
+    at_most (length (traced (item ∷ symbols))) (length (spell_record One nothing_before item))
     (length (traced symbols)) 1036 (length symbols) all one
     rest
 
@@ -113,7 +116,7 @@ symbols_short (item ∷ symbols) all =
 
 event_inner : (e : RunEvent) → All IsInner (record_in e)
 event_inner quiet = All-nil IsInner
-event_inner (touch a pc) = All-cons IsInner (records.Touch a) [] tt (All-nil IsInner)
+event_inner (touch a pc) = All-cons IsInner (records.Touch a None) [] tt (All-nil IsInner)
 event_inner (alloc at size sites) = All-cons IsInner (records.Alloc at size sites) [] tt
     (All-nil IsInner)
 event_inner (free at) = All-cons IsInner (records.Free at) [] tt (All-nil IsInner)
@@ -141,7 +144,7 @@ sites_long (s ∷ sites) =
     ∙ ap (λ (n : ℕ). 4 + n) (sites_long sites) in
     sum ∙ four_more (length sites)
 
-touch_long : (a : ATouch) → length (spell_touch One 0 a) ≡ 8
+touch_long : (a : ATouch) → length (spell_touch One nothing_before a None) ≡ 8
 unfolding spell_touch
 touch_long a = refl
 
@@ -154,15 +157,16 @@ free_long : (at : ℕ) → length (spell_free at) ≡ 5
 unfolding spell_free
 free_long at = refl
 
-item_alone : (item : TraceRecord) → length (traced (item ∷ [])) ≡ length (spell_record One 0 item)
+item_alone : (item : TraceRecord)
+    → length (traced (item ∷ [])) ≡ length (spell_record One nothing_before item)
 item_alone item = ap length (traced-one item)
 
-event_short : (harts : ℕ) (e : RunEvent) → All (IsGoodRecord harts) (record_in e)
+event_short : (harts : ℕ) (e : RunEvent) → All (IsGoodRecord One harts) (record_in e)
     → length (traced (record_in e)) ≤ 25
 event_short harts quiet good = omega arith
-event_short harts (touch a pc) good = omega (arith, item_alone (records.Touch a), touch_long a)
+event_short harts (touch a pc) good = omega (arith, item_alone (records.Touch a None), touch_long a)
 event_short harts (alloc at size sites) good =
-    let is = All-head (IsGoodRecord harts) (records.Alloc at size sites) [] good in
+    let is = All-head (IsGoodRecord One harts) (records.Alloc at size sites) [] good in
     omega (
       arith,
       item_alone (records.Alloc at size sites),
@@ -174,32 +178,34 @@ event_short harts (free at) good = omega (arith, item_alone (records.Free at), f
 event_short harts (output at bytes) good = omega arith
 
 good_front : (harts : ℕ) (e : RunEvent) (events : List RunEvent)
-    → All (IsGoodRecord harts) (record_in e ++ records_in events)
-    → All (IsGoodRecord harts) (record_in e) × All (IsGoodRecord harts) (records_in events)
-good_front harts quiet events good = (All-nil (IsGoodRecord harts), good)
+    → All (IsGoodRecord One harts) (record_in e ++ records_in events)
+    → All (IsGoodRecord One harts) (record_in e) × All (IsGoodRecord One harts) (records_in events)
+good_front harts quiet events good = (All-nil (IsGoodRecord One harts), good)
 good_front harts (touch a pc) events good =
-    let h = All-head (IsGoodRecord harts) (records.Touch a) (records_in events) good in (
-      All-cons (IsGoodRecord harts) (records.Touch a) [] h (All-nil (IsGoodRecord harts)),
-      All-tail (IsGoodRecord harts) (records.Touch a)
+    let h = All-head (IsGoodRecord One harts) (records.Touch a None) (records_in events) good in (
+      All-cons (IsGoodRecord One harts) (records.Touch a None) [] h
+          (All-nil (IsGoodRecord One harts)),
+      All-tail (IsGoodRecord One harts) (records.Touch a None)
           (records_in events) good,
     )
 good_front harts (alloc at size sites) events good =
     let item : TraceRecord = records.Alloc at size sites in
-    let h = All-head (IsGoodRecord harts) item (records_in events) good in (
-      All-cons (IsGoodRecord harts) (records.Alloc at size sites) [] h
-          (All-nil (IsGoodRecord harts)),
-      All-tail (IsGoodRecord harts)
+    let h = All-head (IsGoodRecord One harts) item (records_in events) good in (
+      All-cons (IsGoodRecord One harts) (records.Alloc at size sites) [] h
+          (All-nil (IsGoodRecord One harts)),
+      All-tail (IsGoodRecord One harts)
           (records.Alloc at size sites) (records_in events) good,
     )
 good_front harts (free at) events good =
-    let h = All-head (IsGoodRecord harts) (records.Free at) (records_in events) good in (
-      All-cons (IsGoodRecord harts) (records.Free at) [] h (All-nil (IsGoodRecord harts)),
-      All-tail (IsGoodRecord harts) (records.Free at)
+    let h = All-head (IsGoodRecord One harts) (records.Free at) (records_in events) good in (
+      All-cons (IsGoodRecord One harts) (records.Free at) [] h (All-nil (IsGoodRecord One harts)),
+      All-tail (IsGoodRecord One harts) (records.Free at)
           (records_in events) good,
     )
-good_front harts (output at bytes) events good = (All-nil (IsGoodRecord harts), good)
+good_front harts (output at bytes) events good = (All-nil (IsGoodRecord One harts), good)
 
-events_short : (harts : ℕ) (events : List RunEvent) → All (IsGoodRecord harts) (records_in events)
+events_short : (harts : ℕ) (events : List RunEvent)
+    → All (IsGoodRecord One harts) (records_in events)
     → length (traced (records_in events)) ≤ 25 * length events
 events_short harts [] good = omega arith
 events_short harts (e ∷ events) good =
@@ -278,7 +284,8 @@ whole_long harts symbols r =
     let head : List ℕ = spell_header One (record { first = 0; harts = harts }) in
     let end : List ℕ = spell_ending r.ending in
     ap (λ (l : List ℕ). length (head ++ (l ++ end)))
-    (spelled_each 0 (records_of symbols r) ∙ traced-append symbols (records_in r.events))
+    (spelled_each nothing_before (records_of symbols r)
+    ∙ traced-append symbols (records_in r.events))
     ∙ length-append head ((traced symbols ++ traced (records_in r.events)) ++ end)
     ∙ ap (λ (n : ℕ). length head + n) (length-append
     (traced symbols ++ traced (records_in r.events)) end
@@ -294,7 +301,7 @@ sum_short all head symbols events end n m is h e s few v short = omega
 
 run_short : (harts : ℕ) (symbols : List TraceRecord) (r : Run) → All IsSymbolRecord symbols
     → length symbols ≤ 2 ^ 20
-    → All (IsGoodRecord harts) (records_in r.events) → length r.events ≤ 2 ^ 36
+    → All (IsGoodRecord One harts) (records_in r.events) → length r.events ≤ 2 ^ 36
     → length (spell One (record { first = 0; harts = harts }) (records_of symbols r) r.ending) ≤
     longest_trace
 run_short harts symbols r told few good short =
@@ -309,7 +316,7 @@ run_short harts symbols r told few good short =
 pub kept_rules : (harts : ℕ) (symbols : List TraceRecord) (s : Setup) (r : Run) → 1 ≤ harts
     → harts ≤ 256
     → All IsSymbolRecord symbols → length symbols ≤ 2 ^ 20 → IsShort s r → s.budget ≤ 2 ^ 36
-    → All (IsGoodRecord harts) (records_in r.events) → IsEndOf harts r.ending.outcome
+    → All (IsGoodRecord One harts) (records_in r.events) → IsEndOf harts r.ending.outcome
     → IsKept (trace_for harts symbols r)
 kept_rules harts symbols s r some most told few short budget good end =
     let touched : touches_among (records_of symbols r) ≡ touches_in r.events =
@@ -321,8 +328,9 @@ kept_rules harts symbols s r some most told few short budget good end =
     let fewer = few_touches r.events in
     record {
       header = record { position = omega arith; some = some; few = most };
-      records = All-append (IsGoodRecord harts) symbols (records_in r.events)
-          (All-weaker IsSymbolRecord (IsGoodRecord harts) (symbol_good harts) symbols told) good;
+      records = All-append (IsGoodRecord One harts) symbols (records_in r.events)
+          (All-weaker IsSymbolRecord (IsGoodRecord One harts) (symbol_good harts) symbols told)
+          good;
       inner = All-append IsInner symbols (records_in r.events)
           (All-weaker IsSymbolRecord IsInner symbol_inner symbols told) (events_inner r.events);
       ending = record {

@@ -9,7 +9,7 @@ use Rattle.base.specs.Touch.{Touch as ATouch}
 use Rattle.trace_format.specs.declared.record.TraceRecord.{TraceRecord}
 use Rattle.trace_format.specs.declared.record.Version.TheVariants.{One}
 use Rattle.trace_format.specs.Rules.{touch_in as touch_of, touches_in as touches_among}
-use Rattle.trace_format.specs.Spelling.{spell_record}
+use Rattle.trace_format.specs.Spelling.{nothing_before, spell_record}
 use Rattle.guest.specs.GuestCalls.{RunEvent, quiet, touch, alloc, free, output}
 use Rattle.guest.specs.Runs.{touch_in, touches_in, bytes_in, output_in}
 use Rattle.run_recorder.specs.Recorded.{record_in, records_in}
@@ -68,10 +68,10 @@ touches-among xs ys = filter_map-append touch_of xs ys
 
 -- the records of a trace of version 1, each spelled alone
 abbrev pub traced : List TraceRecord → List ℕ
-traced items = flat_map (spell_record One 0) items
+traced items = flat_map (spell_record One nothing_before) items
 
 pub traced-append : (xs ys : List TraceRecord) → traced (xs ++ ys) ≡ traced xs ++ traced ys
-traced-append xs ys = flat_map-append (spell_record One 0) xs ys
+traced-append xs ys = flat_map-append (spell_record One nothing_before) xs ys
 
-pub traced-one : (item : TraceRecord) → traced (item ∷ []) ≡ spell_record One 0 item
-traced-one item = append-nil (spell_record One 0 item)
+pub traced-one : (item : TraceRecord) → traced (item ∷ []) ≡ spell_record One nothing_before item
+traced-one item = append-nil (spell_record One nothing_before item)

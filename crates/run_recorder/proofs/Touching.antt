@@ -1,6 +1,6 @@
 -- Accesses that were put by, and noted one after another.
 use Rattle.std.proofs.Common.{◌≡◌, ◌∙◌, ℕ, suc, ◌+◌, ◌<◌, ◌≤◌, List, [], ◌∷◌, ◌++◌, length, take, drop}
-use Rattle.std.proofs.Common.{get_or, map, ap, append_assoc, arith, refl, subst, sym}
+use Rattle.std.proofs.Common.{None, get_or, map, ap, append_assoc, arith, refl, subst, sym}
 use Rattle.std.specs.List.{All}
 use Rattle.std.proofs.lemmas.List.{append-nil, length-append, map-append, take-append-drop}
 use Rattle.std.proofs.lemmas.List.{take_all, take_more}
@@ -12,6 +12,7 @@ use Rattle.shelf.specs.OneFile.{Waiting}
 use Rattle.shelf.specs.OnTheirWay.{AreBegun, names_of as waiting_names}
 use Rattle.trace_format.specs.declared.record.TraceRecord.{TraceRecord}
 use Rattle.trace_format.specs.declared.record.TraceRecord.TheVariants as records
+use Rattle.trace_format.specs.declared.record.Version.TheVariants.{One}
 use Rattle.trace_format.specs.Rules.{IsGoodRecord, last_position, touches_in as touches_among}
 use Rattle.trace_passes.specs.Rooms.{HasRoom}
 use Rattle.guest.specs.GuestCalls.{RunEvent, quiet, touch, alloc, free, output}
@@ -28,7 +29,7 @@ use Rattle.run_recorder.proofs.Records.{output-append, output-more, records-appe
 use Rattle.run_recorder.proofs.Records.{touches-among, touches-append, touches-in}
 
 abbrev pub touch_record : Touched → TraceRecord
-touch_record t = records.Touch t.access
+touch_record t = records.Touch t.access None
 
 -- ---- what such steps leave
 
@@ -36,7 +37,7 @@ records-seen : (events : List RunEvent) → records_in events ≡ records_in (se
 records-seen [] = refl
 records-seen (quiet ∷ events) = records-seen events
 records-seen (touch a pc ∷ events) =
-    ap (λ (l : List TraceRecord). records.Touch a ∷ l) (records-seen events)
+    ap (λ (l : List TraceRecord). records.Touch a None ∷ l) (records-seen events)
 records-seen (alloc at size sites ∷ events) =
     ap (λ (l : List TraceRecord). records.Alloc at size sites ∷ l) (records-seen events)
 records-seen (free at ∷ events) =
@@ -157,7 +158,7 @@ pub record TouchesNoted {A : Type 0} (given : A → A → List TraceRecord → T
     (one two : List Waiting) (old new : Outside) : Type 0 where
   pub given_on : IsGivenOn given first now (touch_records (take place touches))
   pub good : (harts : ℕ) → AreOfHarts harts touches
-      → All (IsGoodRecord harts) (touch_records (take place touches))
+      → All (IsGoodRecord One harts) (touch_records (take place touches))
   pub noted : (harts : ℕ) (items : List TraceRecord) (put : List ℕ) (before : Outside)
       → AreNoted harts items put files one before old
       → AreNoted harts (items ++ touch_records (take place touches)) put files two before new
@@ -170,7 +171,7 @@ pub no_touches : {A : Type 0} (given : A → A → List TraceRecord → Type 0) 
     → TouchesNoted given touches 0 first first files one one old old
 no_touches given touches first files one old begun = record {
   given_on = λ b earlier so. subst (given b first) (sym (append-nil earlier)) so;
-  good = λ harts theirs. All-nil (IsGoodRecord harts);
+  good = λ harts theirs. All-nil (IsGoodRecord One harts);
   noted = λ harts items put before on.
       subst (λ (l : List TraceRecord). AreNoted harts l put files one before old)
       (sym (append-nil items)) on;
@@ -191,7 +192,7 @@ pub touches_more : {A : Type 0} (given : A → A → List TraceRecord → Type 0
     (touches : List Touched) (i : ℕ) (t : Touched) (item : TraceRecord) (first now later : A)
     (files : List RunFile) (one two three : List Waiting) (old mid new : Outside)
     → i < length touches → t ≡ get_or touches i t → item ≡ touch_record t
-    → ((harts : ℕ) → t.access.hart < harts → IsGoodRecord harts item)
+    → ((harts : ℕ) → t.access.hart < harts → IsGoodRecord One harts item)
     → TouchesNoted given touches i first now files one two old mid
     → IsGivenOn given now later (item ∷ [])
     → ((harts : ℕ) (items : List TraceRecord) (put : List ℕ) (before : Outside)
@@ -207,7 +208,7 @@ touches_more given touches i t item first now later files one two three old mid 
           (given_more given first now later (touch_records (take i touches)) (item ∷ []) so.given_on
           given_on);
       good = λ harts theirs.
-          let P : TraceRecord → Type 0 = IsGoodRecord harts in
+          let P : TraceRecord → Type 0 = IsGoodRecord One harts in
           let Q : Touched → Type 0 = λ x. x.access.hart < harts in
           let at : Q (get_or touches i t) = All-get_or Q touches i t below theirs in
           subst (All P) more
@@ -270,7 +271,7 @@ pub record AllNoted {A : Type 0} (given : A → A → List TraceRecord → Type 
     (one two : List Waiting) (old new : Outside) : Type 0 where
   pub given_on : IsGivenOn given first now (touch_records touches)
   pub good : (harts : ℕ) → AreOfHarts harts touches
-      → All (IsGoodRecord harts) (touch_records touches)
+      → All (IsGoodRecord One harts) (touch_records touches)
   pub noted : (harts : ℕ) (items : List TraceRecord) (put : List ℕ) (before : Outside)
       → AreNoted harts items put files one before old
       → AreNoted harts (items ++ touch_records touches) put files two before new
@@ -286,7 +287,7 @@ touches_noted given touches place first now files one two old new all so =
       given_on = subst (λ (ts : List Touched). IsGivenOn given first now (touch_records ts)) whole
           so.given_on;
       good = λ harts theirs.
-          subst (λ (ts : List Touched). All (IsGoodRecord harts) (touch_records ts)) whole
+          subst (λ (ts : List Touched). All (IsGoodRecord One harts) (touch_records ts)) whole
           (so.good harts theirs);
       noted = λ harts items put before on.
           subst (λ (ts : List Touched). AreNoted harts (items ++ touch_records ts) put files two
@@ -341,7 +342,7 @@ pub follows_turn : {A : Type 0} (given : A → A → List TraceRecord → Type 0
     (n : ℕ) → Follows given start guest (rest_of guest) first now files one two old mid
     → IsLedTo (rest_of guest) ts (led_by e (rest_of after))
     → IsGivenOn given now later (touch_records ts ++ record_in e)
-    → All (IsGoodRecord start.setup.harts) (touch_records ts ++ record_in e)
+    → All (IsGoodRecord One start.setup.harts) (touch_records ts ++ record_in e)
     → ((items : List TraceRecord) (put : List ℕ) (before : Outside)
     → AreNoted start.setup.harts items put files two before mid
     → AreNoted start.setup.harts (items ++ (touch_records ts ++ record_in e)) (put ++ bytes_in e)
@@ -359,7 +360,7 @@ follows_turn given start guest after first now later files one two three old mid
     follows_more given start guest after (rest_of guest) (rest_of after) first now later files one
     two three old mid new events x (led.led ∙ turn_led led.events e (rest_of after))
     (subst (IsGivenOn given now later) (sym told) on)
-    (subst (All (IsGoodRecord harts)) (sym told) good)
+    (subst (All (IsGoodRecord One harts)) (sym told) good)
     (λ items put before is_so.
     subst (λ (l : List TraceRecord). AreNoted harts (items ++ l) (put ++ output_in events) files
     three before new) (sym told)
@@ -373,7 +374,7 @@ pub follows_touches : {A : Type 0} (given : A → A → List TraceRecord → Typ
     (one two three : List Waiting) (old mid new : Outside) (ts : List Touched)
     → Follows given start guest (rest_of guest) first now files one two old mid
     → IsLedTo (rest_of guest) ts rest → IsGivenOn given now later (touch_records ts)
-    → All (IsGoodRecord start.setup.harts) (touch_records ts)
+    → All (IsGoodRecord One start.setup.harts) (touch_records ts)
     → ((items : List TraceRecord) (put : List ℕ) (before : Outside)
     → AreNoted start.setup.harts items put files two before mid
     → AreNoted start.setup.harts (items ++ touch_records ts) put files three before new)
@@ -389,7 +390,7 @@ follows_touches given start guest after rest first now later files one two three
     follows_more given start guest after (rest_of guest) rest first now later files one
     two three old mid new led.events x led.led
     (subst (IsGivenOn given now later) (sym told) on)
-    (subst (All (IsGoodRecord harts)) (sym told) good)
+    (subst (All (IsGoodRecord One harts)) (sym told) good)
     (λ items put before is_so.
     subst (λ (l : List TraceRecord). AreNoted harts (items ++ l) (put ++ output_in led.events) files
     three before new) (sym told)

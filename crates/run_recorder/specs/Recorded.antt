@@ -1,5 +1,5 @@
 -- What a run leaves: its trace, and what it puts out, in files.
-use Rattle.std.specs.Prelude.{ℕ, List, [], ◌∷◌, ◌++◌, map}
+use Rattle.std.specs.Prelude.{ℕ, List, [], ◌∷◌, ◌++◌, None, map}
 use Rattle.shelf.specs.Files.{Output as AnOutput}
 use Rattle.trace_format.specs.declared.record.TraceRecord.{TraceRecord}
 use Rattle.trace_format.specs.declared.record.TraceRecord.TheVariants as records
@@ -22,7 +22,7 @@ IsSymbolRecord _ = ⊥
 -- what the trace tells of an event
 abbrev pub record_in : RunEvent → List TraceRecord
 record_in quiet = []
-record_in (touch a pc) = records.Touch a ∷ []
+record_in (touch a pc) = records.Touch a None ∷ []
 record_in (alloc at size sites) = records.Alloc at size sites ∷ []
 record_in (free at) = records.Free at ∷ []
 record_in (output at bytes) = []

@@ -1,5 +1,5 @@
 -- How far the recording of a run has come.
-use Rattle.std.specs.Prelude.{◌≡◌, ℕ, List, [], map}
+use Rattle.std.specs.Prelude.{◌≡◌, ℕ, List, [], None, map}
 use Rattle.shelf.specs.Shelf.{Outside}
 use Rattle.shelf.specs.declared.shelf.ShelfError.{ShelfError}
 use Rattle.shelf.specs.Files.{AreCut}
@@ -9,7 +9,7 @@ use Rattle.trace_format.specs.declared.record.TraceRecord.{TraceRecord}
 use Rattle.trace_format.specs.declared.record.TraceRecord.TheVariants as records
 use Rattle.trace_format.specs.declared.record.Version.TheVariants.{One}
 use Rattle.trace_format.specs.Rules.{touches_in}
-use Rattle.trace_format.specs.Spelling.{spell_record}
+use Rattle.trace_format.specs.Spelling.{nothing_before, spell_record}
 use Rattle.trace_format.specs.Writing.{begun_with}
 use Rattle.guest.specs.Configs.{Config}
 use Rattle.guest.specs.SeenTurns.{IsSeen, seen}
@@ -26,7 +26,7 @@ use Rattle.run_recorder.specs.Recorded.{outputs_of, record_in}
 
 -- of a record, by its content
 abbrev pub record_part : TraceRecord → Content → List ℕ
-record_part item content.Trace = spell_record One 0 item
+record_part item content.Trace = spell_record One nothing_before item
 record_part item content.Output = []
 
 -- of bytes that the guest puts out
@@ -45,7 +45,7 @@ bytes_told config event = bytes_in (seen config.memory event)
 
 -- the records of accesses
 abbrev pub touch_records : List Touched → List TraceRecord
-touch_records touches = map (λ t. records.Touch t.access) touches
+touch_records touches = map (λ t. records.Touch t.access None) touches
 
 -- what is known of it
 unfoldable pub IsTold : ℕ → Event → Config → Type 0

@@ -1,9 +1,10 @@
 // What is noted while a run goes on: an observer sees each record, and each file gets what its
 // content says.
-ghost use Rattle.std.specs.Prelude.{◌≡◌, ◌<◌, ◌++◌, ◌∷◌, [], List, ℕ, IfErr, OnOk, length};
+ghost use Rattle.std.specs.Prelude.{◌≡◌, ◌<◌, ◌++◌, ◌∷◌, [], List, None, ℕ, IfErr, OnOk, length};
 ghost use Rattle.std.specs.List.{All};
 ghost use Rattle.shelf.specs.Shelf.{Outside};
 ghost use Rattle.shelf.specs.OnTheirWay.{AreBegun, names_of as waiting_names};
+ghost use Rattle.trace_format.specs.declared.record.Version.TheVariants.{One};
 ghost use Rattle.trace_format.specs.Rules.{IsGoodRecord, IsWritable};
 ghost use Rattle.trace_format.specs.declared.record.TraceRecord.{TraceRecord as ARecord};
 ghost use Rattle.trace_format.specs.declared.record.TraceRecord.TheVariants as records;
@@ -58,24 +59,24 @@ pub(crate) fn note_record<S: Shelf, O: Observer>(
 // The record of an access, which is of an allowed size and place, as its hart says.
 #[inline(always)]
 pub(crate) fn touch_record(access: Access) -> TraceRecord
-    ensures value { result ≡ records.Touch access }
-    ensures good { (harts : ℕ) → access.hart < harts → IsGoodRecord harts result }
+    ensures value { result ≡ records.Touch access None }
+    ensures good { (harts : ℕ) → access.hart < harts → IsGoodRecord One harts result }
 {
     let _hart = access.hart();
-    TraceRecord::Touch(access)
+    TraceRecord::Touch(access, None)
 }
 
 // The record of a block.
 fn alloc_record(addr: u32, size: u32, sites: [u32; 4]) -> TraceRecord
     ensures value { result ≡ records.Alloc addr size sites }
-    ensures good { (harts : ℕ) → IsGoodRecord harts result }
+    ensures good { (harts : ℕ) → IsGoodRecord One harts result }
 {
     TraceRecord::Alloc { addr, size, sites }
 }
 
 fn free_record(addr: u32) -> TraceRecord
     ensures value { result ≡ records.Free addr }
-    ensures good { (harts : ℕ) → IsGoodRecord harts result }
+    ensures good { (harts : ℕ) → IsGoodRecord One harts result }
 {
     TraceRecord::Free { addr }
 }
@@ -134,7 +135,7 @@ pub(crate) fn note_event<S: Shelf, O: Observer>(
     ensures given { OnOk result ((begun : O) (earlier : List ARecord)
         → O.given begun observer.old earlier
         → O.given begun observer.new (earlier ++ records_told guest.now.config event)) }
-    ensures good { All (IsGoodRecord guest.now.setup.harts)
+    ensures good { All (IsGoodRecord One guest.now.setup.harts)
         (records_told guest.now.config event) }
     ensures noted { OnOk result
         ((harts : ℕ) (items : List ARecord) (put : List ℕ) (before : Outside)

@@ -4,6 +4,7 @@ ghost use Rattle.std.specs.Prelude.{◌≡◌, ◌++◌, List, ℕ, IfErr, OnOk,
 ghost use Rattle.std.specs.List.{All};
 ghost use Rattle.shelf.specs.Shelf.{Outside};
 ghost use Rattle.shelf.specs.OnTheirWay.{AreBegun, names_of as waiting_names};
+ghost use Rattle.trace_format.specs.declared.record.Version.TheVariants.{One};
 ghost use Rattle.trace_format.specs.Rules.{IsGoodRecord};
 ghost use Rattle.trace_format.specs.declared.record.TraceRecord.{TraceRecord as ARecord};
 ghost use Rattle.trace_passes.specs.Rooms.{HasRoom};
@@ -34,7 +35,7 @@ pub(crate) fn note_touches<S: Shelf, O: Observer>(
         → O.given begun observer.old earlier → O.given begun observer.new
         (earlier ++ touch_records touches.now)) }
     ensures good { OnOk result ((harts : ℕ) → AreOfHarts harts touches.now
-        → All (IsGoodRecord harts) (touch_records touches.now)) }
+        → All (IsGoodRecord One harts) (touch_records touches.now)) }
     ensures noted { OnOk result
         ((harts : ℕ) (items : List ARecord) (put : List ℕ) (before : Outside)
         → AreNoted harts items put files.now outputs.old before (S.outside shelf.old)
@@ -79,7 +80,7 @@ pub(crate) fn note_turn<S: Shelf, O: Observer>(
         → O.given begun observer.old earlier
         → O.given begun observer.new
         (earlier ++ (touch_records touches.now ++ records_told guest.now.config event))) }
-    ensures good { OnOk result (All (IsGoodRecord guest.now.setup.harts)
+    ensures good { OnOk result (All (IsGoodRecord One guest.now.setup.harts)
         (touch_records touches.now ++ records_told guest.now.config event)) }
     ensures noted { OnOk result
         ((harts : ℕ) (items : List ARecord) (put : List ℕ) (before : Outside)

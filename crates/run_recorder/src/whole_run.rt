@@ -6,6 +6,7 @@ ghost use Rattle.shelf.specs.Shelf.{Outside};
 ghost use Rattle.shelf.specs.Files.{AreCut, AreWritten};
 ghost use Rattle.shelf.specs.OnTheirWay.{AreApart, AreBegun, IsOutputs};
 ghost use Rattle.shelf.specs.OnTheirWay.{names_of as waiting_names};
+ghost use Rattle.trace_format.specs.declared.record.Version.TheVariants.{One};
 ghost use Rattle.trace_format.specs.Rules.{IsAllowedEnd, IsGoodRecord};
 ghost use Rattle.trace_format.specs.declared.record.TraceRecord.{TraceRecord as ARecord};
 ghost use Rattle.trace_format.specs.declared.record.TraceRecord.TheVariants as records;
@@ -122,7 +123,7 @@ fn follow<S: Shelf, O: Observer>(
         → O.given begun observer.old earlier
         → O.given begun observer.new (earlier ++ records_in (rest_of guest.old).events)) }
     ensures good { OnOk result
-        (All (IsGoodRecord guest.old.setup.harts) (records_in (rest_of guest.old).events)) }
+        (All (IsGoodRecord One guest.old.setup.harts) (records_in (rest_of guest.old).events)) }
     ensures noted { OnOk result ((earlier : List ARecord) (before : Outside)
         → AreNoted guest.old.setup.harts earlier [] files.now outputs.old before
         (S.outside shelf.old)

@@ -19,8 +19,10 @@ use Rattle.trace_format.specs.declared.record.Version.TheVariants.{One}
 use Rattle.trace_format.specs.Laws.Again.{record_again}
 use Rattle.trace_format.specs.Laws.Bytes.{bytes_of, from_part, last_part, spelled_64}
 use Rattle.trace_format.specs.Found.{IsFound}
-use Rattle.trace_format.specs.Judging.{alloc_at, number_at, record_extent, record_judged}
-use Rattle.trace_format.specs.Spelling.{spell_alloc}
+use Rattle.trace_format.specs.Judging.{alloc_at, record_extent, record_judged}
+use Rattle.base.specs.Fields.{number_at}
+use Rattle.trace_format.specs.Spelling.{nothing_before, spell_alloc}
+use Rattle.trace_format.specs.Laws.Before.{nothing_good}
 use Rattle.trace_format.specs.Laws.Spelling.{record_whole}
 use Rattle.saved_state.specs.ObjectJudging.{block_at, block_form, block_read, death_of, is_life}
 use Rattle.saved_state.specs.ObjectRules.{IsSavedBlock}
@@ -101,7 +103,7 @@ module _ (records_found : RecordsFound) (position : ℕ) where
       ∙ sym (alloc_there front first) in
       let found : IsFound alone front (fields_of unit) =
       subst (IsFound alone front) (same_fields unit)
-      (records_found alone front (alloc_at front) (omega arith) (omega arith)
+      (records_found alone front (alloc_at front) (omega arith) nothing_good
       (All-take IsByte 25 unit fits) long (judged_alloc front first)) in
       let good = found.good in (
         record {
@@ -172,7 +174,7 @@ alloc_length : (addr size : ℕ) (sites : List ℕ) → addr < 2 ^ 32 → size <
     → length (spell_alloc addr size sites) ≡ 25
 unfolding spell_alloc
 alloc_length addr size sites small_addr small_size four each =
-    sym (record_whole One 1 0 (records.Alloc addr size sites) (small_addr, small_size, four, each))
+    sym (record_whole One 1 nothing_before (records.Alloc addr size sites) (small_addr, small_size, four, each))
     ∙ alloc_there (spell_alloc addr size sites) refl
 
 same_item : (a b : TraceRecord) → (let r : Result TraceRecord TraceFault = Ok a in r ≡ Ok b) → a ≡ b
@@ -183,7 +185,7 @@ alloc_again : (addr size : ℕ) (sites : List ℕ) → addr < 2 ^ 32 → size < 
     → alloc_at (spell_alloc addr size sites) ≡ records.Alloc addr size sites
 unfolding spell_alloc
 alloc_again addr size sites small_addr small_size four each =
-    let judged = record_again alone (records.Alloc addr size sites) (omega arith) (omega arith)
+    let judged = record_again alone (records.Alloc addr size sites) (omega arith) nothing_good
     (small_addr, small_size, four, each) tt in
     same_item (alloc_at (spell_alloc addr size sites)) (records.Alloc addr size sites)
     (sym (judged_alloc (spell_alloc addr size sites) refl) ∙ judged)
@@ -201,7 +203,7 @@ block_length position b good =
 with_life : TraceRecord → ℕ → Option ℕ → Option Block
 with_life (records.Alloc addr size sites) born died =
     Some (record { addr = addr; size = size; sites = sites; born = born; died = died })
-with_life (records.Touch a) born died = None
+with_life (records.Touch a pc) born died = None
 with_life (records.Free addr) born died = None
 with_life (records.Symbol kind addr size name) born died = None
 with_life (records.End ending) born died = None

@@ -15,7 +15,7 @@ use Rattle.objects.specs.Symbols.{Symbol}
 use Rattle.base.specs.declared.faults.ResumeFault.{ResumeFault}
 use Rattle.base.specs.declared.faults.ResumeFault.TheVariants.{BadState}
 use Rattle.trace_format.specs.Laws.Bytes.{below_64, bytes_of, from_part, spelled_64}
-use Rattle.trace_format.specs.Judging.{number_at}
+use Rattle.base.specs.Fields.{number_at}
 use Rattle.saved_state.specs.ObjectJudging.{all_taken, block_form, objects_judged, symbol_form}
 use Rattle.saved_state.specs.ObjectJudging.{units_judged, with_blocks, with_symbols}
 use Rattle.saved_state.specs.ObjectRules.{IsPartOf, IsSavable, IsSavedBlock, IsSavedSymbol}

@@ -1,5 +1,5 @@
 -- The units of symbols are exact.
-use Rattle.std.proofs.Common.{◌≡◌, ℕ, ◌^◌, ◌<◌, ◌≤◌, Bool, true, false, cond, eqb, eqb-true, ltb}
+use Rattle.std.proofs.Common.{◌≡◌, ℕ, ◌≤◌, Bool, true, false, cond, eqb, eqb-true, ltb}
 use Rattle.std.proofs.Common.{List, ◌++◌, length, get_or, take}
 use Rattle.std.proofs.Common.{All, Option, Some, None, Result, Ok, Err, refl, sym, ap, ◌∙◌, arith}
 use Rattle.std.proofs.lemmas.Bool.Decides.{nat_tests}
@@ -18,7 +18,9 @@ use Rattle.trace_format.specs.Laws.Again.{record_again}
 use Rattle.trace_format.specs.Laws.Extents.{fronts_wait_at}
 use Rattle.trace_format.specs.Found.{IsFound}
 use Rattle.trace_format.specs.Judging.{record_extent, record_judged, symbol_extent, symbol_judged}
-use Rattle.trace_format.specs.Spelling.{spell_symbol}
+use Rattle.trace_format.specs.Spelling.{nothing_before, spell_symbol}
+use Rattle.trace_format.specs.Rules.{IsGoodBefore}
+use Rattle.trace_format.specs.Laws.Before.{nothing_good}
 use Rattle.saved_state.specs.ObjectJudging.{symbol_form, symbol_in, symbol_read}
 use Rattle.saved_state.specs.ObjectRules.{IsSavedSymbol}
 use Rattle.saved_state.specs.ObjectUnits.{if_may_follow, unit_at}
@@ -30,15 +32,14 @@ alone = record {
   version = One;
   header = record { first = 0; harts = 1 };
   counted = 0;
-  last =
-      0;
+  before = nothing_before;
   place = 0;
 }
 
 -- what the grammar of traces says of a record that is judged good
 abbrev pub RecordsFound : Type 0
 RecordsFound = (p : ReadSoFar) (bytes : List ℕ) (item : TraceRecord) → p.header.harts ≤ 256
-    → p.last < 2 ^ 32 → All IsByte bytes
+    → IsGoodBefore p.before → All IsByte bytes
     → length bytes ≡ record_extent p.version bytes → record_judged p bytes ≡ Ok item
     → IsFound p bytes item
 
@@ -52,7 +53,7 @@ if_true false o x e = absurd cc
 symbol_was : (j : Result TraceRecord TraceFault) (s : Symbol) → symbol_in j ≡ Some s → j
     ≡ Ok (records.Symbol s.kind s.addr s.size s.name)
 symbol_was (Err fault) s e = absurd cc
-symbol_was (Ok (records.Touch a)) s e = absurd cc
+symbol_was (Ok (records.Touch a pc)) s e = absurd cc
 symbol_was (Ok (records.Alloc addr size sites)) s e = absurd cc
 symbol_was (Ok (records.Free addr)) s e = absurd cc
 symbol_was (Ok (records.End ending)) s e = absurd cc
@@ -99,7 +100,7 @@ module _ (records_found : RecordsFound) where
       ∙ sym (front_extent bytes first long) in
       let judged = judged_there unit tag ∙ symbol_was (symbol_judged 0 unit) s told.1 in
       let found = records_found alone unit (records.Symbol s.kind s.addr s.size s.name)
-      (omega arith) (omega arith) (All-take IsByte n bytes
+      (omega arith) nothing_good (All-take IsByte n bytes
       fits) size judged in
       (found.good, found.spelled)
 
@@ -165,7 +166,7 @@ symbol_again : (s : Symbol) → IsSavedSymbol s → symbol_read
 unfolding symbol_read spell_symbol record_judged
 symbol_again s good =
     let judged = record_again alone (records.Symbol s.kind s.addr s.size s.name) (omega arith)
-    (omega arith) good tt in
+    nothing_good good tt in
     ap symbol_in judged
 
 pub symbols_again : ReadsAgain symbol_form IsSavedSymbol

@@ -14,7 +14,8 @@ use Rattle.trace_format.specs.declared.record.TraceRecord.{TraceRecord}
 use Rattle.trace_format.specs.declared.record.TraceRecord.TheVariants as records
 use Rattle.trace_format.specs.declared.tag.Tag.TheVariants as tags
 use Rattle.trace_format.specs.Tags.{number_of}
-use Rattle.trace_format.specs.Judging.{number_at, symbol_extent, symbol_judged}
+use Rattle.trace_format.specs.Judging.{symbol_extent, symbol_judged}
+use Rattle.base.specs.Fields.{number_at}
 use Rattle.saved_state.specs.ObjectSpelling.{no_death, spell_block, spell_saved_symbol}
 use Rattle.saved_state.specs.ObjectUnits.{Form, fault_at, units_at}
 

@@ -17,7 +17,7 @@ use Rattle.saved_state.specs.declared.state_parts.StateHeader.{StateHeader}
 use Rattle.saved_state.specs.declared.state_parts.TrackHead.{TrackHead}
 use Rattle.saved_state.specs.Spelling.{Header, no_start, spell_head, spell_line, spell_word}
 use Rattle.saved_state.specs.Units.{if_spelled, is_good_word, is_line, is_since, line_at}
-use Rattle.trace_format.specs.Judging.{number_at}
+use Rattle.base.specs.Fields.{number_at}
 use Rattle.saved_state.specs.Units.{size_of, some_unless, track_at, word_at, words_at}
 
 -- all but the report threshold, which isn't saved

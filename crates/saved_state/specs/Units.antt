@@ -25,7 +25,7 @@ use Rattle.sharing_rules.specs.declared.word.Word.{Word}
 use Rattle.line_tracks.specs.RangeWords.{is_possible}
 use Rattle.line_tracks.specs.Kept.{Kept}
 use Rattle.line_tracks.specs.Placed.{is_placed_before}
-use Rattle.trace_format.specs.Judging.{number_at}
+use Rattle.base.specs.Fields.{number_at}
 use Rattle.saved_state.specs.declared.state_parts.CountedLine.{CountedLine}
 use Rattle.saved_state.specs.Spelling.{Header, many_harts, no_hart, no_start, spell_header}
 use Rattle.saved_state.specs.Spelling.{spell_line, spell_track}

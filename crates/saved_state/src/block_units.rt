@@ -5,9 +5,8 @@ ghost use Rattle.saved_state.specs.ObjectJudging.{block_at, block_form, death_of
 ghost use Rattle.saved_state.specs.ObjectUnits.{units_at};
 
 use crate::object_fault::fault_at;
-use base::ResumeFault;
+use base::{ResumeFault, u32_at, u64_at};
 use objects::{Block, ObjectTable};
-use trace_format::{u32_at, u64_at};
 
 // The tag of a block that is made.
 const ALLOC: u8 = 3;

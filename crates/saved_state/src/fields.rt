@@ -2,7 +2,7 @@
 ghost use Rattle.std.specs.Prelude.{◌≡◌, ◌+◌, ◌≤◌, length};
 ghost use Rattle.saved_state.specs.Units.{integer_at, some_unless};
 
-pub(crate) use trace_format::{behind, u16_at, u32_at, u64_at};
+use base::u64_at;
 
 pub(crate) fn i64_at(bytes: &[u8], place: usize) -> i64
     requires { place + 8 ≤ length bytes.now }

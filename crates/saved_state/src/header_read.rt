@@ -7,14 +7,14 @@ ghost use Rattle.sharing_rules.specs.Listed.{may_predict};
 ghost use Rattle.saved_state.specs.Parts.{are_native_levels, header_meant};
 ghost use Rattle.saved_state.specs.Units.{header_at, header_in, is_good_header};
 
-use crate::fields::{some_unless, u16_at, u32_at, u64_at};
+use crate::fields::some_unless;
 use crate::header_places::{
     HARTS_PLACE, HEADER_LENGTH, LINES_PLACE, OFFSET_PLACE, POSITION_PLACE, PREDICTION_PLACE,
     SIZE_PLACE, TRACKING_PLACE, TRACKS_PLACE,
 };
 use crate::state_parts::StateHeader;
 use crate::state_write::header_bytes;
-use base::{Layout, Thresholds};
+use base::{Layout, Thresholds, u16_at, u32_at, u64_at};
 use sharing_rules::is_native;
 
 // Thresholds under a layout: None exactly where they are none, or something is predicted under a

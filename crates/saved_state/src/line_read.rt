@@ -7,10 +7,10 @@ ghost use Rattle.saved_state.specs.Parts.{IsLast, header_meant, is_good_behind, 
 ghost use Rattle.saved_state.specs.Units.{is_line, line_in};
 ghost use Rattle.saved_state.specs.declared.state_parts.CountedLine.{CountedLine};
 
-use crate::fields::{i64_at, u64_at};
+use crate::fields::i64_at;
 use crate::state_parts::{CountedLine, StateHeader};
 use crate::state_write::line_bytes;
-use base::Layout;
+use base::{Layout, u64_at};
 use sharing_rules::number_of_base;
 
 // Whether a line has an address.

@@ -9,10 +9,9 @@ use crate::block_units::read_blocks;
 use crate::object_fault::fault_at;
 use crate::object_laws::what_is_resumed_was_saved;
 use crate::symbol_units::read_symbols;
-use base::ResumeFault;
+use base::{ResumeFault, u64_at};
 use objects::ObjectTable;
 use std::alloc::Global;
-use trace_format::u64_at;
 
 // How many bytes the numbers of symbols and blocks have.
 const COUNTS_LENGTH: usize = 16;

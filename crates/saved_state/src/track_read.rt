@@ -11,14 +11,14 @@ ghost use Rattle.saved_state.specs.Parts.{IsHeadSized, are_words, good_head, hea
 ghost use Rattle.saved_state.specs.Parts.{header_meant, kept_of, most_of, word_in};
 ghost use Rattle.saved_state.specs.Spelling.{no_start};
 ghost use Rattle.saved_state.specs.Units.{IsSized, are_entries, integer_at, is_owner, kind_of};
-ghost use Rattle.trace_format.specs.Judging.{number_at};
+ghost use Rattle.base.specs.Fields.{number_at};
 ghost use Rattle.saved_state.specs.Units.{owner_of, size_of, some_unless, track_alone, word_at};
 ghost use Rattle.saved_state.specs.Units.{words_at};
 
-use crate::fields::{behind, i64_at, some_unless, u16_at, u64_at};
+use crate::fields::{i64_at, some_unless};
 use crate::state_parts::{SavedTrack, StateHeader, TrackHead};
 use crate::track_write::{MANY_HARTS, NO_HART, head_bytes, word_bytes};
-use base::{Hart, Layout, NoMemory, Range};
+use base::{Hart, Layout, NoMemory, Range, behind, u16_at, u64_at};
 use line_tracks::{History, LineKind, Shadow};
 use sharing_rules::{Owner, Word};
 use std::alloc::Global;

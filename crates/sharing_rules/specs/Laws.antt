@@ -19,5 +19,6 @@ pub mod Pairs
 pub mod Places
 pub mod Recounts
 pub mod Starts
+pub mod Sums
 pub mod Tracks
 pub mod Words

@@ -1,6 +1,3 @@
-pub mod MissLaws
-pub mod MissOrder
-pub mod MissPieces
 pub mod NextLaws
 pub mod NotedLaws
 pub mod ObjectLaws

@@ -1,8 +1,8 @@
 -- What has been seen, with one record more.
 use Rattle.std.proofs.Common.{◌≡◌, ℕ, ◌+◌, ◌≤◌, List, [], ◌∷◌, ◌++◌, length, map, refl, sym, ap}
-use Rattle.std.proofs.Common.{◌∙◌, subst, append_assoc, arith, Option, Some, None, Result, Ok, Err}
+use Rattle.std.proofs.Common.{◌∙◌, append_assoc, Option, Result, Ok, Err}
 use Rattle.std.proofs.Math.Nat.{add-zero}
-use Rattle.std.proofs.lemmas.List.{append-nil, length-append}
+use Rattle.std.proofs.lemmas.List.{append-nil}
 use Rattle.std.proofs.lemmas.List.Elements.{filter_map-append}
 use Rattle.std.specs.Prelude.{OnOk}
 use Rattle.base.specs.Levels.{Levels}
@@ -10,7 +10,6 @@ use Rattle.base.specs.Lines.{Grid}
 use Rattle.base.specs.Touch.{Touch}
 use Rattle.base.specs.declared.ending.Ending.{Ending}
 use Rattle.sharing_rules.specs.AccessLists.{AccessList}
-use Rattle.objects.specs.declared.block.Block.{Block}
 use Rattle.objects.specs.Objects.{Objects}
 use Rattle.objects.specs.Blocks.{blocks_after_alloc, blocks_after_free}
 use Rattle.objects.specs.Symbols.{NoTwoAlike, Symbol, kept_symbol, symbols_of}
@@ -18,35 +17,27 @@ use Rattle.objects.specs.declared.symbol.SymbolKind.{SymbolKind}
 use Rattle.detector.specs.Watch.{Watch, watched}
 use Rattle.detector.specs.Standing.{StandsFor}
 use Rattle.trace_format.specs.Reading.{counted_after}
-use Rattle.trace_format.specs.Rules.{last_position, touch_in, touches_in}
+use Rattle.trace_format.specs.Rules.{last_position, touches_in}
 use Rattle.trace_format.specs.declared.record.TraceRecord.{TraceRecord}
 use Rattle.trace_format.specs.declared.record.TraceRecord.TheVariants as records
 use Rattle.trace_passes.specs.Rooms.{HasRoom}
-use Rattle.sightings.specs.Lives.{lived, made_by, objects_after, symbol_in, symbols_in}
+use Rattle.trace_format.specs.Laws.Touches.{counted-one, position-next, room-next, stands-next}
+use Rattle.trace_format.specs.Laws.Touches.{stands-none, stands-quiet}
+use Rattle.trace_passes.specs.Laws.Noting.{blocks_noted, none_left, same_objects}
+use Rattle.trace_passes.specs.Lives.{lived, objects_after, symbol_in, symbols_in}
 use Rattle.report.specs.OfLists.{report_of}
 use Rattle.sightings.specs.Seen.{HasSeen, begins_at, SeesNext, report_of_records}
 use Rattle.report.specs.Reports.{report_lines}
 use Rattle.report.specs.Shown.{listed_tracks}
 use Rattle.base.specs.TextLines.{text_of}
 use Rattle.line_tracks.specs.Kept.{Kept}
-use Rattle.sightings.specs.Sights.{Sighted, noted, nothing_sighted, objects_noted}
+use Rattle.sightings.specs.Sights.{Sighted, noted, nothing_sighted}
+use Rattle.trace_passes.specs.Lives.{objects_noted}
 use Rattle.sightings.specs.Sights.{report_of_sighted, sighted_after, watch_noted}
 use Rattle.sightings.specs.Laws.Seen.{sighted_after-push}
-use Rattle.sightings.specs.Laws.Lives.{blocks_behind, blocks_behind-push, ended, none_ended}
-use Rattle.sightings.specs.Laws.Lives.{position_after}
+use Rattle.trace_passes.specs.Laws.Lives.{blocks_behind, blocks_behind-push}
+use Rattle.trace_passes.specs.Laws.Lives.{position_after}
 use Rattle.detector.specs.Laws.Standing.{stands_nothing}
-
--- one record more at a position, over any blocks
-pub blocks_noted : (before : Objects) (q : ℕ) (x : TraceRecord)
-    → map (ended q x) before.blocks ++ made_by q x [] ≡ (objects_noted before x q).blocks
-blocks_noted before q (records.Touch a) = append-nil _
-    ∙ none_ended q (records.Touch a) (λ addr. refl) before.blocks
-blocks_noted before q (records.Alloc addr size sites) = refl
-blocks_noted before q (records.Free addr) = append-nil _
-blocks_noted before q (records.Symbol kind addr size name) =
-    append-nil _ ∙ none_ended q (records.Symbol kind addr size name) (λ addr. refl) before.blocks
-blocks_noted before q (records.End e) = append-nil _
-    ∙ none_ended q (records.End e) (λ addr. refl) before.blocks
 
 -- what one record changed
 pub record IsNext (old new : Sighted) (x : TraceRecord) : Type 0 where
@@ -60,22 +51,6 @@ pub record IsNext (old new : Sighted) (x : TraceRecord) : Type 0 where
   pub grid : new.watch.grid ≡ old.watch.grid
   pub levels : new.watch.levels ≡ old.watch.levels
 
-touches-push : (xs : List TraceRecord) (x : TraceRecord) → touches_in (xs ++ x ∷ []) ≡ touches_in xs
-    ++ touches_in (x ∷ [])
-touches-push xs x = filter_map-append touch_in xs (x ∷ [])
-
-counted-one : (p : ℕ) (x : TraceRecord) → counted_after p x ≡ p + length (touches_in (x ∷ []))
-counted-one p (records.Touch a) = refl
-counted-one p (records.Alloc addr size sites) = sym (add-zero p)
-counted-one p (records.Free addr) = sym (add-zero p)
-counted-one p (records.Symbol kind addr size name) = sym (add-zero p)
-counted-one p (records.End e) = sym (add-zero p)
-
-pub same_objects : (a b : Objects) → a.symbols ≡ b.symbols → a.blocks ≡ b.blocks → a ≡ b
-same_objects a b symbols blocks =
-    ap (λ s. record { symbols = s; blocks = a.blocks }) symbols
-    ∙ ap (λ bs. record { symbols = b.symbols; blocks = bs }) blocks
-
 module _ (begun old new : Sighted) (xs : List TraceRecord) (x : TraceRecord)
     (one : IsNext old new x) (so_far : HasSeen begun old xs)
   where
@@ -86,17 +61,13 @@ module _ (begun old new : Sighted) (xs : List TraceRecord) (x : TraceRecord)
     next_stands : (t : AccessList) → StandsFor t begun.watch
         → StandsFor (t ++ touches_in (xs ++ x ∷ [])) new.watch
     next_stands t stood =
-        let P : AccessList → Type 0 = λ list. StandsFor list new.watch in
-        subst P (append_assoc t (touches_in xs) (touches_in (x ∷ []))
-        ∙ ap (λ list. t ++ list) (sym (touches-push xs x)))
+        stands-next StandsFor new.watch t xs x
         (one.stands (t ++ touches_in xs) (so_far.stands t stood))
 
     next_position : new.watch.position ≡ begun.watch.position + length (touches_in (xs ++ x ∷ []))
     next_position =
-        let all : length (touches_in (xs ++ x ∷ []))
-        ≡ length (touches_in xs) + length (touches_in (x ∷ [])) =
-        ap length (touches-push xs x) ∙ length-append (touches_in xs) (touches_in (x ∷ [])) in
-        omega (arith, all, one.position, counted-one old.watch.position x, so_far.position)
+        position-next begun.watch.position old.watch.position xs x so_far.position
+        new.watch.position (one.position ∙ counted-one old.watch.position x)
 
     next_symbols : new.objects.symbols ≡ symbols_of
         (begun.objects.symbols ++ symbols_in (xs ++ x ∷ []))
@@ -139,11 +110,11 @@ no_symbol : (old new list : List Symbol) → new ≡ old → old ≡ symbols_of 
 no_symbol old new list same is = same ∙ is ∙ ap symbols_of (sym (append-nil list))
 
 -- an access, over any objects
-pub next_access : (o : Objects) (old new : Watch) (a : Touch) → new ≡ watched old a
+pub next_access : (o : Objects) (old new : Watch) (a : Touch) (pc : Option ℕ) → new ≡ watched old a
     → ((t : AccessList) → StandsFor t old → StandsFor (t ++ a ∷ []) new)
-    → SeesNext (sighted old o) (sighted new o) (records.Touch a)
-next_access o old new a is stands =
-    sees_next (sighted old o) (sighted new o) (records.Touch a) (record {
+    → SeesNext (sighted old o) (sighted new o) (records.Touch a pc)
+next_access o old new a pc is stands =
+    sees_next (sighted old o) (sighted new o) (records.Touch a pc) (record {
       value = ap (λ (w : Watch). sighted w o) is;
       stands = stands;
       position = ap (λ (w : Watch). w.position) is;
@@ -164,16 +135,13 @@ module _ (w : Watch) (old new : Objects) where
       sees_next (sighted w old) (sighted w new) x (record {
         value = ap (λ (o : Objects). sighted w o) is
             ∙ ap (λ (v : Watch). sighted v (objects_noted old x w.position)) (sym unseen);
-        stands = λ t stood. subst (λ (list : AccessList). StandsFor list w) (same_list t) stood;
+        stands = λ t. stands-quiet StandsFor w t x none;
         position = sym stays;
         symbols = symbols;
         blocks = ap (λ (o : Objects). o.blocks) is;
         grid = refl;
         levels = refl;
       })
-    where
-      same_list : (t : AccessList) → t ≡ t ++ touches_in (x ∷ [])
-      same_list t = sym (append-nil t) ∙ ap (λ (list : AccessList). t ++ list) (sym none)
 
   pub next_alloc : (addr size : ℕ) (sites : List ℕ)
       → new ≡ record old { blocks = blocks_after_alloc old.blocks w.position addr size sites }
@@ -213,23 +181,11 @@ pub on_both : {T E P Q R : Type 0} (r : Result T E) → (P → Q → R) → OnOk
 on_both (Ok x) f p q = f p q
 on_both (Err e) f p q = tt
 
--- where no record is left, each block stays as it is
-as_it_is : (p : ℕ) (b : Block) (died : Option ℕ) → lived p [] (record b { died = died })
-    ≡ record b { died = died }
-as_it_is p b None = refl
-as_it_is p b (Some d) = refl
-
-pub none_left : (p : ℕ) (bs : List Block) → map (lived p []) bs ≡ bs
-none_left p [] = refl
-none_left p (b ∷ bs) = ap (λ c. c ∷ map (lived p []) bs) (as_it_is p b b.died)
-    ∙ ap (λ cs. b ∷ cs) (none_left p bs)
-
 -- before any record
 pub seen_nothing : (s : Sighted) → NoTwoAlike s.objects.symbols → HasSeen s s []
 seen_nothing s apart = record {
   value = refl;
-  stands = λ t stood. subst (λ (list : AccessList). StandsFor list s.watch)
-      (sym (append-nil t)) stood;
+  stands = stands-none StandsFor s.watch;
   position = sym (add-zero s.watch.position);
   objects = same_objects s.objects (objects_after s.objects s.watch.position [])
       (sym (ap symbols_of (append-nil s.objects.symbols) ∙ apart))
@@ -274,18 +230,8 @@ reported_held e g v tracks s grid levels kept =
 pub room_for_one : (now : Sighted) (x : TraceRecord) → HasRoom begins_at HasSeen now (x ∷ [])
     → counted_after now.watch.position x ≤ last_position
 room_for_one now x room =
-    let all : length (touches_in (room.seen ++ x ∷ []))
-    ≡ length (touches_in room.seen) + length (touches_in (x ∷ [])) =
-    ap length (touches-push room.seen x) ∙ length-append (touches_in room.seen)
-    (touches_in (x ∷ [])) in
-    omega (
-      arith,
-      all,
-      counted-one now.watch.position x,
-      room.given_so_far.position,
-      room.begins_there,
-      room.room,
-    )
+    room-next room.begun.watch.position now.watch.position room.seen x
+    room.given_so_far.position room.first room.begins_there room.room
 
 -- a call that ended well made the symbols those of each list with one more
 pub whole_ok : {T E : Type 0} (r : Result T E) (old new : List Symbol) (one : Symbol)

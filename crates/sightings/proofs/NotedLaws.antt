@@ -17,7 +17,8 @@ use Rattle.trace_format.specs.declared.record.TraceRecord.{TraceRecord}
 use Rattle.trace_format.specs.declared.record.TraceRecord.TheVariants as records
 use Rattle.sightings.specs.Seen.{HasSeen, IsNotable, SeesNext}
 use Rattle.sightings.specs.Laws.Seen.{sighted_after-push}
-use Rattle.sightings.specs.Sights.{Sighted, noted, objects_noted, report_of_sighted, sighted_after}
+use Rattle.sightings.specs.Sights.{Sighted, noted, report_of_sighted, sighted_after}
+use Rattle.trace_passes.specs.Lives.{objects_noted}
 use Rattle.sightings.proofs.NextLaws.{next_access, next_alloc, next_end, next_free, next_symbol}
 use Rattle.sightings.proofs.NextLaws.{seen_nothing}
 use Rattle.sightings.proofs.Records.{by_records}
@@ -35,8 +36,8 @@ one_more_symbol old list one was =
 
 -- a record that is noted is seen
 sees_noted : StandsOn → (s : Sighted) (x : TraceRecord) → IsNotable s → SeesNext s (noted s x) x
-sees_noted stands_on s (records.Touch a) good =
-    next_access s.objects s.watch (watched s.watch a) a refl
+sees_noted stands_on s (records.Touch a pc) good =
+    next_access s.objects s.watch (watched s.watch a) a pc refl
     (λ t stood. stands_on s.watch t a good.layout good.native good.some stood)
 sees_noted stands_on s (records.Alloc addr size sites) good =
     next_alloc s.watch s.objects (objects_noted s.objects
@@ -52,7 +53,7 @@ sees_noted stands_on s (records.End e) good = next_end s e
 
 -- and leaves what is good so
 notable_on : (s : Sighted) (x : TraceRecord) → IsNotable s → IsNotable (noted s x)
-notable_on s (records.Touch a) good =
+notable_on s (records.Touch a pc) good =
     record { layout = good.layout; native = good.native; some = good.some; apart = good.apart }
 notable_on s (records.Alloc addr size sites) good =
     record { layout = good.layout; native = good.native; some = good.some; apart = good.apart }

@@ -8,9 +8,9 @@ use Rattle.objects.specs.Symbols.{symbols_of}
 use Rattle.objects.specs.Laws.Symbols.{symbols_of-behind}
 use Rattle.trace_format.specs.Rules.{touch_in, touches_in}
 use Rattle.trace_format.specs.declared.record.TraceRecord.{TraceRecord}
-use Rattle.sightings.specs.Laws.Lives.{blocks_behind, blocks_behind-push, ended, position_after}
-use Rattle.sightings.specs.Lives.{lived, made_by, objects_after, objects_of, symbol_in, symbols_in}
-use Rattle.sightings.proofs.NextLaws.{none_left, same_objects}
+use Rattle.trace_passes.specs.Laws.Lives.{blocks_behind, blocks_behind-push, ended, position_after}
+use Rattle.trace_passes.specs.Lives.{lived, made_by, objects_after, objects_of, symbol_in, symbols_in}
+use Rattle.trace_passes.specs.Laws.Noting.{none_left, same_objects}
 use Rattle.sightings.proofs.Records.{by_records}
 
 module _ (bs : List Block) (p : ℕ) (before : List TraceRecord) where

@@ -22,11 +22,11 @@ use Rattle.trace_format.specs.Reading.{counted_after}
 use Rattle.trace_format.specs.Rules.{touch_in, touches_in}
 use Rattle.trace_format.specs.declared.record.TraceRecord.{TraceRecord}
 use Rattle.trace_format.specs.declared.record.TraceRecord.TheVariants as records
-use Rattle.sightings.specs.Laws.Lives.{blocks_behind-push, ended, position_after}
-use Rattle.sightings.specs.Lives.{ends_at, made_by, made_in, objects_of, symbols_in}
+use Rattle.trace_passes.specs.Laws.Lives.{blocks_behind-push, ended, position_after}
+use Rattle.trace_passes.specs.Lives.{ends_at, made_by, made_in, objects_of, symbols_in}
 use Rattle.sightings.specs.Origins.{IsBlockOf, IsSymbolOf}
-use Rattle.sightings.specs.Sights.{objects_noted}
-use Rattle.sightings.proofs.NextLaws.{blocks_noted}
+use Rattle.trace_passes.specs.Lives.{objects_noted}
+use Rattle.trace_passes.specs.Laws.Noting.{blocks_noted}
 use Rattle.sightings.proofs.Records.{by_records}
 
 -- ---- no two blocks live at one address
@@ -73,7 +73,7 @@ none_there bs q addr =
 
 lone_noted : (o : Objects) (x : TraceRecord) (q : ℕ) → NoTwoLive o.blocks
     → NoTwoLive (objects_noted o x q).blocks
-lone_noted o (records.Touch a) q lone = lone
+lone_noted o (records.Touch a pc) q lone = lone
 lone_noted o (records.Alloc addr size sites) q lone =
     all_pairs_push Apart (blocks_after_free o.blocks q addr) (newborn q addr size sites)
     (lone_free o.blocks q addr lone)
@@ -124,7 +124,7 @@ module _ (done : List TraceRecord) (x : TraceRecord) where
 
 blocks_made : (done : List TraceRecord) (x : TraceRecord)
     → All (IsBlockOf (done ++ x ∷ [])) (made_by (position_after 0 done) x [])
-blocks_made done (records.Touch a) = All-nil (IsBlockOf (done ++ records.Touch a ∷ []))
+blocks_made done (records.Touch a pc) = All-nil (IsBlockOf (done ++ records.Touch a pc ∷ []))
 blocks_made done (records.Alloc addr size sites) =
     let x : TraceRecord = records.Alloc addr size sites in
     let q : ℕ = position_after 0 done in
@@ -162,8 +162,8 @@ blocks_of_list items = by_records (λ done. All (IsBlockOf done) (objects_of don
 symbols_told : (all items : List TraceRecord) → All (Contains all) items
     → All (IsSymbolOf all) (symbols_in items)
 symbols_told all [] each = All-nil (IsSymbolOf all)
-symbols_told all (records.Touch a ∷ items) each =
-    symbols_told all items (All-tail (Contains all) (records.Touch a) items each)
+symbols_told all (records.Touch a pc ∷ items) each =
+    symbols_told all items (All-tail (Contains all) (records.Touch a pc) items each)
 symbols_told all (records.Alloc addr size sites ∷ items) each =
     symbols_told all items (All-tail (Contains all) (records.Alloc addr size sites) items each)
 symbols_told all (records.Free addr ∷ items) each =
@@ -185,7 +185,7 @@ symbols_of_list items =
 
 fewer_symbols : (items : List TraceRecord) → length (symbols_in items) ≤ length items
 fewer_symbols [] = omega arith
-fewer_symbols (records.Touch a ∷ items) = omega (arith, fewer_symbols items)
+fewer_symbols (records.Touch a pc ∷ items) = omega (arith, fewer_symbols items)
 fewer_symbols (records.Alloc addr size sites ∷ items) = omega (arith, fewer_symbols items)
 fewer_symbols (records.Free addr ∷ items) = omega (arith, fewer_symbols items)
 fewer_symbols (records.Symbol kind addr size name ∷ items) = omega (arith, fewer_symbols items)
@@ -195,7 +195,7 @@ pub few_symbols : (items : List TraceRecord) → length (objects_of items).symbo
 few_symbols items = omega (arith, symbols_of-fewer (symbols_in items), fewer_symbols items)
 
 one_at_most : (p : ℕ) (x : TraceRecord) (later : List TraceRecord) → length (made_by p x later) ≤ 1
-one_at_most p (records.Touch a) later = omega arith
+one_at_most p (records.Touch a pc) later = omega arith
 one_at_most p (records.Alloc addr size sites) later = omega arith
 one_at_most p (records.Free addr) later = omega arith
 one_at_most p (records.Symbol kind addr size name) later = omega arith

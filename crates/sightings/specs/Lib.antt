@@ -1,7 +1,4 @@
 pub mod Laws
-pub mod Lives
-pub mod MissSights
-pub mod MissTexts
 pub mod Origins
 pub mod Seen
 pub mod SightedCode

@@ -10,7 +10,7 @@ use Rattle.detector.specs.Standing.{StandsFor}
 use Rattle.report.specs.OfLists.{report_of}
 use Rattle.trace_format.specs.Rules.{touches_in}
 use Rattle.trace_format.specs.declared.record.TraceRecord.{TraceRecord}
-use Rattle.sightings.specs.Lives.{objects_after, objects_of}
+use Rattle.trace_passes.specs.Lives.{objects_after, objects_of}
 use Rattle.sightings.specs.Sights.{Sighted, sighted_after}
 
 -- from what was seen first, what is seen now came by these records

@@ -1,16 +1,16 @@
 -- What is seen of trace records: what the accesses show, and what stands in memory.
-use Rattle.std.specs.Prelude.{ℕ, List, [], ◌∷◌, ◌++◌, Bool, true, false, not}
+use Rattle.std.specs.Prelude.{ℕ, List, [], ◌∷◌, Bool, true, false, not}
 use Rattle.std.specs.List.{list_any}
 use Rattle.base.specs.Levels.{Levels}
 use Rattle.base.specs.Lines.{Grid}
 use Rattle.base.specs.declared.ending.Ending.{Ending}
-use Rattle.objects.specs.Blocks.{blocks_after_alloc, blocks_after_free}
 use Rattle.objects.specs.Objects.{Objects, no_objects}
-use Rattle.objects.specs.Symbols.{is_in_place_of, kept_symbol, symbols_of}
+use Rattle.objects.specs.Symbols.{is_in_place_of, kept_symbol}
 use Rattle.detector.specs.Watch.{Watch, nothing_seen, takes_memory, watched}
 use Rattle.report.specs.Reports.{report_lines}
 use Rattle.report.specs.Shown.{listed_tracks}
 use Rattle.base.specs.TextLines.{text_of}
+use Rattle.trace_passes.specs.Lives.{objects_noted}
 use Rattle.trace_format.specs.declared.record.TraceRecord.{TraceRecord}
 use Rattle.trace_format.specs.declared.record.TraceRecord.TheVariants as records
 
@@ -22,19 +22,9 @@ pub record Sighted : Type 0 where
 abbrev pub nothing_sighted : Grid → Levels → Sighted
 nothing_sighted g v = record { watch = nothing_seen g v; objects = no_objects }
 
--- the objects once a record came at a position
-abbrev pub objects_noted : Objects → TraceRecord → ℕ → Objects
-objects_noted o (records.Alloc addr size sites) position =
-    record o { blocks = blocks_after_alloc o.blocks position addr size sites }
-objects_noted o (records.Free addr) position =
-    record o { blocks = blocks_after_free o.blocks position addr }
-objects_noted o (records.Symbol kind addr size name) position =
-    record o { symbols = symbols_of (o.symbols ++ kept_symbol kind addr size name ∷ []) }
-objects_noted o _ position = o
-
 -- what the accesses show once a record came
 abbrev pub watch_noted : Watch → TraceRecord → Watch
-watch_noted w (records.Touch a) = watched w a
+watch_noted w (records.Touch a pc) = watched w a
 watch_noted w _ = w
 
 -- one record more
@@ -57,7 +47,7 @@ report_of_sighted ending s =
 
 -- whether a record may want memory
 abbrev pub wants_memory : Sighted → TraceRecord → Bool
-wants_memory s (records.Touch a) = takes_memory s.watch a
+wants_memory s (records.Touch a pc) = takes_memory s.watch a
 wants_memory s (records.Alloc addr size sites) = true
 wants_memory s (records.Free addr) = false
 wants_memory s (records.Symbol kind addr size name) =

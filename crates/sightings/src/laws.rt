@@ -12,7 +12,7 @@ ghost use Rattle.report.specs.OfLists.{report_of};
 ghost use Rattle.trace_format.specs.Rules.{touches_in};
 ghost use Rattle.trace_format.specs.declared.record.TraceRecord.{TraceRecord as Record};
 ghost use Rattle.trace_format.specs.declared.record.TraceRecord.TheVariants as records;
-ghost use Rattle.sightings.specs.Lives.{objects_after, objects_of};
+ghost use Rattle.trace_passes.specs.Lives.{objects_after, objects_of};
 ghost use Rattle.sightings.specs.Origins.{IsBlockOf, IsSymbolOf};
 ghost use Rattle.sightings.specs.Seen.{HasSeen, IsNotable, report_of_records};
 ghost use Rattle.sightings.specs.Sights.{Sighted, report_of_sighted, sighted_after};

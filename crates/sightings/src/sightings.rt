@@ -1,5 +1,5 @@
 // A detector and a table of objects, which see the records of a trace one after the other.
-ghost use Rattle.std.specs.Prelude.{◌≡◌, ◌<◌, ◌≤◌, ◌^◌, [], List};
+ghost use Rattle.std.specs.Prelude.{◌≡◌, ◌<◌, ◌≤◌, ◌^◌, ℕ, [], List, Option};
 ghost use Rattle.std.specs.Prelude.{IsTrue, IsFalse, IsOk, OnOk, OnErr, IfOk};
 ghost use Rattle.detector.specs.Standing.{StandsFor};
 ghost use Rattle.base.specs.Levels.{Levels};
@@ -75,10 +75,13 @@ impl Sightings {
     #[inline]
     pub fn note_access(&mut self, access: Access) -> Result<(), NoMemory>
         requires { self.old.watch.position < 2 ^ 40 }
-        ensures noted { OnOk result (self.new ≡ noted self.old (TraceRecord.Touch access)) }
+        ensures noted { (pc : Option ℕ) → OnOk result (self.new
+            ≡ noted self.old (TraceRecord.Touch access pc)) }
         ensures same { OnErr result (self.new ≡ self.old) }
-        ensures seen { OnOk result (SeesNext self.old self.new (TraceRecord.Touch access)) }
-        ensures known { IsFalse (wants_memory self.old (TraceRecord.Touch access)) → IsOk result }
+        ensures seen { (pc : Option ℕ) → OnOk result (SeesNext self.old self.new
+            (TraceRecord.Touch access pc)) }
+        ensures known { (pc : Option ℕ) → IsFalse (wants_memory self.old
+            (TraceRecord.Touch access pc)) → IsOk result }
     {
         see(&mut self.detector, access)
     }
@@ -139,7 +142,7 @@ impl Sightings {
         ensures known { IsFalse (wants_memory self.old item.now) → IsOk result }
     {
         match item {
-            TraceRecord::Touch(access) => self.note_access(*access),
+            TraceRecord::Touch(access, _) => self.note_access(*access),
             TraceRecord::Alloc { addr, size, sites } => self.note_alloc(*addr, *size, *sites),
             TraceRecord::Free { addr } => {
                 self.note_free(*addr);

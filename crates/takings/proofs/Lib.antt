@@ -1,2 +1,5 @@
+pub mod BlameLaws
 pub mod TextLaws
+pub mod Watching
+pub mod WorkedBlame
 pub mod WorkedTakings

@@ -1,6 +1,6 @@
 -- What is kept of a sited list, and what one access makes of it.
-use Rattle.std.specs.Prelude.{◌≡◌, ℕ, ◌+◌, ◌<◌, ◌^◌, Bool, false, not, ◌&&◌, ◌==◌, eqb, nat_eq}
-use Rattle.std.specs.Prelude.{nat_le, nat_lt, if◌then◌else◌, List, [], length, Option, Some, None, IfSome}
+use Rattle.std.specs.Prelude.{◌≡◌, ℕ, ◌+◌, ◌<◌, ◌^◌, Bool, false, not, ◌&&◌, ◌||◌, ◌==◌, eqb}
+use Rattle.std.specs.Prelude.{nat_eq, nat_le, nat_lt, if◌then◌else◌, List, [], length, Option, Some, None, IfSome}
 use Rattle.std.specs.Prelude.{is_some, option_and_then, option_map}
 use Rattle.std.specs.Option.{option_map_or}
 use Rattle.std.specs.Map.{lookup}
@@ -111,6 +111,21 @@ pub record CanNote (sites : List (ℕ × Word)) (pairs harts : List (Sides × Ta
   pub few_pairs : IfSome taking (λ k. IsFew (taken_at pairs (pcs_of k)))
   pub few_harts : IfSome taking (λ k. IsFew (taken_at harts (harts_of k)))
 
+-- whether an access has a new site, and whether what it takes has two new sides: only there may
+-- noting want memory
+abbrev pub has_site : List (ℕ × Word) → ℕ → Bool
+has_site es pc = is_some (lookup (eqb pc) es)
+
+abbrev pub has_sides : List (Sides × Taken) → Sides → Bool
+has_sides es x = is_some (lookup (sides_eq x) es)
+
+abbrev pub is_new_site : List (ℕ × Word) → Sited → Bool → Bool
+is_new_site sites s since = since && not (has_site sites s.pc)
+
+abbrev pub is_new_taking : List (Sides × Taken) → List (Sides × Taken) → Option Taking → Bool
+is_new_taking pairs harts taking = option_map_or
+    (λ k. not (has_sides pairs (pcs_of k)) || not (has_sides harts (harts_of k))) taking false
+
 -- the tables stayed as they were
 pub record IsSameTables (sites : List (ℕ × Word)) (pairs harts : List (Sides × Taken))
     (new_sites : List (ℕ × Word)) (new_pairs new_harts : List (Sides × Taken)) : Type 0 where
@@ -163,6 +178,12 @@ note_visit k s =
 abbrev pub note_access : Kept → Sited → Kept
 note_access k s =
     if is_in k.line s then note_visit k s else record k { position = k.position + 1 }
+
+-- whether an access may want memory: one of the line whose site is new, or which takes it from new
+-- instructions or a new hart
+abbrev pub wants_memory : Kept → Sited → Bool
+wants_memory k s = is_in k.line s && (is_new_site k.sites s (nat_le k.start k.position)
+    || is_new_taking k.pairs k.harts (taking_by k.two k.start k.position s))
 
 -- the accesses so far are those of a list
 abbrev pub StandsFor : List Sited → Kept → Type 0

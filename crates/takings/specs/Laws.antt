@@ -1,6 +1,12 @@
 -- What follows from the definitions. A law stands here with its proof, so that other crates can
 -- cite it.
 pub mod Another
+pub mod BlameCounts
+pub mod BlameFits
+pub mod BlameKept
+pub mod BlameLines
+pub mod BlameTables
+pub mod BlameText
 pub mod Bounds
 pub mod Groups
 pub mod KeptOf

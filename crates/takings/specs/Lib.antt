@@ -1,3 +1,9 @@
+pub mod Blame
+pub mod BlameFits
+pub mod BlameInside
+pub mod BlameKept
+pub mod BlameRows
+pub mod BlameText
 pub mod Groups
 pub mod Inside
 pub mod Kept
@@ -6,3 +12,4 @@ pub mod Laws
 pub mod Rows
 pub mod Takings
 pub mod Text
+pub mod Watched

@@ -1,7 +1,7 @@
 // The takings of one line.
-ghost use Rattle.std.specs.Prelude.{◌≡◌, ◌+◌, ◌<◌, ◌^◌, ◌++◌, ◌∷◌, [], IsFalse, IsTrue, List, OnErr};
-ghost use Rattle.std.specs.Prelude.{OnOk};
-ghost use Rattle.takings.specs.Kept.{StandsFor, kept_of, note_access, note_visit};
+ghost use Rattle.std.specs.Prelude.{◌≡◌, ◌+◌, ◌<◌, ◌^◌, ◌++◌, ◌∷◌, [], IsFalse, IsOk, IsTrue, List};
+ghost use Rattle.std.specs.Prelude.{OnErr, OnOk};
+ghost use Rattle.takings.specs.Kept.{StandsFor, kept_of, note_access, note_visit, wants_memory};
 ghost use Rattle.takings.specs.Takings.{is_in};
 ghost use Rattle.takings.specs.declared.sited.Sited.{Sited as ASited};
 
@@ -118,6 +118,7 @@ impl Explainer {
         requires within { IsTrue (is_in self.old.line sited) }
         ensures noted { OnOk result (self.new ≡ note_visit self.old sited) }
         ensures refused { OnErr result (self.new ≡ self.old) }
+        ensures known { IsFalse (wants_memory self.old sited) → IsOk result }
     {
         let taking = self.two.taking(self.start, self.position, sited);
         let since = self.start <= self.position;
@@ -152,6 +153,8 @@ impl Explainer {
             → OnOk result (StandsFor (u ++ record { access = access.now; pc = pc } ∷ [])
             self.new) }
         ensures refused { OnErr result (self.new ≡ self.old) }
+        ensures known { IsFalse (wants_memory self.old
+            (record { access = access.now; pc = pc })) → IsOk result }
     {
         let sited = Sited {
             access: *access,

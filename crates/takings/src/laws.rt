@@ -1,17 +1,21 @@
 // Laws of the definitions, for whoever reads contracts alone. Each call does nothing.
-ghost use Rattle.std.specs.Prelude.{◌≡◌, ℕ, ◌<◌, ◌++◌, ◌∷◌, IsTrue, List, Some, length};
-ghost use Rattle.std.specs.Prelude.{slice_get};
+ghost use Rattle.std.specs.Prelude.{◌≡◌, ℕ, ◌+◌, ◌<◌, ◌≤◌, ◌++◌, ◌∷◌, IsTrue, List, None, Some};
+ghost use Rattle.std.specs.Prelude.{if◌then◌else◌, length, slice_get};
 ghost use Rattle.base.specs.Levels.{Levels};
 ghost use Rattle.base.specs.Lines.{Grid, is_layout};
-ghost use Rattle.sharing_rules.specs.Lines.{Line};
+ghost use Rattle.sharing_rules.specs.Holders.{line_count_since};
+ghost use Rattle.sharing_rules.specs.Lines.{Line, is_inside};
 ghost use Rattle.sharing_rules.specs.Listed.{Finding, listed};
 ghost use Rattle.sharing_rules.specs.Members.{Member};
+ghost use Rattle.sharing_rules.specs.Observed.{first_write_from};
 ghost use Rattle.sharing_rules.specs.Verdicts.{verdict_of};
 ghost use Rattle.sharing_rules.specs.Words.{words_since};
 ghost use Rattle.sharing_rules.specs.declared.line_kind.Verdict.TheVariants.{FalseSharing};
-ghost use Rattle.takings.specs.Kept.{holds_line, is_held_by, two_of, victim_by};
+ghost use Rattle.takings.specs.Blame.{all_takings, taken_line};
+ghost use Rattle.takings.specs.Kept.{holds_line, is_held_by, kept_of, two_of, victim_by};
 ghost use Rattle.takings.specs.Latest.{accesses_of, latest};
 ghost use Rattle.takings.specs.Laws.Another.{held_by_another};
+ghost use Rattle.takings.specs.Laws.BlameCounts.{takes_at};
 ghost use Rattle.takings.specs.Laws.Sums.{taken_in};
 ghost use Rattle.takings.specs.Takings.{hart_pairs, is_in_by_another, is_of_one_word};
 ghost use Rattle.takings.specs.Takings.{is_taking, pairs, taking_count, takings, victim};
@@ -64,4 +68,42 @@ pub fn takings_add_up()
         → taken_in (pairs l start u) ≡ taking_count l start u }
     ensures harts { (l : Line) (start : ℕ) (u : List Sited)
         → taken_in (hart_pairs l start u) ≡ taking_count l start u }
+{}
+
+/// The takings that are told of a line add up to its number: those of its pairs of instructions,
+/// and those of its pairs of harts.
+pub fn taken_lines_add_up()
+    ensures pairs { (l : Line) (u : List Sited)
+        → taken_in (taken_line u l).pairs ≡ (taken_line u l).takings }
+    ensures harts { (l : Line) (u : List Sited)
+        → taken_in (taken_line u l).harts ≡ (taken_line u l).takings }
+    // there are no more in all lines than accesses
+    ensures all { (g : Grid) (u : List Sited) → all_takings g u ≤ length u }
+{}
+
+/// How often a line is taken, beside what is counted from a later start.
+pub fn takings_beside_later_counts()
+    // as often as after its first write, as caches that lose no line count it, and once more where
+    // that write is a taking
+    ensures first_write { (l : Line) (u : List Sited) (s : ℕ)
+        → first_write_from 0 (is_inside l) (accesses_of u) ≡ Some s
+        → (taken_line u l).takings ≡ line_count_since l s (accesses_of u)
+        + (if takes_at l u s then 1 else 0) }
+    // never where it isn't written
+    ensures unwritten { (l : Line) (u : List Sited)
+        → first_write_from 0 (is_inside l) (accesses_of u) ≡ None
+        → (taken_line u l).takings ≡ 0 }
+    // at least as often as is listed of it
+    ensures listed { (g : Grid) (v : Levels) (u : List Sited) (f : Finding)
+        → Member f (listed g v (accesses_of u)) → f.count ≤ (taken_line u f.line).takings }
+{}
+
+/// What is told of a line among all lines is what is told of the line alone from the start 0 on.
+pub fn lines_are_told_as_alone()
+    ensures takings { (l : Line) (u : List Sited)
+        → (taken_line u l).takings ≡ (kept_of l 0 u).count }
+    ensures pairs { (l : Line) (u : List Sited)
+        → (taken_line u l).pairs ≡ (kept_of l 0 u).pairs }
+    ensures harts { (l : Line) (u : List Sited)
+        → (taken_line u l).harts ≡ (kept_of l 0 u).harts }
 {}

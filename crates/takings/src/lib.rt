@@ -1,4 +1,4 @@
-//! Takings: which instructions take a line from each other.
+//! What the command `explain` tells: which instructions take a line from each other.
 //!
 //! A taking is an invalidation of one line at a position above a start. Its victim is the latest
 //! access in the line by another hart than its own, so a taking has two instructions, that of its
@@ -7,9 +7,20 @@
 //! The definitions stand in `specs/Takings.antt`, over whole lists of accesses with their pcs, and
 //! the laws in `specs/Laws/`: each taking has a victim, whose hart holds the line, and two accesses
 //! are enough to tell every victim, whatever the number of harts. [`Explainer`] keeps these two
-//! beside its tables, and [`write_explain`] prints what it tells.
+//! beside its tables, and [`write_explain`] prints what it tells. [`explain_run`] runs a guest to
+//! its end without a detector: the explainer notes each access with the pc of the instruction that
+//! made it.
+//!
+//! [`Blame`] does so for all lines of a layout at once, from the first access on; what it tells is
+//! defined in `specs/Blame.antt`. Of each line it keeps these two accesses and a number, and it has
+//! one table of instructions and one of harts for all lines, since most lines have few rows.
+//! [`write_blame`] prints the lines that are taken, the most taken first.
 #![tactic(auto)]
 
+mod blame;
+mod blame_rows;
+mod blame_tables;
+mod blame_text;
 mod explainer;
 mod latest;
 mod laws;
@@ -17,12 +28,17 @@ mod rows;
 mod sited;
 mod tables;
 mod text;
+mod watch;
 
+pub use blame::Blame;
+pub use blame_text::write_blame;
 pub use explainer::Explainer;
 pub use laws::{
-    false_sharing_takes_no_word, listed_counts_are_told, takings_add_up, two_accesses_are_enough,
+    false_sharing_takes_no_word, lines_are_told_as_alone, listed_counts_are_told,
+    taken_lines_add_up, takings_add_up, takings_beside_later_counts, two_accesses_are_enough,
     victims_hold_the_line,
 };
 pub use sited::{Sides, Sited, Taking};
 pub use tables::Taken;
 pub use text::write_explain;
+pub use watch::{Explained, explain_run};

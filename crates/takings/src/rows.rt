@@ -30,15 +30,15 @@ fn sides_order(one: &Sides, other: &Sides) -> Ordering
     }
 }
 
-// By sides rising.
-fn hart_order(one: &(Sides, Taken), other: &(Sides, Taken)) -> Ordering
+/// By sides rising.
+pub(crate) fn hart_order(one: &(Sides, Taken), other: &(Sides, Taken)) -> Ordering
     ensures { is_lt result ≡ is_hart_row_before one.now other.now }
 {
     sides_order(&one.0, &other.0)
 }
 
-// By takings falling, then by sides rising.
-fn pair_order(one: &(Sides, Taken), other: &(Sides, Taken)) -> Ordering
+/// By takings falling, then by sides rising.
+pub(crate) fn pair_order(one: &(Sides, Taken), other: &(Sides, Taken)) -> Ordering
     ensures { is_lt result ≡ is_pair_row_before one.now other.now }
 {
     match other.1.taken.cmp(&one.1.taken) {

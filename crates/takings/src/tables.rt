@@ -1,8 +1,11 @@
 // Tables of sites and of takings.
-ghost use Rattle.std.specs.Prelude.{◌≡◌, ◌<◌, ◌^◌, OnErr, OnOk, Some, nat_eq};
+ghost use Rattle.std.specs.Prelude.{◌≡◌, ◌<◌, ◌^◌, ◌||◌, IsFalse, IsOk, IsTrue, OnErr, OnOk, Some};
+ghost use Rattle.std.specs.Prelude.{eqb, is_some, nat_eq};
+ghost use Rattle.std.specs.Map.{lookup};
 ghost use Rattle.indexmap.specs.IndexMap.{insert_entry};
 ghost use Rattle.sharing_rules.specs.Words.{accesses};
-ghost use Rattle.takings.specs.Kept.{CanNote, HasRoom, IsFew, IsSameTables, note_sides};
+ghost use Rattle.takings.specs.Kept.{CanNote, HasRoom, IsFew, IsSameTables, has_sides, has_site};
+ghost use Rattle.takings.specs.Kept.{is_new_site, is_new_taking, note_sides};
 ghost use Rattle.takings.specs.Kept.{note_since, note_site, note_taken, note_taking, taken_at};
 ghost use Rattle.takings.specs.Kept.{word_at};
 ghost use Rattle.takings.specs.Takings.{harts_of, pcs_of};
@@ -19,8 +22,8 @@ pub struct Taken {
     pub same: u64,
 }
 
-// One taking more.
-fn after(taken: Taken, same: bool) -> Taken
+/// One taking more.
+pub(crate) fn after(taken: Taken, same: bool) -> Taken
     requires { IsFew taken }
     ensures { result ≡ note_taken taken same }
 {
@@ -34,6 +37,7 @@ fn after(taken: Taken, same: bool) -> Taken
 pub(crate) fn make_room(table: &mut IndexMap<Sides, Taken>, sides: Sides) -> Result<(), NoMemory>
     ensures same { table.new.entries ≡ table.old.entries }
     ensures room { OnOk result (HasRoom table.new sides) }
+    ensures known { IsTrue (has_sides table.old.entries sides) → IsOk result }
 {
     if table.contains_key(&sides) {
         return Ok(());
@@ -81,11 +85,12 @@ fn word_of_site(sites: &IndexMap<u32, Word>, pc: u32) -> Word
     }
 }
 
-// Puts a value at a site.
-fn put<V: Copy>(sites: &mut IndexMap<u32, V>, pc: u32, value: V) -> Result<(), NoMemory>
+/// Puts a value at a site, or at the number of a line.
+pub(crate) fn put<V: Copy>(sites: &mut IndexMap<u32, V>, pc: u32, value: V) -> Result<(), NoMemory>
     ensures put { OnOk result
         (sites.new.entries ≡ insert_entry nat_eq sites.old.entries pc value) }
     ensures refused { OnErr result (sites.new.entries ≡ sites.old.entries) }
+    ensures known { IsTrue (is_some (lookup (eqb pc) sites.old.entries)) → IsOk result }
 {
     match sites.insert(pc, value) {
         Ok(_) => Ok(()),
@@ -98,6 +103,7 @@ fn note_site(sites: &mut IndexMap<u32, Word>, pc: u32, access: &Access) -> Resul
     requires { accesses (word_at sites.old.entries pc) < 2 ^ 63 }
     ensures noted { OnOk result (sites.new.entries ≡ note_site sites.old.entries pc access.now) }
     ensures refused { OnErr result (sites.new.entries ≡ sites.old.entries) }
+    ensures known { IsTrue (has_site sites.old.entries pc) → IsOk result }
 {
     let mut word = word_of_site(sites, pc);
     word.note(access);
@@ -122,6 +128,7 @@ fn note_site_since(
     ensures noted { OnOk result (sites.new.entries
         ≡ note_since sites.old.entries sited.now since) }
     ensures refused { OnErr result (sites.new.entries ≡ sites.old.entries) }
+    ensures known { IsFalse (is_new_site sites.old.entries sited.now since) → IsOk result }
 {
     if since {
         note_site(sites, sited.pc, &sited.access)
@@ -138,6 +145,8 @@ impl Tables {
         ensures harts { self.new.harts.entries ≡ self.old.harts.entries }
         ensures pairs_room { OnOk result (HasRoom self.new.pairs (pcs_of taking.now)) }
         ensures harts_room { OnOk result (HasRoom self.new.harts (harts_of taking.now)) }
+        ensures known { IsFalse (is_new_taking self.old.pairs.entries self.old.harts.entries
+            (Some taking.now)) → IsOk result }
     {
         match make_room(&mut self.pairs, taking.pcs()) {
             Ok(()) => make_room(&mut self.harts, taking.harts()),
@@ -158,6 +167,9 @@ impl Tables {
         ensures refused { OnErr result (IsSameTables self.old.sites.entries self.old.pairs.entries
             self.old.harts.entries self.new.sites.entries self.new.pairs.entries
             self.new.harts.entries) }
+        ensures known { IsFalse (is_new_site self.old.sites.entries sited.now since
+            || is_new_taking self.old.pairs.entries self.old.harts.entries (Some taking.now))
+            → IsOk result }
     {
         match self.make_room(taking) {
             Ok(()) => {}
@@ -192,6 +204,9 @@ impl Tables {
         ensures refused { OnErr result (IsSameTables self.old.sites.entries self.old.pairs.entries
             self.old.harts.entries self.new.sites.entries self.new.pairs.entries
             self.new.harts.entries) }
+        ensures known { IsFalse (is_new_site self.old.sites.entries sited.now since
+            || is_new_taking self.old.pairs.entries self.old.harts.entries taking)
+            → IsOk result }
     {
         match taking {
             Some(taking) => self.note_taker(sited, since, &taking),

@@ -109,8 +109,8 @@ fn push_site(
     push_site_in(text, pc, word, function)
 }
 
-// Two instructions.
-fn push_pair(text: &mut String, pair: &(Sides, Taken)) -> Result<(), AllocError>
+/// Two instructions.
+pub(crate) fn push_pair(text: &mut String, pair: &(Sides, Taken)) -> Result<(), AllocError>
     ensures { OnOk result (AddsLine text.old text.new (pair_line pair.now)) }
 {
     let (sides, taken) = *pair;
@@ -122,8 +122,8 @@ fn push_pair(text: &mut String, pair: &(Sides, Taken)) -> Result<(), AllocError>
     writeln!(text, " taken {taken} same {same}")
 }
 
-// Two harts.
-fn push_hart(text: &mut String, pair: &(Sides, Taken)) -> Result<(), AllocError>
+/// Two harts.
+pub(crate) fn push_hart(text: &mut String, pair: &(Sides, Taken)) -> Result<(), AllocError>
     ensures { OnOk result (AddsLine text.old text.new (hart_line pair.now)) }
 {
     let (sides, taken) = *pair;
@@ -192,8 +192,8 @@ fn push_head(text: &mut String, ending: &Ending, explainer: &Explainer) -> Resul
     push_counted_line(text, explainer)
 }
 
-// The last line.
-fn push_end(text: &mut String) -> Result<(), AllocError>
+/// The last line.
+pub(crate) fn push_end(text: &mut String) -> Result<(), AllocError>
     ensures { OnOk result (AddsText text.old text.new (codes "end\n")) }
 {
     text.push_str("end\n")

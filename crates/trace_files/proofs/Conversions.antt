@@ -19,6 +19,7 @@ use Rattle.trace_files.specs.Copying.{AreAlike, AreFirst, IsAccepted, IsCopied, 
 use Rattle.trace_files.specs.Copying.{write_fault}
 use Rattle.trace_files.specs.OneTrace.{trace_so_far}
 use Rattle.trace_files.proofs.Again.{stopped_reading, stopped_writing}
+use Rattle.trace_files.proofs.Others.{spelled_other}
 use Rattle.trace_files.proofs.Stopped.{first_all, told_parts}
 
 module _ (held : Option Files) (name output : List ℕ) (first : Passed)
@@ -34,7 +35,7 @@ module _ (held : Option Files) (name output : List ℕ) (first : Passed)
       subst (λ (x : Passed). GoOn (trace_so_far output (other_version x.version) x.header seen)
       (conversion output t))
       (λ i. record { version = (is i).version; header = (is i).header; ending = (is i).ending })
-      (refl, on, tt)
+      (refl, (on.0, spelled_other t.version t.header t.items t.ending ∙ on.1), tt)
 
   pub goes : (seen : List TraceRecord) → AreFirst held name seen
       → Told held (λ fs. (t : Trace) → trace_of (content fs name) ≡ Some t
@@ -52,7 +53,8 @@ module _ (held : Option Files) (name output : List ℕ) (first : Passed)
       (λ i. trace_so_far output (other_version (sym alike.version i)) (sym alike.header i)
       (all_records (trace_with second items)))
       ∙ ap (λ (l : List ℕ). let o : List Output = record { name = output; bytes = l } ∷ [] in o)
-      (begun-all (other_version second.version) second.header items second.ending)
+      (begun-all (other_version second.version) second.header items second.ending
+      ∙ sym (spelled_other second.version second.header items second.ending))
 
   -- within a call that writes, once these records came
   pub stopped_put : (seen : List TraceRecord) → AreFirst held name seen

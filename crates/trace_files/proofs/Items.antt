@@ -9,6 +9,7 @@ use Rattle.std.proofs.lemmas.List.FromFn.{take-map-range_with_len}
 use Rattle.base.specs.Touch.{IsAllowed}
 use Rattle.trace_format.specs.declared.record.TraceRecord.{TraceRecord}
 use Rattle.trace_format.specs.declared.record.TraceRecord.TheVariants as records
+use Rattle.trace_format.specs.declared.record.Version.TheVariants.{One}
 use Rattle.trace_format.specs.Rules.{IsGoodRecord, IsInner, IsWritable, touches_in}
 use Rattle.trace_passes.specs.Passes.{all_records}
 use Rattle.trace_format.specs.Laws.Counts.{touches_in-more}
@@ -62,8 +63,8 @@ touch_allowed r = record {
   aligned = aligned r;
 }
 
-pub item_good : (k : ℕ) → IsGoodRecord 8 (made_item k)
-item_good k = record { hart = omega arith; allowed = touch_allowed (number k) }
+pub item_good : (k : ℕ) → IsGoodRecord One 8 (made_item k)
+item_good k = (record { hart = omega arith; allowed = touch_allowed (number k) }, refl)
 
 -- what is true of each record
 all_items : (P : TraceRecord → Type 0) → ((k : ℕ) → P (made_item k)) → (ks : List ℕ)
@@ -72,8 +73,8 @@ all_items P each [] = All-nil P
 all_items P each (k ∷ ks) = All-cons P (made_item k) (map made_item ks) (each k)
     (all_items P each ks)
 
-pub items_good : (count : ℕ) → All (IsGoodRecord 8) (made_items count)
-items_good count = all_items (IsGoodRecord 8) item_good (range_with_len 0 count)
+pub items_good : (count : ℕ) → All (IsGoodRecord One 8) (made_items count)
+items_good count = all_items (IsGoodRecord One 8) item_good (range_with_len 0 count)
 
 pub items_inner : (count : ℕ) → All IsInner (made_items count)
 items_inner count = all_items IsInner (λ k. tt) (range_with_len 0 count)

@@ -3,11 +3,16 @@ pub mod Answering
 pub mod Begun
 pub mod Conversions
 pub mod Differing
+pub mod Distances
 pub mod Going
+pub mod HalfTraces
 pub mod Items
+pub mod Jumps
 pub mod Kept
+pub mod Lengths
 pub mod MadeGoing
 pub mod OneTraces
+pub mod Others
 pub mod Pieces
 pub mod Readings
 pub mod Splittings

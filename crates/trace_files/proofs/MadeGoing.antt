@@ -1,6 +1,6 @@
 -- The making of a trace, as far as it has come.
 use Rattle.std.proofs.Common.{◌≡◌, ℕ, ◌+◌, ◌*◌, ◌/◌, ◌%◌, ◌^◌, ◌<◌, ◌≤◌, suc, List, [], ◌∷◌}
-use Rattle.std.proofs.Common.{◌++◌, drop, refl, sym, ap, ◌∙◌, subst, arith}
+use Rattle.std.proofs.Common.{◌++◌, None, drop, refl, sym, ap, ◌∙◌, subst, arith}
 use Rattle.base.specs.Touch.{Touch}
 use Rattle.shelf.specs.Shelf.{Outside}
 use Rattle.shelf.specs.declared.shelf.ShelfError.{ShelfError}
@@ -55,9 +55,9 @@ next_is place before after is next =
 pub item_is : (place before after : ℕ) (a : Touch) → before ≡ state place
     → after ≡ (before * 6364136223846793005 + 1442695040888963407) % 2 ^ 64 → a
     ≡ touch_of (after / 2 ^ 32)
-    → records.Touch a ≡ made_item place
+    → records.Touch a None ≡ made_item place
 item_is place before after a is next says =
-    ap (λ (t : Touch). records.Touch t) (says ∙ ap (λ (s : ℕ). touch_of (s / 2 ^ 32))
+    ap (λ (t : Touch). records.Touch t None) (says ∙ ap (λ (s : ℕ). touch_of (s / 2 ^ 32))
     (next_is place before after is next))
 
 -- there is room for the next access, and for the end

@@ -10,8 +10,8 @@ use Rattle.shelf.specs.Laws.Files.{AreCut-longer, IsOutputs-begun, IsOutputs-cut
 use Rattle.trace_format.specs.declared.record.Header.{Header}
 use Rattle.trace_format.specs.declared.record.TraceRecord.{TraceRecord}
 use Rattle.trace_format.specs.declared.record.Version.{Version}
-use Rattle.trace_format.specs.Spelling.{spell_record, spell_records}
-use Rattle.trace_format.specs.Writing.{begun_with, last_behind}
+use Rattle.trace_format.specs.Spelling.{nothing_before, spell_record, spell_records}
+use Rattle.trace_format.specs.Writing.{before_behind, begun_with}
 use Rattle.trace_format.specs.Laws.Writing.{begun-append, begun-more}
 use Rattle.trace_files.specs.declared.trace_file.TraceFile.{TraceFile}
 use Rattle.trace_files.specs.OneTrace.{HasPut, IsOnItsWay, so_far, trace_so_far}
@@ -19,11 +19,11 @@ use Rattle.trace_files.specs.Copying.{IsUnderWay}
 
 -- a record that is put after others
 pub put_more : (f : TraceFile) (seen : List TraceRecord) (item : TraceRecord) → HasPut f seen
-    → outputs_with (so_far f seen) 0 (spell_record f.writer.version f.writer.last item)
+    → outputs_with (so_far f seen) 0 (spell_record f.writer.version f.writer.before item)
     ≡ so_far f (seen ++ item ∷ [])
 put_more f seen item has =
     (λ i. outputs_with (so_far f seen) 0
-    (spell_record (has.writer i).version (has.writer i).last item))
+    (spell_record (has.writer i).version (has.writer i).before item))
     ∙ ap (λ (l : List ℕ). let o : List Output = record { name = f.name.now; bytes = l } ∷ [] in o)
     (begun-more f.version f.header seen item)
 
@@ -34,10 +34,10 @@ pub cut_more : (name : List ℕ) (v : Version) (h : Header) (items all more : Li
     → AreCut (trace_so_far name v h all) before now e
 cut_more name v h items all more before now e is cut =
     let on : begun_with v h all
-    ≡ begun_with v h items ++ spell_records v (last_behind 0 items) more =
+    ≡ begun_with v h items ++ spell_records v (before_behind nothing_before items) more =
     ap (begun_with v h) (sym is) ∙ begun-append v h items more in
     AreCut-longer (trace_so_far name v h items) (trace_so_far name v h all) before now e
-    (refl, (spell_records v (last_behind 0 items) more, on), tt) cut
+    (refl, (spell_records v (before_behind nothing_before items) more, on), tt) cut
 
 -- where memory runs out before a record is put, what was put stands but for what waits
 pub record_unput : (f : TraceFile) (items : List TraceRecord) (item : TraceRecord)

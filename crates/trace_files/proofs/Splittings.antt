@@ -19,7 +19,8 @@ use Rattle.trace_format.specs.declared.record.TraceRecord.{TraceRecord}
 use Rattle.trace_format.specs.declared.record.TraceRecord.TheVariants as records
 use Rattle.trace_format.specs.Rules.{IsAllowedEnd, IsGoodHeader, IsWritable, last_position}
 use Rattle.trace_format.specs.Rules.{touches_in}
-use Rattle.trace_format.specs.Spelling.{last_after, spell, spell_ending, spell_record}
+use Rattle.trace_format.specs.Spelling.{before_after, nothing_before, spell, spell_ending}
+use Rattle.trace_format.specs.Spelling.{spell_record}
 use Rattle.trace_passes.specs.declared.passes.Passed.{Passed}
 use Rattle.trace_passes.specs.Passes.{Trace, all_records, trace_of, trace_with}
 use Rattle.trace_passes.specs.Laws.Passes.{trace-parts, trace-records}
@@ -27,7 +28,7 @@ use Rattle.trace_format.specs.declared.splitter.Side.{Side}
 use Rattle.trace_format.specs.declared.splitter.Side.TheVariants.{First, Second, Neither}
 use Rattle.trace_format.specs.Splits.{SameCut, Split, begin_split, endings_of, halves_of}
 use Rattle.trace_format.specs.Splits.{headers_of, put_behind, side_after}
-use Rattle.trace_format.specs.Writing.{Writing, begun_with, last_behind}
+use Rattle.trace_format.specs.Writing.{Writing, begun_with, before_behind}
 use Rattle.trace_format.specs.Laws.Writing.{begun-ended, begun-more, begun_on, writer-more}
 use Rattle.trace_files.specs.declared.copy_fault.CopyFault.{CopyFault}
 use Rattle.trace_files.specs.Copies.{HasCopied, HasStopped, halves}
@@ -68,19 +69,20 @@ same_files first second v old new same = λ i seen.
 
 -- a writer of the half that the record went to, and one of the other half
 pub writer_behind : (v : Version) (w : Writing) (xs ys : List TraceRecord) (item : TraceRecord)
-    → w ≡ record { version = v; last = last_behind 0 xs } → ys ≡ xs ++ item ∷ []
-    → record w { last = last_after w.last item } ≡ record { version = v; last = last_behind 0 ys }
+    → w ≡ record { version = v; before = before_behind nothing_before xs } → ys ≡ xs ++ item ∷ []
+    → record w { before = before_after w.before item }
+    ≡ record { version = v; before = before_behind nothing_before ys }
 writer_behind v w xs ys item is more =
     writer-more v w xs item is
     ∙ ap (λ (l : List TraceRecord). let y : Writing =
-    record { version = v; last = last_behind 0 l } in y) (sym more)
+    record { version = v; before = before_behind nothing_before l } in y) (sym more)
 
 pub writer_stays : (v : Version) (w : Writing) (xs ys : List TraceRecord)
-    → w ≡ record { version = v; last = last_behind 0 xs } → ys ≡ xs
-    → w ≡ record { version = v; last = last_behind 0 ys }
+    → w ≡ record { version = v; before = before_behind nothing_before xs } → ys ≡ xs
+    → w ≡ record { version = v; before = before_behind nothing_before ys }
 writer_stays v w xs ys is same =
     is ∙ ap (λ (l : List TraceRecord). let y : Writing =
-    record { version = v; last = last_behind 0 l } in y) (sym same)
+    record { version = v; before = before_behind nothing_before l } in y) (sym same)
 
 module _ (first second : List ℕ) (v : Version) (s : Split) (seen : List TraceRecord)
     (item : TraceRecord) where
@@ -89,26 +91,26 @@ module _ (first second : List ℕ) (v : Version) (s : Split) (seen : List TraceR
 
   -- the record is put into the file of its half
   pub put_first : (w : Writing) → w ≡ record
-      { version = v; last = last_behind 0 (halves_of s.cut seen).0 }
+      { version = v; before = before_behind nothing_before (halves_of s.cut seen).0 }
       → halves_of s.cut (seen ++ item ∷ []) ≡ put_behind First item (halves_of s.cut seen)
-      → outputs_with (halves_so_far first second v s seen) 0 (spell_record w.version w.last item)
+      → outputs_with (halves_so_far first second v s seen) 0 (spell_record w.version w.before item)
       ≡ halves_so_far first second v s (seen ++ item ∷ [])
   put_first w writer more =
       (λ i. outputs_with (halves_so_far first second v s seen) 0
-      (spell_record (writer i).version (writer i).last item))
+      (spell_record (writer i).version (writer i).before item))
       ∙ ap (λ (l : List ℕ). let o : List Output = record { name = first; bytes = l }
       ∷ record { name = second; bytes = begun_with v (headers_of s).1 before_it.1 } ∷ [] in o)
       (begun-more v (headers_of s).0 before_it.0 item)
       ∙ ap (halves_with first second v s) (sym more)
 
   pub put_second : (w : Writing) → w ≡ record
-      { version = v; last = last_behind 0 (halves_of s.cut seen).1 }
+      { version = v; before = before_behind nothing_before (halves_of s.cut seen).1 }
       → halves_of s.cut (seen ++ item ∷ []) ≡ put_behind Second item (halves_of s.cut seen)
-      → outputs_with (halves_so_far first second v s seen) 1 (spell_record w.version w.last item)
+      → outputs_with (halves_so_far first second v s seen) 1 (spell_record w.version w.before item)
       ≡ halves_so_far first second v s (seen ++ item ∷ [])
   put_second w writer more =
       (λ i. outputs_with (halves_so_far first second v s seen) 1
-      (spell_record (writer i).version (writer i).last item))
+      (spell_record (writer i).version (writer i).before item))
       ∙ ap (λ (l : List ℕ). let o : List Output =
       record { name = first; bytes = begun_with v (headers_of s).0 before_it.0 }
       ∷ record { name = second; bytes = l } ∷ [] in o)

@@ -1,5 +1,5 @@
 -- Worked values of the congruence: each is closed by computing.
-use Rattle.std.proofs.Common.{◌≡◌, List, [], ◌∷◌, refl}
+use Rattle.std.proofs.Common.{◌≡◌, List, [], ◌∷◌, None, refl}
 use Rattle.base.specs.declared.access.Kind.TheVariants.{Read, Write}
 use Rattle.trace_format.specs.declared.record.TraceRecord.{TraceRecord}
 use Rattle.trace_format.specs.declared.record.TraceRecord.TheVariants as records
@@ -14,9 +14,9 @@ first_number = refl
 -- a write by hart 4 at 0x10d70, one by hart 3 at 0x105ac, and a read by hart 1 at 0x10cc4
 first_accesses : List TraceRecord
 first_accesses =
-    records.Touch (record { hart = 4; addr = 0x10d70; kind = Write; size = 4 })
-    ∷ records.Touch (record { hart = 3; addr = 0x105ac; kind = Write; size = 4 })
-    ∷ records.Touch (record { hart = 1; addr = 0x10cc4; kind = Read; size = 4 }) ∷ []
+    records.Touch (record { hart = 4; addr = 0x10d70; kind = Write; size = 4 }) None
+    ∷ records.Touch (record { hart = 3; addr = 0x105ac; kind = Write; size = 4 }) None
+    ∷ records.Touch (record { hart = 1; addr = 0x10cc4; kind = Read; size = 4 }) None ∷ []
 
 three_accesses : made_items 3 ≡ first_accesses
 unfolding first_accesses

@@ -7,7 +7,9 @@ use Rattle.shelf.specs.Files.{Output, AreWritten, BegunInOrder, one_file}
 use Rattle.shelf.specs.OnTheirWay.{IsNew}
 use Rattle.trace_format.specs.declared.fault.TraceFault.TheVariants as faults
 use Rattle.trace_format.specs.declared.record.Version.{Version}
-use Rattle.trace_format.specs.declared.record.Version.TheVariants.{One, Two}
+use Rattle.trace_format.specs.declared.record.Version.TheVariants.{One, Two, Three}
+use Rattle.trace_format.specs.declared.record.TraceRecord.{TraceRecord}
+use Rattle.trace_format.specs.Pcs.{without_pcs}
 use Rattle.trace_passes.specs.declared.wanted.Wanted.{Wanted}
 use Rattle.trace_passes.specs.declared.passes.Passed.{Passed}
 use Rattle.trace_passes.specs.declared.wanted.Refusal.{Refusal}
@@ -27,10 +29,19 @@ any = record { harts = None; first = None }
 abbrev pub other_version : Version → Version
 other_version One = Two
 other_version Two = One
+other_version Three = Two
+
+-- the records in the other version, which has no place for the pcs of version 3
+abbrev pub other_items : Version → List TraceRecord → List TraceRecord
+other_items Three items = without_pcs items
+other_items _ items = items
 
 -- the trace in the other version
 abbrev pub converted : Trace → Trace
-converted t = record t { version = other_version t.version }
+converted t = record t {
+  version = other_version t.version;
+  items = other_items t.version t.items;
+}
 
 -- The half before access number `at`, which has not ended.
 abbrev pub first_half : ℕ → Trace → Trace
@@ -68,6 +79,7 @@ halves at first second t =
 abbrev pub version_difference : Version → Version → Option Refusal
 version_difference One One = None
 version_difference Two Two = None
+version_difference Three Three = None
 version_difference _ _ = Some (refusals.Trace faults.BadMagic)
 
 abbrev pub count_difference : ℕ → ℕ → Option Refusal

@@ -10,7 +10,8 @@ use Rattle.shelf.specs.Laws.Files.{output_names}
 use Rattle.trace_format.specs.declared.record.TraceRecord.{TraceRecord}
 use Rattle.trace_format.specs.declared.record.Version.{Version}
 use Rattle.trace_format.specs.Reading.{reading_of}
-use Rattle.trace_format.specs.Writing.{begun_with, last_behind}
+use Rattle.trace_format.specs.Spelling.{nothing_before}
+use Rattle.trace_format.specs.Writing.{before_behind, begun_with}
 use Rattle.trace_passes.specs.declared.passes.PassFault.{PassFault}
 use Rattle.trace_passes.specs.declared.passes.PassFault.TheVariants as passes
 use Rattle.trace_passes.specs.declared.passes.Passed.{Passed}
@@ -56,9 +57,15 @@ halves_so_far first second v s seen = halves_with first second v s (halves_of s.
 pub record HasSplit (s : Splitting) (seen : List TraceRecord) : Type 0 where
   pub splitter : HasSeen seen s.splitter
   pub first : s.first_writer
-      ≡ record { version = s.version; last = last_behind 0 (halves_of s.splitter.cut seen).0 }
+      ≡ record {
+        version = s.version;
+        before = before_behind nothing_before (halves_of s.splitter.cut seen).0;
+      }
   pub second : s.second_writer
-      ≡ record { version = s.version; last = last_behind 0 (halves_of s.splitter.cut seen).1 }
+      ≡ record {
+        version = s.version;
+        before = before_behind nothing_before (halves_of s.splitter.cut seen).1;
+      }
   pub count : length s.files ≡ 2
 
 -- ---- two readings

@@ -1,5 +1,5 @@
 -- The made trace of so many accesses: they look random, and are the same at each making.
-use Rattle.std.specs.Prelude.{ℕ, zero, suc, ◌+◌, ◌*◌, ◌/◌, ◌%◌, ◌^◌, ◌==◌, List, map}
+use Rattle.std.specs.Prelude.{ℕ, zero, suc, ◌+◌, ◌*◌, ◌/◌, ◌%◌, ◌^◌, ◌==◌, List, map, None}
 use Rattle.std.specs.Prelude.{if◌then◌else◌}
 use Rattle.std.specs.List.{range_with_len}
 use Rattle.base.specs.Touch.{Touch}
@@ -55,7 +55,7 @@ touch_of r = record {
 
 -- the record of access k
 abbrev pub made_item : ℕ → TraceRecord
-made_item k = records.Touch (touch_of (number k))
+made_item k = records.Touch (touch_of (number k)) None
 
 -- those of the first so many accesses
 abbrev pub made_items : ℕ → List TraceRecord

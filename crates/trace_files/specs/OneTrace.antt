@@ -6,7 +6,8 @@ use Rattle.shelf.specs.OnTheirWay.{IsOutputs}
 use Rattle.trace_format.specs.declared.record.Header.{Header}
 use Rattle.trace_format.specs.declared.record.TraceRecord.{TraceRecord}
 use Rattle.trace_format.specs.declared.record.Version.{Version}
-use Rattle.trace_format.specs.Writing.{begun_with, last_behind}
+use Rattle.trace_format.specs.Spelling.{nothing_before}
+use Rattle.trace_format.specs.Writing.{before_behind, begun_with}
 use Rattle.trace_files.specs.declared.trace_file.TraceFile.{TraceFile}
 
 -- the file of a name that has the header and these records
@@ -18,7 +19,7 @@ so_far f = trace_so_far f.name.now f.version f.header
 
 -- these records were put, and the next is spelled behind them
 pub record HasPut (f : TraceFile) (seen : List TraceRecord) : Type 0 where
-  pub writer : f.writer ≡ record { version = f.version; last = last_behind 0 seen }
+  pub writer : f.writer ≡ record { version = f.version; before = before_behind nothing_before seen }
   pub count : length f.files ≡ 1
 
 -- they are on their way since a shelf was as it was then

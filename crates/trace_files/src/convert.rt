@@ -34,6 +34,7 @@ fn other_version(version: Version) -> Version
     match version {
         Version::One => Version::Two,
         Version::Two => Version::One,
+        Version::Three => Version::Two,
     }
 }
 
@@ -78,7 +79,8 @@ fn convert_accepted<S: Shelf>(
     }
 }
 
-/// Writes a trace in the other version: the same header, records and end.
+/// Writes a trace in the other version: the same header, records and end. Of version 1 that is
+/// version 2, of version 2 version 1, and of version 3 version 2, without the pcs.
 ///
 /// The trace is read twice in pieces, and no more of it is kept than a piece has. The output is
 /// begun only once a first reading was accepted. At an error after that it is as it was, or a

@@ -9,6 +9,10 @@
 //! there are, and only where it is accepted are the outputs begun. The second reading copies each
 //! record to a `Target`, which knows the files and the spelling. `specs/Copies.antt` says which
 //! traces are written, and what stands where a copy gave up.
+//!
+//! Each half may be cut again. `specs/Halves.antt` says what two traces are to each other that are the
+//! halves of a third: each is a trace, its end tells how many accesses it has, and the second goes on
+//! where the first one ends.
 #![tactic(auto)]
 
 mod convert;
@@ -18,6 +22,7 @@ mod copy_laws;
 mod made_laws;
 mod maker;
 mod numbers;
+mod part_laws;
 mod split;
 mod target;
 mod trace_file;
@@ -28,5 +33,6 @@ pub use copy_fault::CopyFault;
 pub use copy_laws::{a_trace_converted_twice_is_itself, the_halves_have_the_accesses_of_the_whole};
 pub use made_laws::a_made_trace_is_a_trace;
 pub use maker::make_trace;
+pub use part_laws::the_halves_are_traces;
 pub use split::{Halves, split_trace};
 pub use trace_outputs::TraceOutputs;

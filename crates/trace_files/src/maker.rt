@@ -104,7 +104,7 @@ fn note_accesses<S: Shelf, O: Observer>(
     for place in 0..count {
         let next = next_state(state);
         let access = access_at(next);
-        match note_record(shelf, file, observer, &TraceRecord::Touch(access)) {
+        match note_record(shelf, file, observer, &TraceRecord::Touch(access, None)) {
             Ok(()) => {}
             Err(error) => return Err(error),
         }

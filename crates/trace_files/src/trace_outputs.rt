@@ -5,7 +5,7 @@ ghost use Rattle.shelf.specs.Shelf.{Outside};
 ghost use Rattle.shelf.specs.Files.{AreCut, AreWritten, Output};
 ghost use Rattle.shelf.specs.OnTheirWay.{AreBegun, IsNew, IsOutputs, names_of, outputs_with};
 ghost use Rattle.trace_format.specs.Rules.{IsGoodHeader, IsWritable};
-ghost use Rattle.trace_format.specs.Spelling.{last_after, spell_header, spell_record};
+ghost use Rattle.trace_format.specs.Spelling.{before_after, spell_header, spell_record};
 ghost use Rattle.trace_format.specs.Writing.{begin_writing, begun_with};
 
 use shelf::{Outputs, Shelf, ShelfError};
@@ -153,18 +153,19 @@ impl<'a> TraceOutputs<'a> {
         requires begun { AreBegun (names_of self.old) (S.outside shelf.old) }
         requires writable { IsWritable item.now }
         ensures next { OnOk result (writer.new ≡ record writer.old
-            { last = last_after writer.old.last item.now }) }
+            { before = before_after writer.old.before item.now }) }
         ensures count { length self.new ≡ length self.old }
         ensures begun { AreBegun (names_of self.new) (S.outside shelf.new) }
         ensures outputs { OnOk result ((outputs : List Output) (before : Outside)
             → IsOutputs self.old outputs before (S.outside shelf.old)
             → IsOutputs self.new
-            (outputs_with outputs place (spell_record writer.old.version writer.old.last item.now))
+            (outputs_with outputs place
+            (spell_record writer.old.version writer.old.before item.now))
             before (S.outside shelf.new)) }
         ensures cut { IfErr result (λ error. (outputs : List Output) (before : Outside)
             → IsOutputs self.old outputs before (S.outside shelf.old)
             → AreCut (outputs_with outputs place
-            (spell_record writer.old.version writer.old.last item.now))
+            (spell_record writer.old.version writer.old.before item.now))
             before (S.outside shelf.new) error) }
         ensures tells { (S.outside shelf.new).held ≡ (S.outside shelf.old).held }
     {

@@ -1,6 +1,6 @@
 -- The sides of a cut, record after record.
 use Rattle.std.proofs.Common.{◌≡◌, ℕ, zero, suc, ◌+◌, ◌≤◌, ◌<◌, true, false, leb, List, [], ◌∷◌}
-use Rattle.std.proofs.Common.{◌++◌, length, take, drop, All, refl, sym}
+use Rattle.std.proofs.Common.{◌++◌, length, take, drop, All, Option, refl, sym}
 use Rattle.std.proofs.Common.{ap, subst, ◌∙◌, append_assoc, arith}
 use Rattle.std.specs.Prelude.{min}
 use Rattle.std.proofs.lemmas.Bool.Decides.{nat_tests}
@@ -25,9 +25,10 @@ count_more seen item =
     ap length (filter_map-append touch_in seen (item ∷ [])) ∙ length-append (touches_in seen)
     (touches_in (item ∷ []))
 
-pub one_more : (seen : List TraceRecord) (a : Touch) → touch_count (seen ++ records.Touch a ∷ [])
+pub one_more : (seen : List TraceRecord) (a : Touch) (pc : Option ℕ)
+    → touch_count (seen ++ records.Touch a pc ∷ [])
     ≡ touch_count seen + 1
-one_more seen a = count_more seen (records.Touch a)
+one_more seen a pc = count_more seen (records.Touch a pc)
 
 quiet_more : (seen : List TraceRecord) (item : TraceRecord) → touches_in (item ∷ []) ≡ []
     → touch_count (seen ++ item ∷ []) ≡ touch_count seen
@@ -36,9 +37,9 @@ quiet_more seen item none =
     let no : touch_count (item ∷ []) ≡ 0 = ap length none in
     omega arith
 
-pub quiet_unless : (item : TraceRecord) → ((a : Touch) → item ≡ records.Touch a → ⊥)
+pub quiet_unless : (item : TraceRecord) → ((a : Touch) (pc : Option ℕ) → item ≡ records.Touch a pc → ⊥)
     → touches_in (item ∷ []) ≡ []
-quiet_unless (records.Touch a) other = absurd (other a refl)
+quiet_unless (records.Touch a pc) other = absurd (other a pc refl)
 quiet_unless (records.Alloc addr size sites) other = refl
 quiet_unless (records.Free addr) other = refl
 quiet_unless (records.Symbol kind addr size name) other = refl
@@ -46,10 +47,10 @@ quiet_unless (records.End e) other = refl
 
 -- ---- what each call says
 
-pub met_more : (seen : List TraceRecord) (a : Touch) (cut met : ℕ) → met
+pub met_more : (seen : List TraceRecord) (a : Touch) (pc : Option ℕ) (cut met : ℕ) → met
     ≡ min (touch_count seen) (cut + 1)
-    → min met cut + 1 ≡ min (touch_count (seen ++ records.Touch a ∷ [])) (cut + 1)
-met_more seen a cut met is = let more = one_more seen a in omega arith
+    → min met cut + 1 ≡ min (touch_count (seen ++ records.Touch a pc ∷ [])) (cut + 1)
+met_more seen a pc cut met is = let more = one_more seen a pc in omega arith
 
 pub met_same : (seen : List TraceRecord) (item : TraceRecord) (cut met : ℕ) → touches_in (item ∷ [])
     ≡ []
@@ -62,8 +63,8 @@ met_same seen item cut met none is = let same = quiet_more seen item none in ome
 first_side : (cut : ℕ) (seen : List TraceRecord) (item : TraceRecord) → IsInner item
     → touch_count (seen ++ item ∷ []) ≤ cut
     → side_after cut seen item ≡ First
-first_side cut seen (records.Touch a) inner low =
-    let at : leb (touch_count (seen ++ records.Touch a ∷ [])) cut
+first_side cut seen (records.Touch a pc) inner low =
+    let at : leb (touch_count (seen ++ records.Touch a pc ∷ [])) cut
     ≡ true = grind (arith, nat_tests) in rw at refl
 first_side cut seen (records.Alloc addr size sites) inner low =
     let at : leb (touch_count (seen ++ records.Alloc addr size sites ∷ [])) cut
@@ -79,8 +80,8 @@ first_side cut seen (records.End e) inner low = absurd inner
 second_side : (cut : ℕ) (seen : List TraceRecord) (item : TraceRecord) → IsInner item
     → cut < touch_count (seen ++ item ∷ [])
     → side_after cut seen item ≡ Second
-second_side cut seen (records.Touch a) inner high =
-    let at : leb (touch_count (seen ++ records.Touch a ∷ [])) cut
+second_side cut seen (records.Touch a pc) inner high =
+    let at : leb (touch_count (seen ++ records.Touch a pc ∷ [])) cut
     ≡ false = grind (arith, nat_tests) in rw at refl
 second_side cut seen (records.Alloc addr size sites) inner high =
     let at : leb (touch_count (seen ++ records.Alloc addr size sites ∷ [])) cut
@@ -110,12 +111,12 @@ later_second cut seen (item ∷ items) e past inner =
     (items ++ records.End e ∷ []))) at
     ∙ ap (put_on Second item) rest
 
-touch_on : (k : ℕ) (a : Touch) (items : List TraceRecord)
+touch_on : (k : ℕ) (a : Touch) (pc : Option ℕ) (items : List TraceRecord)
     (halves : List TraceRecord × List TraceRecord) → IsCutInTwo k items halves
-    → IsCutInTwo (suc k) (records.Touch a ∷ items) (put_on First (records.Touch a) halves)
-touch_on k a items halves rest =
+    → IsCutInTwo (suc k) (records.Touch a pc ∷ items) (put_on First (records.Touch a pc) halves)
+touch_on k a pc items halves rest =
     record {
-      whole = ap (λ (xs : List TraceRecord). records.Touch a ∷ xs) rest.whole;
+      whole = ap (λ (xs : List TraceRecord). records.Touch a pc ∷ xs) rest.whole;
       first = ap (λ (xs : List Touch). a ∷ xs) rest.first;
       second = rest.second;
       begins = rest.begins;
@@ -156,9 +157,9 @@ cut_behind : (cut k : ℕ) (seen items : List TraceRecord) (e : Ending) → touc
     → IsCutInTwo k items (halves_behind cut seen (items ++ records.End e ∷ []))
 cut_behind cut k seen [] e is inner =
     record { whole = refl; first = sym (take-nil k); second = sym (drop-nil k); begins = tt }
-cut_behind cut zero seen (records.Touch a ∷ items) e is inner =
-    let item = records.Touch a in
-    let more = one_more seen a in
+cut_behind cut zero seen (records.Touch a pc ∷ items) e is inner =
+    let item = records.Touch a pc in
+    let more = one_more seen a pc in
     let at : side_after cut seen item ≡ Second = second_side cut seen item tt (omega arith) in
     let rest = later_second cut (seen ++ item ∷ []) items e (omega arith)
     (All-tail IsInner item items inner) in
@@ -168,15 +169,15 @@ cut_behind cut zero seen (records.Touch a ∷ items) e is inner =
     ∙ ap (put_on Second item) rest in
     subst (IsCutInTwo zero (item ∷ items)) (sym all)
     (record { whole = refl; first = refl; second = refl; begins = tt })
-cut_behind cut (suc k) seen (records.Touch a ∷ items) e is inner =
-    let item = records.Touch a in
-    let more = one_more seen a in
+cut_behind cut (suc k) seen (records.Touch a pc ∷ items) e is inner =
+    let item = records.Touch a pc in
+    let more = one_more seen a pc in
     let at : side_after cut seen item ≡ First = first_side cut seen item tt (omega arith) in
     let rest = cut_behind cut k (seen ++ item ∷ []) items e (omega arith)
     (All-tail IsInner item items inner) in
     let halves = halves_behind cut (seen ++ item ∷ []) (items ++ records.End e ∷ []) in
     subst (λ (s : Side). IsCutInTwo (suc k) (item ∷ items) (put_on s item halves)) (sym at)
-    (touch_on k a items halves rest)
+    (touch_on k a pc items halves rest)
 cut_behind cut k seen (records.Alloc addr size sites ∷ items) e is inner =
     let item = records.Alloc addr size sites in
     quiet_first cut k seen item items (items ++ records.End e ∷ []) is tt (λ xs. refl)

@@ -19,7 +19,7 @@ use Rattle.base.specs.declared.ending.Cause.TheVariants.{LoadOutside, StoreMisal
 use Rattle.base.specs.declared.ending.Outcome.{Outcome}
 use Rattle.base.specs.declared.ending.Outcome.TheVariants.{Exit, Budget, Deadlock, Trap, Part}
 use Rattle.trace_format.specs.declared.record.Version.{Version}
-use Rattle.trace_format.specs.declared.record.Version.TheVariants.{One, Two}
+use Rattle.trace_format.specs.declared.record.Version.TheVariants.{One, Two, Three}
 use Rattle.trace_format.specs.declared.record.Header.{Header}
 use Rattle.trace_format.specs.declared.tag.Tag.TheVariants as tags
 use Rattle.trace_format.specs.declared.read_so_far.ReadSoFar.{ReadSoFar}
@@ -29,7 +29,8 @@ use Rattle.trace_format.specs.Tags.{number_of}
 use Rattle.trace_format.specs.Rules.{FitsFields, IsAllowedEnd, IsGoodEnding, IsGoodHeader}
 use Rattle.trace_format.specs.Rules.{last_position}
 use Rattle.trace_format.specs.Judging.{begun, cause_of, end_with, fields_judged, header_judged}
-use Rattle.trace_format.specs.Judging.{number_at, outcome_judged, plain_judged}
+use Rattle.trace_format.specs.Judging.{outcome_judged, plain_judged}
+use Rattle.base.specs.Fields.{number_at}
 use Rattle.trace_format.specs.Judging.{plain_outcome_of, plain_with, trap_for, trap_judged}
 use Rattle.trace_format.specs.Judging.{version_at}
 use Rattle.trace_format.specs.Laws.Bytes.{IsBytes, below_32, below_64, from_part, last_part, part}
@@ -214,21 +215,37 @@ ending_found harts place bytes o len is tag found =
 
 -- ---- the header
 
+-- bytes begin with the text of the version that is found
+IsHead : List ℕ → Version → Type 0
+IsHead bytes v = bytes ≡ magic_of v ++ drop 8 bytes
+
+one_tried : (bytes : List ℕ) (k v : Version) (rest : Option Version)
+    → (starts_with eqb bytes (magic_of k) ≡ true → IsHead bytes k)
+    → (rest ≡ Some v → IsHead bytes v)
+    → cond (starts_with eqb bytes (magic_of k)) (Some k) rest ≡ Some v → IsHead bytes v
+one_tried bytes k v rest is else e =
+    elim (chosen (starts_with eqb bytes (magic_of k)) (Some k) rest (Some v) e) [
+      | inl h ↦ subst (IsHead bytes) (same_Some k v h.1) (is h.0)
+      | inr h ↦ else h.1
+    ]
+
+head_of : (bytes : List ℕ) (v : Version) → starts_with eqb bytes (magic_of v) ≡ true
+    → IsHead bytes v
+unfolding IsHead
+head_of bytes One is = (starts_is Decides-eqb bytes (magic_of One)
+    (starts_with eqb bytes (magic_of One)) refl).0 is
+head_of bytes Two is = (starts_is Decides-eqb bytes (magic_of Two)
+    (starts_with eqb bytes (magic_of Two)) refl).0 is
+head_of bytes Three is = (starts_is Decides-eqb bytes (magic_of Three)
+    (starts_with eqb bytes (magic_of Three)) refl).0 is
+
 version_found : (bytes : List ℕ) (v : Version) → version_at bytes ≡ Some v → bytes
     ≡ magic_of v ++ drop 8 bytes
-version_found bytes v e =
-    let second : Option Version = cond (starts_with eqb bytes (magic_of Two)) (Some Two) None in
-    elim (chosen (starts_with eqb bytes (magic_of One)) (Some One) second (Some v) e) [
-      | inl h ↦ subst (λ (x : Version). bytes ≡ magic_of x ++ drop 8 bytes) (same_Some One v h.1)
-          ((starts_is Decides-eqb bytes (magic_of One) (starts_with eqb bytes (magic_of One))
-          refl).0 h.0)
-      | inr g ↦ elim (chosen (starts_with eqb bytes (magic_of Two)) (Some Two) None (Some v) g.1) [
-        | inl h ↦ subst (λ (x : Version). bytes ≡ magic_of x ++ drop 8 bytes) (same_Some Two v h.1)
-            ((starts_is Decides-eqb bytes (magic_of Two) (starts_with eqb bytes (magic_of Two))
-            refl).0 h.0)
-        | inr h ↦ absurd (none-some v h.1)
-      ]
-    ]
+unfolding IsHead
+version_found bytes v =
+    one_tried bytes One v _ (head_of bytes One)
+    (one_tried bytes Two v _ (head_of bytes Two)
+    (one_tried bytes Three v _ (head_of bytes Three) (λ none. absurd (none-some v none))))
 
 -- what 20 bytes that are accepted begin
 pub record BeginsWith (bytes : List ℕ) (p : ReadSoFar) : Type 0 where

@@ -1,12 +1,13 @@
 -- What is judged good is good, and the bytes are its spelling: accesses, blocks and symbols.
 use Rattle.std.proofs.Common.{◌≡◌, ◌≢◌, ℕ, ◌+◌, ◌%◌, ◌^◌, ◌≤◌, ◌<◌, ◌⊎◌, inl, inr, Bool, true}
 use Rattle.std.proofs.Common.{false, cond, ◌&&◌, ◌||◌, eqb, eqb-true, ltb}
-use Rattle.std.proofs.Common.{leb, List, [], ◌∷◌, ◌++◌, length, get_or, drop, All, Option, Some}
-use Rattle.std.proofs.Common.{None, Result, Ok, Err, refl, sym, ap}
+use Rattle.std.proofs.Common.{leb, List, [], ◌∷◌, ◌++◌, length, get_or, take, drop, All, Option}
+use Rattle.std.proofs.Common.{Some, None, Result, Ok, Err, refl, sym, ap}
 use Rattle.std.proofs.Common.{subst, ◌∙◌, arith}
 use Rattle.std.proofs.lemmas.Bool.{and_parts}
 use Rattle.std.proofs.lemmas.Bool.Decides.{nat_tests}
-use Rattle.std.proofs.lemmas.List.{drop_more, drop_all, length-drop}
+use Rattle.std.proofs.lemmas.List.{drop_more, drop_all, get_or-take, length-drop}
+use Rattle.std.proofs.lemmas.List.{take-append-drop}
 use Rattle.std.proofs.lemmas.List.Elements.{All-nil, All-cons}
 use Rattle.std.specs.Int.{w16, w32, to_le_bytes}
 use Rattle.std.specs.List.{list_any}
@@ -15,9 +16,10 @@ use Rattle.objects.specs.declared.symbol.SymbolKind.TheVariants.{Object, Functio
 use Rattle.base.specs.Touch.{Touch, is_access_size}
 use Rattle.base.specs.declared.access.Kind.{Kind}
 use Rattle.base.specs.declared.access.Kind.TheVariants.{Read, Write}
+use Rattle.trace_format.specs.declared.before.Before.{Before}
 use Rattle.trace_format.specs.declared.fault.TraceFault.{TraceFault}
 use Rattle.trace_format.specs.declared.record.Version.{Version}
-use Rattle.trace_format.specs.declared.record.Version.TheVariants.{One, Two}
+use Rattle.trace_format.specs.declared.record.Version.TheVariants.{One, Two, Three}
 use Rattle.trace_format.specs.declared.record.TraceRecord.{TraceRecord}
 use Rattle.trace_format.specs.declared.record.TraceRecord.TheVariants as records
 use Rattle.trace_format.specs.declared.tag.Tag.{Tag}
@@ -25,15 +27,20 @@ use Rattle.trace_format.specs.declared.tag.Tag.TheVariants as tags
 use Rattle.trace_format.specs.Numbers.{address_at, are_groups, distance, group_count, groups}
 use Rattle.trace_format.specs.Numbers.{number_in}
 use Rattle.trace_format.specs.Spelling.{kind_number, spell_alloc, spell_free, spell_record}
-use Rattle.trace_format.specs.Spelling.{spell_symbol, spell_touch}
+use Rattle.trace_format.specs.Spelling.{pc_before, spell_short_touch, spell_symbol, spell_touch}
 use Rattle.trace_format.specs.Tags.{number_of, other_tag_of, tag_of}
-use Rattle.trace_format.specs.Rules.{IsGoodRecord, IsGoodSymbol, IsGoodTouch}
-use Rattle.trace_format.specs.Judging.{alloc_at, number_at, short_touch_judged, symbol_extent}
-use Rattle.trace_format.specs.Judging.{symbol_kind_of, symbol_with, touch_judged}
+use Rattle.trace_format.specs.Rules.{IsGoodBefore, IsGoodRecord, IsGoodSymbol, IsGoodTouch}
+use Rattle.base.specs.Fields.{number_at}
+use Rattle.trace_format.specs.Judging.{alloc_at, short_touch_judged, symbol_extent}
+use Rattle.trace_format.specs.Judging.{short_touch_extent, sited_touch_extent, sited_touch_judged}
+use Rattle.trace_format.specs.Judging.{symbol_kind_of, symbol_with, touch_judged, with_pc}
 use Rattle.trace_format.specs.declared.read_so_far.ReadSoFar.{ReadSoFar}
 use Rattle.trace_format.specs.Laws.Again.{ComesAt}
-use Rattle.trace_format.specs.Laws.Bytes.{IsBytes, IsBytes-drop, below_32, bytes_all, from_part}
+use Rattle.trace_format.specs.Laws.Before.{pc_before_low}
+use Rattle.trace_format.specs.Laws.Bytes.{IsBytes, IsBytes-drop, IsBytes-take, below_32}
+use Rattle.trace_format.specs.Laws.Bytes.{bytes_all, from_part}
 use Rattle.trace_format.specs.Laws.Bytes.{last_part, part, spelled_16, spelled_32}
+use Rattle.trace_format.specs.Laws.Extents.{front_whole}
 use Rattle.trace_format.proofs.FoundShortTouches.{address_below, distance_again, groups_found}
 
 -- ---- tests that a good record passes
@@ -63,16 +70,21 @@ chosen false x y z e = inr (refl, e)
 
 abbrev pub TouchIn : Version → Type 0
 TouchIn One = Unit {0}
-TouchIn Two = ⊥
+TouchIn _ = ⊥
 
 abbrev pub ShortTouchIn : ℕ → Version → Type 0
-ShortTouchIn size One = ⊥
 ShortTouchIn size Two = is_access_size size ≡ true
+ShortTouchIn size _ = ⊥
+
+abbrev pub SitedTouchIn : ℕ → Version → Type 0
+SitedTouchIn size Three = is_access_size size ≡ true
+SitedTouchIn size _ = ⊥
 
 -- which tags a version has
 abbrev pub TagIn : Tag → Version → Type 0
 TagIn (tags.Touch kind) v = TouchIn v
 TagIn (tags.ShortTouch kind size) v = ShortTouchIn size v
+TagIn (tags.SitedTouch kind size) v = SitedTouchIn size v
 TagIn tags.Alloc v = Unit {0}
 TagIn tags.Free v = Unit {0}
 TagIn tags.Symbol v = Unit {0}
@@ -115,15 +127,24 @@ tag_found Two n tag =
     (tried Two n 34 (tags.ShortTouch Write 2) _ tag (record { number = refl; fits = refl })
     (tried Two n 36 (tags.ShortTouch Write 4) _ tag (record { number = refl; fits = refl })
     (other_found Two n tag))))))
+tag_found Three n tag =
+    tried Three n 17 (tags.SitedTouch Read 1) _ tag (record { number = refl; fits = refl })
+    (tried Three n 18 (tags.SitedTouch Read 2) _ tag (record { number = refl; fits = refl })
+    (tried Three n 20 (tags.SitedTouch Read 4) _ tag (record { number = refl; fits = refl })
+    (tried Three n 33 (tags.SitedTouch Write 1) _ tag (record { number = refl; fits = refl })
+    (tried Three n 34 (tags.SitedTouch Write 2) _ tag (record { number = refl; fits = refl })
+    (tried Three n 36 (tags.SitedTouch Write 4) _ tag (record { number = refl; fits = refl })
+    (other_found Three n tag))))))
 
 -- ---- accesses
 
-pub touch_found : (kind : Kind) (harts place last : ℕ) (bytes : List ℕ) (a : Touch) → harts ≤ 256
+pub touch_found : (kind : Kind) (harts place : ℕ) (before : Before) (bytes : List ℕ) (a : Touch)
+    → harts ≤ 256
     → length bytes ≡ 8 → IsBytes bytes
     → number_of (tags.Touch kind) ≡ get_or bytes 0 0 → touch_judged kind harts place bytes ≡ Ok a
-    → IsGoodTouch harts a × (bytes ≡ spell_touch One last a)
+    → IsGoodTouch harts a × (bytes ≡ spell_touch One before a None)
 unfolding touch_judged spell_touch
-touch_found kind harts place last bytes a few len is tag e =
+touch_found kind harts place before bytes a few len is tag e =
     let hart = number_at w16 1 bytes in
     let addr = number_at w32 3 bytes in
     let size = get_or bytes 7 0 in
@@ -151,19 +172,19 @@ touch_found kind harts place last bytes a few len is tag e =
     ∙ ap (λ (xs : List ℕ). size ∷ xs) (drop_all 8 bytes (omega arith))))) in
     let s1 = spelled_16 bytes 1 is (omega arith) in
     let s2 = spelled_32 bytes 3 is (omega arith) in
-    let spelled : spell_touch One last made ≡ joined (get_or bytes 0 0) (part bytes 1 2)
+    let spelled : spell_touch One before made None ≡ joined (get_or bytes 0 0) (part bytes 1 2)
     (part bytes 3 4) =
     λ i. joined (tag i) (s1 i) (s2 i) in
-    subst (λ (x : Touch). IsGoodTouch harts x × (bytes ≡ spell_touch One last x))
+    subst (λ (x : Touch). IsGoodTouch harts x × (bytes ≡ spell_touch One before x None))
     (same_Ok made a third.1) (good, parts ∙ sym spelled)
 
 pub short_touch_found : (kind : Kind) (size harts last place : ℕ) (bytes : List ℕ) (a : Touch)
     → harts ≤ 256 → last < 2 ^ 32
-    → is_access_size size ≡ true → length bytes ≡ 2 + group_count (drop 2 bytes) → IsBytes bytes
+    → is_access_size size ≡ true → length bytes ≡ short_touch_extent bytes → IsBytes bytes
     → number_of (tags.ShortTouch kind size) ≡ get_or bytes 0 0
     → short_touch_judged kind size harts last place bytes ≡ Ok a
-    → IsGoodTouch harts a × (bytes ≡ spell_touch Two last a)
-unfolding short_touch_judged spell_touch
+    → IsGoodTouch harts a × (bytes ≡ spell_short_touch last a)
+unfolding short_touch_judged
 short_touch_found kind size harts last place bytes a few low sized len is tag e =
     let hart = get_or bytes 1 0 in
     let told = drop 2 bytes in
@@ -192,19 +213,89 @@ short_touch_found kind size harts last place bytes a few low sized len is tag e 
     (drop_more bytes 1 0 (omega arith)) in
     let again : groups (distance last addr)
     ≡ told = ap groups (distance_again last z low those.small) ∙ those.same in
-    let spelled : spell_touch Two last made ≡ get_or bytes 0 0 ∷ hart ∷ told =
+    let spelled : spell_short_touch last made ≡ get_or bytes 0 0 ∷ hart ∷ told =
     λ i. tag i ∷ hart ∷ again i in
-    subst (λ (x : Touch). IsGoodTouch harts x × (bytes ≡ spell_touch Two last x))
+    subst (λ (x : Touch). IsGoodTouch harts x × (bytes ≡ spell_short_touch last x))
     (same_Ok made a second.1) (good, parts ∙ sym spelled)
+
+-- what an access with a pc was, by its two parts
+pub record WasSited (before : Before) (place : ℕ) (told : List ℕ) (j : Result Touch TraceFault)
+    (sited : Touch × Option ℕ) : Type 0 where
+  pub touch : Touch
+  pub judged : j ≡ Ok touch
+  pub groups_good : are_groups told ≡ true
+  pub is : (touch, Some (address_at (pc_before before touch.hart) (number_in told))) ≡ sited
+
+was_sited : (before : Before) (place : ℕ) (told : List ℕ) (j : Result Touch TraceFault)
+    (sited : Touch × Option ℕ)
+    → with_pc before place told j ≡ Ok sited → WasSited before place told j sited
+was_sited before place told (Err fault) sited e = absurd cc
+was_sited before place told (Ok a) sited e =
+    let g = granted (are_groups told) _ _ sited e in
+    record {
+      touch = a;
+      judged = refl;
+      groups_good = g.0;
+      is = same_Ok (a, Some (address_at (pc_before before a.hart) (number_in told))) sited g.1;
+    }
+
+-- an access of version 3: its front is one of version 2, and its pc is behind that
+pub record IsSited (harts : ℕ) (before : Before) (bytes : List ℕ) (sited : Touch × Option ℕ)
+    : Type 0 where
+  pub touch : Touch
+  pub pc : ℕ
+  pub is : (touch, Some pc) ≡ sited
+  pub good : IsGoodTouch harts touch
+  pub small : pc < 2 ^ 32
+  pub spelled : bytes ≡ spell_touch Three before touch (Some pc)
+
+pub sited_touch_found : (kind : Kind) (size harts : ℕ) (before : Before) (place : ℕ)
+    (bytes : List ℕ) (sited : Touch × Option ℕ)
+    → harts ≤ 256 → IsGoodBefore before
+    → is_access_size size ≡ true → length bytes ≡ sited_touch_extent bytes → IsBytes bytes
+    → number_of (tags.SitedTouch kind size) ≡ get_or bytes 0 0
+    → sited_touch_judged kind size harts before place bytes ≡ Ok sited
+    → IsSited harts before bytes sited
+unfolding sited_touch_judged spell_touch
+sited_touch_found kind size harts before place bytes sited few low sized len is tag e =
+    let n = short_touch_extent bytes in
+    let front = take n bytes in
+    let told = drop n bytes in
+    let w = was_sited before (place + n) told
+    (short_touch_judged kind size harts before.last place front) sited e in
+    let last = pc_before before w.touch.hart in
+    let y = number_in told in
+    let count : length told ≡ group_count told = omega (arith, length-drop n bytes) in
+    let those = groups_found told (IsBytes-drop n bytes is) count w.groups_good in
+    let some : 1 ≤ n = omega arith in
+    let le : n ≤ length bytes = omega arith in
+    let whole = front_whole bytes n refl some le in
+    let tagged : number_of (tags.ShortTouch kind size) ≡ get_or front 0 0 = tag
+    ∙ sym (get_or-take n bytes 0 0 some) in
+    let first = short_touch_found kind size harts before.last place front w.touch few low.last sized
+    whole (IsBytes-take n bytes is) tagged w.judged in
+    let again : groups (distance last (address_at last y)) ≡ told =
+    ap groups (distance_again last y (pc_before_low before w.touch.hart low) those.small)
+    ∙ those.same in
+    record {
+      touch = w.touch;
+      pc = address_at last y;
+      is = w.is;
+      good = first.0;
+      small = address_below last y;
+      spelled = sym (take-append-drop n bytes)
+          ∙ ap (λ (xs : List ℕ). xs ++ told) first.1
+          ∙ ap (λ (xs : List ℕ). spell_short_touch before.last w.touch ++ xs) (sym again);
+    }
 
 -- ---- blocks
 
-pub alloc_found : (harts : ℕ) (v : Version) (last : ℕ) (bytes : List ℕ) → length bytes ≡ 25
+pub alloc_found : (harts : ℕ) (v : Version) (before : Before) (bytes : List ℕ) → length bytes ≡ 25
     → IsBytes bytes
     → number_of tags.Alloc ≡ get_or bytes 0 0
-    → IsGoodRecord harts (alloc_at bytes) × (bytes ≡ spell_record v last (alloc_at bytes))
+    → IsGoodRecord v harts (alloc_at bytes) × (bytes ≡ spell_record v before (alloc_at bytes))
 unfolding alloc_at spell_alloc
-alloc_found harts v last bytes len is tag =
+alloc_found harts v before bytes len is tag =
     let joined : ℕ → List ℕ → List ℕ → List ℕ → List ℕ → List ℕ → List ℕ → List ℕ =
     λ t x n a b c d. t ∷ (x ++ (n ++ (a ++ (b ++ (c ++ (d ++ [])))))) in
     let parts : bytes ≡ joined (get_or bytes 0 0) (part bytes 1 4) (part bytes 5 4) (part bytes 9 4)
@@ -226,7 +317,7 @@ alloc_found harts v last bytes len is tag =
     let s4 = spelled_32 bytes 13 is (omega arith) in
     let s5 = spelled_32 bytes 17 is (omega arith) in
     let s6 = spelled_32 bytes 21 is (omega arith) in
-    let spelled : spell_record v last (alloc_at bytes)
+    let spelled : spell_record v before (alloc_at bytes)
     ≡ joined (get_or bytes 0 0) (part bytes 1 4) (part bytes 5 4) (part bytes 9 4) (part bytes 13 4)
     (part bytes 17 4) (part bytes 21 4) =
     λ i. joined (tag i) (s1 i) (s2 i) (s3 i) (s4 i) (s5 i) (s6 i) in
@@ -284,16 +375,17 @@ long_enough : (bytes : List ℕ) → length bytes ≡ symbol_extent bytes → nu
 unfolding symbol_extent
 long_enough bytes len short = grind (arith, nat_tests)
 
-pub symbol_found : (v : Version) (harts last place : ℕ) (bytes : List ℕ) (item : TraceRecord)
+pub symbol_found : (v : Version) (harts : ℕ) (before : Before) (place : ℕ) (bytes : List ℕ)
+    (item : TraceRecord)
     → length bytes ≡ symbol_extent bytes
     → IsBytes bytes → number_of tags.Symbol ≡ get_or bytes 0 0 → (kind : Option SymbolKind)
     → symbol_kind_of (get_or bytes 1 0) ≡ kind
-    → symbol_with place bytes kind ≡ Ok item → (p : ReadSoFar) → IsGoodRecord harts item
-    × (bytes ≡ spell_record v last item)
+    → symbol_with place bytes kind ≡ Ok item → (p : ReadSoFar) → IsGoodRecord v harts item
+    × (bytes ≡ spell_record v before item)
     × ComesAt p item
 unfolding spell_symbol
-symbol_found v harts last place bytes item len is tag None known e p = absurd cc
-symbol_found v harts last place bytes item len is tag (Some kind) known e p =
+symbol_found v harts before place bytes item len is tag None known e p = absurd cc
+symbol_found v harts before place bytes item len is tag (Some kind) known e p =
     let addr = number_at w32 2 bytes in
     let size = number_at w32 6 bytes in
     let told = number_at w16 10 bytes in
@@ -334,7 +426,7 @@ symbol_found v harts last place bytes item len is tag (Some kind) known e p =
     (part bytes 2 4) (part bytes 6 4)
     (part bytes 10 2) =
     λ i. joined (tag i) (k i) (s1 i) (s2 i) (s3 i) in
-    subst (λ (x : TraceRecord). IsGoodRecord harts x × (bytes ≡ spell_record v last x)
+    subst (λ (x : TraceRecord). IsGoodRecord v harts x × (bytes ≡ spell_record v before x)
     × ComesAt p x)
     (same_Ok (records.Symbol kind addr size name) item third.1)
     (good, parts ∙ sym spelled, tt)

@@ -1,5 +1,5 @@
 -- What is read with no fault up to an end is a trace.
-use Rattle.std.proofs.Common.{◌≡◌, ℕ, ◌+◌, ◌^◌, ◌≤◌, ◌<◌, inl, inr, Bool, true, false, cond, eqb}
+use Rattle.std.proofs.Common.{◌≡◌, ℕ, ◌+◌, ◌≤◌, ◌<◌, inl, inr, Bool, true, false, cond, eqb}
 use Rattle.std.proofs.Common.{ltb, List, [], ◌∷◌, ◌++◌, length, take}
 use Rattle.std.proofs.Common.{All, Option, Some, None, Result, Ok, Err, refl, sym, ap, subst, ◌∙◌}
 use Rattle.std.proofs.Common.{append_assoc, arith}
@@ -7,16 +7,17 @@ use Rattle.std.proofs.lemmas.Bool.Decides.{nat_tests}
 use Rattle.std.proofs.lemmas.Bool.{cases_lt}
 use Rattle.std.proofs.lemmas.List.{append-nil, length-append, take-append-le}
 use Rattle.std.proofs.lemmas.List.Elements.{All-append, All-cons, All-head, All-nil, All-tail}
-use Rattle.std.proofs.lemmas.List.Elements.{filter_map-append}
 use Rattle.base.specs.declared.ending.Ending.{Ending}
 use Rattle.trace_format.specs.declared.fault.TraceFault.{TraceFault}
 use Rattle.trace_format.specs.declared.fault.TraceFault.TheVariants as faults
 use Rattle.trace_format.specs.declared.record.TraceRecord.{TraceRecord}
 use Rattle.trace_format.specs.declared.record.TraceRecord.TheVariants as records
 use Rattle.trace_format.specs.declared.read_so_far.ReadSoFar.{ReadSoFar}
-use Rattle.trace_format.specs.Spelling.{last_after, spell, spell_header, spell_record}
-use Rattle.trace_format.specs.Rules.{IsGoodHeader, IsGoodRecord, IsInner, last_position}
-use Rattle.trace_format.specs.Rules.{longest_trace, touch_in, touches_in}
+use Rattle.trace_format.specs.Spelling.{before_after, nothing_before, spell, spell_header}
+use Rattle.trace_format.specs.Spelling.{spell_record}
+use Rattle.trace_format.specs.Rules.{IsGoodBefore, IsGoodHeader, IsGoodRecord, IsInner}
+use Rattle.trace_format.specs.Rules.{last_position}
+use Rattle.trace_format.specs.Rules.{longest_trace, touches_in}
 use Rattle.trace_format.specs.Judging.{header_judged, record_extent, record_judged}
 use Rattle.trace_format.specs.Reading.{Reading, begin, byte_read, counted_after, ending_in}
 use Rattle.trace_format.specs.Reading.{ending_of, extent_at, header_read, part_at}
@@ -24,31 +25,25 @@ use Rattle.trace_format.specs.Reading.{place_of, progress_after, read_on, readin
 use Rattle.trace_format.specs.Reading.{with_fault}
 use Rattle.trace_format.specs.Laws.Reading.{waiting}
 use Rattle.trace_format.specs.Laws.Extents.{extent_is_some, fronts_wait_at}
+use Rattle.trace_format.specs.declared.before.Before.{Before}
 use Rattle.trace_format.specs.Laws.Again.{ComesAt}
-use Rattle.trace_format.specs.Laws.Writing.{begun-ended, begun-more, last_more}
+use Rattle.trace_format.specs.Laws.Before.{after_good, nothing_good}
+use Rattle.trace_format.specs.Laws.Writing.{before_more, begun-ended, begun-more}
 use Rattle.trace_format.specs.Faults.{HasFault, IsOpenTrace, ended, nothing, unended}
 use Rattle.trace_format.specs.Found.{IsFound, IsTraceOf}
-use Rattle.trace_format.specs.Writing.{begun_with, last_behind}
+use Rattle.trace_format.specs.Writing.{before_behind, begun_with}
 use Rattle.trace_format.specs.Laws.Bytes.{bytes_of}
+use Rattle.trace_format.specs.Laws.Touches.{counted-one, touched-push}
 use Rattle.trace_format.proofs.FoundEnds.{header_found}
 use Rattle.trace_format.proofs.FoundRecord.{record_found}
 use Rattle.trace_format.proofs.Stops.{Stops, has_stopped, is_behind, stops_longer}
 
 -- ---- lists of records
 
-counted-one : (n : ℕ) (x : TraceRecord) → n + length (touches_in (x ∷ [])) ≡ counted_after n x
-counted-one n (records.Touch a) = refl
-counted-one n (records.Alloc addr size sites) = omega arith
-counted-one n (records.Free addr) = omega arith
-counted-one n (records.Symbol kind addr size name) = omega arith
-counted-one n (records.End e) = omega arith
-
 counted-more : (xs : List TraceRecord) (x : TraceRecord) → counted_after (length (touches_in xs)) x
     ≡ length (touches_in (xs ++ x ∷ []))
 counted-more xs x =
-    sym (ap length (filter_map-append touch_in xs (x ∷ [])) ∙ length-append (touches_in xs)
-    (touches_in (x ∷ []))
-    ∙ counted-one (length (touches_in xs)) x)
+    counted-one (length (touches_in xs)) x ∙ sym (touched-push xs x)
 
 -- ---- what waits is judged as soon as its bytes are there
 
@@ -74,12 +69,12 @@ grown p e xs b waits =
 record IsOpen (bytes : List ℕ) (items : List TraceRecord) (pending : List ℕ)
     (p : ReadSoFar) : Type 0 where
   header : IsGoodHeader p.header
-  good : All (IsGoodRecord p.header.harts) items
+  good : All (IsGoodRecord p.version p.header.harts) items
   inner : All IsInner items
   positions : p.header.first + p.counted ≤ last_position
   counted : p.counted ≡ length (touches_in items)
-  last : p.last ≡ last_behind 0 items
-  low : p.last < 2 ^ 32
+  last : p.before ≡ before_behind nothing_before items
+  low : IsGoodBefore p.before
   place : p.place ≡ length (begun_with p.version p.header items)
   spelled : bytes ≡ begun_with p.version p.header items ++ pending
   room : p.place + length pending ≤ longest_trace
@@ -115,7 +110,7 @@ abbrev StandsAt : List ℕ → List TraceRecord → Reading → Type 0
 StandsAt bytes items r = Stands r.fault r.progress r.ending bytes items r.pending
 
 open_parts : (bytes : List ℕ) (items : List TraceRecord) (pending : List ℕ) (p : ReadSoFar)
-    → IsOpen bytes items pending p → IsOpenTrace p.header items
+    → IsOpen bytes items pending p → IsOpenTrace p.version p.header items
 open_parts bytes items pending p k =
     let positions = k.positions in
     let counted = k.counted in
@@ -136,23 +131,15 @@ by_test P false x y on off = off refl
 byte_is : (b : ℕ) → b < 256 → All (λ b. b < 256) (b ∷ [])
 byte_is b small = All-cons (λ b. b < 256) b [] small (All-nil (λ b. b < 256))
 
--- an inner record takes a position at most, and leaves the last address one of 32 bits
+-- an inner record takes a position at most
 positions_after : (p : ReadSoFar) (item : TraceRecord) → ComesAt p item
     → p.header.first + p.counted ≤ last_position
     → p.header.first + counted_after p.counted item ≤ last_position
-positions_after p (records.Touch a) there fits = omega arith
+positions_after p (records.Touch a pc) there fits = omega arith
 positions_after p (records.Alloc addr size sites) there fits = fits
 positions_after p (records.Free addr) there fits = fits
 positions_after p (records.Symbol kind addr size name) there fits = fits
 positions_after p (records.End e) there fits = fits
-
-low_after : (p : ReadSoFar) (item : TraceRecord) → IsGoodRecord p.header.harts item
-    → p.last < 2 ^ 32 → last_after p.last item < 2 ^ 32
-low_after p (records.Touch a) good low = good.allowed.addr_in_range
-low_after p (records.Alloc addr size sites) good low = low
-low_after p (records.Free addr) good low = low
-low_after p (records.Symbol kind addr size name) good low = low
-low_after p (records.End e) good low = low
 
 module _ (before : List ℕ) (items : List TraceRecord) (pending : List ℕ) (b : ℕ)
     (small : b < 256) where
@@ -230,17 +217,17 @@ module _ (before : List ℕ) (items : List TraceRecord) (pending : List ℕ) (b 
       let fresh = found.fresh in
       let position = found.good.position in
       let counted : p.counted ≡ 0 = ap (λ (x : ReadSoFar). x.counted) fresh in
-      let last : p.last ≡ 0 = ap (λ (x : ReadSoFar). x.last) fresh in
+      let last : p.before ≡ nothing_before = ap (λ (x : ReadSoFar). x.before) fresh in
       let place : p.place ≡ 20 = ap (λ (x : ReadSoFar). x.place) fresh in
       let now : IsOpen bytes [] [] p =
       record {
         header = found.good;
-        good = All-nil (IsGoodRecord p.header.harts);
+        good = All-nil (IsGoodRecord p.version p.header.harts);
         inner = All-nil IsInner;
         positions = omega arith;
         counted = counted;
         last = last;
-        low = omega arith;
+        low = subst IsGoodBefore (sym last) nothing_good;
         place = place ∙ size;
         spelled = same ∙ sym (append-nil (spell_header p.version p.header ++ []));
         room = omega arith;
@@ -272,15 +259,16 @@ module _ (before : List ℕ) (items : List TraceRecord) (pending : List ℕ) (b 
     unfolding front
     with_record item found =
         let v = p.version in
-        let last : spell_record v p.last item ≡ spell_record v (last_behind 0 items) item =
-        ap (λ (l : ℕ). spell_record v l item) k.last in
+        let last : spell_record v p.before item
+        ≡ spell_record v (before_behind nothing_before items) item =
+        ap (λ (x : Before). spell_record v x item) k.last in
         joined ∙ ap (λ (xs : List ℕ). front ++ xs) (found.spelled ∙ last)
         ∙ begun-more v p.header items item
 
     open_after : (item : TraceRecord) → IsInner item → IsFound p more item
         → IsOpen bytes (items ++ item ∷ []) [] (progress_after p item (length more))
     open_after item inner found =
-        let P : TraceRecord → Type 0 = IsGoodRecord p.header.harts in
+        let P : TraceRecord → Type 0 = IsGoodRecord p.version p.header.harts in
         let whole = with_record item found in
         let all = begun_with p.version p.header (items ++ item ∷ []) in
         record {
@@ -290,8 +278,9 @@ module _ (before : List ℕ) (items : List TraceRecord) (pending : List ℕ) (b 
               (All-cons IsInner item [] inner (All-nil IsInner));
           positions = positions_after p item found.there k.positions;
           counted = ap (λ (n : ℕ). counted_after n item) k.counted ∙ counted-more items item;
-          last = ap (λ (l : ℕ). last_after l item) k.last ∙ sym (last_more 0 items item);
-          low = low_after p item found.good k.low;
+          last = ap (λ (x : Before). before_after x item) k.last
+              ∙ sym (before_more nothing_before items item);
+          low = after_good p.version p.header.harts p.before item k.low found.good;
           place = sym size ∙ ap length whole;
           spelled = whole ∙ sym (append-nil all);
           room = omega arith;
@@ -335,7 +324,7 @@ module _ (before : List ℕ) (items : List TraceRecord) (pending : List ℕ) (b 
     item_stands : (item : TraceRecord) → IsFound p more item
         → Keeps (Some (progress_after p item (length more))) (ending_in item) bytes
         (items ++ item ∷ []) []
-    item_stands (records.Touch a) found = open_after (records.Touch a) tt found
+    item_stands (records.Touch a pc) found = open_after (records.Touch a pc) tt found
     item_stands (records.Alloc addr n sites) found = open_after (records.Alloc addr n sites) tt
         found
     item_stands (records.Free addr) found = open_after (records.Free addr) tt found

@@ -15,4 +15,5 @@ pub mod Runs
 pub mod ShortTouches
 pub mod Stops
 pub mod Worked
+pub mod WorkedPcs
 pub mod WriteParts

@@ -1,8 +1,9 @@
 -- Reading one access after the other.
 use Rattle.std.proofs.Common.{◌≡◌, ℕ, ◌+◌, ◌≤◌, ◌<◌, List, [], ◌∷◌, ◌++◌, length, get_or, take}
-use Rattle.std.proofs.Common.{drop, Option, Some, None, Ok, refl, sym, ap}
+use Rattle.std.proofs.Common.{drop, Option, Some, None, Ok, refl, sym, ap, subst}
 use Rattle.std.proofs.Common.{◌∙◌}
 use Rattle.std.proofs.Common.{append_assoc, arith}
+use Rattle.std.specs.Prelude.{IfSome}
 use Rattle.std.proofs.lemmas.List.{get_or-take, length-take-le}
 use Rattle.base.specs.Touch.{Touch}
 use Rattle.trace_format.specs.declared.read_so_far.ReadSoFar.{ReadSoFar}
@@ -47,28 +48,40 @@ module _ (p : ReadSoFar) (bytes part : List ℕ) (tag : Tag) (n : ℕ)
   part_extent = front_extent (Some p) None bytes part n cut extent le
       ∙ extent_is p part tag tagged_too
 
-  pub access_there : (a : Touch) → tagged_judged p tag part ≡ Ok (records.Touch a)
-      → HasAccess p bytes a n
-  access_there a judged = record {
+  pub access_there : (a : Touch) (pc : Option ℕ) → tagged_judged p tag part ≡ Ok (records.Touch a pc)
+      → HasAccess p bytes a pc n
+  access_there a pc judged = record {
     extent = extent;
     there = le;
     judged = ap (record_judged p) (sym cut) ∙ judged_is p part tag tagged_too ∙ judged;
   }
 
+  pub ahead_there : (a : Touch) (pc : Option ℕ) (m : ℕ)
+      → (tagged_judged p tag part ≡ Ok (records.Touch a pc)) × (m ≡ n)
+      → HasAccess p bytes a pc m
+  ahead_there a pc m is =
+      subst (λ (k : ℕ). HasAccess p bytes a pc k) (sym is.1) (access_there a pc is.0)
+
+-- what holds of what there is
+pub if_some : {A : Type 0} (r : Option A) (P Q : A → Type 0) → ((x : A) → P x → Q x)
+    → IfSome r P → IfSome r Q
+if_some None P Q f p = tt
+if_some (Some x) P Q f p = f x p
+
 -- an access more
 pub access_is_read : (start : Reading) (bytes : List ℕ) (before : List TraceRecord)
     (p q : ReadSoFar) (rest behind : List ℕ)
     (items after : List TraceRecord) → ReadsBut start bytes (reading_at p) rest before items
-    → (a : Touch) (n : ℕ) → HasAccess p rest a n → p.place + n ≤ longest_trace
-    → q ≡ progress_after p (records.Touch a) n → behind ≡ drop n rest → after
-    ≡ items ++ records.Touch a ∷ []
+    → (a : Touch) (pc : Option ℕ) (n : ℕ) → HasAccess p rest a pc n → p.place + n ≤ longest_trace
+    → q ≡ progress_after p (records.Touch a pc) n → behind ≡ drop n rest → after
+    ≡ items ++ records.Touch a pc ∷ []
     → ReadsBut start bytes (reading_at q) behind before after
-access_is_read start bytes before p q rest behind items after to a n has low next cut added =
-    let more : List TraceRecord = records.Touch a ∷ [] in
+access_is_read start bytes before p q rest behind items after to a pc n has low next cut added =
+    let more : List TraceRecord = records.Touch a pc ∷ [] in
     let later : List TraceRecord × Reading = read_on (reading_at q) behind in
     let part : part_at (reading_at p) (Some p) None (take n rest) ≡ (more, reading_at q) =
     ap (record_read (reading_at p) p (length (take n rest))) has.judged
-    ∙ ap (λ (m : ℕ). (more, reading_at (progress_after p (records.Touch a) m)))
+    ∙ ap (λ (m : ℕ). (more, reading_at (progress_after p (records.Touch a pc) m)))
     (length-take-le n rest has.there)
     ∙ ap (λ (r : ReadSoFar). (more, reading_at r)) (sym next) in
     let step : read_on (reading_at p) rest ≡ (more ++ later.0, later.1) = one_part

@@ -1,19 +1,26 @@
 -- What is left of judging records once their fields are read.
 use Rattle.std.proofs.Common.{◌≡◌, ℕ, ◌+◌, ◌%◌, ◌≤◌, ◌<◌, true, false, eqb, leb, ltb, List, length}
-use Rattle.std.proofs.Common.{get_or, drop, Some, Ok, Err, refl, ap}
+use Rattle.std.proofs.Common.{get_or, take, drop, Option, Some, Result, Ok, Err, refl, ap}
 use Rattle.std.proofs.Common.{sym, ◌∙◌, arith}
 use Rattle.std.specs.Int.{w16, w32}
 use Rattle.std.specs.List.{list_any}
 use Rattle.std.proofs.lemmas.Bool.Decides.{nat_tests}
-use Rattle.std.proofs.lemmas.List.{take_all, length-drop}
+use Rattle.std.proofs.lemmas.List.{take_all, length-drop, length-take-le}
 use Rattle.base.specs.Names.{name_of}
 use Rattle.objects.specs.declared.symbol.SymbolKind.{SymbolKind}
+use Rattle.base.specs.Touch.{Touch}
 use Rattle.base.specs.declared.access.Kind.{Kind}
+use Rattle.trace_format.specs.declared.before.Before.{Before}
+use Rattle.trace_format.specs.declared.fault.TraceFault.{TraceFault}
 use Rattle.trace_format.specs.declared.fault.TraceFault.TheVariants as faults
 use Rattle.trace_format.specs.declared.record.TraceRecord.TheVariants as records
-use Rattle.trace_format.specs.Numbers.{address_at, are_groups, number_in}
-use Rattle.trace_format.specs.Judging.{number_at, short_touch_judged, symbol_extent, symbol_judged}
-use Rattle.trace_format.specs.Judging.{symbol_kind_of}
+use Rattle.trace_format.specs.Laws.Extents.{front_still, front_whole}
+use Rattle.trace_format.specs.Numbers.{address_at, are_groups, group_count, number_in}
+use Rattle.base.specs.Fields.{number_at}
+use Rattle.trace_format.specs.Judging.{short_touch_extent, short_touch_judged}
+use Rattle.trace_format.specs.Judging.{sited_touch_extent, sited_touch_judged, symbol_extent}
+use Rattle.trace_format.specs.Judging.{symbol_judged}
+use Rattle.trace_format.specs.Judging.{symbol_kind_of, with_pc}
 
 -- an address that its size does not divide
 pub misaligned_short_touch : (kind : Kind) (size harts last place addr : ℕ) (bytes : List ℕ)
@@ -28,6 +35,59 @@ misaligned_short_touch kind size harts last place addr bytes below spelled is od
     let off_there : eqb (address_at last (number_in (drop 2 bytes)) % size) 0
     ≡ false = ap (λ (a : ℕ). eqb (a % size) 0) (sym is) ∙ off in
     rw (inside, spelled, off_there) refl
+
+-- an access with a pc is judged by its two parts
+pub sited_by_parts : (kind : Kind) (size harts place n : ℕ) (before : Before)
+    (bytes front told : List ℕ)
+    → short_touch_extent bytes ≡ n → n ≤ length bytes → front ≡ take n bytes
+    → told ≡ drop n bytes
+    → with_pc before (place + length front) told
+    (short_touch_judged kind size harts before.last place front)
+    ≡ sited_touch_judged kind size harts before place bytes
+unfolding sited_touch_judged
+sited_by_parts kind size harts place n before bytes front told is le front_is told_is =
+    let parts : ℕ → List ℕ → List ℕ → Result (Touch × Option ℕ) TraceFault =
+    λ m xs ys. with_pc before (place + m) ys
+    (short_touch_judged kind size harts before.last place xs) in
+    let size_is : length front ≡ n = ap length front_is ∙ length-take-le n bytes le in
+    (λ i. parts (size_is i) (front_is i) (told_is i))
+    ∙ ap (λ (m : ℕ). parts m (take m bytes) (drop m bytes)) (sym is)
+
+-- the two parts of an access with a pc, whose bytes are the front of others
+module _ (bytes part : List ℕ) (n m : ℕ) (n_is : n ≡ short_touch_extent bytes)
+    (m_is : m ≡ n + group_count (drop n bytes)) (le : m ≤ length bytes)
+    (cut : part ≡ take m bytes) where
+  pub size_is : m ≡ sited_touch_extent bytes
+  size_is = m_is ∙ ap (λ (k : ℕ). k + group_count (drop k bytes)) n_is
+
+  some : 1 ≤ n
+  some = omega (arith, n_is)
+
+  pub front_there : short_touch_extent part ≡ n
+  front_there =
+      let front_some = some in
+      let first : short_touch_extent bytes ≤ m = omega (arith, n_is, m_is) in
+      let least : 1 ≤ m = omega (arith, front_some, n_is, m_is) in
+      ap short_touch_extent cut ∙ front_still bytes m first least le ∙ sym n_is
+
+  long : length part ≡ m
+  long = ap length cut ∙ length-take-le m bytes le
+
+  pub enough : n ≤ length part
+  enough = omega (arith, long, m_is)
+
+  pub front_long : (front : List ℕ) → front ≡ take n part
+      → length front ≡ short_touch_extent front
+  front_long front is = rw is (front_whole part n (sym front_there) some enough)
+
+  pub told_long : (told : List ℕ) → length part ≡ sited_touch_extent part → told ≡ drop n part
+      → length told ≡ group_count told
+  told_long told whole is =
+      let both : length part ≡ n + group_count (drop n part) =
+      whole ∙ ap (λ (k : ℕ). k + group_count (drop k part)) front_there in
+      let size : length (drop n part) ≡ group_count (drop n part) =
+      omega (arith, both, enough, length-drop n part) in
+      rw is size
 
 -- a symbol whose name is short
 pub short_symbol : (kind : SymbolKind) (addr size told place : ℕ) (name bytes : List ℕ)

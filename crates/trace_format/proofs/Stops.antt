@@ -6,7 +6,8 @@ use Rattle.trace_format.specs.declared.fault.TraceFault.{TraceFault}
 use Rattle.trace_format.specs.declared.record.TraceRecord.{TraceRecord}
 use Rattle.trace_format.specs.declared.read_so_far.ReadSoFar.{ReadSoFar}
 use Rattle.trace_format.specs.Rules.{touches_in}
-use Rattle.trace_format.specs.Writing.{begun_with, last_behind}
+use Rattle.trace_format.specs.Spelling.{nothing_before}
+use Rattle.trace_format.specs.Writing.{before_behind, begun_with}
 use Rattle.trace_format.specs.Faults.{Beginning, HasFault, IsAtFault, IsRefused, IsTooLong}
 use Rattle.trace_format.specs.Faults.{KeepsRules, behind, records_in, spell_beginning}
 
@@ -70,15 +71,15 @@ has_stopped bytes items f s = record {
 
 -- what is read of records is how a record comes behind them
 pub is_behind : (p : ReadSoFar) (items : List TraceRecord)
-    → p.counted ≡ length (touches_in items) → p.last ≡ last_behind 0 items
+    → p.counted ≡ length (touches_in items) → p.before ≡ before_behind nothing_before items
     → p.place ≡ length (begun_with p.version p.header items)
     → p ≡ behind p.version p.header items
-is_behind p items counted last place =
+is_behind p items counted before place =
     λ i. let now : ReadSoFar =
     record {
       version = p.version;
       header = p.header;
       counted = counted i;
-      last = last i;
+      before = before i;
       place = place i;
     } in now

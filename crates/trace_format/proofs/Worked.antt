@@ -1,5 +1,5 @@
 -- Worked cases of reading: each is closed by computing.
-use Rattle.std.proofs.Common.{◌≡◌, ℕ, ◌+◌, List, [], ◌∷◌, ◌++◌, replicate, Result, Ok, Err, refl}
+use Rattle.std.proofs.Common.{◌≡◌, ℕ, ◌+◌, List, [], ◌∷◌, ◌++◌, replicate, None, Result, Ok, Err, refl}
 use Rattle.std.proofs.Common.{inl, inr, arith}
 use Rattle.std.proofs.lemmas.List.Elements.{All-nil}
 use Rattle.base.specs.declared.access.Kind.TheVariants.{Write}
@@ -11,7 +11,8 @@ use Rattle.trace_format.specs.declared.record.TraceRecord.{TraceRecord}
 use Rattle.trace_format.specs.declared.record.TraceRecord.TheVariants as records
 use Rattle.trace_format.specs.declared.record.Header.{Header}
 use Rattle.trace_format.specs.declared.record.Version.TheVariants.{One, Two}
-use Rattle.trace_format.specs.Spelling.{spell_header, spell_touch, spell_ending, spell}
+use Rattle.trace_format.specs.Spelling.{nothing_before, spell_header, spell_touch, spell_ending}
+use Rattle.trace_format.specs.Spelling.{spell}
 use Rattle.trace_format.specs.Judging.{header_judged, symbol_extent, record_extent, touch_judged}
 use Rattle.trace_format.specs.Judging.{short_touch_judged, symbol_judged, plain_judged}
 use Rattle.trace_format.specs.Judging.{outcome_judged, record_judged}
@@ -19,27 +20,27 @@ use Rattle.trace_format.specs.Reading.{byte_read, read_on, reading_of, ending_of
 use Rattle.trace_format.specs.Rules.{IsGoodRecord, IsGoodTrace, IsInner}
 use Rattle.trace_format.specs.Faults.{HasFault, IsOpenTrace, ended as whole, nothing, unended}
 
--- PRDTRC01 or PRDTRC02, first position 0, so many harts, and zero
-head : ℕ → ℕ → List ℕ
+-- PRDTRC01, or the text of another version, first position 0, so many harts, and zero
+unfoldable pub head : ℕ → ℕ → List ℕ
 head version harts = 80 ∷ 82 ∷ 68 ∷ 84 ∷ 82 ∷ 67 ∷ 48 ∷ (48 + version)
     ∷ (replicate 8 0 ++ harts ∷ 0 ∷ 0 ∷ 0 ∷ [])
 
 -- an end with exit 0 and so many steps and accesses
-ended : ℕ → List ℕ
+unfoldable pub ended : ℕ → List ℕ
 ended n = 6 ∷ (replicate 8 0 ++ n ∷ (replicate 7 0 ++ n ∷ replicate 7 0))
 
-what : List ℕ → List TraceRecord × Result Ending TraceFault
+unfoldable pub what : List ℕ → List TraceRecord × Result Ending TraceFault
 what bytes = let r = reading_of bytes in (r.0, ending_of r.1)
 
-an_end : ℕ → Ending
+unfoldable pub an_end : ℕ → Ending
 an_end n = record { outcome = Exit 0; steps = n; accesses = n }
 
 -- writes of 4 bytes at 0x1000 by hart 0, 0x1004 by hart 1, and 0x1000 by hart 0
 writes : List TraceRecord
 writes =
-    records.Touch (record { hart = 0; addr = 4096; kind = Write; size = 4 }) ∷ records.Touch
-    (record { hart = 1; addr = 4100; kind = Write; size = 4 })
-    ∷ records.Touch (record { hart = 0; addr = 4096; kind = Write; size = 4 }) ∷ []
+    records.Touch (record { hart = 0; addr = 4096; kind = Write; size = 4 }) None ∷ records.Touch
+    (record { hart = 1; addr = 4100; kind = Write; size = 4 }) None
+    ∷ records.Touch (record { hart = 0; addr = 4096; kind = Write; size = 4 }) None ∷ []
 
 plain_writes : List ℕ
 plain_writes = 2 ∷ 0 ∷ 0 ∷ 0 ∷ 16 ∷ 0 ∷ 0 ∷ 4 ∷ 2 ∷ 1 ∷ 0 ∷ 4 ∷ 16 ∷ 0 ∷ 0 ∷ 4 ∷ 2 ∷ 0 ∷ 0 ∷ 0 ∷ 16
@@ -80,8 +81,8 @@ module _ where
   three_spelled_shortly = refl
 
   -- the first access of a file at 0xFFFFFFFC
-  last_word : spell_touch Two 0 (record { hart = 0; addr = 4294967292; kind = Write; size = 4 })
-      ≡ 36 ∷ 0 ∷ 7 ∷ []
+  last_word : spell_touch Two nothing_before
+      (record { hart = 0; addr = 4294967292; kind = Write; size = 4 }) None ≡ 36 ∷ 0 ∷ 7 ∷ []
   unfolding spell_touch
   last_word = refl
 
@@ -109,7 +110,7 @@ module _ where
   unfolding byte_read read_on what
   ten_bytes = refl
 
-  no_magic : what (head 3 8) ≡ ([], Err faults.BadMagic)
+  no_magic : what (head 4 8) ≡ ([], Err faults.BadMagic)
   unfolding header_judged byte_read read_on head what
   no_magic = refl
 
@@ -150,14 +151,14 @@ module _ where
 
 -- ---- where the first fault stands
 
-eight : Header
+unfoldable pub eight : Header
 eight = record { first = 0; harts = 8 }
 
-begun_well : IsOpenTrace eight []
+begun_well : IsOpenTrace One eight []
 unfolding eight
 begun_well = record {
   header = record { position = omega arith; some = omega arith; few = omega arith };
-  records = All-nil (IsGoodRecord 8);
+  records = All-nil (IsGoodRecord One 8);
   inner = All-nil IsInner;
   positions = omega arith;
 }
@@ -166,7 +167,7 @@ ended_well : IsGoodTrace One eight [] (an_end 0)
 unfolding eight an_end spell spell_header spell_ending
 ended_well = record {
   header = record { position = omega arith; some = omega arith; few = omega arith };
-  records = All-nil (IsGoodRecord 8);
+  records = All-nil (IsGoodRecord One 8);
   inner = All-nil IsInner;
   ending = record {
     allowed = tt;
@@ -181,11 +182,11 @@ ended_well = record {
 
 module _ where
   -- a header of no version, and what follows doesn't matter
-  magic_stands : (rest : List ℕ) → HasFault (head 3 8 ++ rest) [] faults.BadMagic
+  magic_stands : (rest : List ℕ) → HasFault (head 4 8 ++ rest) [] faults.BadMagic
   unfolding header_judged head
   magic_stands rest = record {
     before = nothing;
-    unit = head 3 8;
+    unit = head 4 8;
     rest = rest;
     good = tt;
     records = refl;

@@ -10,11 +10,11 @@ use Rattle.trace_format.specs.declared.record.Version.{Version}
 use Rattle.trace_format.specs.declared.record.TraceRecord.{TraceRecord}
 use Rattle.trace_format.specs.declared.record.TraceRecord.TheVariants as records
 use Rattle.trace_format.specs.declared.read_so_far.ReadSoFar.{ReadSoFar}
-use Rattle.trace_format.specs.Spelling.{spell}
+use Rattle.trace_format.specs.Spelling.{nothing_before, spell}
 use Rattle.trace_format.specs.Rules.{IsGoodHeader, IsGoodRecord, IsGoodTrace, IsInner}
 use Rattle.trace_format.specs.Rules.{last_position, longest_trace, touches_in}
 use Rattle.trace_format.specs.Judging.{header_judged, header_length, record_extent, record_judged}
-use Rattle.trace_format.specs.Writing.{begun_with, last_behind}
+use Rattle.trace_format.specs.Writing.{before_behind, begun_with}
 
 -- ---- what stands before the unit
 
@@ -37,26 +37,26 @@ records_in (unended v h items) = items
 records_in (ended v h items e) = items ++ records.End e ∷ []
 
 -- a header and records of a trace, which no end follows yet
-pub record IsOpenTrace (h : Header) (items : List TraceRecord) : Type 0 where
+pub record IsOpenTrace (v : Version) (h : Header) (items : List TraceRecord) : Type 0 where
   pub header : IsGoodHeader h
-  pub records : All (IsGoodRecord h.harts) items
+  pub records : All (IsGoodRecord v h.harts) items
   pub inner : All IsInner items
   pub positions : h.first + length (touches_in items) ≤ last_position
 
 abbrev pub KeepsRules : Beginning → Type 0
 KeepsRules nothing = Unit {0}
-KeepsRules (unended v h items) = IsOpenTrace h items
+KeepsRules (unended v h items) = IsOpenTrace v h items
 KeepsRules (ended v h items e) = IsGoodTrace v h items e
 
 -- ---- the unit
 
--- a record comes behind so many accesses, after an access at this address, and at this place
+-- a record comes behind so many accesses, its own is spelled against these, and at this place
 abbrev pub behind : Version → Header → List TraceRecord → ReadSoFar
 behind v h items = record {
   version = v;
   header = h;
   counted = length (touches_in items);
-  last = last_behind 0 items;
+  before = before_behind nothing_before items;
   place = length (begun_with v h items);
 }
 

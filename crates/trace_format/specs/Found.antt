@@ -13,9 +13,9 @@ use Rattle.trace_format.specs.Laws.Again.{ComesAt}
 
 -- a good record that comes at a place, and its spelling
 pub record IsFound (p : ReadSoFar) (bytes : List ℕ) (item : TraceRecord) : Type 0 where
-  pub good : IsGoodRecord p.header.harts item
+  pub good : IsGoodRecord p.version p.header.harts item
   pub there : ComesAt p item
-  pub spelled : bytes ≡ spell_record p.version p.last item
+  pub spelled : bytes ≡ spell_record p.version p.before item
 
 -- the bytes are a trace with these records, the last of which is this end
 pub record IsTraceOf (bytes : List ℕ) (all : List TraceRecord) (e : Ending) : Type 0 where

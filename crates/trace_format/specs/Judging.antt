@@ -5,7 +5,8 @@ use Rattle.std.specs.Prelude.{ℕ, ◌+◌, ◌%◌, ◌==◌, ◌&&◌, nat_eq,
 use Rattle.std.specs.Prelude.{length, take, drop, find, slice_index, Option, Some, None, Result, Ok}
 use Rattle.std.specs.Prelude.{Err, if◌then◌else◌}
 use Rattle.std.specs.List.{starts_with, list_any}
-use Rattle.std.specs.Int.{Width, w16, w32, w64, byte_len, from_le_bytes}
+use Rattle.std.specs.Int.{w16, w32, w64}
+use Rattle.base.specs.Fields.{number_at}
 use Rattle.base.specs.Names.{longest_name}
 use Rattle.objects.specs.declared.symbol.SymbolKind.{SymbolKind}
 use Rattle.objects.specs.declared.symbol.SymbolKind.TheVariants.{Object, Function}
@@ -21,10 +22,11 @@ use Rattle.base.specs.declared.ending.Outcome.{Outcome}
 use Rattle.base.specs.declared.ending.Outcome.TheVariants.{Exit, Budget, Deadlock, Trap}
 use Rattle.base.specs.declared.ending.Outcome.TheVariants.{Part}
 use Rattle.base.specs.declared.ending.Ending.{Ending}
+use Rattle.trace_format.specs.declared.before.Before.{Before}
 use Rattle.trace_format.specs.declared.fault.TraceFault.{TraceFault}
 use Rattle.trace_format.specs.declared.fault.TraceFault.TheVariants as faults
 use Rattle.trace_format.specs.declared.record.Version.{Version}
-use Rattle.trace_format.specs.declared.record.Version.TheVariants.{One, Two}
+use Rattle.trace_format.specs.declared.record.Version.TheVariants.{One, Two, Three}
 use Rattle.trace_format.specs.declared.record.Header.{Header}
 use Rattle.trace_format.specs.declared.record.TraceRecord.{TraceRecord}
 use Rattle.trace_format.specs.declared.record.TraceRecord.TheVariants as records
@@ -33,12 +35,8 @@ use Rattle.trace_format.specs.declared.tag.Tag.TheVariants as tags
 use Rattle.trace_format.specs.declared.read_so_far.ReadSoFar.{ReadSoFar}
 use Rattle.trace_format.specs.Tags.{tag_of}
 use Rattle.trace_format.specs.Numbers.{address_at, are_groups, group_count, number_in}
-use Rattle.trace_format.specs.Spelling.{magic_of, cause_number}
+use Rattle.trace_format.specs.Spelling.{cause_number, magic_of, nothing_before, pc_before}
 use Rattle.trace_format.specs.Rules.{last_position}
-
--- the number of a width at a place
-abbrev pub number_at : Width → ℕ → List ℕ → ℕ
-number_at w place bytes = from_le_bytes w (take (byte_len w) (drop place bytes))
 
 -- ---- how many bytes there are to judge
 
@@ -52,10 +50,20 @@ symbol_extent bytes =
     else (if nat_lt longest_name (number_at w16 10 bytes) then 12
     else 12 + number_at w16 10 bytes)
 
+-- how many bytes an access has up to the end of its distance: a tag, its hart, and the groups
+abbrev pub short_touch_extent : List ℕ → ℕ
+short_touch_extent bytes = 2 + group_count (drop 2 bytes)
+
+-- its pc is behind that
+abbrev pub sited_touch_extent : List ℕ → ℕ
+sited_touch_extent bytes =
+    let front = short_touch_extent bytes in front + group_count (drop front bytes)
+
 -- a record of a tag, as far as its bytes tell
 abbrev pub extent_of : Tag → List ℕ → ℕ
 extent_of (tags.Touch kind) bytes = 8
-extent_of (tags.ShortTouch kind size) bytes = 2 + group_count (drop 2 bytes)
+extent_of (tags.ShortTouch kind size) bytes = short_touch_extent bytes
+extent_of (tags.SitedTouch kind size) bytes = sited_touch_extent bytes
 extent_of tags.Alloc bytes = 25
 extent_of tags.Free bytes = 5
 extent_of tags.Symbol bytes = symbol_extent bytes
@@ -76,11 +84,18 @@ abbrev pub version_at : List ℕ → Option Version
 version_at bytes =
     if starts_with nat_eq bytes (magic_of One) then Some One
     else (if starts_with nat_eq bytes (magic_of Two) then Some Two
-    else None)
+    else (if starts_with nat_eq bytes (magic_of Three) then Some Three
+    else None))
 
 -- the beginning of a trace with this header
 abbrev pub begun : Version → Header → ReadSoFar
-begun v h = record { version = v; header = h; counted = 0; last = 0; place = header_length }
+begun v h = record {
+  version = v;
+  header = h;
+  counted = 0;
+  before = nothing_before;
+  place = header_length;
+}
 
 -- what the fields of a header say, the last of which is zero
 abbrev pub fields_judged : Option Version → ℕ → ℕ → ℕ → Result ReadSoFar TraceFault
@@ -124,6 +139,27 @@ short_touch_judged kind size harts last place bytes =
     else (if are_groups told && (addr % size == 0)
     then Ok (record { hart = hart; addr = addr; kind = kind; size = size })
     else Err (faults.BadField (place + 2)))
+
+abbrev pub without_pc : Result Touch TraceFault → Result (Touch × Option ℕ) TraceFault
+without_pc (Err fault) = Err fault
+without_pc (Ok touch) = Ok (touch, None)
+
+-- An access that is good in itself has a pc behind it, whose distance is spelled in the one way.
+abbrev pub with_pc : Before → ℕ → List ℕ → Result Touch TraceFault
+    → Result (Touch × Option ℕ) TraceFault
+with_pc before place told (Err fault) = Err fault
+with_pc before place told (Ok touch) = if are_groups told then Ok (
+  touch,
+  Some (address_at (pc_before before touch.hart) (number_in told)),
+) else Err (faults.BadField place)
+
+-- version 3: an access of version 2, and its pc
+unfoldable pub sited_touch_judged : Kind → ℕ → ℕ → Before → ℕ → List ℕ
+    → Result (Touch × Option ℕ) TraceFault
+sited_touch_judged kind size harts before place bytes =
+    let front = short_touch_extent bytes in
+    with_pc before (place + front) (drop front bytes)
+    (short_touch_judged kind size harts before.last place (take front bytes))
 
 -- ---- blocks and symbols
 
@@ -207,10 +243,11 @@ end_with bytes outcome = record {
 -- ---- one record
 
 -- An access that is good in itself has a position below 2^40.
-abbrev pub touch_counted : ReadSoFar → Result Touch TraceFault → Result TraceRecord TraceFault
+abbrev pub touch_counted : ReadSoFar → Result (Touch × Option ℕ) TraceFault
+    → Result TraceRecord TraceFault
 touch_counted p (Err fault) = Err fault
-touch_counted p (Ok touch) = if nat_lt (p.header.first + p.counted) last_position then Ok
-    (records.Touch touch) else Err faults.TooLong
+touch_counted p (Ok sited) = if nat_lt (p.header.first + p.counted) last_position then Ok
+    (records.Touch sited.0 sited.1) else Err faults.TooLong
 
 -- An end that is good in itself tells how many accesses there were.
 abbrev pub end_counted : ReadSoFar → List ℕ → Result Outcome TraceFault
@@ -223,9 +260,11 @@ end_counted p bytes (Ok outcome) =
 
 abbrev pub tagged_judged : ReadSoFar → Tag → List ℕ → Result TraceRecord TraceFault
 tagged_judged p (tags.Touch kind) bytes = touch_counted p
-    (touch_judged kind p.header.harts p.place bytes)
-tagged_judged p (tags.ShortTouch kind size) bytes =
-    touch_counted p (short_touch_judged kind size p.header.harts p.last p.place bytes)
+    (without_pc (touch_judged kind p.header.harts p.place bytes))
+tagged_judged p (tags.ShortTouch kind size) bytes = touch_counted p
+    (without_pc (short_touch_judged kind size p.header.harts p.before.last p.place bytes))
+tagged_judged p (tags.SitedTouch kind size) bytes =
+    touch_counted p (sited_touch_judged kind size p.header.harts p.before p.place bytes)
 tagged_judged p tags.Alloc bytes = Ok (alloc_at bytes)
 tagged_judged p tags.Free bytes = Ok (records.Free (number_at w32 1 bytes))
 tagged_judged p tags.Symbol bytes = symbol_judged p.place bytes

@@ -1,5 +1,6 @@
 -- The laws of the definitions, by what they are about.
 pub mod Again
+pub mod Before
 pub mod Bytes
 pub mod Counts
 pub mod Extents
@@ -8,5 +9,6 @@ pub mod Prefixes
 pub mod Reading
 pub mod Records
 pub mod Spelling
+pub mod Touches
 pub mod Traces
 pub mod Writing

@@ -3,6 +3,7 @@ pub mod Found
 pub mod Judging
 pub mod Laws
 pub mod Numbers
+pub mod Pcs
 pub mod ReaderStates
 pub mod Reading
 pub mod Rules

@@ -1,4 +1,5 @@
--- How version 2 spells an address: by how far it is from the one before, in groups of seven bits.
+-- How versions 2 and 3 spell an address, and version 3 a pc: by how far it is from the one before,
+-- in groups of seven bits.
 use Rattle.std.specs.Prelude.{ℕ, zero, suc, ◌+◌, ◌-◌, ◌*◌, ◌/◌, ◌%◌, ◌^◌, ◌==◌, ◌||◌, ◌&&◌, Bool}
 use Rattle.std.specs.Prelude.{nat_lt, nat_le, List, [], ◌∷◌, length, slice_index, if◌then◌else◌}
 

@@ -44,11 +44,17 @@ abbrev pub answer_at : Option TraceFault → Result (Unit {0}) TraceFault
 answer_at None = Ok tt
 answer_at (Some fault) = Err fault
 
--- an access stands at the front of some bytes, in so many of them
-pub record HasAccess (p : ReadSoFar) (bytes : List ℕ) (a : Touch) (size : ℕ) : Type 0 where
+-- the access that a record is, and its pc
+abbrev pub shown_in : TraceRecord → Option (Touch × Option ℕ)
+shown_in (records.Touch a pc) = Some (a, pc)
+shown_in _ = None
+
+-- an access with this pc stands at the front of some bytes, in so many of them
+pub record HasAccess (p : ReadSoFar) (bytes : List ℕ) (a : Touch) (pc : Option ℕ) (size : ℕ)
+    : Type 0 where
   pub extent : size ≡ record_extent p.version bytes
   pub there : size ≤ length bytes
-  pub judged : record_judged p (take size bytes) ≡ Ok (records.Touch a)
+  pub judged : record_judged p (take size bytes) ≡ Ok (records.Touch a pc)
 
 -- More bytes are read, and the records that became whole stand behind those before.
 pub record ReadsOn (old : Reading) (bytes : List ℕ) (new : Reading)

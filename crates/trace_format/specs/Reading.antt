@@ -9,7 +9,7 @@ use Rattle.trace_format.specs.declared.fault.TraceFault.TheVariants as faults
 use Rattle.trace_format.specs.declared.record.TraceRecord.{TraceRecord}
 use Rattle.trace_format.specs.declared.record.TraceRecord.TheVariants as records
 use Rattle.trace_format.specs.declared.read_so_far.ReadSoFar.{ReadSoFar}
-use Rattle.trace_format.specs.Spelling.{last_after}
+use Rattle.trace_format.specs.Spelling.{before_after}
 use Rattle.trace_format.specs.Rules.{longest_trace}
 use Rattle.trace_format.specs.Judging.{header_judged, header_length, record_extent, record_judged}
 
@@ -42,13 +42,13 @@ taken r = place_of r.progress + length r.pending
 
 -- how many accesses there are once a record is read
 abbrev pub counted_after : ℕ → TraceRecord → ℕ
-counted_after counted (records.Touch a) = counted + 1
+counted_after counted (records.Touch a pc) = counted + 1
 counted_after counted _ = counted
 
 abbrev pub progress_after : ReadSoFar → TraceRecord → ℕ → ReadSoFar
 progress_after p item size = record p {
   counted = counted_after p.counted item;
-  last = last_after p.last item;
+  before = before_after p.before item;
   place = p.place + size;
 }
 

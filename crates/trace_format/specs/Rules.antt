@@ -8,7 +8,9 @@ use Rattle.base.specs.declared.ending.Outcome.{Outcome}
 use Rattle.base.specs.declared.ending.Outcome.TheVariants.{Exit, Budget, Deadlock, Trap}
 use Rattle.base.specs.declared.ending.Outcome.TheVariants.{Part}
 use Rattle.base.specs.declared.ending.Ending.{Ending}
+use Rattle.trace_format.specs.declared.before.Before.{Before}
 use Rattle.trace_format.specs.declared.record.Version.{Version}
+use Rattle.trace_format.specs.declared.record.Version.TheVariants.{Three}
 use Rattle.trace_format.specs.declared.record.Header.{Header}
 use Rattle.trace_format.specs.declared.record.TraceRecord.{TraceRecord}
 use Rattle.trace_format.specs.declared.record.TraceRecord.TheVariants as records
@@ -23,6 +25,21 @@ pub record IsGoodHeader (h : Header) : Type 0 where
 pub record IsGoodTouch (harts : ℕ) (a : Touch) : Type 0 where
   pub hart : a.hart < harts
   pub allowed : IsAllowed a
+
+-- a pc of 32 bits, where there is one
+abbrev pub IsPc : Option ℕ → Type 0
+IsPc None = ⊥
+IsPc (Some pc) = pc < 2 ^ 32
+
+-- an access has a pc in version 3 alone
+abbrev pub IsGoodPc : Version → Option ℕ → Type 0
+IsGoodPc Three pc = IsPc pc
+IsGoodPc _ pc = pc ≡ None
+
+-- what an access is spelled against: numbers of 32 bits
+pub record IsGoodBefore (before : Before) : Type 0 where
+  pub last : before.last < 2 ^ 32
+  pub pcs : All (λ pc. pc < 2 ^ 32) before.pcs
 
 -- it has bytes, and a name that fits, with no zero byte
 pub record IsGoodSymbol (addr size : ℕ) (name : List ℕ) : Type 0 where
@@ -55,14 +72,14 @@ pub record IsGoodEnding (harts : ℕ) (e : Ending) : Type 0 where
   pub steps : e.steps < 2 ^ 64
   pub accesses : e.accesses < 2 ^ 64
 
--- A record of a trace with so many harts. An end comes last, and alone.
-abbrev pub IsGoodRecord : ℕ → TraceRecord → Type 0
-IsGoodRecord harts (records.Touch a) = IsGoodTouch harts a
-IsGoodRecord harts (records.Alloc addr size sites) = (addr < 2 ^ 32) × (size < 2 ^ 32)
+-- A record of a trace of a version with so many harts. An end comes last, and alone.
+abbrev pub IsGoodRecord : Version → ℕ → TraceRecord → Type 0
+IsGoodRecord v harts (records.Touch a pc) = IsGoodTouch harts a × IsGoodPc v pc
+IsGoodRecord v harts (records.Alloc addr size sites) = (addr < 2 ^ 32) × (size < 2 ^ 32)
     × (length sites ≡ 4) × All (λ site. site < 2 ^ 32) sites
-IsGoodRecord harts (records.Free addr) = addr < 2 ^ 32
-IsGoodRecord harts (records.Symbol kind addr size name) = IsGoodSymbol addr size name
-IsGoodRecord harts (records.End e) = IsGoodEnding harts e
+IsGoodRecord v harts (records.Free addr) = addr < 2 ^ 32
+IsGoodRecord v harts (records.Symbol kind addr size name) = IsGoodSymbol addr size name
+IsGoodRecord v harts (records.End e) = IsGoodEnding harts e
 
 abbrev pub IsInner : TraceRecord → Type 0
 IsInner (records.End e) = ⊥
@@ -70,7 +87,7 @@ IsInner _ = Unit {0}
 
 -- the accesses among records, in order
 abbrev pub touch_in : TraceRecord → Option Touch
-touch_in (records.Touch a) = Some a
+touch_in (records.Touch a pc) = Some a
 touch_in _ = None
 
 abbrev pub touches_in : List TraceRecord → List Touch
@@ -90,7 +107,7 @@ last_position = 2 ^ 40
 pub record IsGoodTrace (v : Version) (h : Header) (items : List TraceRecord) (e : Ending) : Type 0
   where
     pub header : IsGoodHeader h
-    pub records : All (IsGoodRecord h.harts) items
+    pub records : All (IsGoodRecord v h.harts) items
     pub inner : All IsInner items
     pub ending : IsGoodEnding h.harts e
     pub positions : h.first + length (touches_in items) ≤ last_position
@@ -106,7 +123,7 @@ pub record IsTrace (bytes : List ℕ) (v : Version) (h : Header) (items : List T
 -- What the types of a record's parts don't say: an end keeps its rules, and a symbol has bytes and
 -- no zero byte in its name.
 abbrev pub IsWritable : TraceRecord → Type 0
-IsWritable (records.Touch a) = Unit {0}
+IsWritable (records.Touch a pc) = Unit {0}
 IsWritable (records.Alloc addr size sites) = Unit {0}
 IsWritable (records.Free addr) = Unit {0}
 IsWritable (records.Symbol kind addr size name) = (1 ≤ size) × All (λ b. b ≢ 0) name

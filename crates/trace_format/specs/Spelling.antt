@@ -1,5 +1,6 @@
--- A trace: the one spelling of each of its parts, in both versions. Numbers are little endian.
-use Rattle.std.specs.Prelude.{ℕ, List, [], ◌∷◌, ◌++◌, length, codes}
+-- A trace: the one spelling of each of its parts, in every version. Numbers are little endian.
+use Rattle.std.specs.Prelude.{ℕ, List, [], ◌∷◌, ◌++◌, length, codes, slice_index, slice_set}
+use Rattle.std.specs.Prelude.{Option, Some, None, replicate}
 use Rattle.std.specs.List.{flat_map}
 use Rattle.std.specs.Int.{w16, w32, w64, to_le_bytes}
 use Rattle.objects.specs.declared.symbol.SymbolKind.{SymbolKind}
@@ -14,8 +15,9 @@ use Rattle.base.specs.declared.ending.Outcome.{Outcome}
 use Rattle.base.specs.declared.ending.Outcome.TheVariants.{Exit, Budget, Deadlock, Trap}
 use Rattle.base.specs.declared.ending.Outcome.TheVariants.{Part}
 use Rattle.base.specs.declared.ending.Ending.{Ending}
+use Rattle.trace_format.specs.declared.before.Before.{Before}
 use Rattle.trace_format.specs.declared.record.Version.{Version}
-use Rattle.trace_format.specs.declared.record.Version.TheVariants.{One, Two}
+use Rattle.trace_format.specs.declared.record.Version.TheVariants.{One, Two, Three}
 use Rattle.trace_format.specs.declared.record.Header.{Header}
 use Rattle.trace_format.specs.declared.record.TraceRecord.{TraceRecord}
 use Rattle.trace_format.specs.declared.record.TraceRecord.TheVariants as records
@@ -26,20 +28,47 @@ use Rattle.trace_format.specs.Numbers.{distance, groups}
 abbrev pub magic_of : Version → List ℕ
 magic_of One = codes "PRDTRC01"
 magic_of Two = codes "PRDTRC02"
+magic_of Three = codes "PRDTRC03"
 
 -- 20 bytes: the magic, the first position, how many harts there are, and zero
 unfoldable pub spell_header : Version → Header → List ℕ
 spell_header v h = magic_of v ++ (to_le_bytes w64
     h.first ++ (to_le_bytes w16 h.harts ++ to_le_bytes w16 0))
 
--- Version 1: 8 bytes, a tag, then hart, address and size. Version 2: a tag that tells the size,
--- the hart in one byte, and
--- the distance from the address of the access before.
-unfoldable pub spell_touch : Version → ℕ → Touch → List ℕ
-spell_touch One last a = number_of (tags.Touch a.kind)
-    ∷ (to_le_bytes w16 a.hart ++ (to_le_bytes w32 a.addr ++ a.size ∷ []))
-spell_touch Two last a = number_of (tags.ShortTouch a.kind a.size) ∷ a.hart ∷ groups
+-- ---- accesses
+
+unfoldable pub no_pcs : List ℕ
+no_pcs = replicate 256 0
+
+-- What the first access is spelled against. `last` is the address of the access before, and `pcs`
+-- has the pc of each hart's access before.
+abbrev pub nothing_before : Before
+nothing_before = record { last = 0; pcs = no_pcs }
+
+abbrev pub pc_before : Before → ℕ → ℕ
+pc_before before hart = slice_index before.pcs hart
+
+-- a pc that is missing is spelled as 0
+abbrev pub pc_or_zero : Option ℕ → ℕ
+pc_or_zero None = 0
+pc_or_zero (Some pc) = pc
+
+-- a tag that tells the size, the hart in one byte, and the distance from the address of the access
+-- before
+abbrev pub spell_short_touch : ℕ → Touch → List ℕ
+spell_short_touch last a = number_of (tags.ShortTouch a.kind a.size) ∷ a.hart ∷ groups
     (distance last a.addr)
+
+-- Version 1: 8 bytes, a tag, then hart, address and size. Version 2: a short touch. Version 3: a
+-- short touch, and behind it the distance of the pc from that of the hart's access before.
+unfoldable pub spell_touch : Version → Before → Touch → Option ℕ → List ℕ
+spell_touch One before a pc = number_of (tags.Touch a.kind)
+    ∷ (to_le_bytes w16 a.hart ++ (to_le_bytes w32 a.addr ++ a.size ∷ []))
+spell_touch Two before a pc = spell_short_touch before.last a
+spell_touch Three before a pc = spell_short_touch before.last a
+    ++ groups (distance (pc_before before a.hart) (pc_or_zero pc))
+
+-- ---- other records
 
 -- 25 bytes: a tag, address, size and four call sites
 unfoldable pub spell_alloc : ℕ → ℕ → List ℕ → List ℕ
@@ -87,25 +116,29 @@ unfoldable pub spell_ending : Ending → List ℕ
 spell_ending e = number_of tags.End ∷ (spell_outcome
     e.outcome ++ (to_le_bytes w64 e.steps ++ to_le_bytes w64 e.accesses))
 
--- a record after an access at an address
-abbrev pub spell_record : Version → ℕ → TraceRecord → List ℕ
-spell_record v last (records.Touch a) = spell_touch v last a
-spell_record v last (records.Alloc addr size sites) = spell_alloc addr size sites
-spell_record v last (records.Free addr) = spell_free addr
-spell_record v last (records.Symbol kind addr size name) = spell_symbol kind addr size name
-spell_record v last (records.End e) = spell_ending e
+-- ---- the whole
 
--- the address of the last access once a record is read
-abbrev pub last_after : ℕ → TraceRecord → ℕ
-last_after last (records.Touch a) = a.addr
-last_after last _ = last
+-- a record behind others
+abbrev pub spell_record : Version → Before → TraceRecord → List ℕ
+spell_record v before (records.Touch a pc) = spell_touch v before a pc
+spell_record v before (records.Alloc addr size sites) = spell_alloc addr size sites
+spell_record v before (records.Free addr) = spell_free addr
+spell_record v before (records.Symbol kind addr size name) = spell_symbol kind addr size name
+spell_record v before (records.End e) = spell_ending e
 
-abbrev pub spell_records : Version → ℕ → List TraceRecord → List ℕ
-spell_records v last [] = []
-spell_records v last (item ∷ items) = spell_record v last item ++ spell_records v
-    (last_after last item) items
+-- what the next access is spelled against
+abbrev pub before_after : Before → TraceRecord → Before
+before_after before (records.Touch a pc) = record {
+  last = a.addr;
+  pcs = slice_set before.pcs a.hart (pc_or_zero pc);
+}
+before_after before _ = before
 
--- The whole. The address before the first access is 0.
+abbrev pub spell_records : Version → Before → List TraceRecord → List ℕ
+spell_records v before [] = []
+spell_records v before (item ∷ items) = spell_record v before item ++ spell_records v
+    (before_after before item) items
+
 unfoldable pub spell : Version → Header → List TraceRecord → Ending → List ℕ
 spell v header items ending = spell_header v header
-    ++ (spell_records v 0 items ++ spell_ending ending)
+    ++ (spell_records v nothing_before items ++ spell_ending ending)

@@ -79,7 +79,7 @@ halves_of cut items = halves_behind cut [] items
 -- no record, or an access first
 abbrev pub BeginsWithTouch : List TraceRecord → Type 0
 BeginsWithTouch [] = Unit {0}
-BeginsWithTouch (records.Touch a ∷ items) = Unit {0}
+BeginsWithTouch (records.Touch a pc ∷ items) = Unit {0}
 BeginsWithTouch (item ∷ items) = ⊥
 
 -- The halves are the records in order. The first has the accesses before the cut, and the second

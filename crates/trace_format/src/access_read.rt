@@ -1,13 +1,15 @@
-// Accesses, in both versions.
+// Accesses, in every version.
 ghost use Rattle.std.specs.Prelude.{◌≡◌, ◌%◌, ◌^◌, ◌+◌, ◌*◌, ◌<◌, ◌≤◌, IsTrue, drop, length};
-ghost use Rattle.std.specs.Prelude.{nat_lt, slice_index};
+ghost use Rattle.std.specs.Prelude.{nat_lt, slice_index, Ok};
 ghost use Rattle.base.specs.Touch.{is_access_size};
 ghost use Rattle.trace_format.specs.Numbers.{address_at, are_groups, group_count, number_in};
+ghost use Rattle.trace_format.specs.Judging.{short_touch_extent, sited_touch_extent};
+ghost use Rattle.trace_format.specs.Judging.{sited_touch_judged, with_pc, without_pc};
 ghost use Rattle.trace_format.specs.Judging.{short_touch_judged, touch_judged};
 
 use crate::TraceFault;
-use crate::fields::{behind, u16_at, u32_at};
-use base::{Access, Hart, Kind};
+use crate::before::Before;
+use base::{Access, Hart, Kind, behind, u16_at, u32_at};
 
 // The access in 8 bytes at a place.
 #[tactic(auto, using(std::proofs::lemmas::Bool::Decides::nat_tests), unfolding(crate::specs::Judging::touch_judged))]
@@ -49,7 +51,7 @@ fn is_last(bytes: &[u8], place: usize) -> bool
 // How many bytes the groups of a number have, as far as they are there.
 #[tactic(auto, using(std::proofs::lemmas::Bool::Decides::nat_tests))]
 #[inline(always)]
-pub(crate) fn group_count(bytes: &[u8]) -> usize
+fn group_count(bytes: &[u8]) -> usize
     ensures { result ≡ group_count bytes.now }
 {
     if is_last(bytes, 0) {
@@ -63,6 +65,32 @@ pub(crate) fn group_count(bytes: &[u8]) -> usize
     } else {
         5
     }
+}
+
+// Where the groups from a place on end, as far as they are there.
+#[inline(always)]
+pub(crate) fn end_of_groups(bytes: &[u8], place: usize) -> usize
+    requires { place ≤ 7 }
+    ensures { result ≡ place + group_count (drop place bytes.now) }
+{
+    place + group_count(bytes.get(place..).unwrap_or(&[]))
+}
+
+// How many bytes an access of version 2 has, as far as they are there.
+#[inline(always)]
+pub(crate) fn short_touch_extent(bytes: &[u8]) -> usize
+    ensures value { result ≡ short_touch_extent bytes.now }
+    ensures few { result ≤ 7 }
+{
+    end_of_groups(bytes, 2)
+}
+
+// How many bytes an access of version 3 has, as far as they are there.
+#[inline(always)]
+pub(crate) fn sited_touch_extent(bytes: &[u8]) -> usize
+    ensures { result ≡ sited_touch_extent bytes.now }
+{
+    end_of_groups(bytes, short_touch_extent(bytes))
 }
 
 // The number of a group and of those behind it.
@@ -128,7 +156,7 @@ pub(crate) fn short_touch_of(
     last: u32,
     place: u64,
 ) -> Result<Access, TraceFault>
-    requires long { length bytes.now ≡ 2 + group_count (drop 2 bytes.now) }
+    requires long { length bytes.now ≡ short_touch_extent bytes.now }
     requires sized { IsTrue (is_access_size size) }
     requires few { harts ≤ 256 }
     requires low { place ≤ 2 ^ 44 }
@@ -147,4 +175,82 @@ pub(crate) fn short_touch_of(
         Some(access) => Ok(access),
         None => Err(TraceFault::BadField(place + 2)),
     }
+}
+
+/// An access of a version that has no pcs.
+#[inline(always)]
+pub(crate) fn without_pc(
+    access: Result<Access, TraceFault>,
+) -> Result<(Access, Option<u32>), TraceFault>
+    ensures { result ≡ without_pc access }
+{
+    match access {
+        Ok(access) => Ok((access, None)),
+        Err(fault) => Err(fault),
+    }
+}
+
+// An access, and the pc that the groups behind it tell.
+#[tactic(auto, using(crate::proofs::Groups::small_number))]
+#[inline(always)]
+fn with_pc(
+    before: &Before,
+    place: u64,
+    told: &[u8],
+    access: Access,
+) -> Result<(Access, Option<u32>), TraceFault>
+    requires long { length told.now ≡ group_count told.now }
+    ensures { result ≡ with_pc before.now place told.now (Ok access) }
+{
+    if !are_groups(told) {
+        return Err(TraceFault::BadField(place));
+    }
+    let pc = address_at(before.pc(access.hart()), number_in(told) as u32);
+    Ok((access, Some(pc)))
+}
+
+// The access and the pc in the two parts of a record of version 3, which are all there.
+#[inline(always)]
+pub(crate) fn sited_touch_in(
+    front: &[u8],
+    told: &[u8],
+    kind: Kind,
+    size: u8,
+    harts: u16,
+    before: &Before,
+    place: u64,
+) -> Result<(Access, Option<u32>), TraceFault>
+    requires front_long { length front.now ≡ short_touch_extent front.now }
+    requires told_long { length told.now ≡ group_count told.now }
+    requires sized { IsTrue (is_access_size size) }
+    requires few { harts ≤ 256 }
+    requires low { place ≤ 2 ^ 44 }
+    ensures { result ≡ with_pc before.now (place + length front.now) told.now
+        (short_touch_judged kind size harts before.now.last place front.now) }
+{
+    let behind = place + front.len() as u64;
+    match short_touch_of(front, kind, size, harts, before.last, place) {
+        Ok(access) => with_pc(before, behind, told, access),
+        Err(fault) => Err(fault),
+    }
+}
+
+// The access in the bytes of a record of version 3, which are all there.
+#[inline(always)]
+pub(crate) fn sited_touch_of(
+    bytes: &[u8],
+    kind: Kind,
+    size: u8,
+    harts: u16,
+    before: &Before,
+    place: u64,
+) -> Result<(Access, Option<u32>), TraceFault>
+    requires long { length bytes.now ≡ sited_touch_extent bytes.now }
+    requires sized { IsTrue (is_access_size size) }
+    requires few { harts ≤ 256 }
+    requires low { place ≤ 2 ^ 44 }
+    ensures { result ≡ sited_touch_judged kind size harts before.now place bytes.now }
+{
+    let (front, told) = bytes.split_at(short_touch_extent(bytes));
+    sited_touch_in(front, told, kind, size, harts, before, place)
 }

@@ -1,11 +1,13 @@
-// Accesses, in both versions.
-ghost use Rattle.std.specs.Prelude.{◌≡◌, ◌%◌, ◌+◌, ◌∷◌, ◌++◌, OnOk, OnErr};
+// Accesses, in every version.
+ghost use Rattle.std.specs.Prelude.{◌≡◌, ◌%◌, ◌+◌, ◌∷◌, ◌++◌, OnOk, OnErr, None};
 ghost use Rattle.trace_format.specs.Tags.{half_of};
 ghost use Rattle.trace_format.specs.Numbers.{distance, groups};
+ghost use Rattle.trace_format.specs.Spelling.{nothing_before, pc_before, spell_short_touch};
 ghost use Rattle.trace_format.specs.Spelling.{spell_touch};
-ghost use Rattle.trace_format.specs.declared.record.Version.TheVariants.{One, Two};
+ghost use Rattle.trace_format.specs.declared.record.Version.TheVariants.{One};
 
 use crate::Version;
+use crate::before::{Before, pc_or_zero};
 use base::{Access, Kind, NoMemory};
 
 fn half_of(kind: Kind) -> u8
@@ -19,7 +21,7 @@ fn half_of(kind: Kind) -> u8
 
 #[tactic(auto, unfolding(crate::specs::Spelling::spell_touch))]
 fn touch_bytes(access: &Access) -> [u8; 8]
-    ensures { result ≡ spell_touch One 0 access.now }
+    ensures { result ≡ spell_touch One nothing_before access.now None }
 {
     let [h0, h1] = access.hart().number().to_le_bytes();
     let [a0, a1, a2, a3] = access.addr().to_le_bytes();
@@ -67,6 +69,7 @@ pub(crate) fn put_bytes(bytes: &[u8], into: &mut Vec<u8>) -> Result<(), NoMemory
 
 // Appends two bytes and the groups of a number. At `NoMemory` nothing is appended.
 #[tactic(auto, using(std::proofs::lemmas::Bool::Decides::nat_tests))]
+#[inline(always)]
 fn put_groups(tag: u8, hart: u8, z: u32, into: &mut Vec<u8>) -> Result<(), NoMemory>
     ensures ok { OnOk result (into.new.items ≡ into.old.items ++ tag ∷ hart ∷ groups z) }
     ensures err { OnErr result (into.new.items ≡ into.old.items) }
@@ -99,9 +102,9 @@ fn put_groups(tag: u8, hart: u8, z: u32, into: &mut Vec<u8>) -> Result<(), NoMem
 }
 
 // Appends an access against the address of the one before. At `NoMemory` nothing is appended.
-#[tactic(auto, unfolding(crate::specs::Spelling::spell_touch))]
+#[inline(always)]
 fn put_short_touch(last: u32, access: &Access, into: &mut Vec<u8>) -> Result<(), NoMemory>
-    ensures ok { OnOk result (into.new.items ≡ into.old.items ++ spell_touch Two last access.now) }
+    ensures ok { OnOk result (into.new.items ≡ into.old.items ++ spell_short_touch last access.now) }
     ensures err { OnErr result (into.new.items ≡ into.old.items) }
 {
     let tag = 16 * half_of(access.kind()) + access.size();
@@ -109,20 +112,63 @@ fn put_short_touch(last: u32, access: &Access, into: &mut Vec<u8>) -> Result<(),
     put_groups(tag, hart, distance(last, access.addr()), into)
 }
 
+// Appends the groups of a number. At `NoMemory` nothing is appended.
+#[tactic(auto, using(std::proofs::lemmas::Bool::Decides::nat_tests))]
+#[inline(never)]
+fn put_number(z: u32, into: &mut Vec<u8>) -> Result<(), NoMemory>
+    ensures ok { OnOk result (into.new.items ≡ into.old.items ++ groups z) }
+    ensures err { OnErr result (into.new.items ≡ into.old.items) }
+{
+    let second = z / 128;
+    if z < 128 {
+        put_bytes(&[z as u8], into)
+    } else if second < 128 {
+        put_bytes(&[more(z), second as u8], into)
+    } else {
+        put_groups(more(z), more(second), second / 128, into)
+    }
+}
+
+// Appends an access and its pc. At `NoMemory` nothing is appended.
+#[inline(never)]
+fn put_sited_touch(
+    before: &Before,
+    access: &Access,
+    pc: u32,
+    into: &mut Vec<u8>,
+) -> Result<(), NoMemory>
+    ensures ok { OnOk result
+        (into.new.items ≡ into.old.items ++ spell_short_touch before.now.last access.now
+        ++ groups (distance (pc_before before.now access.now.hart) pc)) }
+    ensures err { OnErr result (into.new.items ≡ into.old.items) }
+{
+    let start = into.len();
+    put_short_touch(before.last, access, into)?;
+    match put_number(distance(before.pc(access.hart()), pc), into) {
+        Ok(()) => Ok(()),
+        Err(_) => {
+            into.truncate(start);
+            Err(NoMemory)
+        }
+    }
+}
+
 // Appends an access. At `NoMemory` nothing is appended.
 #[tactic(auto, unfolding(crate::specs::Spelling::spell_touch))]
 pub(crate) fn put_touch(
     version: Version,
-    last: u32,
+    before: &Before,
     access: &Access,
+    pc: Option<u32>,
     into: &mut Vec<u8>,
 ) -> Result<(), NoMemory>
     ensures ok { OnOk result
-        (into.new.items ≡ into.old.items ++ spell_touch version last access.now) }
+        (into.new.items ≡ into.old.items ++ spell_touch version before.now access.now pc) }
     ensures err { OnErr result (into.new.items ≡ into.old.items) }
 {
     match version {
         Version::One => put_bytes(&touch_bytes(access), into),
-        Version::Two => put_short_touch(last, access, into),
+        Version::Two => put_short_touch(before.last, access, into),
+        Version::Three => put_sited_touch(before, access, pc_or_zero(pc), into),
     }
 }

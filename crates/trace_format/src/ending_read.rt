@@ -4,8 +4,7 @@ ghost use Rattle.trace_format.specs.Judging.{cause_of, outcome_judged, plain_jud
 ghost use Rattle.trace_format.specs.Judging.{plain_outcome_of, trap_judged};
 
 use crate::TraceFault;
-use crate::fields::{u16_at, u32_at, u64_at};
-use base::{Cause, Hart, Outcome};
+use base::{Cause, Hart, Outcome, u16_at, u32_at, u64_at};
 
 fn cause_of(number: u8) -> Option<Cause>
     ensures { result ≡ cause_of number }

@@ -3,12 +3,15 @@ ghost use Rattle.std.specs.Prelude.{◌≡◌, ◌≢◌, ◌≤◌, Err, IfOk, 
 ghost use Rattle.trace_format.specs.Judging.{begun, fields_judged, header_judged, version_at};
 ghost use Rattle.trace_format.specs.Sound.{IsSound};
 
-use crate::fields::{u16_at, u64_at};
+use crate::before::Before;
 use crate::{Header, ReadSoFar, TraceFault, Version};
+use base::{u16_at, u64_at};
 
 pub(crate) const MAGIC_ONE: [u8; 8] = *b"PRDTRC01";
 
 pub(crate) const MAGIC_TWO: [u8; 8] = *b"PRDTRC02";
+
+pub(crate) const MAGIC_THREE: [u8; 8] = *b"PRDTRC03";
 
 // How many bytes a header has.
 pub(crate) const HEADER_LENGTH: usize = 20;
@@ -23,6 +26,8 @@ fn version_of(bytes: &[u8]) -> Option<Version>
         Some(Version::One)
     } else if bytes.starts_with(&MAGIC_TWO) {
         Some(Version::Two)
+    } else if bytes.starts_with(&MAGIC_THREE) {
+        Some(Version::Three)
     } else {
         None
     }
@@ -35,7 +40,7 @@ fn begin(version: Version, header: Header) -> ReadSoFar
         version,
         header,
         counted: 0,
-        last: 0,
+        before: Before::nothing(),
         place: HEADER_LENGTH as u64,
     }
 }

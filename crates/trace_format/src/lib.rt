@@ -1,6 +1,6 @@
 //! Traces: what one is made of, how it is read in pieces, and how it is written.
 //!
-//! `specs/Spelling.antt` has the format of both versions as the one spelling of each part,
+//! `specs/Spelling.antt` has the format of the three versions as the one spelling of each part,
 //! `specs/Rules.antt` the rules that the parts keep, `specs/Judging.antt` what the bytes of one
 //! record say, and `specs/Reading.antt` what any bytes say: the records that are whole in them, and
 //! the first fault. `specs/Faults.antt` says where that one stands, by the spelling alone, and
@@ -8,17 +8,17 @@
 //!
 //! A [`TraceReader`] takes pieces one after the other: what a piece leaves over is kept, and stands
 //! before the next. A [`TraceWriter`] gives the bytes of each record, and a [`Splitter`] the side of
-//! each. Numbers and symbols are read and written by calls of their own too, for other files that
+//! each. Symbols and blocks are read and written by calls of their own too, for other files that
 //! have them as a trace does.
 #![tactic(auto)]
 
 mod access_read;
 mod access_write;
+mod before;
 mod cut_laws;
 mod ending_read;
 mod ending_write;
 mod fault;
-mod fields;
 mod header_read;
 mod laws;
 mod read_so_far;
@@ -35,7 +35,6 @@ mod writer;
 
 pub use cut_laws::a_trace_is_cut_in_two;
 pub use fault::TraceFault;
-pub use fields::{behind, u16_at, u32_at, u64_at};
 pub use laws::{what_is_read_was_spelled, where_the_first_fault_stands};
 pub(crate) use read_so_far::ReadSoFar;
 pub use reader::TraceReader;

@@ -110,7 +110,7 @@ impl TraceReader {
     pub fn version(&self) -> Option<Version>
         ensures { result ≡ option_map (λ p. p.version) self.now.progress }
     {
-        match self.state.progress {
+        match &self.state.progress {
             Some(progress) => Some(progress.version),
             None => None,
         }
@@ -120,7 +120,7 @@ impl TraceReader {
     pub fn header(&self) -> Option<Header>
         ensures { result ≡ option_map (λ p. p.header) self.now.progress }
     {
-        match self.state.progress {
+        match &self.state.progress {
             Some(progress) => Some(progress.header),
             None => None,
         }
@@ -130,7 +130,7 @@ impl TraceReader {
         ensures value { result ≡ taken self.now }
         ensures low { result ≤ longest_trace }
     {
-        let place = match self.state.progress {
+        let place = match &self.state.progress {
             Some(progress) => progress.place,
             None => 0,
         };

@@ -2,13 +2,13 @@
 ghost use Rattle.std.specs.Prelude.{◌≡◌, ◌≤◌, ◌+◌, ◌≢◌, Some, None, [], length};
 ghost use Rattle.std.specs.Prelude.{◌<◌, IsSome};
 ghost use Rattle.std.specs.Option.{ForSome};
-ghost use Rattle.trace_format.specs.Judging.{header_judged, record_extent};
+ghost use Rattle.trace_format.specs.Judging.{header_judged};
 ghost use Rattle.trace_format.specs.Reading.{ending_in, header_read, place_of};
 ghost use Rattle.trace_format.specs.Reading.{progress_after};
 ghost use Rattle.trace_format.specs.Rules.{longest_trace};
 ghost use Rattle.trace_format.specs.Sound.{IsSound};
 ghost use Rattle.trace_format.specs.ReaderStates.{AddsSome, KeepsHead, ReadsBut, ReadsOn, ReadsPart};
-ghost use Rattle.trace_format.specs.ReaderStates.{SameHead, extent_in, reading_with};
+ghost use Rattle.trace_format.specs.ReaderStates.{SameHead, extent_in, reading_with, shown_in};
 
 use crate::header_read::{HEADER_LENGTH, header_of};
 use crate::record_read::{record_extent, record_of};
@@ -33,7 +33,7 @@ pub struct State {
 fn extent_in(state: &State, bytes: &[u8]) -> usize
     ensures { result ≡ extent_in state.now bytes.now }
 {
-    match (state.progress, state.ending) {
+    match (&state.progress, &state.ending) {
         (None, _) => HEADER_LENGTH,
         (Some(progress), None) => record_extent(progress.version, bytes),
         (Some(_), Some(_)) => 1,
@@ -42,33 +42,44 @@ fn extent_in(state: &State, bytes: &[u8]) -> usize
 
 /// An access more is read, in so many bytes.
 #[inline(always)]
-pub(crate) fn count_access(progress: &mut ReadSoFar, access: Access, size: usize)
+pub(crate) fn count_access(progress: &mut ReadSoFar, access: Access, pc: Option<u32>, size: usize)
     requires sound { IsSound progress.old }
     requires some { 1 ≤ size }
     requires low { progress.old.place + size ≤ longest_trace }
-    ensures value { progress.new ≡ progress_after progress.old (TraceRecord.Touch access) size }
+    ensures value { progress.new ≡ progress_after progress.old (TraceRecord.Touch access pc) size }
     ensures sound { IsSound progress.new }
 {
     progress.counted += 1;
-    progress.last = access.addr();
+    progress.before.note(access, pc);
     progress.place += size as u64;
 }
 
-// How far a trace is read once a record of some bytes is.
+// The access that a record is, and its pc.
 #[inline(always)]
-fn progress_after(progress: &ReadSoFar, item: &TraceRecord, size: usize) -> ReadSoFar
-    requires sound { IsSound progress.now }
-    requires some { 1 ≤ size }
-    requires low { progress.now.place + size ≤ longest_trace }
-    ensures value { result ≡ progress_after progress.now item.now size }
-    ensures sound { IsSound result }
+fn shown_in(item: &TraceRecord) -> Option<(Access, Option<u32>)>
+    ensures { result ≡ shown_in item.now }
 {
-    let mut later = *progress;
     match item {
-        TraceRecord::Touch(access) => count_access(&mut later, *access, size),
-        _ => later.place += size as u64,
+        TraceRecord::Touch(access, pc) => Some((*access, *pc)),
+        _ => None,
     }
-    later
+}
+
+// A record more is read, in so many bytes, that is this access or none.
+#[inline(always)]
+fn count_record(progress: &mut ReadSoFar, shown: Option<(Access, Option<u32>)>, size: usize)
+    requires sound { IsSound progress.old }
+    requires some { 1 ≤ size }
+    requires low { progress.old.place + size ≤ longest_trace }
+    ensures value { (item : TraceRecord) → shown ≡ shown_in item
+        → progress.new ≡ progress_after progress.old item size }
+    ensures place { progress.new.place ≡ progress.old.place + size }
+    ensures sound { IsSound progress.new }
+{
+    match shown {
+        Some((access, pc)) => count_access(progress, access, pc, size),
+        None => progress.place += size as u64,
+    }
 }
 
 #[inline(always)]
@@ -99,26 +110,21 @@ fn read_header(state: &mut State, bytes: &[u8])
     }
 }
 
-// Reads one record, whose bytes are these. At want of memory nothing is appended.
+// Reads one record, whose bytes are these, where the header is read and the end is not. At want of
+// memory nothing is appended.
 #[inline(always)]
-fn read_record(
-    alloc: Global,
-    progress: ReadSoFar,
-    state: &mut State,
-    bytes: &[u8],
-    into: &mut Vec<TraceRecord>,
-)
-    requires at { state.old.progress ≡ Some progress }
+fn read_record(alloc: Global, state: &mut State, bytes: &[u8], into: &mut Vec<TraceRecord>)
+    requires at { IsSome state.old.progress }
     requires open { state.old.ending ≡ None }
     requires clean { state.old.fault ≡ None }
-    requires long { length bytes.now ≡ record_extent progress.version bytes.now }
+    requires long { length bytes.now ≡ extent_in state.old bytes.now }
     requires some { 1 ≤ length bytes.now }
-    requires sound { IsSound progress }
-    requires low { progress.place + length bytes.now ≤ longest_trace }
+    requires sound { ForSome state.old.progress IsSound }
+    requires low { place_of state.old.progress + length bytes.now ≤ longest_trace }
     ensures sound { ForSome state.new.progress IsSound }
-    ensures place { place_of state.new.progress ≤ progress.place + length bytes.now }
+    ensures place { place_of state.new.progress ≤ place_of state.old.progress + length bytes.now }
     ensures exact { state.new.fault ≡ None →
-        place_of state.new.progress ≡ progress.place + length bytes.now }
+        place_of state.new.progress ≡ place_of state.old.progress + length bytes.now }
     ensures same { state.new.fault ≡ Some TraceFault.NoMemory →
         state.new.progress ≡ state.old.progress }
     ensures read { state.new.fault ≢ Some TraceFault.NoMemory →
@@ -126,13 +132,15 @@ fn read_record(
     ensures no_memory { state.new.fault ≡ Some TraceFault.NoMemory
         → into.new.items ≡ into.old.items }
 {
-    match record_of(alloc, &progress, bytes) {
+    let Some(progress) = &mut state.progress else {
+        return;
+    };
+    match record_of(alloc, progress, bytes) {
         Ok(item) => {
-            let later = progress_after(&progress, &item, bytes.len());
-            let ending = ending_in(&item);
+            let (shown, ending) = (shown_in(&item), ending_in(&item));
             match into.push(item) {
                 Ok(()) => {
-                    state.progress = Some(later);
+                    count_record(progress, shown, bytes.len());
                     state.ending = ending;
                 }
                 Err(_) => state.fault = Some(TraceFault::NoMemory),
@@ -161,10 +169,13 @@ fn read_part(alloc: Global, state: &mut State, bytes: &[u8], into: &mut Vec<Trac
     ensures no_memory { state.new.fault ≡ Some TraceFault.NoMemory
         → into.new.items ≡ into.old.items }
 {
-    match (state.progress, state.ending) {
-        (None, _) => read_header(state, bytes),
-        (Some(progress), None) => read_record(alloc, progress, state, bytes, into),
-        (Some(progress), Some(_)) => state.fault = Some(TraceFault::AfterEnd(progress.place)),
+    let place = match &state.progress {
+        Some(progress) => progress.place,
+        None => return read_header(state, bytes),
+    };
+    match state.ending {
+        Some(_) => state.fault = Some(TraceFault::AfterEnd(place)),
+        None => read_record(alloc, state, bytes, into),
     }
 }
 
@@ -183,13 +194,8 @@ fn read_accesses<'a>(state: &mut State, bytes: &'a [u8], into: &mut Vec<TraceRec
     ensures read { ReadsBut (reading_with state.old []) bytes.now (reading_with state.new [])
         result.now into.old.items into.new.items }
 {
-    match (state.progress, state.ending) {
-        (Some(progress), None) => {
-            let mut progress = progress;
-            let rest = read_run(&mut progress, bytes, into);
-            state.progress = Some(progress);
-            rest
-        }
+    match (&mut state.progress, &state.ending) {
+        (Some(progress), None) => read_run(progress, bytes, into),
         _ => bytes,
     }
 }

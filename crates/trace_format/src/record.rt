@@ -9,6 +9,9 @@ pub enum Version {
     One,
     /// Each against the address of the access before it, in 3 to 7 bytes.
     Two,
+    /// As in version 2, and then the address of its instruction against that of its hart's access
+    /// before, in 4 to 12 bytes.
+    Three,
 }
 
 /// The beginning of a trace.
@@ -23,8 +26,9 @@ pub struct Header {
 /// One record of a trace.
 #[derive(PartialEq, Eq, Debug, Drop)]
 pub enum TraceRecord {
-    /// A read or a write.
-    Touch(Access),
+    /// A read or a write, and the address of its instruction, its pc. A trace of version 3 has one
+    /// of each access, and one of version 1 or 2 has none.
+    Touch(Access, Option<u32>),
     /// A block was made.
     Alloc {
         /// Its first address.

@@ -1,30 +1,22 @@
 // One record, all of whose bytes are there.
-ghost use Rattle.std.specs.Prelude.{◌≡◌, ◌^◌, ◌+◌, ◌≤◌, ◌≢◌, Err, drop, length};
-ghost use Rattle.trace_format.specs.Numbers.{group_count};
+ghost use Rattle.std.specs.Prelude.{◌≡◌, ◌^◌, ◌≤◌, ◌≢◌, Err, length};
 ghost use Rattle.trace_format.specs.Judging.{alloc_at, extent_of, record_extent};
 ghost use Rattle.trace_format.specs.Judging.{record_judged, tagged_judged, touch_counted};
 ghost use Rattle.trace_format.specs.Tags.{IsTag};
 ghost use Rattle.trace_format.specs.Sound.{IsSound};
 
-use crate::access_read::{group_count, short_touch_of, touch_of};
+use crate::access_read::{
+    short_touch_extent, short_touch_of, sited_touch_extent, sited_touch_of, touch_of, without_pc,
+};
 use crate::ending_read::outcome_of;
-use crate::fields::{u32_at, u64_at};
 use crate::header_read::LAST_POSITION;
 use crate::symbol_read::{symbol_extent, symbol_of};
 use crate::{ReadSoFar, Tag, TraceFault, TraceRecord, Version};
-use base::{Access, Ending};
+use base::{Access, Ending, u32_at, u64_at};
 use std::alloc::Global;
 
 // How many bytes an access of version 1 has.
 pub(crate) const TOUCH_LENGTH: usize = 8;
-
-// How many bytes an access of version 2 has, as far as they are there.
-#[inline(always)]
-pub(crate) fn short_touch_extent(bytes: &[u8]) -> usize
-    ensures { result ≡ 2 + group_count (drop 2 bytes.now) }
-{
-    2 + group_count(bytes.get(2..).unwrap_or(&[]))
-}
 
 // How many bytes a record of a tag has, as far as they are there.
 #[inline(always)]
@@ -34,6 +26,7 @@ fn extent_of(tag: Tag, bytes: &[u8]) -> usize
     match tag {
         Tag::Touch(_) => TOUCH_LENGTH,
         Tag::ShortTouch(_, _) => short_touch_extent(bytes),
+        Tag::SitedTouch(_, _) => sited_touch_extent(bytes),
         Tag::Alloc | Tag::End => 25,
         Tag::Free => 5,
         Tag::Symbol => symbol_extent(bytes),
@@ -76,16 +69,16 @@ fn alloc_of(bytes: &[u8]) -> TraceRecord
 #[inline(always)]
 fn counted(
     progress: &ReadSoFar,
-    access: Result<Access, TraceFault>,
+    sited: Result<(Access, Option<u32>), TraceFault>,
 ) -> Result<TraceRecord, TraceFault>
     requires sound { IsSound progress.now }
     requires low { progress.now.place ≤ 2 ^ 44 }
-    ensures { result ≡ touch_counted progress.now access }
+    ensures { result ≡ touch_counted progress.now sited }
 {
-    match access {
-        Ok(access) => {
+    match sited {
+        Ok((access, pc)) => {
             if progress.header.first + progress.counted < LAST_POSITION {
-                Ok(TraceRecord::Touch(access))
+                Ok(TraceRecord::Touch(access, pc))
             } else {
                 Err(TraceFault::TooLong)
             }
@@ -134,11 +127,19 @@ fn tagged_of(
 {
     let (harts, place) = (progress.header.harts, progress.place);
     match tag {
-        Tag::Touch(kind) => counted(progress, touch_of(bytes, kind, harts, place)),
-        Tag::ShortTouch(kind, size) => counted(
-            progress,
-            short_touch_of(bytes, kind, size, harts, progress.last, place),
-        ),
+        Tag::Touch(kind) => counted(progress, without_pc(touch_of(bytes, kind, harts, place))),
+        Tag::ShortTouch(kind, size) => {
+            let last = progress.before.last;
+            let access = short_touch_of(bytes, kind, size, harts, last, place);
+            counted(progress, without_pc(access))
+        }
+        Tag::SitedTouch(kind, size) => {
+            let before = &progress.before;
+            counted(
+                progress,
+                sited_touch_of(bytes, kind, size, harts, before, place),
+            )
+        }
         Tag::Alloc => Ok(alloc_of(bytes)),
         Tag::Free => Ok(TraceRecord::Free {
             addr: u32_at(bytes, 1),

@@ -6,6 +6,7 @@ ghost use Rattle.trace_format.specs.Spelling.{kind_number, spell_alloc, spell_fr
 ghost use Rattle.trace_format.specs.Spelling.{spell_symbol};
 
 use crate::access_write::{put_bytes, put_touch};
+use crate::before::Before;
 use crate::ending_write::ending_bytes;
 use crate::{TraceRecord, Version};
 use base::{Name, NoMemory};
@@ -99,18 +100,18 @@ pub fn symbol_bytes(
     put_both(&front, content, into)
 }
 
-// Appends a record after an access at an address. At `NoMemory` nothing is appended.
+// Appends a record behind others. At `NoMemory` nothing is appended.
 pub(crate) fn put_record(
     version: Version,
-    last: u32,
+    before: &Before,
     item: &TraceRecord,
     into: &mut Vec<u8>,
 ) -> Result<(), NoMemory>
-    ensures ok { OnOk result (into.new.items ≡ into.old.items ++ spell_record version last item.now) }
+    ensures ok { OnOk result (into.new.items ≡ into.old.items ++ spell_record version before.now item.now) }
     ensures err { OnErr result (into.new.items ≡ into.old.items) }
 {
     match item {
-        TraceRecord::Touch(access) => put_touch(version, last, access, into),
+        TraceRecord::Touch(access, pc) => put_touch(version, before, access, *pc, into),
         TraceRecord::Alloc { addr, size, sites } => alloc_bytes(*addr, *size, sites, into),
         TraceRecord::Free { addr } => put_bytes(&free_bytes(*addr), into),
         TraceRecord::Symbol {

@@ -9,33 +9,42 @@ ghost use Rattle.trace_format.specs.Tags.{tag_of};
 ghost use Rattle.trace_format.specs.Sound.{IsSound};
 ghost use Rattle.trace_format.specs.ReaderStates.{HasAccess, HasSameHead, ReadsBut, reading_at};
 
-use crate::access_read::{short_touch_of, touch_of};
-use crate::fields::behind;
+use crate::access_read::{
+    end_of_groups, short_touch_extent, short_touch_of, sited_touch_in, touch_of, without_pc,
+};
 use crate::header_read::LAST_POSITION;
 use crate::reader_state::count_access;
-use crate::record_read::{TOUCH_LENGTH, short_touch_extent};
+use crate::record_read::TOUCH_LENGTH;
 use crate::{ReadSoFar, Tag, TraceFault, TraceRecord};
-use base::{Access, Kind};
-
-// An access that is good in itself, if there is a position for it.
-#[tactic(auto, using(std::proofs::lemmas::Bool::Decides::nat_tests))]
-#[inline(always)]
-fn placed(progress: &ReadSoFar, access: Result<Access, TraceFault>) -> Option<Access>
-    requires sound { IsSound progress.now }
-    requires low { progress.now.place ≤ 2 ^ 44 }
-    ensures { IfSome result (λ a. touch_counted progress.now access ≡ Ok (TraceRecord.Touch a)) }
-{
-    match access {
-        Ok(access) if progress.header.first + progress.counted < LAST_POSITION => Some(access),
-        _ => None,
-    }
-}
+use base::{Access, Kind, behind};
 
 // A good access at the front of some bytes, and how many bytes it has.
 #[derive(Clone, Copy, Drop)]
 struct Ahead {
     access: Access,
+    pc: Option<u32>,
     size: usize,
+}
+
+// An access that is good in itself, if there is a position for it.
+#[tactic(auto, using(std::proofs::lemmas::Bool::Decides::nat_tests))]
+#[inline(always)]
+fn placed(
+    progress: &ReadSoFar,
+    sited: Result<(Access, Option<u32>), TraceFault>,
+    size: usize,
+) -> Option<Ahead>
+    requires sound { IsSound progress.now }
+    requires low { progress.now.place ≤ 2 ^ 44 }
+    ensures { IfSome result (λ a. (touch_counted progress.now sited
+        ≡ Ok (TraceRecord.Touch a.access a.pc)) × (a.size ≡ size)) }
+{
+    match sited {
+        Ok((access, pc)) if progress.header.first + progress.counted < LAST_POSITION => {
+            Some(Ahead { access, pc, size })
+        }
+        _ => None,
+    }
 }
 
 // A good access of version 1, if all of it is there.
@@ -45,20 +54,15 @@ fn touch_ahead(progress: &ReadSoFar, kind: Kind, bytes: &[u8]) -> Option<Ahead>
     requires low { progress.now.place ≤ 2 ^ 44 }
     requires tagged { tag_of progress.now.version (slice_index bytes.now 0)
         ≡ Some (Tag.Touch kind) }
-    ensures { IfSome result (λ ahead. HasAccess progress.now bytes.now ahead.access ahead.size) }
+    ensures { IfSome result (λ ahead. HasAccess progress.now bytes.now ahead.access ahead.pc
+        ahead.size) }
 {
     if bytes.len() < TOUCH_LENGTH {
         return None;
     }
     let (part, _) = bytes.split_at(TOUCH_LENGTH);
     let access = touch_of(part, kind, progress.header.harts, progress.place);
-    match placed(progress, access) {
-        Some(access) => Some(Ahead {
-            access,
-            size: TOUCH_LENGTH,
-        }),
-        None => None,
-    }
+    placed(progress, without_pc(access), TOUCH_LENGTH)
 }
 
 // A good access of version 2, if all of it is there.
@@ -69,21 +73,40 @@ fn short_touch_ahead(progress: &ReadSoFar, kind: Kind, width: u8, bytes: &[u8]) 
     requires sized { IsTrue (is_access_size width) }
     requires tagged { tag_of progress.now.version (slice_index bytes.now 0)
         ≡ Some (Tag.ShortTouch kind width) }
-    ensures { IfSome result (λ ahead. HasAccess progress.now bytes.now ahead.access ahead.size) }
+    ensures { IfSome result (λ ahead. HasAccess progress.now bytes.now ahead.access ahead.pc
+        ahead.size) }
 {
     let size = short_touch_extent(bytes);
     if bytes.len() < size {
         return None;
     }
     let (part, _) = bytes.split_at(size);
-    let (harts, last, place) = (progress.header.harts, progress.last, progress.place);
-    match placed(
-        progress,
-        short_touch_of(part, kind, width, harts, last, place),
-    ) {
-        Some(access) => Some(Ahead { access, size }),
-        None => None,
+    let (harts, last, place) = (progress.header.harts, progress.before.last, progress.place);
+    let access = short_touch_of(part, kind, width, harts, last, place);
+    placed(progress, without_pc(access), size)
+}
+
+// A good access of version 3, if all of it is there.
+#[inline(always)]
+fn sited_touch_ahead(progress: &ReadSoFar, kind: Kind, width: u8, bytes: &[u8]) -> Option<Ahead>
+    requires sound { IsSound progress.now }
+    requires low { progress.now.place ≤ 2 ^ 44 }
+    requires sized { IsTrue (is_access_size width) }
+    requires tagged { tag_of progress.now.version (slice_index bytes.now 0)
+        ≡ Some (Tag.SitedTouch kind width) }
+    ensures { IfSome result (λ ahead. HasAccess progress.now bytes.now ahead.access ahead.pc
+        ahead.size) }
+{
+    let behind_front = short_touch_extent(bytes);
+    let size = end_of_groups(bytes, behind_front);
+    if bytes.len() < size {
+        return None;
     }
+    let (part, _) = bytes.split_at(size);
+    let (front, told) = part.split_at(behind_front);
+    let (harts, before, place) = (progress.header.harts, &progress.before, progress.place);
+    let sited = sited_touch_in(front, told, kind, width, harts, before, place);
+    placed(progress, sited, size)
 }
 
 // The good access that begins some bytes, if all of it is there.
@@ -91,7 +114,8 @@ fn short_touch_ahead(progress: &ReadSoFar, kind: Kind, width: u8, bytes: &[u8]) 
 fn access_ahead(progress: &ReadSoFar, bytes: &[u8]) -> Option<Ahead>
     requires sound { IsSound progress.now }
     requires low { progress.now.place ≤ 2 ^ 44 }
-    ensures { IfSome result (λ ahead. HasAccess progress.now bytes.now ahead.access ahead.size) }
+    ensures { IfSome result (λ ahead. HasAccess progress.now bytes.now ahead.access ahead.pc
+        ahead.size) }
 {
     if bytes.is_empty() {
         return None;
@@ -99,18 +123,19 @@ fn access_ahead(progress: &ReadSoFar, bytes: &[u8]) -> Option<Ahead>
     match Tag::read(progress.version, bytes[0]) {
         Some(Tag::Touch(kind)) => touch_ahead(progress, kind, bytes),
         Some(Tag::ShortTouch(kind, width)) => short_touch_ahead(progress, kind, width, bytes),
+        Some(Tag::SitedTouch(kind, width)) => sited_touch_ahead(progress, kind, width, bytes),
         _ => None,
     }
 }
 
 // Appends an access, if there is memory for it.
 #[inline(always)]
-fn put(access: Access, into: &mut Vec<TraceRecord>) -> bool
+fn put(access: Access, pc: Option<u32>, into: &mut Vec<TraceRecord>) -> bool
     ensures put { IsTrue result
-        → into.new.items ≡ into.old.items ++ TraceRecord.Touch access ∷ [] }
+        → into.new.items ≡ into.old.items ++ TraceRecord.Touch access pc ∷ [] }
     ensures same { IsFalse result → into.new.items ≡ into.old.items }
 {
-    match into.push(TraceRecord::Touch(access)) {
+    match into.push(TraceRecord::Touch(access, pc)) {
         Ok(()) => true,
         Err(_) => false,
     }
@@ -136,10 +161,10 @@ pub(crate) fn read_run<'a>(
 {
     let mut rest = bytes;
     while let Some(ahead) = access_ahead(progress, rest) {
-        if !put(ahead.access, into) {
+        if !put(ahead.access, ahead.pc, into) {
             break;
         }
-        count_access(progress, ahead.access, ahead.size);
+        count_access(progress, ahead.access, ahead.pc, ahead.size);
         rest = behind(rest, ahead.size);
     }
     rest

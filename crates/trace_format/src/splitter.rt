@@ -88,7 +88,7 @@ impl Splitter {
         ensures low { result ≤ self.now.cut + 1 }
     {
         match item {
-            TraceRecord::Touch(_) => self.met.min(self.cut) + 1,
+            TraceRecord::Touch(_, _) => self.met.min(self.cut) + 1,
             _ => self.met,
         }
     }

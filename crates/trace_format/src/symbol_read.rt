@@ -3,9 +3,8 @@ ghost use Rattle.std.specs.Prelude.{◌≡◌, ◌^◌, ◌≤◌, ◌≢◌, Er
 ghost use Rattle.std.specs.List.{list_any};
 ghost use Rattle.trace_format.specs.Judging.{symbol_extent, symbol_judged, symbol_kind_of};
 
-use crate::fields::{behind, u16_at, u32_at};
 use crate::{TraceFault, TraceRecord};
-use base::Name;
+use base::{Name, behind, u16_at, u32_at};
 use objects::SymbolKind;
 use std::alloc::Global;
 

@@ -12,6 +12,8 @@ pub enum Tag {
     Touch(Kind),
     /// An access of version 2, of 1, 2 or 4 bytes.
     ShortTouch(Kind, u8),
+    /// An access of version 3, of 1, 2 or 4 bytes.
+    SitedTouch(Kind, u8),
     /// A block was made.
     Alloc,
     /// A block was given back.
@@ -43,10 +45,19 @@ impl Tag {
                 0x24 => Some(Tag::ShortTouch(Kind::Write, 4)),
                 _ => Tag::of_others(byte),
             },
+            Version::Three => match byte {
+                0x11 => Some(Tag::SitedTouch(Kind::Read, 1)),
+                0x12 => Some(Tag::SitedTouch(Kind::Read, 2)),
+                0x14 => Some(Tag::SitedTouch(Kind::Read, 4)),
+                0x21 => Some(Tag::SitedTouch(Kind::Write, 1)),
+                0x22 => Some(Tag::SitedTouch(Kind::Write, 2)),
+                0x24 => Some(Tag::SitedTouch(Kind::Write, 4)),
+                _ => Tag::of_others(byte),
+            },
         }
     }
 
-    // The tag of a record that both versions spell in one way.
+    // The tag of a record that all versions spell in one way.
     #[inline(always)]
     fn of_others(byte: u8) -> Option<Tag>
         ensures { result ≡ other_tag_of byte }

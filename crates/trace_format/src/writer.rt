@@ -2,9 +2,10 @@
 ghost use Rattle.std.specs.Prelude.{◌≡◌, ◌++◌, OnOk, OnErr};
 ghost use Rattle.std.specs.Int.{w16, w64, to_le_bytes};
 ghost use Rattle.trace_format.specs.Rules.{IsGoodHeader, IsWritable};
-ghost use Rattle.trace_format.specs.Spelling.{last_after, magic_of, spell_header, spell_record};
+ghost use Rattle.trace_format.specs.Spelling.{before_after, magic_of, spell_header, spell_record};
 
-use crate::header_read::{MAGIC_ONE, MAGIC_TWO};
+use crate::before::Before;
+use crate::header_read::{MAGIC_ONE, MAGIC_THREE, MAGIC_TWO};
 use crate::record_write::{put_both, put_record};
 use crate::{Header, TraceRecord, Version};
 use base::NoMemory;
@@ -16,6 +17,7 @@ fn magic_of(version: Version) -> [u8; 8]
     match version {
         Version::One => MAGIC_ONE,
         Version::Two => MAGIC_TWO,
+        Version::Three => MAGIC_THREE,
     }
 }
 
@@ -36,13 +38,14 @@ fn put_header(version: Version, header: Header, into: &mut Vec<u8>) -> Result<()
     put_both(&magic, &fields, into)
 }
 
-/// Writes a trace of either version: the header once, and then its records in order.
+/// Writes a trace of any version: the header once, and then its records in order. A pc for which the
+/// version has no place is left out, and in version 3 one that is missing is written as 0.
 ///
-/// Contracts see the version and the address of the access before, 0 before the first.
+/// Contracts see the version and what the next access is spelled against.
 #[derive(Clone, Copy, Debug)]
 pub struct TraceWriter {
     version: Version,
-    last: u32,
+    before: Before,
 }
 
 impl Model for TraceWriter {
@@ -50,9 +53,9 @@ impl Model for TraceWriter {
 
     ghost Value = { Writing };
 
-    ghost view = { λ w. record { version = w.version; last = w.last } };
+    ghost view = { λ w. record { version = w.version; before = w.before } };
 
-    ghost inverse = { λ w. record { version = w.version; last = w.last } };
+    ghost inverse = { λ w. record { version = w.version; before = w.before } };
 }
 
 impl TraceWriter {
@@ -62,7 +65,10 @@ impl TraceWriter {
     pub fn new(version: Version) -> TraceWriter
         ensures { result ≡ begin_writing version }
     {
-        TraceWriter { version, last: 0 }
+        TraceWriter {
+            version,
+            before: Before::nothing(),
+        }
     }
 
     /// Appends the header. At `NoMemory` nothing is appended.
@@ -80,17 +86,17 @@ impl TraceWriter {
     pub fn item(&mut self, item: &TraceRecord, into: &mut Vec<u8>) -> Result<(), NoMemory>
         requires { IsWritable item.now }
         ensures ok { OnOk result
-            (into.new.items ≡ into.old.items ++ spell_record self.old.version self.old.last
+            (into.new.items ≡ into.old.items ++ spell_record self.old.version self.old.before
             item.now) }
         ensures next { OnOk result
-            (self.new ≡ record self.old { last = last_after self.old.last item.now }) }
+            (self.new ≡ record self.old { before = before_after self.old.before item.now }) }
         ensures err { OnErr result (into.new.items ≡ into.old.items) }
         ensures stays { OnErr result (self.new ≡ self.old) }
     {
-        match put_record(self.version, self.last, item, into) {
+        match put_record(self.version, &self.before, item, into) {
             Ok(()) => {
-                if let TraceRecord::Touch(access) = item {
-                    self.last = access.addr();
+                if let TraceRecord::Touch(access, pc) = item {
+                    self.before.note(*access, *pc);
                 }
                 Ok(())
             }

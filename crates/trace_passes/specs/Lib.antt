@@ -1,5 +1,6 @@
 pub mod Cursors
 pub mod Laws
+pub mod Lives
 pub mod Passes
 pub mod Rooms
 pub mod Ways

@@ -13,6 +13,8 @@ use trace_format::{Header, TraceRecord, TraceWriter, Version};
 pub(crate) enum Line {
     // what a hart does, at which address, and to how many bytes
     Touch(Kind, u16, u32, u8),
+    // the same, and the address of the instruction
+    Sited(Kind, u16, u32, u8, u32),
     // a block, its size, and the last call before
     Alloc(u32, u32, u32),
     Free(u32),
@@ -22,11 +24,11 @@ pub(crate) enum Line {
     Exit(u32, u64, u64),
 }
 
-fn touch_of(kind: Kind, hart: u16, addr: u32, size: u8) -> Option<TraceRecord>
+fn touch_of(kind: Kind, hart: u16, addr: u32, size: u8, pc: Option<u32>) -> Option<TraceRecord>
     ensures { IfSome result (λ item. IsWritable item) }
 {
     let access = Access::new(Hart::new(hart)?, addr, kind, size)?;
-    Some(TraceRecord::Touch(access))
+    Some(TraceRecord::Touch(access, pc))
 }
 
 // The record that a row tells: None where it is a symbol, or no such access is allowed.
@@ -34,7 +36,8 @@ fn plain_record(line: &Line) -> Option<TraceRecord>
     ensures { IfSome result (λ item. IsWritable item) }
 {
     match *line {
-        Line::Touch(kind, hart, addr, size) => touch_of(kind, hart, addr, size),
+        Line::Touch(kind, hart, addr, size) => touch_of(kind, hart, addr, size, None),
+        Line::Sited(kind, hart, addr, size, pc) => touch_of(kind, hart, addr, size, Some(pc)),
         Line::Alloc(addr, size, site) => {
             let sites = [site, 0, 0, 0];
             Some(TraceRecord::Alloc { addr, size, sites })

@@ -1,5 +1,6 @@
 // The same bytes in pieces of several sizes.
 use crate::lines::{Line, records_of, trace_of};
+use crate::rows::SITED;
 use base::{Kind, NoMemory};
 use objects::SymbolKind;
 use std::alloc::Global;
@@ -104,7 +105,7 @@ fn changes_agree(alloc: Global, bytes: &mut Vec<u8>, place: usize) -> Result<boo
 
 #[test]
 fn any_cut_gives_one_answer(rt: HostRuntime) -> Result<(), Fail> {
-    for version in [Version::One, Version::Two] {
+    for version in [Version::One, Version::Two, Version::Three] {
         let bytes = trace_of(rt.alloc(), version, &EACH_KIND)?;
         assert!(rt; cuts_agree(rt.alloc(), &bytes)?);
     }
@@ -113,7 +114,7 @@ fn any_cut_gives_one_answer(rt: HostRuntime) -> Result<(), Fail> {
 
 #[test]
 fn any_changed_byte_gives_one_answer(rt: HostRuntime) -> Result<(), Fail> {
-    for version in [Version::One, Version::Two] {
+    for version in [Version::One, Version::Two, Version::Three] {
         let mut bytes = trace_of(rt.alloc(), version, &EACH_KIND)?;
         for place in 0..bytes.len() {
             assert!(rt; changes_agree(rt.alloc(), &mut bytes, place)?);
@@ -139,6 +140,7 @@ fn a_trace_is_read_again(rt: HostRuntime) -> Result<(), Fail> {
             assert!(rt; is_read_again(rt.alloc(), version, lines)?);
         }
     }
+    assert!(rt; is_read_again(rt.alloc(), Version::Three, &SITED)?);
     Ok(())
 }
 

@@ -25,6 +25,16 @@ const LAST_WORD: [u8; 48] = [
     6, 0, 0, 0, 0, 0, 0, 0, 0, 1, 0, 0, 0, 0, 0, 0, 0, 1, 0, 0, 0, 0, 0, 0, 0, // end
 ];
 
+// A write of 4 bytes at 0x11008 by hart 0, a read of a byte at 0x11004 and a write there by hart
+// 1, and a read of a byte at 0x11005 by hart 2, in version 3. Their pcs are 0x10004, 0x1003c, 0x10044
+// and 0x1003c.
+const FOUR_SITED: [u8; 69] = [
+    0x50, 0x52, 0x44, 0x54, 0x52, 0x43, 0x30, 0x33, 0, 0, 0, 0, 0, 0, 0, 0, 8, 0, 0, 0, // header
+    0x24, 0, 0x90, 0xc0, 8, 0x88, 0x80, 8, 0x11, 1, 7, 0xf8, 0x80, 8, // by harts 0 and 1
+    0x21, 1, 0, 0x10, 0x11, 2, 2, 0xf8, 0x80, 8, // by harts 1 and 2
+    6, 0, 0, 0, 0, 0, 0, 0, 0, 4, 0, 0, 0, 0, 0, 0, 0, 4, 0, 0, 0, 0, 0, 0, 0, // end
+];
+
 // The same traces as rows.
 const NONE: [Line; 1] = [Line::Exit(0, 0, 0)];
 
@@ -38,6 +48,14 @@ const THREE: [Line; 4] = [
 const LAST: [Line; 2] = [
     Line::Touch(Kind::Write, 0, 0xffff_fffc, 4),
     Line::Exit(0, 1, 1),
+];
+
+pub(crate) const SITED: [Line; 5] = [
+    Line::Sited(Kind::Write, 0, 0x11008, 4, 0x10004),
+    Line::Sited(Kind::Read, 1, 0x11004, 1, 0x1003c),
+    Line::Sited(Kind::Write, 1, 0x11004, 1, 0x10044),
+    Line::Sited(Kind::Read, 2, 0x11005, 1, 0x1003c),
+    Line::Exit(0, 4, 4),
 ];
 
 // The first fault of some bytes.
@@ -70,6 +88,7 @@ fn the_bytes_are_those_of_their_lines(rt: HostRuntime) -> Result<(), Fail> {
         (Version::One, NONE.as_slice(), NO_ACCESSES.as_slice()),
         (Version::Two, THREE.as_slice(), THREE_WRITES.as_slice()),
         (Version::Two, LAST.as_slice(), LAST_WORD.as_slice()),
+        (Version::Three, SITED.as_slice(), FOUR_SITED.as_slice()),
     ] {
         assert!(rt; trace_of(rt.alloc(), version, lines)?.as_slice() == bytes);
     }
@@ -82,6 +101,7 @@ fn good_traces_have_no_fault(rt: HostRuntime) {
         NO_ACCESSES.as_slice(),
         THREE_WRITES.as_slice(),
         LAST_WORD.as_slice(),
+        FOUR_SITED.as_slice(),
     ] {
         assert!(rt; fault_of(rt.alloc(), bytes) == Ok(None));
     }
@@ -93,7 +113,7 @@ const NONE_COUNTED: TraceFault = TraceFault::CountMismatch {
 };
 
 // A trace, a place in it, another byte there, and the fault.
-const MISTAKES: [(&[u8], usize, u8, TraceFault); 9] = [
+const MISTAKES: [(&[u8], usize, u8, TraceFault); 10] = [
     (&NO_ACCESSES, 0, 0x51, TraceFault::BadMagic),
     (&NO_ACCESSES, 14, 1, TraceFault::BadField(8)),
     (&NO_ACCESSES, 16, 0, TraceFault::BadHarts),
@@ -103,6 +123,7 @@ const MISTAKES: [(&[u8], usize, u8, TraceFault); 9] = [
     (&THREE_WRITES, 13, 1, TraceFault::TooLong),
     (&THREE_WRITES, 20, 1, TraceFault::BadTag(20)),
     (&THREE_WRITES, 23, 0, TraceFault::BadField(22)),
+    (&FOUR_SITED, 27, 0, TraceFault::BadField(25)),
 ];
 
 #[test]

@@ -22,7 +22,7 @@ impl Observer for Tally {
 
     fn note(&mut self, item: &TraceRecord) -> Result<(), NoMemory> {
         match item {
-            TraceRecord::Touch(_) => self.next += 1,
+            TraceRecord::Touch(_, _) => self.next += 1,
             TraceRecord::End(_) => self.ended = true,
             _ => {}
         }

@@ -25,7 +25,7 @@ use Rattle.finite_cache.specs.Laws.Steps.{flip}
 use Rattle.finite_cache.specs.Laws.Ways.{length-without}
 use Rattle.finite_cache.specs.Rows.{bounded_count, bounded_since, evicted_count, start_of}
 use Rattle.finite_cache.specs.Rows.{unbounded_count}
-use Rattle.cache_shape.specs.Shapes.{CacheShape}
+use Rattle.base.specs.Shapes.{CacheShape}
 
 -- ---- no line that unbounded caches lack
 

@@ -12,7 +12,7 @@ use Rattle.std.specs.Prelude.{if◌then◌else◌}
 use Rattle.sharing_rules.specs.Laws.Held.{any_at, any_of, same_bool}
 use Rattle.finite_cache.specs.Bounded.{has, set_of, without}
 use Rattle.finite_cache.specs.Kept.{cell_of}
-use Rattle.cache_shape.specs.Shapes.{CacheShape}
+use Rattle.base.specs.Shapes.{CacheShape}
 use Rattle.finite_cache.specs.Sweeps.{is_cell_of_another}
 
 -- a product with a rest tells both

@@ -26,7 +26,7 @@ use Rattle.finite_cache.specs.Kept.{tally_after, use_of}
 use Rattle.finite_cache.specs.Laws.Cells.{has-kept}
 use Rattle.finite_cache.specs.Laws.Standing.{arrival-any}
 use Rattle.finite_cache.specs.Laws.Steps.{flip}
-use Rattle.cache_shape.specs.Shapes.{CacheShape}
+use Rattle.base.specs.Shapes.{CacheShape}
 use Rattle.finite_cache.specs.declared.rows.Tally.{Tally}
 
 -- ---- lines in lists

@@ -1,18 +1,18 @@
 -- What has been seen, with one record more.
-use Rattle.std.proofs.Common.{◌≡◌, ℕ, ◌+◌, ◌≤◌, List, [], ◌∷◌, ◌++◌, length, map, refl, sym, ap, ◌∙◌}
-use Rattle.std.proofs.Common.{append_assoc, arith, subst}
-use Rattle.std.proofs.lemmas.List.{append-nil, length-append}
-use Rattle.std.proofs.lemmas.List.Elements.{filter_map-append}
-use Rattle.std.specs.Prelude.{OnOk, Result, Ok, Err}
+use Rattle.std.proofs.Common.{◌≡◌, ℕ, ◌≤◌, List, [], ◌∷◌, ◌++◌, length, map, refl, sym, ap, ◌∙◌}
+use Rattle.std.proofs.Common.{arith, subst}
+use Rattle.std.specs.Prelude.{OnOk, Option, Result, Ok, Err}
 use Rattle.base.specs.Touch.{Touch}
 use Rattle.sharing_rules.specs.AccessLists.{AccessList}
 use Rattle.trace_format.specs.Reading.{counted_after}
-use Rattle.trace_format.specs.Rules.{last_position, touch_in, touches_in}
+use Rattle.trace_format.specs.Rules.{last_position, touches_in}
 use Rattle.trace_format.specs.declared.record.TraceRecord.{TraceRecord}
 use Rattle.trace_format.specs.declared.record.TraceRecord.TheVariants as records
+use Rattle.trace_format.specs.Laws.Touches.{position-next, position-quiet, room-next}
+use Rattle.trace_format.specs.Laws.Touches.{stands-next, stands-none as still-stands, stands-quiet}
 use Rattle.trace_passes.specs.Rooms.{HasRoom}
 use Rattle.base.specs.TextLines.{text_of}
-use Rattle.cache_shape.specs.Shapes.{CacheShape}
+use Rattle.base.specs.Shapes.{CacheShape}
 use Rattle.finite_cache.specs.Kept.{HasNoted, Kept, StandsFor, nothing_kept, row_kept}
 use Rattle.finite_cache.specs.Kept.{totals_kept}
 use Rattle.finite_cache.specs.Laws.Stands.{rows-stand, stands-none, totals-stand}
@@ -27,30 +27,16 @@ SeesNext old new item =
     (begun : Kept) (items : List TraceRecord)
     → HasSeen begun old items → HasSeen begun new (items ++ item ∷ [])
 
-touches-push : (xs : List TraceRecord) (x : TraceRecord)
-    → touches_in (xs ++ x ∷ []) ≡ touches_in xs ++ touches_in (x ∷ [])
-touches-push xs x = filter_map-append touch_in xs (x ∷ [])
-
-counted-one : (p : ℕ) (x : TraceRecord) → counted_after p x ≡ p + length (touches_in (x ∷ []))
-counted-one p (records.Touch a) = omega arith
-counted-one p (records.Alloc addr size sites) = omega arith
-counted-one p (records.Free addr) = omega arith
-counted-one p (records.Symbol kind addr size name) = omega arith
-counted-one p (records.End e) = omega arith
-
 -- one access more
-pub access-next : (old new : Kept) (a : Touch) → HasNoted a old new
+pub access-next : (old new : Kept) (a : Touch) (pc : Option ℕ) → HasNoted a old new
     → ((t : AccessList) → StandsFor t old → StandsFor (t ++ a ∷ []) new)
-    → SeesNext old new (records.Touch a)
-access-next old new a noted stands begun items seen =
-    let all : length (touches_in (items ++ records.Touch a ∷ [])) ≡ length (touches_in items) + 1 =
-    ap length (touches-push items (records.Touch a)) ∙ length-append (touches_in items) (a ∷ []) in
+    → SeesNext old new (records.Touch a pc)
+access-next old new a pc noted stands begun items seen =
     record {
-      stands = λ t stood. subst (λ (list : AccessList). StandsFor list new)
-          (append_assoc t (touches_in items) (a ∷ [])
-          ∙ ap (λ list. t ++ list) (sym (touches-push items (records.Touch a))))
+      stands = λ t stood. stands-next StandsFor new t items (records.Touch a pc)
           (stands (t ++ touches_in items) (seen.stands t stood));
-      position = omega (arith, all, noted.position, seen.position);
+      position = position-next begun.position old.position items (records.Touch a pc) seen.position
+          new.position noted.position;
       shape = noted.shape ∙ seen.shape;
     }
 
@@ -58,29 +44,26 @@ access-next old new a noted stands begun items seen =
 pub other-next : (now : Kept) (x : TraceRecord) → touches_in (x ∷ []) ≡ []
     → SeesNext now now x
 other-next now x none begun items seen =
-    let same : touches_in (items ++ x ∷ []) ≡ touches_in items =
-    touches-push items x ∙ ap (λ list. touches_in items ++ list) none
-    ∙ append-nil (touches_in items) in
     record {
-      stands = λ t stood. subst (λ (list : AccessList). StandsFor (t ++ list) now) (sym same)
-          (seen.stands t stood);
-      position = seen.position
-          ∙ ap (λ (list : AccessList). begun.position + length list) (sym same);
+      stands = λ t stood. stands-next StandsFor now t items x
+          (stands-quiet StandsFor now (t ++ touches_in items) x none (seen.stands t stood));
+      position = position-next begun.position now.position items x seen.position now.position
+          (position-quiet now.position x none);
       shape = seen.shape;
     }
 
 pub see-on : {T E : Type 0} (result : Result T E) (old new : Kept) (x : TraceRecord) (a : Touch)
-    → x ≡ records.Touch a → OnOk result (HasNoted a old new)
+    (pc : Option ℕ) → x ≡ records.Touch a pc → OnOk result (HasNoted a old new)
     → ((t : AccessList) → StandsFor t old → OnOk result (StandsFor (t ++ a ∷ []) new))
     → OnOk result (SeesNext old new x)
-see-on (Err e) old new x a is noted stands = tt
-see-on (Ok v) old new x a is noted stands =
-    subst (λ y. SeesNext old new y) (sym is) (access-next old new a noted stands)
+see-on (Err e) old new x a pc is noted stands = tt
+see-on (Ok v) old new x a pc is noted stands =
+    subst (λ y. SeesNext old new y) (sym is) (access-next old new a pc noted stands)
 
 -- nothing seen yet
 pub seen-none : (now : Kept) → HasSeen now now []
 seen-none now = record {
-  stands = λ t stood. subst (λ (list : AccessList). StandsFor list now) (sym (append-nil t)) stood;
+  stands = still-stands StandsFor now;
   position = omega arith;
   shape = refl;
 }
@@ -88,18 +71,8 @@ seen-none now = record {
 pub room_for_one : (now : Kept) (x : TraceRecord) → HasRoom begins_at HasSeen now (x ∷ [])
     → counted_after now.position x ≤ last_position
 room_for_one now x room =
-    let all : length (touches_in (room.seen ++ x ∷ []))
-    ≡ length (touches_in room.seen) + length (touches_in (x ∷ [])) =
-    ap length (touches-push room.seen x)
-    ∙ length-append (touches_in room.seen) (touches_in (x ∷ [])) in
-    omega (
-      arith,
-      all,
-      counted-one now.position x,
-      room.given_so_far.position,
-      room.begins_there,
-      room.room,
-    )
+    room-next room.begun.position now.position room.seen x room.given_so_far.position room.first
+    room.begins_there room.room
 
 -- ---- the text
 

@@ -6,7 +6,7 @@ use Rattle.std.specs.List.{AllByRecursion, list_any}
 use Rattle.std.specs.Prelude.{nat_le}
 use Rattle.base.specs.Levels.{is_from_to}
 use Rattle.base.specs.Lines.{is_line_size}
-use Rattle.cache_shape.specs.Shapes.{CacheShape, is_set_count, is_shape}
+use Rattle.base.specs.Shapes.{CacheShape, is_set_count, is_shape}
 
 pub some-ways : (k : CacheShape) → is_shape k ≡ true → 0 < k.ways
 some-ways k good =

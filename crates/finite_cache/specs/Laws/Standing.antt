@@ -30,7 +30,8 @@ use Rattle.sharing_rules.specs.Laws.Places.{first_place-within}
 use Rattle.sharing_rules.specs.Laws.Recounts.{count_since-end}
 use Rattle.sharing_rules.specs.Observed.{written_lines}
 use Rattle.sharing_rules.specs.Places.{first_place}
-use Rattle.misses.specs.Laws.Entered.{AgreeBut, entries, insert-entries, lookup-entries}
+use Rattle.misses.specs.Laws.Entered.{entries, insert-entries, lookup-entries}
+use Rattle.sharing_rules.specs.Laws.Sums.{AgreeBut}
 use Rattle.finite_cache.specs.Bounded.{bounded, bounded_step, evicts, has, is_any_eviction}
 use Rattle.finite_cache.specs.Bounded.{is_bounded_invalidation, is_cached_by_another, is_eviction}
 use Rattle.finite_cache.specs.Bounded.{left, line_in, set_of, used, without}
@@ -42,7 +43,7 @@ use Rattle.finite_cache.specs.Kept.{is_cached_now, is_held_now, lists_of}
 use Rattle.finite_cache.specs.Kept.{tally_after, tally_in, use_of}
 use Rattle.finite_cache.specs.Rows.{all_evicted, bounded_count, bounded_since, evicted_count}
 use Rattle.finite_cache.specs.Rows.{start_of, unbounded_count, writes_line}
-use Rattle.cache_shape.specs.Shapes.{CacheShape, grid_of}
+use Rattle.base.specs.Shapes.{CacheShape, grid_of}
 use Rattle.finite_cache.specs.declared.rows.Tally.{Tally}
 
 pub bounded-push : (k : CacheShape) (t : List Touch) (a : Touch) (h s : ℕ)

@@ -17,7 +17,7 @@ use Rattle.finite_cache.specs.Kept.{use_of}
 use Rattle.finite_cache.specs.Laws.Standing.{any-evicted, next-parts}
 use Rattle.finite_cache.specs.Rows.{all_evicted, bounded_count, evicted_count, row_in, rows_of}
 use Rattle.finite_cache.specs.Rows.{totals_of, unbounded_count}
-use Rattle.cache_shape.specs.Shapes.{CacheShape, grid_of}
+use Rattle.base.specs.Shapes.{CacheShape, grid_of}
 use Rattle.finite_cache.specs.declared.rows.Tally.{Tally}
 use Rattle.finite_cache.specs.declared.rows.Totals.{Totals}
 

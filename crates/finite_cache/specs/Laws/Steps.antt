@@ -23,7 +23,7 @@ use Rattle.finite_cache.specs.Kept.{evicted_now, harts_after, harts_of, is_cache
 use Rattle.finite_cache.specs.Kept.{lines_at, lists_of, tally_after, use_of, wants_memory}
 use Rattle.finite_cache.specs.Laws.Cells.{cell-same}
 use Rattle.finite_cache.specs.Laws.Ways.{without-none}
-use Rattle.cache_shape.specs.Shapes.{CacheShape}
+use Rattle.base.specs.Shapes.{CacheShape}
 use Rattle.finite_cache.specs.Sweeps.{had_by_another, is_cell_of_another}
 use Rattle.finite_cache.specs.declared.rows.Tally.{Tally}
 

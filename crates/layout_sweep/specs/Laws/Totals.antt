@@ -2,10 +2,10 @@
 use Rattle.std.proofs.Common.{◌≡◌, ℕ, ◌+◌, ◌%◌, ◌<◌, Bool, true, false, cond, eqb, ltb, ◌&&◌, List}
 use Rattle.std.proofs.Common.{[], ◌∷◌, ◌++◌, Some, None, refl, sym, ap, ◌∙◌, subst, arith}
 use Rattle.std.proofs.Common.{inl, inr}
-use Rattle.std.proofs.lemmas.Bool.{cases_Bool, eqb-true, false≢true, or_parts}
+use Rattle.std.proofs.lemmas.Bool.{cases_Bool, eqb-true, false≢true}
 use Rattle.std.proofs.lemmas.Bool.Decides.{nat_tests}
-use Rattle.std.proofs.lemmas.List.Sums.{sum_by-cons, sum_by_push}
-use Rattle.std.specs.List.{AllByRecursion, IsDistinct, list_any}
+use Rattle.std.proofs.lemmas.List.Sums.{sum_by-cons}
+use Rattle.std.specs.List.{list_any}
 use Rattle.std.specs.Prelude.{filter, filter_map, if◌then◌else◌, sum_by}
 use Rattle.base.specs.Lines.{Grid, line_number}
 use Rattle.base.specs.Touch.{Touch, is_write}
@@ -15,6 +15,7 @@ use Rattle.sharing_rules.specs.Laws.Lists.{slice_cases}
 use Rattle.sharing_rules.specs.Laws.Observed.{observed_written, written_lines-any}
 use Rattle.sharing_rules.specs.Laws.Observed.{written_lines-push}
 use Rattle.sharing_rules.specs.Laws.Starts.{observed_start-one}
+use Rattle.sharing_rules.specs.Laws.Sums.{AgreeBut, sum-noted}
 use Rattle.sharing_rules.specs.Laws.Tracks.{track_of-stays}
 use Rattle.sharing_rules.specs.Lines.{grid_line, is_inside, line_at}
 use Rattle.sharing_rules.specs.Listed.{Finding, found, observed_line}
@@ -24,56 +25,6 @@ use Rattle.sharing_rules.specs.Tracks.{Traced, track_of, track_since}
 use Rattle.layout_sweep.specs.Laws.Windows.{reads-take_nothing, window-noted}
 use Rattle.layout_sweep.specs.Totals.{counted, counted_lines, part_of, total_of}
 use Rattle.layout_sweep.specs.Windows.{takes, window_of}
-
--- Two functions that agree at all numbers but one, and a sum in which that one's part grows.
-abbrev AgreeBut : ℕ → (ℕ → ℕ) → (ℕ → ℕ) → Type 0
-AgreeBut x f g = (k : ℕ) → eqb x k ≡ false → g k ≡ f k
-
-sum-same : (f g : ℕ → ℕ) (x : ℕ) (ks : List ℕ) → AgreeBut x f g → list_any (eqb x) ks ≡ false
-    → sum_by g ks ≡ sum_by f ks
-sum-same f g x [] agree none = refl
-sum-same f g x (k ∷ ks) agree none =
-    let parts = or_parts (eqb x k) (list_any (eqb x) ks) none in
-    let here = agree k parts.0 in
-    let rest = sum-same f g x ks agree parts.1 in
-    omega (arith, here, rest, sum_by-cons f k ks, sum_by-cons g k ks)
-
-none-of : (k : ℕ) (ks : List ℕ) → AllByRecursion (λ y. eqb k y ≡ false) ks
-    → list_any (eqb k) ks ≡ false
-none-of k [] all = refl
-none-of k (j ∷ ks) all = rw (all.0, none-of k ks all.1)
-
-sum-known : (f g : ℕ → ℕ) (x n : ℕ) (ks : List ℕ) → IsDistinct eqb ks → AgreeBut x f g
-    → g x ≡ f x + n → list_any (eqb x) ks ≡ true → sum_by g ks ≡ sum_by f ks + n
-unfolding IsDistinct
-sum-known f g x n [] d agree grows there = absurd (false≢true there)
-sum-known f g x n (k ∷ ks) d agree grows there =
-    elim (cases_Bool (eqb x k)) [
-      | inl here ↦
-          let same = eqb-true x k here in
-          let none : list_any (eqb x) ks ≡ false =
-          subst (λ j. list_any (eqb j) ks ≡ false) (sym same) (none-of k ks d.0) in
-          let grown : g k ≡ f k + n = subst (λ j. g j ≡ f j + n) same grows in
-          let rest = sum-same f g x ks agree none in
-          omega (arith, grown, rest, sum_by-cons f k ks, sum_by-cons g k ks)
-      | inr other ↦
-          let later : list_any (eqb x) ks ≡ true = rw other at there in
-          let rest = sum-known f g x n ks d.1 agree grows later in
-          let here = agree k other in
-          omega (arith, here, rest, sum_by-cons f k ks, sum_by-cons g k ks)
-    ]
-
-sum-noted : (f g : ℕ → ℕ) (x n : ℕ) (ks : List ℕ) → IsDistinct eqb ks → AgreeBut x f g
-    → g x ≡ f x + n → (list_any (eqb x) ks ≡ false → f x ≡ 0)
-    → sum_by g (note_arrival ks x) ≡ sum_by f ks + n
-sum-noted f g x n ks d agree grows new =
-    elim (cases_Bool (list_any (eqb x) ks)) [
-      | inl there ↦ rw there (sum-known f g x n ks d agree grows there)
-      | inr none ↦
-          let same = sum-same f g x ks agree none in
-          let nothing = new none in
-          rw none (omega (arith, sum_by_push g ks x, same, grows, nothing))
-    ]
 
 sum-alike : (f g : ℕ → ℕ) (ks : List ℕ) → ((k : ℕ) → g k ≡ f k) → sum_by g ks ≡ sum_by f ks
 sum-alike f g [] alike = refl

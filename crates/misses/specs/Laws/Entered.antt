@@ -6,13 +6,14 @@ use Rattle.std.proofs.lemmas.Bool.{cases_Bool, cases_eq, eqb-true, false≢true,
 use Rattle.std.proofs.lemmas.Bool.{or_parts}
 use Rattle.std.proofs.lemmas.Bool.Decides.{nat_tests}
 use Rattle.std.proofs.lemmas.List.{length-map, map-append}
-use Rattle.std.specs.List.{AllByRecursion, IsDistinct, list_any}
+use Rattle.std.specs.List.{IsDistinct, list_any}
 use Rattle.std.specs.Map.{lookup}
 use Rattle.std.specs.Prelude.{if◌then◌else◌, nat_eq, slice_get, slice_set}
 use Rattle.indexmap.specs.IndexMap.{insert_entry}
 use Rattle.sharing_rules.specs.Arrivals.{note_arrival}
 use Rattle.sharing_rules.specs.Laws.Lists.{get-set_other, get-set_same, length-below, same_by_get}
 use Rattle.sharing_rules.specs.Laws.Lists.{slice_get-map-below}
+use Rattle.sharing_rules.specs.Laws.Sums.{AgreeBut, none-of}
 use Rattle.sharing_rules.specs.Places.{below}
 
 -- each number with what f gives for it
@@ -28,21 +29,12 @@ lookup-entries f (k ∷ ks) r =
       | inr other ↦ rw (other, lookup-entries f ks r) refl
     ]
 
--- outside r the two give the same
-abbrev pub AgreeBut : {V : Type 0} → ℕ → (ℕ → V) → (ℕ → V) → Type 0
-AgreeBut r f g = (j : ℕ) → eqb r j ≡ false → g j ≡ f j
-
 entries-same : {V : Type 0} (f g : ℕ → V) (r : ℕ) (ks : List ℕ) → AgreeBut r f g
     → list_any (eqb r) ks ≡ false → entries g ks ≡ entries f ks
 entries-same f g r [] agree none = refl
 entries-same f g r (k ∷ ks) agree none =
     let parts = or_parts (eqb r k) (list_any (eqb r) ks) none in
     rw (agree k parts.0, entries-same f g r ks agree parts.1) refl
-
-pub none-of : (r : ℕ) (ks : List ℕ) → AllByRecursion (λ y. eqb r y ≡ false) ks
-    → list_any (eqb r) ks ≡ false
-none-of r [] all = refl
-none-of r (k ∷ ks) all = rw (all.0, none-of r ks all.1) refl
 
 insert-new : {V : Type 0} (f : ℕ → V) (ks : List ℕ) (r : ℕ) (v : V) → list_any (eqb r) ks ≡ false
     → insert_entry nat_eq (entries f ks) r v ≡ entries f ks ++ (r, v) ∷ []

@@ -28,7 +28,8 @@ use Rattle.misses.specs.Kept.{counted, counts_after, kept_line, last_write_of}
 use Rattle.misses.specs.Kept.{lines_of, misses_now, needs_now, no_visits, note_line, unwritten}
 use Rattle.misses.specs.Kept.{visits_after, visits_in, visits_of, writes_place}
 use Rattle.misses.specs.Laws.Copies.{copies-empty, copies-push}
-use Rattle.misses.specs.Laws.Entered.{AgreeBut, entries, insert-entries, lookup-entries, map-set}
+use Rattle.misses.specs.Laws.Entered.{entries, insert-entries, lookup-entries, map-set}
+use Rattle.sharing_rules.specs.Laws.Sums.{AgreeBut}
 use Rattle.misses.specs.Laws.Entries.{any-behind, behind-push, behind-same, last_hart-push}
 use Rattle.misses.specs.Laws.Entries.{last_hart-same}
 use Rattle.misses.specs.Laws.Loads.{copies-own}

@@ -21,7 +21,8 @@ use Rattle.misses.specs.Kept.{cost_in, cost_of, counts_after, entry_of, kept_lin
 use Rattle.misses.specs.Kept.{lines_of, none_counted, note_access, note_in, note_line}
 use Rattle.misses.specs.declared.line_misses.Cost.{Cost}
 use Rattle.misses.specs.declared.line_misses.Counts.{Counts}
-use Rattle.misses.specs.Laws.Entered.{AgreeBut, entries, insert-entries, lookup-entries}
+use Rattle.misses.specs.Laws.Entered.{entries, insert-entries, lookup-entries}
+use Rattle.sharing_rules.specs.Laws.Sums.{AgreeBut}
 use Rattle.misses.specs.Laws.KeptLines.{all_counted-push, cost-own, kept_line-elsewhere}
 use Rattle.misses.specs.Laws.KeptLines.{kept_line-own, note_arrival-any, place_of}
 use Rattle.misses.specs.Laws.WordLines.{layout-sized}

@@ -1,15 +1,13 @@
 -- What is told of the lines is what the definitions say, and the totals are the sums.
-use Rattle.std.proofs.Common.{◌≡◌, ℕ, zero, suc, ◌+◌, ◌-◌, ◌≤◌}
+use Rattle.std.proofs.Common.{◌≡◌, ℕ, zero, suc, ◌-◌, ◌≤◌}
 use Rattle.std.proofs.Common.{true, false, eqb, List, [], ◌∷◌, ◌++◌, refl, sym, ap}
-use Rattle.std.proofs.Common.{◌∙◌, subst, arith, inl, inr, map}
-use Rattle.std.proofs.lemmas.Bool.{cases_Bool, eqb-true, false≢true, or_parts}
+use Rattle.std.proofs.Common.{◌∙◌, arith, map}
 use Rattle.std.proofs.lemmas.Bool.Decides.{nat_tests}
-use Rattle.std.proofs.lemmas.List.Sums.{sum_by-cons, sum_by_push}
-use Rattle.std.specs.List.{IsDistinct, list_any}
+use Rattle.std.proofs.lemmas.List.Sums.{sum_by-cons}
+use Rattle.std.specs.List.{list_any}
 use Rattle.std.specs.Prelude.{if◌then◌else◌, option_map, slice_get, sum_by}
 use Rattle.base.specs.Lines.{Grid, is_layout}
 use Rattle.base.specs.Touch.{Touch}
-use Rattle.sharing_rules.specs.Arrivals.{note_arrival}
 use Rattle.sharing_rules.specs.Laws.Arrivals.{each_once-distinct}
 use Rattle.sharing_rules.specs.Laws.Lists.{by_push}
 use Rattle.sharing_rules.specs.Laws.Places.{count_places-empty, count_places-push}
@@ -17,7 +15,7 @@ use Rattle.sharing_rules.specs.Places.{Question, count_places}
 use Rattle.misses.specs.Kept.{Kept, LineEntry, StandsFor, accessed_lines, all_counted}
 use Rattle.misses.specs.Kept.{kept_line, lines_of}
 use Rattle.misses.specs.Laws.Costs.{costs-ordered}
-use Rattle.misses.specs.Laws.Entered.{AgreeBut, none-of}
+use Rattle.sharing_rules.specs.Laws.Sums.{AgreeBut, sum-noted}
 use Rattle.misses.specs.Laws.KeptOf.{lines-push, never-accessed}
 use Rattle.misses.specs.Laws.WordLines.{layout-keeps}
 use Rattle.misses.specs.Misses.{is_cold, is_in, is_miss, is_needed}
@@ -47,48 +45,6 @@ pub row-stands : (k : Kept) (t : List Touch) (i : ℕ) → StandsFor t k
     → option_map (row_of k.grid) (slice_get k.lines i) ≡ slice_get (rows_of k.grid t) i
 row-stands k t i stands =
     mapped-at (row_of k.grid) k.lines i ∙ ap (λ rs. slice_get rs i) (rows-stand k t stands)
-
--- a sum in which one number's part grows
-sum-same : (f g : ℕ → ℕ) (x : ℕ) (ks : List ℕ) → AgreeBut x f g → list_any (eqb x) ks ≡ false
-    → sum_by g ks ≡ sum_by f ks
-sum-same f g x [] agree none = refl
-sum-same f g x (k ∷ ks) agree none =
-    let parts = or_parts (eqb x k) (list_any (eqb x) ks) none in
-    let here = agree k parts.0 in
-    let rest = sum-same f g x ks agree parts.1 in
-    omega (arith, here, rest, sum_by-cons f k ks, sum_by-cons g k ks)
-
-sum-known : (f g : ℕ → ℕ) (x n : ℕ) (ks : List ℕ) → IsDistinct eqb ks → AgreeBut x f g
-    → g x ≡ f x + n → list_any (eqb x) ks ≡ true → sum_by g ks ≡ sum_by f ks + n
-unfolding IsDistinct
-sum-known f g x n [] d agree grows there = absurd (false≢true there)
-sum-known f g x n (k ∷ ks) d agree grows there =
-    elim (cases_Bool (eqb x k)) [
-      | inl here ↦
-          let same = eqb-true x k here in
-          let none : list_any (eqb x) ks ≡ false =
-          subst (λ j. list_any (eqb j) ks ≡ false) (sym same) (none-of k ks d.0) in
-          let grown : g k ≡ f k + n = subst (λ j. g j ≡ f j + n) same grows in
-          let rest = sum-same f g x ks agree none in
-          omega (arith, grown, rest, sum_by-cons f k ks, sum_by-cons g k ks)
-      | inr other ↦
-          let later : list_any (eqb x) ks ≡ true = rw other at there in
-          let rest = sum-known f g x n ks d.1 agree grows later in
-          let here = agree k other in
-          omega (arith, here, rest, sum_by-cons f k ks, sum_by-cons g k ks)
-    ]
-
-sum-noted : (f g : ℕ → ℕ) (x n : ℕ) (ks : List ℕ) → IsDistinct eqb ks → AgreeBut x f g
-    → g x ≡ f x + n → (list_any (eqb x) ks ≡ false → f x ≡ 0)
-    → sum_by g (note_arrival ks x) ≡ sum_by f ks + n
-sum-noted f g x n ks d agree grows new =
-    elim (cases_Bool (list_any (eqb x) ks)) [
-      | inl there ↦ rw there (sum-known f g x n ks d agree grows there)
-      | inr none ↦
-          let same = sum-same f g x ks agree none in
-          let nothing = new none in
-          rw none (omega (arith, sum_by_push g ks x, same, grows, nothing))
-    ]
 
 -- counted at each access's own line it is the sum over the lines
 pub own-sum : (g : Grid) (asked : ℕ → Question)

@@ -9,7 +9,8 @@ use Rattle.std.specs.Prelude.{if◌then◌else◌, is_some, option_and_then, opt
 use Rattle.std.specs.Prelude.{slice_get}
 use Rattle.base.specs.Touch.{Touch}
 use Rattle.sharing_rules.specs.Laws.Lists.{cons_option-nil}
-use Rattle.trace_format.specs.Rules.{touch_in, touches_in}
+use Rattle.trace_format.specs.Laws.Touches.{touches-push}
+use Rattle.trace_format.specs.Rules.{touches_in}
 use Rattle.trace_format.specs.declared.record.TraceRecord.{TraceRecord}
 use Rattle.placement.specs.Passing.{HasOwned, HasSought, OwnsNext, Seeks, SeeksNext, blocks_meant}
 use Rattle.placement.specs.Sought.{block_made_at, blocks_made_at, object_of, symbol_named}
@@ -133,10 +134,6 @@ object-found name at f items is =
     (lone (blocks_meant at items) ∙ meant at items)
 
 -- ---- the owners
-
-touches-push : (xs : List TraceRecord) (x : TraceRecord) → touches_in (xs ++ x ∷ [])
-    ≡ touches_in xs ++ touches_in (x ∷ [])
-touches-push xs x = filter_map-append touch_in xs (x ∷ [])
 
 pub owns-next : (old new : Owned) (x : TraceRecord) → ((t : List Touch)
     → old ≡ owned_of old.extent t → new ≡ owned_of old.extent (t ++ touches_in (x ∷ [])))

@@ -1,10 +1,9 @@
 -- What one access more makes of a recount.
 use Rattle.std.proofs.Common.{◌≡◌, ℕ, ◌+◌, ◌%◌, ◌<◌, ◌≤◌, ◌&&◌, Bool, true, false, List, [], ◌∷◌}
-use Rattle.std.proofs.Common.{◌++◌, Option, None, Some, length, refl, sym, ap, ◌∙◌, subst, arith}
-use Rattle.std.proofs.Common.{append_assoc, Result, Ok, Err}
+use Rattle.std.proofs.Common.{◌++◌, Option, None, Some, length, refl, sym, ap, ◌∙◌, subst}
+use Rattle.std.proofs.Common.{Result, Ok, Err}
 use Rattle.std.proofs.Math.Nat.{add-zero}
-use Rattle.std.proofs.lemmas.List.{append-nil, length-append, map-append}
-use Rattle.std.proofs.lemmas.List.Elements.{filter_map-append}
+use Rattle.std.proofs.lemmas.List.{map-append}
 use Rattle.std.specs.Option.{option_map_or}
 use Rattle.std.specs.Prelude.{OnOk, if◌then◌else◌}
 use Rattle.base.specs.Lines.{line_number}
@@ -13,9 +12,11 @@ use Rattle.base.specs.declared.layout.Range.{Range}
 use Rattle.sharing_rules.specs.AccessLists.{AccessList}
 use Rattle.sharing_rules.specs.Lines.{line_at, native_grid}
 use Rattle.trace_format.specs.Reading.{counted_after}
-use Rattle.trace_format.specs.Rules.{last_position, touch_in, touches_in}
+use Rattle.trace_format.specs.Rules.{last_position, touches_in}
 use Rattle.trace_format.specs.declared.record.TraceRecord.{TraceRecord}
 use Rattle.trace_format.specs.declared.record.TraceRecord.TheVariants as records
+use Rattle.trace_format.specs.Laws.Touches.{position-next, position-quiet, room-next}
+use Rattle.trace_format.specs.Laws.Touches.{stands-next, stands-none, stands-quiet}
 use Rattle.trace_passes.specs.Rooms.{HasRoom}
 use Rattle.layout_sweep.specs.Laws.Totals.{part-push}
 use Rattle.layout_sweep.specs.Windows.{takes, window_of}
@@ -58,28 +59,12 @@ many-push n many p t a b taken some whole was there is =
 
 -- ---- the records
 
-touches-push : (xs : List TraceRecord) (x : TraceRecord) → touches_in (xs ++ x ∷ [])
-    ≡ touches_in xs ++ touches_in (x ∷ [])
-touches-push xs x = filter_map-append touch_in xs (x ∷ [])
-
-counted-one : (p : ℕ) (x : TraceRecord) → counted_after p x ≡ p + length (touches_in (x ∷ []))
-counted-one p (records.Touch a) = refl
-counted-one p (records.Alloc addr size sites) = sym (add-zero p)
-counted-one p (records.Free addr) = sym (add-zero p)
-counted-one p (records.Symbol kind addr size name) = sym (add-zero p)
-counted-one p (records.End e) = sym (add-zero p)
-
 -- there is room for one record more
 pub recount-room : (now : Recount) (x : TraceRecord) → HasRoom begins_at HasRecounted now (x ∷ [])
     → counted_after now.position x ≤ last_position
 recount-room now x r =
-    let all : length (touches_in (r.seen ++ x ∷ []))
-    ≡ length (touches_in r.seen) + length (touches_in (x ∷ [])) =
-    ap length (touches-push r.seen x) ∙ length-append (touches_in r.seen) (touches_in (x ∷ [])) in
-    let room = r.room in
-    let begins = r.begins_there in
-    let position = r.given_so_far.position in
-    omega (arith, all, counted-one now.position x, room, begins, position)
+    room-next r.begun.position now.position r.seen x r.given_so_far.position r.first
+    r.begins_there r.room
 
 -- what one record changes
 record IsNext (old new : Recount) (x : TraceRecord) : Type 0 where
@@ -91,17 +76,10 @@ record IsNext (old new : Recount) (x : TraceRecord) : Type 0 where
 recounts-next : (old new : Recount) (x : TraceRecord) → IsNext old new x → RecountsNext old new x
 recounts-next old new x one begun xs so_far =
     record {
-      stands = λ t stood.
-          subst (λ (list : AccessList). RecountsFor list new)
-          (append_assoc t (touches_in xs) (touches_in (x ∷ []))
-          ∙ ap (λ (list : AccessList). t ++ list) (sym (touches-push xs x)))
+      stands = λ t stood. stands-next RecountsFor new t xs x
           (one.stands (t ++ touches_in xs) (so_far.stands t stood));
-      position =
-          let all : length (touches_in (xs ++ x ∷ []))
-          ≡ length (touches_in xs) + length (touches_in (x ∷ [])) =
-          ap length (touches-push xs x)
-          ∙ length-append (touches_in xs) (touches_in (x ∷ [])) in
-          omega (arith, all, one.position, so_far.position);
+      position = position-next begun.position old.position xs x so_far.position new.position
+          one.position;
       size = one.size ∙ so_far.size;
       plan = one.plan ∙ so_far.plan;
     }
@@ -109,9 +87,8 @@ recounts-next old new x one begun xs so_far =
 -- a record that is no access
 quiet-next : (r : Recount) (x : TraceRecord) → touches_in (x ∷ []) ≡ [] → RecountsNext r r x
 quiet-next r x none = recounts-next r r x (record {
-  stands = λ t stood. subst (λ (list : AccessList). RecountsFor list r)
-      (sym (ap (λ (list : AccessList). t ++ list) none ∙ append-nil t)) stood;
-  position = sym (ap (λ (list : AccessList). r.position + length list) none ∙ add-zero r.position);
+  stands = λ t. stands-quiet RecountsFor r t x none;
+  position = position-quiet r.position x none;
   size = refl;
   plan = refl;
 })
@@ -119,7 +96,7 @@ quiet-next r x none = recounts-next r r x (record {
 -- a recount that has seen nothing
 pub recounted-nothing : (r : Recount) → HasRecounted r r []
 recounted-nothing r = record {
-  stands = λ t stood. subst (λ (list : AccessList). RecountsFor list r) (sym (append-nil t)) stood;
+  stands = stands-none RecountsFor r;
   position = sym (add-zero r.position);
   size = refl;
   plan = refl;
@@ -127,11 +104,11 @@ recounted-nothing r = record {
 
 -- an access
 pub touch-recounted : {A E : Type 0} (r : Result A E) (old new : Recount) (a : Touch)
-    (x : TraceRecord) → x ≡ records.Touch a
+    (pc : Option ℕ) (x : TraceRecord) → x ≡ records.Touch a pc
     → ((t : AccessList) → RecountsFor t old → OnOk r (RecountsFor (t ++ a ∷ []) new))
     → OnOk r (new.position ≡ old.position + 1) → new.size ≡ old.size → new.plan ≡ old.plan
     → OnOk r (RecountsNext old new x)
-touch-recounted (Ok u) old new a x is stands next size plan =
+touch-recounted (Ok u) old new a pc x is stands next size plan =
     recounts-next old new x (record {
       stands = λ t stood. subst (λ z. RecountsFor (t ++ touches_in (z ∷ [])) new) (sym is)
           (stands t stood);
@@ -139,12 +116,13 @@ touch-recounted (Ok u) old new a x is stands next size plan =
       size = size;
       plan = plan;
     })
-touch-recounted (Err e) old new a x is stands next size plan = tt
+touch-recounted (Err e) old new a pc x is stands next size plan = tt
 
 -- a record that is none
-pub other-recounted : (r : Recount) (x : TraceRecord) → ((a : Touch) → x ≡ records.Touch a → ⊥)
+pub other-recounted : (r : Recount) (x : TraceRecord) → ((a : Touch) (pc : Option ℕ)
+    → x ≡ records.Touch a pc → ⊥)
     → RecountsNext r r x
-other-recounted r (records.Touch a) other = absurd (other a refl)
+other-recounted r (records.Touch a pc) other = absurd (other a pc refl)
 other-recounted r (records.Alloc addr size sites) other = quiet-next r _ refl
 other-recounted r (records.Free addr) other = quiet-next r _ refl
 other-recounted r (records.Symbol kind addr size name) other = quiet-next r _ refl

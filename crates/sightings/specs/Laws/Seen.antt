@@ -13,9 +13,9 @@ use Rattle.report.specs.OfLists.{report_of}
 use Rattle.trace_format.specs.Rules.{touch_in, touches_in}
 use Rattle.trace_format.specs.declared.record.TraceRecord.{TraceRecord}
 use Rattle.trace_format.specs.declared.record.TraceRecord.TheVariants as records
-use Rattle.sightings.specs.Laws.Lives.{blocks_behind, blocks_behind-push, none_ended}
-use Rattle.sightings.specs.Laws.Lives.{position_after}
-use Rattle.sightings.specs.Lives.{objects_after, symbol_in, symbols_in}
+use Rattle.trace_passes.specs.Laws.Lives.{blocks_behind, blocks_behind-push, none_ended}
+use Rattle.trace_passes.specs.Laws.Lives.{position_after}
+use Rattle.trace_passes.specs.Lives.{objects_after, symbol_in, symbols_in}
 use Rattle.sightings.specs.Seen.{HasSeen, report_of_records}
 use Rattle.sightings.specs.Sights.{Sighted, noted, sighted_after}
 

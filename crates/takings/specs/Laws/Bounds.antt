@@ -32,7 +32,7 @@ filtered-shorter p (x ∷ xs) =
       | inr e ↦ rw e (omega (arith, ih))
     ]
 
-takings-shorter : (l : Line) (start : ℕ) (u : List Sited) → length (takings l start u) ≤ length u
+pub takings-shorter : (l : Line) (start : ℕ) (u : List Sited) → length (takings l start u) ≤ length u
 takings-shorter l start u =
     by_push (λ (u : List Sited). length (takings l start u) ≤ length u)
     (rw (takings-empty l start) (omega arith))
@@ -45,7 +45,7 @@ takings-shorter l start u =
     ]))
     u
 
-few-at : (by : Taking → Sides) (ks : List Taking) (x : Sides) → length ks < 2 ^ 40
+pub few-at : (by : Taking → Sides) (ks : List Taking) (x : Sides) → length ks < 2 ^ 40
     → IsFew (taken_at (table by ks) x)
 few-at by ks x few =
     let g = group_of sides_eq by ks x in

@@ -1,7 +1,11 @@
 -- The orders of the rows are orders.
-use Rattle.std.proofs.Common.{◌≡◌, ℕ, Bool, true, false, eqb, ltb, ◌&&◌, ◌||◌, arith}
+use Rattle.std.proofs.Common.{◌≡◌, ℕ, ℤ, Bool, true, false, eqb, ltb, ◌&&◌, ◌||◌, arith}
 use Rattle.std.proofs.lemmas.Bool.Decides.{nat_tests}
+use Rattle.std.proofs.lemmas.Int.{ints}
 use Rattle.std.specs.Cmp.{IsStrictWeakOrder}
+use Rattle.std.specs.Prelude.{int_lt}
+use Rattle.sharing_rules.specs.Lines.{range_of}
+use Rattle.takings.specs.BlameRows.{is_head_before}
 use Rattle.takings.specs.Rows.{is_hart_row_before, is_pair_row_before, is_site_row_before}
 
 abbrev by_two : ℕ → ℕ → ℕ → ℕ → Bool
@@ -49,4 +53,23 @@ pair_rows-ranked = record {
       y.0.taker h;
   chain = λ x y z h i. three-chain x.1.taken x.0.victim x.0.taker y.1.taken y.0.victim
       y.0.taker z.1.taken z.0.victim z.0.taker h i;
+}
+
+-- by a falling number, then by a rising integer
+abbrev by_base : ℕ → ℤ → ℕ → ℤ → Bool
+by_base c b d e = ltb d c || (eqb c d && int_lt b e)
+
+base-one_way : (c : ℕ) (b : ℤ) (d : ℕ) (e : ℤ) → by_base c b d e ≡ true → by_base d e c b ≡ false
+base-one_way c b d e h = grind (arith, ints, nat_tests)
+
+base-chain : (c : ℕ) (b : ℤ) (d : ℕ) (e : ℤ) (x : ℕ) (z : ℤ) → by_base c b d e ≡ false
+    → by_base d e x z ≡ false → by_base c b x z ≡ false
+base-chain c b d e x z h i = grind (arith, ints, nat_tests)
+
+pub heads-ranked : IsStrictWeakOrder is_head_before
+heads-ranked = record {
+  one_way = λ x y h. base-one_way x.takings (range_of x.line).base y.takings
+      (range_of y.line).base h;
+  chain = λ x y z h i. base-chain x.takings (range_of x.line).base y.takings
+      (range_of y.line).base z.takings (range_of z.line).base h i;
 }

@@ -30,13 +30,13 @@ mapped-same f g (suc n) same =
     ∙ rw (mapped-same f g n (λ i l. same i (omega arith)), same n (omega arith)) refl
     ∙ sym (filter_map-append g (below n) (n ∷ []))
 
-at-left : (l : Line) (start : ℕ) (u : List Sited) (s : Sited) (i : ℕ) → i < length u
+pub at-left : (l : Line) (start : ℕ) (u : List Sited) (s : Sited) (i : ℕ) → i < length u
     → taking_at l start (u ++ s ∷ []) i ≡ taking_at l start u i
 at-left l start u s i h =
     let le : i ≤ length u = omega (arith, h) in
     rw (take-append-le i u (s ∷ []) le, slice_get-append_left u (s ∷ []) i h) refl
 
-at-last : (l : Line) (start : ℕ) (u : List Sited) (s : Sited)
+pub at-last : (l : Line) (start : ℕ) (u : List Sited) (s : Sited)
     → taking_at l start (u ++ s ∷ []) (length u) ≡ taking_of l start u s
 at-last l start u s =
     rw (take_at u (s ∷ []) (length u) refl, slice_get-push u s) refl

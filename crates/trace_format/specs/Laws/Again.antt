@@ -1,7 +1,11 @@
 -- What good records spell is read as those records.
 use Rattle.std.proofs.Common.{◌≡◌, ◌≢◌, ℕ, ◌+◌, ◌*◌, ◌%◌, ◌^◌, ◌≤◌, ◌<◌, true, false, eqb, eq-eqb}
-use Rattle.std.proofs.Common.{ltb, leb, List, [], ◌∷◌, length, get_or, All, Some, Ok, refl, ap}
-use Rattle.std.proofs.Common.{arith}
+use Rattle.std.proofs.Common.{ltb, leb, Bool, cond, List, [], ◌∷◌, ◌++◌, length, get_or, take, drop}
+use Rattle.std.proofs.Common.{All, Option, Some, None, Result, Ok, Err, refl, ap, ◌∙◌, arith}
+use Rattle.std.proofs.Math.Seq.{drop-append_seam, take-append_seam}
+use Rattle.base.specs.declared.access.Kind.{Kind}
+use Rattle.trace_format.specs.declared.fault.TraceFault.{TraceFault}
+use Rattle.trace_format.specs.declared.fault.TraceFault.TheVariants as faults
 use Rattle.std.proofs.lemmas.Bool.Decides.{nat_tests}
 use Rattle.std.proofs.lemmas.List.Elements.{All-head, All-tail}
 use Rattle.std.proofs.lemmas.Nat.{from_le_bytes-to_le_bytes_2, from_le_bytes-to_le_bytes_4}
@@ -18,26 +22,32 @@ use Rattle.base.specs.declared.ending.Cause.TheVariants.{StoreMisaligned, StoreO
 use Rattle.base.specs.declared.ending.Outcome.{Outcome}
 use Rattle.base.specs.declared.ending.Outcome.TheVariants.{Exit, Budget, Deadlock, Trap}
 use Rattle.base.specs.declared.ending.Outcome.TheVariants.{Part}
+use Rattle.trace_format.specs.declared.before.Before.{Before}
 use Rattle.trace_format.specs.declared.record.Header.{Header}
 use Rattle.trace_format.specs.declared.record.Version.{Version}
-use Rattle.trace_format.specs.declared.record.Version.TheVariants.{One, Two}
+use Rattle.trace_format.specs.declared.record.Version.TheVariants.{One, Two, Three}
 use Rattle.trace_format.specs.declared.record.TraceRecord.{TraceRecord}
 use Rattle.trace_format.specs.declared.record.TraceRecord.TheVariants as records
 use Rattle.trace_format.specs.declared.read_so_far.ReadSoFar.{ReadSoFar}
-use Rattle.trace_format.specs.Numbers.{distance}
+use Rattle.trace_format.specs.Numbers.{address_at, distance, groups, number_in}
 use Rattle.trace_format.specs.Spelling.{cause_number, kind_number, spell_alloc, spell_ending}
 use Rattle.trace_format.specs.Spelling.{spell_free, spell_header, spell_record, spell_symbol}
-use Rattle.trace_format.specs.Spelling.{spell_touch}
+use Rattle.trace_format.specs.Spelling.{pc_before, spell_short_touch, spell_touch}
 use Rattle.trace_format.specs.Tags.{half_of}
 use Rattle.std.specs.Int.{w32, w64}
-use Rattle.trace_format.specs.Rules.{FitsFields, IsAllowedEnd, IsGoodEnding, IsGoodHeader}
-use Rattle.trace_format.specs.Rules.{IsGoodRecord, IsGoodSymbol, IsGoodTouch, last_position}
-use Rattle.trace_format.specs.Judging.{alloc_at, begun, cause_of, header_judged, number_at}
+use Rattle.trace_format.specs.Rules.{FitsFields, IsAllowedEnd, IsGoodBefore, IsGoodEnding}
+use Rattle.trace_format.specs.Rules.{IsGoodHeader, IsGoodPc, IsGoodRecord, IsGoodSymbol}
+use Rattle.trace_format.specs.Rules.{IsGoodTouch, last_position}
+use Rattle.trace_format.specs.Judging.{alloc_at, begun, cause_of, header_judged}
+use Rattle.base.specs.Fields.{number_at}
 use Rattle.trace_format.specs.Judging.{outcome_judged, plain_judged, record_judged}
-use Rattle.trace_format.specs.Judging.{short_touch_judged}
+use Rattle.trace_format.specs.Judging.{short_touch_extent, short_touch_judged, sited_touch_judged}
+use Rattle.trace_format.specs.Judging.{with_pc}
 use Rattle.trace_format.specs.Judging.{symbol_judged, symbol_kind_of, touch_judged, trap_judged}
 use Rattle.trace_format.specs.Laws.Spelling.{address_again, distance_small, groups_good}
-use Rattle.trace_format.specs.Laws.Spelling.{number_again, short_touch_tag, touch_tag}
+use Rattle.trace_format.specs.Laws.Spelling.{number_again, numbers_told, short_touch_tag}
+use Rattle.trace_format.specs.Laws.Spelling.{sited_touch_tag, touch_tag}
+use Rattle.trace_format.specs.Laws.Before.{pc_before_low}
 
 pub header_again : (v : Version) (h : Header) → IsGoodHeader h
     → header_judged (spell_header v h) ≡ Ok (begun v h)
@@ -56,11 +66,19 @@ header_again Two h good =
     let some : leb 1 h.harts ≡ true = grind (arith, nat_tests, good.some) in
     let few : leb h.harts 256 ≡ true = grind (arith, nat_tests, good.few) in
     rw (first, harts, near, some, few) refl
+header_again Three h good =
+    let first = from_le_bytes-to_le_bytes_8 h.first (omega (arith, good.position)) in
+    let harts = from_le_bytes-to_le_bytes_2 h.harts (omega (arith, good.few)) in
+    let near : ltb last_position h.first ≡ false = grind (arith, nat_tests, good.position) in
+    let some : leb 1 h.harts ≡ true = grind (arith, nat_tests, good.some) in
+    let few : leb h.harts 256 ≡ true = grind (arith, nat_tests, good.few) in
+    rw (first, harts, near, some, few) refl
 
-touch_again : (harts last place : ℕ) (a : Touch) → IsGoodTouch harts a
-    → touch_judged a.kind harts place (spell_touch One last a) ≡ Ok a
+touch_again : (harts place : ℕ) (before : Before) (a : Touch) (pc : Option ℕ)
+    → IsGoodTouch harts a
+    → touch_judged a.kind harts place (spell_touch One before a pc) ≡ Ok a
 unfolding touch_judged spell_touch
-touch_again harts last place a good =
+touch_again harts place before a pc good =
     let inside : leb harts a.hart ≡ false = grind (arith, nat_tests, good.hart) in
     let sized : is_access_size a.size ≡ true = good.allowed.sized in
     let aligned : eqb (a.addr % a.size) 0 ≡ true =
@@ -75,8 +93,8 @@ touch_again harts last place a good =
     refl
 
 short_touch_again : (harts last place : ℕ) (a : Touch) → last < 2 ^ 32 → IsGoodTouch harts a
-    → short_touch_judged a.kind a.size harts last place (spell_touch Two last a) ≡ Ok a
-unfolding short_touch_judged spell_touch
+    → short_touch_judged a.kind a.size harts last place (spell_short_touch last a) ≡ Ok a
+unfolding short_touch_judged
 short_touch_again harts last place a low good =
     let inside : leb harts a.hart ≡ false = grind (arith, nat_tests, good.hart) in
     let z = distance last a.addr in
@@ -85,6 +103,53 @@ short_touch_again harts last place a low good =
     let aligned : eqb (a.addr % a.size) 0 ≡ true =
     eq-eqb (a.addr % a.size) 0 good.allowed.aligned in
     rw (inside, groups_good z small, number_again z small, there, aligned) refl
+
+-- an access in two parts, the front and the pc
+sited_parts : (kind : Kind) (size harts place : ℕ) (before : Before) (front told : List ℕ)
+    → short_touch_extent (front ++ told) ≡ length front
+    → sited_touch_judged kind size harts before place (front ++ told)
+    ≡ with_pc before (place + length front) told
+    (short_touch_judged kind size harts before.last place front)
+unfolding sited_touch_judged
+sited_parts kind size harts place before front told is =
+    let bytes = front ++ told in
+    ap (λ (n : ℕ). with_pc before (place + n) (drop n bytes)
+    (short_touch_judged kind size harts before.last place (take n bytes))) is
+    ∙ ap (λ (xs : List ℕ). with_pc before (place + length front) xs
+    (short_touch_judged kind size harts before.last place (take (length front) bytes)))
+    (drop-append_seam front told)
+    ∙ ap (λ (xs : List ℕ). with_pc before (place + length front) told
+    (short_touch_judged kind size harts before.last place xs)) (take-append_seam front told)
+
+pc_again : (before : Before) (place pc : ℕ) (a : Touch) → IsGoodBefore before → pc < 2 ^ 32
+    → with_pc before place (groups (distance (pc_before before a.hart) pc)) (Ok a)
+    ≡ Ok (a, Some pc)
+pc_again before place pc a low small =
+    let last = pc_before before a.hart in
+    let y = distance last pc in
+    let fits = distance_small last pc in
+    let there = address_again last pc (pc_before_low before a.hart low) small in
+    ap (λ (b : Bool). let r : Result (Touch × Option ℕ) TraceFault =
+    cond b (Ok (a, Some (address_at last (number_in (groups y))))) (Err (faults.BadField place))
+    in r) (groups_good y fits)
+    ∙ ap (λ (n : ℕ). let r : Result (Touch × Option ℕ) TraceFault =
+    Ok (a, Some (address_at last n)) in r) (number_again y fits)
+    ∙ ap (λ (n : ℕ). let r : Result (Touch × Option ℕ) TraceFault = Ok (a, Some n) in r) there
+
+sited_touch_again : (harts place pc : ℕ) (before : Before) (a : Touch) → IsGoodBefore before
+    → IsGoodTouch harts a → pc < 2 ^ 32
+    → sited_touch_judged a.kind a.size harts before place (spell_touch Three before a (Some pc))
+    ≡ Ok (a, Some pc)
+unfolding spell_touch
+sited_touch_again harts place pc before a low good small =
+    let front = spell_short_touch before.last a in
+    let y = distance (pc_before before a.hart) pc in
+    let are = numbers_told (16 * half_of a.kind + a.size) a.hart (distance before.last a.addr) y
+    (distance_small before.last a.addr) (distance_small (pc_before before a.hart) pc) in
+    sited_parts a.kind a.size harts place before front (groups y) are.first
+    ∙ ap (with_pc before (place + length front) (groups y))
+    (short_touch_again harts before.last place a low.last good)
+    ∙ pc_again before (place + length front) pc a low small
 
 cause_again : (c : Cause) → cause_of (cause_number c) ≡ Some c
 cause_again Illegal = refl
@@ -171,14 +236,29 @@ alloc_again addr size (a ∷ b ∷ c ∷ []) small_addr small_size four each = a
 alloc_again addr size (a ∷ b ∷ c ∷ d ∷ e ∷ rest) small_addr small_size four each =
     absurd (omega arith)
 
-first_of_touch : (last : ℕ) (a : Touch) → get_or (spell_touch One last a) 0 0 ≡ half_of a.kind
+first_of_touch : (before : Before) (a : Touch) (pc : Option ℕ)
+    → get_or (spell_touch One before a pc) 0 0 ≡ half_of a.kind
 unfolding spell_touch
-first_of_touch last a = refl
+first_of_touch before a pc = refl
 
-first_of_short_touch : (last : ℕ) (a : Touch)
-    → get_or (spell_touch Two last a) 0 0 ≡ 16 * half_of a.kind + a.size
+first_of_short_touch : (before : Before) (a : Touch) (pc : Option ℕ)
+    → get_or (spell_touch Two before a pc) 0 0 ≡ 16 * half_of a.kind + a.size
 unfolding spell_touch
-first_of_short_touch last a = refl
+first_of_short_touch before a pc = refl
+
+first_of_sited_touch : (before : Before) (a : Touch) (pc : Option ℕ)
+    → get_or (spell_touch Three before a pc) 0 0 ≡ 16 * half_of a.kind + a.size
+unfolding spell_touch
+first_of_sited_touch before a pc = refl
+
+-- in version 2
+short_touch_there : (harts place : ℕ) (before : Before) (a : Touch) (pc : Option ℕ)
+    → before.last < 2 ^ 32 → IsGoodTouch harts a
+    → short_touch_judged a.kind a.size harts before.last place (spell_touch Two before a pc)
+    ≡ Ok a
+unfolding spell_touch
+short_touch_there harts place before a pc low good =
+    short_touch_again harts before.last place a low good
 
 first_of_ending : (o : Outcome) (steps accesses : ℕ)
     → get_or (spell_ending (record { outcome = o; steps = steps; accesses = accesses })) 0 0 ≡ 6
@@ -225,36 +305,52 @@ first_of_symbol kind addr size name = refl
 -- what a record needs of the records before it: an access has a position, and an end tells how
 -- many accesses there were
 abbrev pub ComesAt : ReadSoFar → TraceRecord → Type 0
-ComesAt p (records.Touch a) = p.header.first + p.counted < last_position
+ComesAt p (records.Touch a pc) = p.header.first + p.counted < last_position
 ComesAt p (records.End e) = e.accesses ≡ p.counted
 ComesAt p _ = Unit {0}
 
-module _ (header : Header) (counted last place : ℕ) (few : header.harts ≤ 256) (low : last < 2 ^
-    32) where
+module _ (header : Header) (counted : ℕ) (before : Before) (place : ℕ) (few : header.harts ≤ 256)
+    (low : IsGoodBefore before) where
   at : Version → ReadSoFar
-  at v = record { version = v; header = header; counted = counted; last = last; place = place }
+  at v = record {
+    version = v;
+    header = header;
+    counted = counted;
+    before = before;
+    place = place;
+  }
 
-  touch_judged_again : (v : Version) (a : Touch) → IsGoodTouch header.harts a
-      → header.first + counted < last_position
-      → record_judged (at v) (spell_touch v last a) ≡ Ok (records.Touch a)
+  touch_judged_again : (v : Version) (a : Touch) (pc : Option ℕ) → IsGoodTouch header.harts a
+      → IsGoodPc v pc → header.first + counted < last_position
+      → record_judged (at v) (spell_touch v before a pc) ≡ Ok (records.Touch a pc)
   unfolding at record_judged
-  touch_judged_again One a good there =
+  touch_judged_again One a None good fits there =
       let inside : ltb (header.first + counted) last_position ≡ true = grind (arith, nat_tests) in
       rw (
-        first_of_touch last a,
+        first_of_touch before a None,
         touch_tag a.kind,
-        touch_again header.harts last place a good,
+        touch_again header.harts place before a None good,
         inside,
       ) refl
-  touch_judged_again Two a good there =
+  touch_judged_again Two a None good fits there =
       let inside : ltb (header.first + counted) last_position ≡ true = grind (arith, nat_tests) in
       rw (
-        first_of_short_touch last a,
+        first_of_short_touch before a None,
         short_touch_tag a.kind a.size good.allowed.sized,
-        short_touch_again header.harts
-            last place a low good,
+        short_touch_there header.harts place before a None low.last good,
         inside,
       ) refl
+  touch_judged_again Three a (Some pc) good fits there =
+      let inside : ltb (header.first + counted) last_position ≡ true = grind (arith, nat_tests) in
+      rw (
+        first_of_sited_touch before a (Some pc),
+        sited_touch_tag a.kind a.size good.allowed.sized,
+        sited_touch_again header.harts place pc before a low good fits,
+        inside,
+      ) refl
+  touch_judged_again One a (Some pc) good fits there = absurd cc
+  touch_judged_again Two a (Some pc) good fits there = absurd cc
+  touch_judged_again Three a None good fits there = absurd fits
 
   end_judged_again : (v : Version) (o : Outcome) (steps accesses : ℕ)
       → IsGoodEnding header.harts (record { outcome = o; steps = steps; accesses = accesses })
@@ -285,11 +381,23 @@ module _ (header : Header) (counted last place : ℕ) (few : header.harts ≤ 25
             o steps accesses good.accesses,
         told,
       ) refl
+  end_judged_again Three o steps accesses good same =
+      let told : eqb accesses counted ≡ true = eq-eqb accesses counted same in
+      rw (
+        first_of_ending o steps accesses,
+        outcome_again header.harts place o steps accesses few
+            good.allowed good.outcome good.steps,
+        steps_of o steps accesses good.steps,
+        accesses_of
+            o steps accesses good.accesses,
+        told,
+      ) refl
 
-  others_judged_again : (v : Version) (item : TraceRecord) → IsGoodRecord header.harts item
-      → ComesAt (at v) item → record_judged (at v) (spell_record v last item) ≡ Ok item
+  others_judged_again : (v : Version) (item : TraceRecord) → IsGoodRecord v header.harts item
+      → ComesAt (at v) item → record_judged (at v) (spell_record v before item) ≡ Ok item
   unfolding at record_judged
-  others_judged_again v (records.Touch a) good there = touch_judged_again v a good there
+  others_judged_again v (records.Touch a pc) good there =
+      touch_judged_again v a pc good.0 good.1 there
   others_judged_again v (records.End e) good there =
       end_judged_again v e.outcome e.steps e.accesses good there
   others_judged_again One (records.Alloc addr size sites) good there =
@@ -298,19 +406,26 @@ module _ (header : Header) (counted last place : ℕ) (few : header.harts ≤ 25
   others_judged_again Two (records.Alloc addr size sites) good there =
       rw (first_of_alloc addr size sites) (ap (λ x. Ok x)
       (alloc_again addr size sites good.0 good.1 good.2 good.3))
+  others_judged_again Three (records.Alloc addr size sites) good there =
+      rw (first_of_alloc addr size sites) (ap (λ x. Ok x)
+      (alloc_again addr size sites good.0 good.1 good.2 good.3))
   others_judged_again One (records.Free addr) good there =
       rw (first_of_free addr, addr_of_free addr good) refl
   others_judged_again Two (records.Free addr) good there =
+      rw (first_of_free addr, addr_of_free addr good) refl
+  others_judged_again Three (records.Free addr) good there =
       rw (first_of_free addr, addr_of_free addr good) refl
   others_judged_again One (records.Symbol kind addr size name) good there =
       rw (first_of_symbol kind addr size name) (symbol_again place kind addr size name good)
   others_judged_again Two (records.Symbol kind addr size name) good there =
       rw (first_of_symbol kind addr size name) (symbol_again place kind addr size name good)
+  others_judged_again Three (records.Symbol kind addr size name) good there =
+      rw (first_of_symbol kind addr size name) (symbol_again place kind addr size name good)
 
 -- A good record is read again from what it spells.
-pub record_again : (p : ReadSoFar) (item : TraceRecord) → p.header.harts ≤ 256 → p.last < 2 ^ 32
-    → IsGoodRecord p.header.harts item → ComesAt p item
-    → record_judged p (spell_record p.version p.last item) ≡ Ok item
+pub record_again : (p : ReadSoFar) (item : TraceRecord) → p.header.harts ≤ 256
+    → IsGoodBefore p.before → IsGoodRecord p.version p.header.harts item → ComesAt p item
+    → record_judged p (spell_record p.version p.before item) ≡ Ok item
 unfolding at
 record_again p item few low good there =
-    others_judged_again p.header p.counted p.last p.place few low p.version item good there
+    others_judged_again p.header p.counted p.before p.place few low p.version item good there

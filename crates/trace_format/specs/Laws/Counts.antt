@@ -17,7 +17,8 @@ use Rattle.trace_format.specs.declared.record.TraceRecord.TheVariants as records
 use Rattle.trace_format.specs.declared.read_so_far.ReadSoFar.{ReadSoFar}
 use Rattle.trace_format.specs.Rules.{IsGoodHeader, IsInner, IsWritable, last_position}
 use Rattle.trace_format.specs.Rules.{longest_trace, touches_in}
-use Rattle.trace_format.specs.Judging.{begun, fields_judged, header_judged, number_at}
+use Rattle.trace_format.specs.Judging.{begun, fields_judged, header_judged}
+use Rattle.base.specs.Fields.{number_at}
 use Rattle.trace_format.specs.Judging.{record_judged, version_at}
 use Rattle.trace_format.specs.Reading.{Reading, begin, byte_read, counted_after, ending_in}
 use Rattle.trace_format.specs.Reading.{extent_at, header_read, part_at, place_of, progress_after}
@@ -108,10 +109,10 @@ counted_first p is =
 -- one record more, which counts where it is an access
 pub touches_in-more : (items : List TraceRecord) (item : TraceRecord)
     → counted_after (length (touches_in items)) item ≡ length (touches_in (items ++ item ∷ []))
-touches_in-more items (records.Touch a) =
+touches_in-more items (records.Touch a pc) =
     omega (
       arith,
-      ap length (touches_in-append items (records.Touch a ∷ [])),
+      ap length (touches_in-append items (records.Touch a pc ∷ [])),
       length-append (touches_in items) (a ∷ []),
     )
 touches_in-more items (records.Alloc addr size sites) =
@@ -142,7 +143,7 @@ touches_in-more items (records.End e) =
 positions_after : (p : ReadSoFar) (item : TraceRecord) → ComesAt p item
     → p.header.first + p.counted ≤ last_position
     → p.header.first + counted_after p.counted item ≤ last_position
-positions_after p (records.Touch a) there fits = omega arith
+positions_after p (records.Touch a pc) there fits = omega arith
 positions_after p (records.Alloc addr size sites) there fits = fits
 positions_after p (records.Free addr) there fits = fits
 positions_after p (records.Symbol kind addr size name) there fits = fits
@@ -164,8 +165,8 @@ one_more : (p : ReadSoFar) (items : List TraceRecord) (item : TraceRecord) (size
     → p.counted ≡ length (touches_in items) → ComesAt p item
     → All IsInner items → IsSoFar (Some (progress_after p item size)) (ending_in item)
     (items ++ item ∷ [])
-one_more p items (records.Touch a) size is counted there inner =
-    (is, All-push IsInner items (records.Touch a) inner tt)
+one_more p items (records.Touch a pc) size is counted there inner =
+    (is, All-push IsInner items (records.Touch a pc) inner tt)
 one_more p items (records.Alloc addr n sites) size is counted there inner =
     (is, All-push IsInner items (records.Alloc addr n sites) inner tt)
 one_more p items (records.Free addr) size is counted there inner =

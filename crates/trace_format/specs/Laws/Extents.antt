@@ -1,6 +1,6 @@
 -- A beginning of a record never looks like a whole one.
 use Rattle.std.proofs.Common.{◌≡◌, ℕ, ◌+◌, ◌-◌, ◌≤◌, ◌<◌, inl, inr, true, false, cond, ltb, List}
-use Rattle.std.proofs.Common.{length, get_or, take, drop, Option, Some, None, refl, sym, ap, ◌∙◌}
+use Rattle.std.proofs.Common.{length, get_or, take, drop, Option, Some, None, refl, sym, ap, subst, ◌∙◌}
 use Rattle.std.proofs.Common.{arith}
 use Rattle.std.proofs.lemmas.Bool.{cases_lt}
 use Rattle.std.proofs.lemmas.Bool.Decides.{nat_tests}
@@ -14,8 +14,9 @@ use Rattle.trace_format.specs.declared.tag.Tag.TheVariants as tags
 use Rattle.trace_format.specs.declared.read_so_far.ReadSoFar.{ReadSoFar}
 use Rattle.trace_format.specs.Tags.{tag_of}
 use Rattle.trace_format.specs.Numbers.{group_count}
-use Rattle.trace_format.specs.Judging.{number_at, symbol_extent, extent_of, extent_if}
-use Rattle.trace_format.specs.Judging.{record_extent}
+use Rattle.base.specs.Fields.{number_at}
+use Rattle.trace_format.specs.Judging.{symbol_extent, extent_of, extent_if}
+use Rattle.trace_format.specs.Judging.{record_extent, short_touch_extent, sited_touch_extent}
 use Rattle.trace_format.specs.Reading.{extent_at}
 use Rattle.trace_format.specs.Laws.Reading.{FrontsWait}
 
@@ -32,44 +33,71 @@ count_of : ℕ → ℕ → ℕ → ℕ → ℕ
 count_of a b c d =
     cond (ltb a 128) 1 (cond (ltb b 128) 2 (cond (ltb c 128) 3 (cond (ltb d 128) 4 5)))
 
-short_groups : (k a b c d a' b' c' d' : ℕ) → (2 < k → a' ≡ a) → (3 < k → b' ≡ b)
-    → (4 < k → c' ≡ c) → (5 < k → d' ≡ d)
-    → (k ≤ 2 → a' ≡ 0) → (k ≤ 3 → b' ≡ 0) → (k ≤ 4 → c' ≡ 0) → (k ≤ 5 → d' ≡ 0)
-    → k < 2 + count_of a b c d → k < 2 + count_of a' b' c' d'
+short_groups : (n k a b c d a' b' c' d' : ℕ) → (n < k → a' ≡ a) → (n + 1 < k → b' ≡ b)
+    → (n + 2 < k → c' ≡ c) → (n + 3 < k → d' ≡ d)
+    → (k ≤ n → a' ≡ 0) → (k ≤ n + 1 → b' ≡ 0) → (k ≤ n + 2 → c' ≡ 0) → (k ≤ n + 3 → d' ≡ 0)
+    → k < n + count_of a b c d → k < n + count_of a' b' c' d'
 unfolding count_of
-short_groups k a b c d a' b' c' d' ea eb ec ed za zb zc zd lt = grind (arith, nat_tests)
+short_groups n k a b c d a' b' c' d' ea eb ec ed za zb zc zd lt = grind (arith, nat_tests)
 
-whole_groups : (k a b c d a' b' c' d' : ℕ) → (2 < k → a' ≡ a) → (3 < k → b' ≡ b)
-    → (4 < k → c' ≡ c) → (5 < k → d' ≡ d)
-    → k ≡ 2 + count_of a b c d → count_of a' b' c' d' ≡ count_of a b c d
+whole_groups : (n k a b c d a' b' c' d' : ℕ) → (n < k → a' ≡ a) → (n + 1 < k → b' ≡ b)
+    → (n + 2 < k → c' ≡ c) → (n + 3 < k → d' ≡ d)
+    → n + count_of a b c d ≤ k → count_of a' b' c' d' ≡ count_of a b c d
 unfolding count_of
-whole_groups k a b c d a' b' c' d' ea eb ec ed is = grind (arith, nat_tests)
+whole_groups n k a b c d a' b' c' d' ea eb ec ed is = grind (arith, nat_tests)
 
 -- how a beginning of k bytes looks beside its whole
 record IsFront (k whole front : ℕ) : Type 0 where
   short : k < whole → k < front
-  same : k ≡ whole → front ≡ whole
+  same : whole ≤ k → front ≡ whole
 
 module _ (k : ℕ) (bytes : List ℕ) (some : 1 ≤ k) (le : k ≤ length bytes) where
-  byte_there : (i : ℕ) → 2 + i < k
-      → get_or (drop 2 (take k bytes)) i 0 ≡ get_or (drop 2 bytes) i 0
-  byte_there i lt = get_or-drop 2 (take k bytes) i 0 ∙ there k (2 + i) bytes lt
-      ∙ sym (get_or-drop 2 bytes i 0)
+  byte_there : (n i : ℕ) → n + i < k
+      → get_or (drop n (take k bytes)) i 0 ≡ get_or (drop n bytes) i 0
+  byte_there n i lt = get_or-drop n (take k bytes) i 0 ∙ there k (n + i) bytes lt
+      ∙ sym (get_or-drop n bytes i 0)
 
-  byte_missing : (i : ℕ) → k ≤ 2 + i → get_or (drop 2 (take k bytes)) i 0 ≡ 0
-  byte_missing i past = get_or-drop 2 (take k bytes) i 0 ∙ missing k (2 + i) bytes le past
+  byte_missing : (n i : ℕ) → k ≤ n + i → get_or (drop n (take k bytes)) i 0 ≡ 0
+  byte_missing n i past = get_or-drop n (take k bytes) i 0 ∙ missing k (n + i) bytes le past
 
-  short_touch_front : IsFront k (2 + group_count (drop 2 bytes)) (2 + group_count
-      (drop 2 (take k bytes)))
+  first_there : (n : ℕ) → n < k → get_or (drop n (take k bytes)) 0 0 ≡ get_or (drop n bytes) 0 0
+  first_there n lt = byte_there n 0 (omega arith)
+
+  first_missing : (n : ℕ) → k ≤ n → get_or (drop n (take k bytes)) 0 0 ≡ 0
+  first_missing n past = byte_missing n 0 (omega arith)
+
+  -- the groups from a place on
+  groups_front : (n : ℕ) → IsFront k (n + group_count (drop n bytes)) (n + group_count
+      (drop n (take k bytes)))
   unfolding count_of
-  short_touch_front = record {
+  groups_front n = record {
     short =
-        λ lt. short_groups k _ _ _ _ _ _ _ _ (byte_there 0) (byte_there 1) (byte_there 2)
-        (byte_there 3) (byte_missing 0) (byte_missing 1) (byte_missing 2) (byte_missing 3) lt;
+        λ lt. short_groups n k _ _ _ _ _ _ _ _ (first_there n) (byte_there n 1) (byte_there n 2)
+        (byte_there n 3) (first_missing n) (byte_missing n 1) (byte_missing n 2)
+        (byte_missing n 3) lt;
     same =
-        λ is. ap (λ (n : ℕ). 2 + n) (whole_groups k _ _ _ _ _ _ _ _ (byte_there 0) (byte_there 1)
-        (byte_there 2) (byte_there 3) is);
+        λ is. ap (λ (m : ℕ). n + m) (whole_groups n k _ _ _ _ _ _ _ _ (first_there n)
+        (byte_there n 1) (byte_there n 2) (byte_there n 3) is);
   }
+
+  short_touch_front : IsFront k (short_touch_extent bytes) (short_touch_extent (take k bytes))
+  short_touch_front = groups_front 2
+
+  sited_touch_front : IsFront k (sited_touch_extent bytes) (sited_touch_extent (take k bytes))
+  sited_touch_front =
+      let whole = short_touch_extent bytes in
+      let front = short_touch_extent (take k bytes) in
+      let first = short_touch_front in
+      elim (cases_lt k whole) [
+        | inl lt ↦ record {
+          short = λ _. (let longer : k < front = first.short lt in omega arith);
+          same = λ is. absurd (omega arith);
+        }
+        | inr enough ↦
+            let again : whole ≡ front = sym (first.same enough) in
+            subst (λ (n : ℕ). IsFront k (whole + group_count (drop whole bytes)) (n + group_count
+            (drop n (take k bytes)))) again (groups_front whole)
+      ]
 
   -- the length that a symbol tells, where it is there
   told_again : 12 ≤ k → number_at w16 10 (take k bytes) ≡ number_at w16 10 bytes
@@ -100,6 +128,7 @@ module _ (k : ℕ) (bytes : List ℕ) (some : 1 ≤ k) (le : k ≤ length bytes)
   tag_front : (tag : Tag) → IsFront k (extent_of tag bytes) (extent_of tag (take k bytes))
   tag_front (tags.Touch kind) = record { short = λ lt. lt; same = λ is. refl }
   tag_front (tags.ShortTouch kind size) = short_touch_front
+  tag_front (tags.SitedTouch kind size) = sited_touch_front
   tag_front tags.Alloc = record { short = λ lt. lt; same = λ is. refl }
   tag_front tags.Free = record { short = λ lt. lt; same = λ is. refl }
   tag_front tags.Symbol = symbol_front
@@ -120,12 +149,23 @@ module _ (k : ℕ) (bytes : List ℕ) (some : 1 ≤ k) (le : k ≤ length bytes)
   front_at (Some p) None = record_front p.version
   front_at (Some p) (Some e) = record { short = λ lt. lt; same = λ is. refl }
 
+-- the bytes of an access up to the end of its distance are all that those have
+pub front_whole : (bytes : List ℕ) (n : ℕ) → n ≡ short_touch_extent bytes → 1 ≤ n
+    → n ≤ length bytes → length (take n bytes) ≡ short_touch_extent (take n bytes)
+front_whole bytes n is some le =
+    length-take-le n bytes le ∙ is ∙ sym ((short_touch_front n bytes some le).same (omega arith))
+
+-- they are as many in a beginning that has them all
+pub front_still : (bytes : List ℕ) (m : ℕ) → short_touch_extent bytes ≤ m → 1 ≤ m
+    → m ≤ length bytes → short_touch_extent (take m bytes) ≡ short_touch_extent bytes
+front_still bytes m enough some le = (short_touch_front m bytes some le).same enough
+
 -- The header and each record wait until they are whole.
 pub fronts_wait_at : (p : Option ReadSoFar) (e : Option Ending) (bytes : List ℕ)
     → FrontsWait p e bytes
 fronts_wait_at p e bytes = record {
   short = λ k some le lt. (front_at k bytes some le p e).short lt;
-  whole = λ k some le is. (front_at k bytes some le p e).same is;
+  whole = λ k some le is. (front_at k bytes some le p e).same (omega arith);
 }
 
 some_groups : (a b c d : ℕ) → 1 ≤ count_of a b c d
@@ -146,6 +186,7 @@ some_tag (Some (tags.ShortTouch kind size)) bytes =
       some_groups (get_or (drop 2 bytes) 0 0) (get_or (drop 2 bytes) 1 0)
           (get_or (drop 2 bytes) 2 0) (get_or (drop 2 bytes) 3 0),
     )
+some_tag (Some (tags.SitedTouch kind size)) bytes = omega arith
 some_tag (Some tags.Alloc) bytes = omega arith
 some_tag (Some tags.Free) bytes = omega arith
 some_tag (Some tags.Symbol) bytes = some_symbol bytes

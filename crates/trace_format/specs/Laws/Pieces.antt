@@ -22,7 +22,8 @@ use Rattle.trace_format.specs.declared.tag.Tag.TheVariants as tags
 use Rattle.trace_format.specs.declared.read_so_far.ReadSoFar.{ReadSoFar}
 use Rattle.trace_format.specs.Rules.{last_position, longest_trace, touch_in, touches_in}
 use Rattle.trace_format.specs.Judging.{alloc_at, begun, end_counted, fields_judged, header_judged}
-use Rattle.trace_format.specs.Judging.{record_judged, number_at, symbol_judged, symbol_with}
+use Rattle.trace_format.specs.Judging.{record_judged, symbol_judged, symbol_with}
+use Rattle.base.specs.Fields.{number_at}
 use Rattle.trace_format.specs.Judging.{version_at, tagged_if, touch_counted}
 use Rattle.trace_format.specs.Reading.{Reading, begin, byte_read, counted_after, header_read}
 use Rattle.trace_format.specs.Reading.{part_at, place_of, progress_after, read_on, reading_of}
@@ -143,27 +144,29 @@ read_on-head r bytes some =
 
 -- An access that is judged good has a position.
 record HasPosition (p : ReadSoFar) (judged : Result TraceRecord TraceFault) : Type 0 where
-  position : (a : Touch) → judged ≡ Ok (records.Touch a)
+  position : (a : Touch) (pc : Option ℕ) → judged ≡ Ok (records.Touch a pc)
       → p.header.first + p.counted < last_position
 
 at_fault : (p : ReadSoFar) (fault : TraceFault) → HasPosition p (Err fault)
-at_fault p fault = record { position = λ a is. absurd cc }
+at_fault p fault = record { position = λ a pc is. absurd cc }
 
-touch_placed : (p : ReadSoFar) (a : Touch) → ltb (p.header.first + p.counted) last_position ≡ true
-    → HasPosition p (Ok (records.Touch a))
-touch_placed p a low = record { position = λ b is. grind (arith, nat_tests) }
+touch_placed : (p : ReadSoFar) (a : Touch) (pc : Option ℕ)
+    → ltb (p.header.first + p.counted) last_position ≡ true
+    → HasPosition p (Ok (records.Touch a pc))
+touch_placed p a pc low = record { position = λ b other is. grind (arith, nat_tests) }
 
 symbol_placed : (p : ReadSoFar) (kind : SymbolKind) (addr size : ℕ) (name : List ℕ)
     → HasPosition p (Ok (records.Symbol kind addr size name))
-symbol_placed p kind addr size name = record { position = λ a is. absurd cc }
+symbol_placed p kind addr size name = record { position = λ a pc is. absurd cc }
 
 end_placed : (p : ReadSoFar) (e : Ending) → HasPosition p (Ok (records.End e))
-end_placed p e = record { position = λ a is. absurd cc }
+end_placed p e = record { position = λ a pc is. absurd cc }
 
-touch_there : (p : ReadSoFar) (j : Result Touch TraceFault) → HasPosition p (touch_counted p j)
+touch_there : (p : ReadSoFar) (j : Result (Touch × Option ℕ) TraceFault)
+    → HasPosition p (touch_counted p j)
 touch_there p (Err fault) = at_fault p fault
-touch_there p (Ok a) =
-    by_test (HasPosition p) _ _ _ (λ low. touch_placed p a low) (λ high. at_fault p faults.TooLong)
+touch_there p (Ok sited) =
+    by_test (HasPosition p) _ _ _ (λ low. touch_placed p sited.0 sited.1 low) (λ high. at_fault p faults.TooLong)
 
 symbol_there : (p : ReadSoFar) (place : ℕ) (bytes : List ℕ) (kind : Option SymbolKind)
     → HasPosition p (symbol_with place bytes kind)
@@ -187,8 +190,9 @@ unfolding alloc_at symbol_judged
 tagged_there p bytes None = at_fault p _
 tagged_there p bytes (Some (tags.Touch kind)) = touch_there p _
 tagged_there p bytes (Some (tags.ShortTouch kind size)) = touch_there p _
-tagged_there p bytes (Some tags.Alloc) = record { position = λ a is. absurd cc }
-tagged_there p bytes (Some tags.Free) = record { position = λ a is. absurd cc }
+tagged_there p bytes (Some (tags.SitedTouch kind size)) = touch_there p _
+tagged_there p bytes (Some tags.Alloc) = record { position = λ a pc is. absurd cc }
+tagged_there p bytes (Some tags.Free) = record { position = λ a pc is. absurd cc }
 tagged_there p bytes (Some tags.Symbol) = symbol_there p p.place bytes _
 tagged_there p bytes (Some tags.End) = end_there p bytes _
 
@@ -241,7 +245,7 @@ Counts items (Some p) = IsCounted items p
 
 counted_one : (n : ℕ) (item : TraceRecord) → counted_after n item ≡ n + length
     (touches_in (item ∷ []))
-counted_one n (records.Touch a) = refl
+counted_one n (records.Touch a pc) = refl
 counted_one n (records.Alloc addr size sites) = omega arith
 counted_one n (records.Free addr) = omega arith
 counted_one n (records.Symbol kind addr size name) = omega arith
@@ -250,7 +254,7 @@ counted_one n (records.End e) = omega arith
 few_after : (p : ReadSoFar) (item : TraceRecord) → HasPosition p (Ok item)
     → p.header.first + p.counted ≤ last_position
     → p.header.first + counted_after p.counted item ≤ last_position
-few_after p (records.Touch a) there few = omega (arith, there.position a refl)
+few_after p (records.Touch a pc) there few = omega (arith, there.position a pc refl)
 few_after p (records.Alloc addr size sites) there few = few
 few_after p (records.Free addr) there few = few
 few_after p (records.Symbol kind addr size name) there few = few

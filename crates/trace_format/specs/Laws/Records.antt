@@ -23,12 +23,13 @@ use Rattle.trace_format.specs.declared.tag.Tag.TheVariants as tags
 use Rattle.trace_format.specs.declared.read_so_far.ReadSoFar.{ReadSoFar}
 use Rattle.trace_format.specs.Tags.{tag_of}
 use Rattle.trace_format.specs.Rules.{IsAllowedEnd, IsWritable, last_position}
-use Rattle.trace_format.specs.Judging.{alloc_at, cause_of, end_counted, end_with, number_at}
+use Rattle.trace_format.specs.Judging.{alloc_at, cause_of, end_counted, end_with}
+use Rattle.base.specs.Fields.{number_at}
 use Rattle.trace_format.specs.Judging.{outcome_judged, plain_judged, plain_outcome_of, plain_with}
-use Rattle.trace_format.specs.Judging.{record_judged, short_touch_judged, symbol_judged}
-use Rattle.trace_format.specs.Judging.{symbol_kind_of}
+use Rattle.trace_format.specs.Judging.{record_judged, short_touch_judged, sited_touch_judged}
+use Rattle.trace_format.specs.Judging.{symbol_judged, symbol_kind_of}
 use Rattle.trace_format.specs.Judging.{symbol_with, tagged_if, tagged_judged, touch_counted}
-use Rattle.trace_format.specs.Judging.{touch_judged, trap_for, trap_judged}
+use Rattle.trace_format.specs.Judging.{touch_judged, trap_for, trap_judged, without_pc}
 use Rattle.trace_format.specs.Laws.Again.{ComesAt}
 
 -- It may come where it does, and it may be written.
@@ -61,14 +62,14 @@ chosen false x y z e = inr (refl, e)
 
 -- ---- accesses
 
-touch_item : (p : ReadSoFar) (j : Result Touch TraceFault) (item : TraceRecord)
+touch_item : (p : ReadSoFar) (j : Result (Touch × Option ℕ) TraceFault) (item : TraceRecord)
     → touch_counted p j ≡ Ok item → IsItem p item
 touch_item p (Err fault) item e = absurd cc
-touch_item p (Ok a) item e =
+touch_item p (Ok sited) item e =
     let g = granted (ltb (p.header.first + p.counted) last_position) _ _ item e in
     let low : ltb (p.header.first + p.counted) last_position ≡ true = g.0 in
     let there : p.header.first + p.counted < last_position = grind (arith, nat_tests) in
-    subst (IsItem p) (same_Ok (records.Touch a) item g.1) (record { there = there; writable = tt })
+    subst (IsItem p) (same_Ok (records.Touch sited.0 sited.1) item g.1) (record { there = there; writable = tt })
 
 -- ---- symbols
 
@@ -186,9 +187,12 @@ tagged_item : (p : ReadSoFar) (tag : Tag) (bytes : List ℕ) (item : TraceRecord
     → tagged_judged p tag bytes ≡ Ok item → IsItem p item
 unfolding symbol_judged
 tagged_item p (tags.Touch kind) bytes item e =
-    touch_item p (touch_judged kind p.header.harts p.place bytes) item e
+    touch_item p (without_pc (touch_judged kind p.header.harts p.place bytes)) item e
 tagged_item p (tags.ShortTouch kind size) bytes item e =
-    touch_item p (short_touch_judged kind size p.header.harts p.last p.place bytes) item e
+    touch_item p
+    (without_pc (short_touch_judged kind size p.header.harts p.before.last p.place bytes)) item e
+tagged_item p (tags.SitedTouch kind size) bytes item e =
+    touch_item p (sited_touch_judged kind size p.header.harts p.before p.place bytes) item e
 tagged_item p tags.Alloc bytes item e = subst (IsItem p) (same_Ok (alloc_at bytes) item e)
     (alloc_item p bytes)
 tagged_item p tags.Free bytes item e =

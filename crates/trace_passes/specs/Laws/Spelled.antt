@@ -5,7 +5,7 @@ use Rattle.std.proofs.lemmas.List.{drop_all, take_all}
 use Rattle.base.specs.declared.ending.Ending.{Ending}
 use Rattle.trace_format.specs.declared.record.Header.{Header}
 use Rattle.trace_format.specs.declared.record.Version.{Version}
-use Rattle.trace_format.specs.declared.record.Version.TheVariants.{One, Two}
+use Rattle.trace_format.specs.declared.record.Version.TheVariants.{One, Two, Three}
 use Rattle.trace_format.specs.declared.record.TraceRecord.{TraceRecord}
 use Rattle.trace_format.specs.declared.read_so_far.ReadSoFar.{ReadSoFar}
 use Rattle.trace_format.specs.Judging.{begun, header_judged}
@@ -15,7 +15,8 @@ use Rattle.trace_format.specs.Laws.Extents.{fronts_wait_at}
 use Rattle.trace_format.specs.Laws.Again.{header_again}
 use Rattle.trace_format.specs.Laws.Traces.{trace_again}
 use Rattle.trace_format.specs.Rules.{IsTrace}
-use Rattle.trace_format.specs.Spelling.{spell, spell_ending, spell_header, spell_records}
+use Rattle.trace_format.specs.Spelling.{nothing_before, spell, spell_ending, spell_header}
+use Rattle.trace_format.specs.Spelling.{spell_records}
 use Rattle.trace_passes.specs.Passes.{trace_of}
 use Rattle.trace_passes.specs.Laws.Passes.{HeadStays, before_last-is, head_of_front, trace_there}
 use Rattle.trace_passes.specs.Laws.Passes.{whole_at_end}
@@ -24,6 +25,7 @@ twenty : (v : Version) (h : Header) → length (spell_header v h) ≡ 20
 unfolding spell_header
 twenty One h = refl
 twenty Two h = refl
+twenty Three h = refl
 
 -- bytes of a header alone
 header_alone : (bytes : List ℕ) (p : ReadSoFar) → length bytes ≡ 20 → header_judged bytes ≡ Ok p
@@ -58,7 +60,7 @@ trace-spelled bytes v h items e is =
     let again = trace_again bytes v h items e is in
     let whole = whole_at_end bytes e again.1 in
     let front = spell_header v h in
-    let later = spell_records v 0 items ++ spell_ending e in
+    let later = spell_records v nothing_before items ++ spell_ending e in
     let begins = header_alone front (begun v h) (twenty v h) (header_again v h is.good.header) in
     let stays : HeadStays (Some (begun v h)) (reading_of bytes).1.progress =
     subst (λ (xs : List ℕ). HeadStays (Some (begun v h)) (reading_of xs).1.progress)

@@ -1,4 +1,4 @@
-use Rattle.cache_shape.specs.Shapes.{CacheShape, is_shape}
+use Rattle.base.specs.Shapes.{CacheShape, is_shape}
 use Rattle.command_line.proofs.ShapeLemmas.{there_if}
 use Rattle.command_line.proofs.caches.shape_of.Goals as goal
 

@@ -7,7 +7,8 @@ use Rattle.finite_cache.proofs.observer.see.Goals as goal
 pub returns-in-Touch : goal.returns-in-Touch
 returns-in-Touch c =
     see-on c.on_access.result c.args.caches.now c.on_access.new.self c.args.item.now
-    c.in-Touch.access c.in-Touch.is c.on_access.ensures.noted c.on_access.ensures.stands
+    c.in-Touch.access c.in-Touch.field-1 c.in-Touch.is c.on_access.ensures.noted
+    c.on_access.ensures.stands
 
 pub returns-in-Alloc : goal.returns-in-Alloc
 returns-in-Alloc c =

@@ -1,5 +1,5 @@
 use Rattle.std.proofs.Common.{string_bytes, length, map}
-use Rattle.finite_cache.specs.Laws.Texts.{in_three}
+use Rattle.base.specs.Laws.TextLines.{in_three}
 use Rattle.finite_cache.specs.Texts.{end_lines, head_lines, row_line}
 use Rattle.finite_cache.proofs.text.push_caches.Goals as goal
 

@@ -1,5 +1,5 @@
 use Rattle.std.proofs.Common.{string_bytes}
-use Rattle.finite_cache.specs.Laws.Texts.{ended_by}
+use Rattle.base.specs.Laws.TextLines.{ended_by}
 use Rattle.finite_cache.specs.Texts.{total_line}
 use Rattle.finite_cache.proofs.text.push_ends.Goals as goal
 

@@ -1,6 +1,6 @@
 use Rattle.finite_cache.specs.Kept.{row_kept}
 use Rattle.finite_cache.specs.Texts.{is_told}
-use Rattle.finite_cache.specs.Laws.Texts.{told_more}
+use Rattle.misses.specs.Laws.Told.{told_more}
 use Rattle.finite_cache.proofs.text.unsorted.Goals as goal
 
 pub loop-i-preserved : goal.loop-i-preserved

@@ -3,7 +3,7 @@ use Rattle.std.specs.Prelude.{OnOk}
 use Rattle.base.specs.TextLines.{text_of}
 use Rattle.placement.specs.Texts.{end_lines, head_lines, touched_lines}
 use Rattle.placement.specs.declared.extent.Extent.{Extent}
-use Rattle.placement.proofs.TextSteps.{in_three}
+use Rattle.base.specs.Laws.TextLines.{in_three}
 use Rattle.placement.proofs.text.push_place.Goals as goal
 
 pub returns : goal.returns

@@ -2,7 +2,7 @@ use Rattle.std.proofs.Common.{◌∷◌, ◌++◌, [], ap, sym, take, ◌∙◌}
 use Rattle.std.proofs.lemmas.List.{take_more}
 use Rattle.std.proofs.lemmas.List.Elements.{filter_map-append}
 use Rattle.objects.specs.Symbols.{symbols_of}
-use Rattle.sightings.specs.Lives.{symbol_in, symbols_in}
+use Rattle.trace_passes.specs.Lives.{symbol_in, symbols_in}
 use Rattle.predator_cli.proofs.explain.symbol_table.Goals as goal
 
 pub loop-symbol-preserved : goal.loop-symbol-preserved

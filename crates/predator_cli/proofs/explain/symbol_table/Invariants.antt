@@ -1,6 +1,6 @@
 use Rattle.std.proofs.Common.{◌≡◌, take}
 use Rattle.objects.specs.Symbols.{symbols_of}
-use Rattle.sightings.specs.Lives.{symbols_in}
+use Rattle.trace_passes.specs.Lives.{symbols_in}
 use Rattle.predator_cli.proofs.explain.symbol_table.Given as goal
 
 abbrev pub invariant-loop-symbol : goal.invariant-loop-symbol

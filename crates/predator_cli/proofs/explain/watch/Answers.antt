@@ -1,9 +1,9 @@
 use Rattle.std.proofs.Common.{◌≡◌, IfOk, List, ap, subst, ◌∙◌}
 use Rattle.guest.specs.Runs.{rest_of}
-use Rattle.line_watch.specs.Watched.{sited_run}
+use Rattle.takings.specs.Watched.{sited_run}
 use Rattle.objects.specs.Symbols.{Symbol, symbols_of}
 use Rattle.sharing_rules.specs.Lines.{Line}
-use Rattle.sightings.specs.Lives.{symbols_in}
+use Rattle.trace_passes.specs.Lives.{symbols_in}
 use Rattle.takings.specs.Text.{explain_text}
 use Rattle.predator_cli.proofs.explain.watch.Goals as goal
 

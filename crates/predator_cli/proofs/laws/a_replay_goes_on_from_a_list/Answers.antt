@@ -1,5 +1,5 @@
 use Rattle.std.proofs.Common.{arith, length}
-use Rattle.sightings.specs.Lives.{objects_of}
+use Rattle.trace_passes.specs.Lives.{objects_of}
 use Rattle.trace_format.specs.Rules.{touches_in}
 use Rattle.predator_cli.specs.Replay.{grid_in, levels_in}
 use Rattle.predator_cli.specs.GoesOn.{work_of_both}
@@ -61,8 +61,8 @@ returns-clause-halves c = λ at bytes whole small is.
     (c.a_trace_is_its_spelling.ensures bytes whole small is).good.counted
 
 pub returns-clause-good : goal.returns-clause-good
-returns-clause-good c = λ harts before good short.
-    savable harts before good
+returns-clause-good c = λ w harts before good short.
+    savable w harts before good
     (omega (arith, c.what_stands_was_noted.ensures.few_symbols before, short))
     (omega (arith, c.what_stands_was_noted.ensures.few_blocks before, short))
     (c.what_stands_was_noted.ensures.lives before) (c.what_stands_was_noted.ensures.symbols before)

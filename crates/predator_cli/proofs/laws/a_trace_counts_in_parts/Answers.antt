@@ -13,9 +13,9 @@ returns c = λ demand files how t first later small is zero accepted layout this
     all_repeat c.a_replay_goes_on_from_a_list.ensures.answered
     c.a_replay_goes_on_from_a_list.ensures.carried c.the_halves_are_traces.ensures.halves
     (joined c.what_is_noted_is_seen.ensures.objects)
-    (λ g v harts items good short.
+    (λ g v w harts items good short.
     let few = few_objects g v harts items short in
-    savable harts items good few.symbols few.blocks (c.what_stands_was_noted.ensures.lives items)
+    savable w harts items good few.symbols few.blocks (c.what_stands_was_noted.ensures.lives items)
     (c.what_stands_was_noted.ensures.symbols items) (c.what_stands_was_noted.ensures.lone items)
     (c.what_is_noted_is_seen.ensures.apart items))
     how found.0 (under_settings how.layout found.0 found.2 layout) files demand.trace t

@@ -8,13 +8,13 @@ use Rattle.run_recorder.proofs.files.put_record_into.Goals as goal
 
 pub returns-in-Trace-clause-outputs : goal.returns-in-Trace-clause-outputs
 returns-in-Trace-clause-outputs g c =
-    let is = ap (λ (w : Writing). spell_record w.version w.last c.args.item.now)
+    let is = ap (λ (w : Writing). spell_record w.version w.before c.args.item.now)
     c.new-writer.ensures in
     rw (c.in-Trace.is, ← is) c.put_record.ensures.outputs
 
 pub returns-in-Trace-clause-cut : goal.returns-in-Trace-clause-cut
 returns-in-Trace-clause-cut g c =
-    let is = ap (λ (w : Writing). spell_record w.version w.last c.args.item.now)
+    let is = ap (λ (w : Writing). spell_record w.version w.before c.args.item.now)
     c.new-writer.ensures in
     rw (c.in-Trace.is, ← is) c.put_record.ensures.cut
 

@@ -1,8 +1,9 @@
-use Rattle.std.proofs.Common.{◌++◌, ◌∷◌, [], ℕ, List, subst, sym}
+use Rattle.std.proofs.Common.{◌++◌, ◌∷◌, [], ℕ, List, None, subst, sym}
 use Rattle.std.proofs.lemmas.List.{append-nil}
 use Rattle.std.proofs.lemmas.List.Elements.{All-cons, All-nil}
 use Rattle.std.proofs.lemmas.Result.{IfErr-weaker, on_ok_weaker}
 use Rattle.shelf.specs.Shelf.{Outside}
+use Rattle.trace_format.specs.declared.record.Version.TheVariants.{One}
 use Rattle.trace_format.specs.Rules.{IsGoodRecord}
 use Rattle.trace_format.specs.declared.record.TraceRecord.{TraceRecord}
 use Rattle.trace_format.specs.declared.record.TraceRecord.TheVariants as records
@@ -18,7 +19,7 @@ returns-in-Touch-clause-noted g c =
     rw c.in-Touch.is
     (on_ok_weaker c.note_record.result (λ f harts items put before on. noted_silent harts items
     c.touch_record.result
-    (records.Touch c.in-Touch.access) put files
+    (records.Touch c.in-Touch.access None) put files
     c.note_record.new.outputs before new c.touch_record.ensures.value (f harts items put before on))
     c.note_record.ensures.noted)
 
@@ -29,7 +30,7 @@ returns-in-Touch-clause-cut g c =
     let old = g.S.Shelf.outside c.args.shelf.now in
     let new = g.S.Shelf.outside c.note_record.new.shelf in
     let item : TraceRecord = c.touch_record.result in
-    let told : TraceRecord = records.Touch c.in-Touch.access in
+    let told : TraceRecord = records.Touch c.in-Touch.access None in
     rw c.in-Touch.is
     (IfErr-weaker c.note_record.result (λ e. (harts : ℕ) (items : List TraceRecord) (put : List ℕ)
     (before : Outside)
@@ -46,7 +47,7 @@ returns-in-Touch-clause-cut g c =
 pub returns-in-Alloc-clause-good : goal.returns-in-Alloc-clause-good
 unfolding records_told bytes_told
 returns-in-Alloc-clause-good g c =
-    let P : TraceRecord → Type 0 = IsGoodRecord c.args.guest.now.setup.harts in
+    let P : TraceRecord → Type 0 = IsGoodRecord One c.args.guest.now.setup.harts in
     let item : TraceRecord = records.Alloc c.in-Alloc.addr c.in-Alloc.size c.in-Alloc.sites in
     let good : P item = subst P c.alloc_record.ensures.value
     (c.alloc_record.ensures.good c.args.guest.now.setup.harts) in

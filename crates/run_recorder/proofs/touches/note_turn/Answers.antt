@@ -2,6 +2,7 @@ use Rattle.std.proofs.Common.{◌++◌, ℕ, List}
 use Rattle.std.proofs.lemmas.List.Elements.{All-append}
 use Rattle.std.proofs.lemmas.Result.{IfErr-weaker, on_ok_weaker}
 use Rattle.shelf.specs.Shelf.{Outside}
+use Rattle.trace_format.specs.declared.record.Version.TheVariants.{One}
 use Rattle.trace_format.specs.Rules.{IsGoodRecord}
 use Rattle.trace_format.specs.declared.record.TraceRecord.{TraceRecord}
 use Rattle.run_recorder.specs.Recording.{AreCutAfter, AreNoted, bytes_told, records_told}
@@ -35,7 +36,7 @@ pub returns-in-Ok-clause-good : goal.returns-in-Ok-clause-good
 returns-in-Ok-clause-good g c =
     let harts = c.args.guest.now.setup.harts in
     on_ok_weaker c.note_event.result
-    (λ f. All-append (IsGoodRecord harts) (touch_records c.args.touches.now)
+    (λ f. All-append (IsGoodRecord One harts) (touch_records c.args.touches.now)
     (records_told c.args.guest.now.config c.args.event)
     (c.in-Ok.ensures.good harts c.requires.theirs) c.note_event.ensures.good)
     c.note_event.ensures.given

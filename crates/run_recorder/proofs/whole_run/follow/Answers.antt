@@ -8,6 +8,7 @@ use Rattle.guest.specs.Runs.{ended_run, ending_with, output_in, rest_of}
 use Rattle.guest.specs.declared.setup.Setup.{Setup}
 use Rattle.shelf.specs.declared.shelf.ShelfError.TheVariants.{NoMemory}
 use Rattle.shelf.specs.Laws.Files.{IsOutputs-cut}
+use Rattle.trace_format.specs.declared.record.Version.TheVariants.{One}
 use Rattle.trace_format.specs.Rules.{IsGoodRecord}
 use Rattle.run_recorder.specs.Recorded.{outputs_of, record_in, records_in}
 use Rattle.run_recorder.specs.Recording.{AreNoted, bytes_so_far, bytes_told, records_told}
@@ -71,7 +72,7 @@ turns-preserved g c =
     (g.S.Shelf.outside c.turns.shelf) (g.S.Shelf.outside c.note_turn.new.shelf) ts e
     (accesses_in event) x (rw c.in-Ok-Ran.field-0-is at c.in-Ok-Ran.ensures.run)
     (rw c.all.ensures at c.in-Ok.ensures.given)
-    (subst (λ (n : ℕ). All (IsGoodRecord n) (touch_records ts ++ record_in e)) harts
+    (subst (λ (n : ℕ). All (IsGoodRecord One n) (touch_records ts ++ record_in e)) harts
     (rw c.all.ensures at c.in-Ok.ensures.good))
     (λ items put before on. rw c.all.ensures at (c.in-Ok.ensures.noted
     c.args.guest.now.setup.harts items put before on))
@@ -139,7 +140,7 @@ returns-in-Ok-note_touches-clause-given g c =
     let end : Ending = ending_with c.in-Ok-Ended.outcome after.config in
     let harts : after.setup.harts ≡ c.args.guest.now.setup.harts =
     ap (λ (s : Setup). s.harts) (c.in-Ok-Ended.ensures.setup ∙ c.turns.invariant.setup) in
-    let good : All (IsGoodRecord after.setup.harts) (touch_records ts) =
+    let good : All (IsGoodRecord One after.setup.harts) (touch_records ts) =
     rw c.all-in-Ok-Ended.ensures at (c.in-Ok-note_touches.ensures.good after.setup.harts
     (rw c.all-in-Ok-Ended.ensures c.run_on.ensures.theirs)) in
     let x = follows_touches g.O.Observer.given c.args.guest.now c.turns.guest after (ended_run end)
@@ -149,7 +150,7 @@ returns-in-Ok-note_touches-clause-given g c =
     (g.S.Shelf.outside c.note_touches.new.shelf) ts c.turns.invariant
     (rw c.in-Ok-Ended.field-0-is at c.in-Ok-Ended.ensures.run)
     (rw c.all-in-Ok-Ended.ensures at c.in-Ok-note_touches.ensures.given)
-    (subst (λ (n : ℕ). All (IsGoodRecord n) (touch_records ts)) harts good)
+    (subst (λ (n : ℕ). All (IsGoodRecord One n) (touch_records ts)) harts good)
     (λ items put before on. rw c.all-in-Ok-Ended.ensures at (c.in-Ok-note_touches.ensures.noted
     c.args.guest.now.setup.harts items put before on))
     c.in-Ok-Ended.ensures.setup
@@ -167,7 +168,7 @@ returns-in-Ok-note_touches-clause-good g c =
     let end : Ending = ending_with c.in-Ok-Ended.outcome after.config in
     let harts : after.setup.harts ≡ c.args.guest.now.setup.harts =
     ap (λ (s : Setup). s.harts) (c.in-Ok-Ended.ensures.setup ∙ c.turns.invariant.setup) in
-    let good : All (IsGoodRecord after.setup.harts) (touch_records ts) =
+    let good : All (IsGoodRecord One after.setup.harts) (touch_records ts) =
     rw c.all-in-Ok-Ended.ensures at (c.in-Ok-note_touches.ensures.good after.setup.harts
     (rw c.all-in-Ok-Ended.ensures c.run_on.ensures.theirs)) in
     let x = follows_touches g.O.Observer.given c.args.guest.now c.turns.guest after (ended_run end)
@@ -177,7 +178,7 @@ returns-in-Ok-note_touches-clause-good g c =
     (g.S.Shelf.outside c.note_touches.new.shelf) ts c.turns.invariant
     (rw c.in-Ok-Ended.field-0-is at c.in-Ok-Ended.ensures.run)
     (rw c.all-in-Ok-Ended.ensures at c.in-Ok-note_touches.ensures.given)
-    (subst (λ (n : ℕ). All (IsGoodRecord n) (touch_records ts)) harts good)
+    (subst (λ (n : ℕ). All (IsGoodRecord One n) (touch_records ts)) harts good)
     (λ items put before on. rw c.all-in-Ok-Ended.ensures at (c.in-Ok-note_touches.ensures.noted
     c.args.guest.now.setup.harts items put before on))
     c.in-Ok-Ended.ensures.setup
@@ -185,7 +186,8 @@ returns-in-Ok-note_touches-clause-good g c =
     c.in-Ok-note_touches.ensures.begun in
     let same : (rest_of c.args.guest.now).events ≡ x.events = all_seen x.events
     (rest_of c.args.guest.now) (ended_run end) end x.goes refl in
-    subst (λ (l : List RunEvent). All (IsGoodRecord c.args.guest.now.setup.harts) (records_in l))
+    subst (λ (l : List RunEvent). All (IsGoodRecord One c.args.guest.now.setup.harts)
+    (records_in l))
     (sym same) x.good
 
 pub returns-in-Ok-note_touches-clause-noted : goal.returns-in-Ok-note_touches-clause-noted
@@ -195,7 +197,7 @@ returns-in-Ok-note_touches-clause-noted g c = λ earlier before on.
     let end : Ending = ending_with c.in-Ok-Ended.outcome after.config in
     let harts : after.setup.harts ≡ c.args.guest.now.setup.harts =
     ap (λ (s : Setup). s.harts) (c.in-Ok-Ended.ensures.setup ∙ c.turns.invariant.setup) in
-    let good : All (IsGoodRecord after.setup.harts) (touch_records ts) =
+    let good : All (IsGoodRecord One after.setup.harts) (touch_records ts) =
     rw c.all-in-Ok-Ended.ensures at (c.in-Ok-note_touches.ensures.good after.setup.harts
     (rw c.all-in-Ok-Ended.ensures c.run_on.ensures.theirs)) in
     let x = follows_touches g.O.Observer.given c.args.guest.now c.turns.guest after (ended_run end)
@@ -205,7 +207,7 @@ returns-in-Ok-note_touches-clause-noted g c = λ earlier before on.
     (g.S.Shelf.outside c.note_touches.new.shelf) ts c.turns.invariant
     (rw c.in-Ok-Ended.field-0-is at c.in-Ok-Ended.ensures.run)
     (rw c.all-in-Ok-Ended.ensures at c.in-Ok-note_touches.ensures.given)
-    (subst (λ (n : ℕ). All (IsGoodRecord n) (touch_records ts)) harts good)
+    (subst (λ (n : ℕ). All (IsGoodRecord One n) (touch_records ts)) harts good)
     (λ items put before on. rw c.all-in-Ok-Ended.ensures at (c.in-Ok-note_touches.ensures.noted
     c.args.guest.now.setup.harts items put before on))
     c.in-Ok-Ended.ensures.setup

@@ -1,5 +1,5 @@
 use Rattle.objects.specs.Laws.Symbols.{symbols_of-alone}
-use Rattle.sightings.specs.Lives.{symbols_in}
+use Rattle.trace_passes.specs.Lives.{symbols_in}
 use Rattle.sightings.proofs.NotedLaws.{reported_as_list, seen_noted}
 use Rattle.sightings.proofs.ObjectLaws.{objects_on}
 use Rattle.sightings.proofs.laws.what_is_noted_is_seen.Goals as goal

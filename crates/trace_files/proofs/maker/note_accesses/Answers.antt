@@ -1,4 +1,4 @@
-use Rattle.std.proofs.Common.{◌≡◌, ◌∷◌, ◌++◌, ◌∙◌, [], ℕ, subst, arith}
+use Rattle.std.proofs.Common.{◌≡◌, ◌∷◌, ◌++◌, ◌∙◌, [], ℕ, None, subst, arith}
 use Rattle.trace_format.specs.declared.record.TraceRecord.TheVariants as records
 use Rattle.trace_files.specs.Made.{made_items}
 use Rattle.trace_files.specs.OneTrace.{IsOnItsWay}
@@ -15,7 +15,7 @@ loop-place-init g c =
 pub note_record-requires-clause-room : goal.note_record-requires-clause-room
 note_record-requires-clause-room g c =
     room_for_access g.O.Observer.begins g.O.Observer.given c.loop-place.place
-    (records.Touch c.access_at-access.result) c.args.observer.now c.loop-place.observer
+    (records.Touch c.access_at-access.result None) c.args.observer.now c.loop-place.observer
     (omega (arith, c.loop-place-test.true, c.requires.few))
     (item_is c.loop-place.place c.loop-place.state c.next_state-next.result
     c.access_at-access.result
@@ -25,7 +25,8 @@ note_record-requires-clause-room g c =
 pub returns-in-Err-clause-cut : goal.returns-in-Err-clause-cut
 returns-in-Err-clause-cut g c = λ before on.
     cut_access c.args.file.now c.loop-place.file c.args.count c.loop-place.place
-    (records.Touch c.access_at-access.result) before (g.S.Shelf.outside c.note_record.new.shelf)
+    (records.Touch c.access_at-access.result None) before
+    (g.S.Shelf.outside c.note_record.new.shelf)
     c.in-Err.error c.loop-place.invariant.files_stay c.loop-place-test.true
     (item_is c.loop-place.place c.loop-place.state c.next_state-next.result
     c.access_at-access.result
@@ -38,7 +39,7 @@ append_full_piece-requires g c =
     let way = c.loop-place.invariant.way in
     record {
       way = way_of c.note_record.new.file
-          (way.seen ++ records.Touch c.access_at-access.result ∷ []) way.before
+          (way.seen ++ records.Touch c.access_at-access.result None ∷ []) way.before
           (g.S.Shelf.outside c.note_record.new.shelf)
           (c.in-Ok.ensures.noted way.seen way.before
           (on_way c.loop-place.file (g.S.Shelf.outside c.loop-place.shelf) way));
@@ -47,21 +48,21 @@ append_full_piece-requires g c =
 pub returns-in-Err-append_full_piece-clause-cut : goal.returns-in-Err-append_full_piece-clause-cut
 returns-in-Err-append_full_piece-clause-cut g c = λ before on.
     cut_access c.args.file.now c.note_record.new.file c.args.count c.loop-place.place
-    (records.Touch c.access_at-access.result) before
+    (records.Touch c.access_at-access.result None) before
     (g.S.Shelf.outside c.append_full_piece.new.shelf) c.in-Err-append_full_piece.error
     (c.note_record.ensures.files ∙ c.loop-place.invariant.files_stay) c.loop-place-test.true
     (item_is c.loop-place.place c.loop-place.state c.next_state-next.result
     c.access_at-access.result
     c.loop-place.invariant.state_is c.next_state-next.ensures c.access_at-access.ensures)
     (c.in-Err-append_full_piece.ensures.cut
-    (made_items c.loop-place.place ++ records.Touch c.access_at-access.result ∷ []) before
+    (made_items c.loop-place.place ++ records.Touch c.access_at-access.result None ∷ []) before
     (c.in-Ok.ensures.noted (made_items c.loop-place.place) before
     (c.loop-place.invariant.noted before on)))
 
 pub loop-place-preserved : goal.loop-place-preserved
 loop-place-preserved g c =
     one_more g.O.Observer.given c.loop-place.place c.loop-place.state c.next_state-next.result
-    (records.Touch c.access_at-access.result) c.args.observer.now c.loop-place.observer
+    (records.Touch c.access_at-access.result None) c.args.observer.now c.loop-place.observer
     c.note_record.new.observer c.args.file.now c.loop-place.file c.note_record.new.file
     c.append_full_piece.new.file (g.S.Shelf.outside c.args.shelf.now)
     (g.S.Shelf.outside c.loop-place.shelf) (g.S.Shelf.outside c.note_record.new.shelf)

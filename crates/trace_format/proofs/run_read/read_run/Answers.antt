@@ -9,14 +9,14 @@ use Rattle.trace_format.proofs.run_read.read_run.Goals as goal
 pub count_access-requires-clause-some : goal.count_access-requires-clause-some
 count_access-requires-clause-some c =
     let has : HasAccess c.loop-ahead.progress c.loop-ahead.rest.now c.in-Some.ahead.access
-    c.in-Some.ahead.size = c.in-Some.ensures in
+    c.in-Some.ahead.pc c.in-Some.ahead.size = c.in-Some.ensures in
     part_is_some (Some c.loop-ahead.progress) None c.loop-ahead.rest.now c.in-Some.ahead.size
     has.extent
 
 pub loop-ahead-smaller : goal.loop-ahead-smaller
 loop-ahead-smaller c =
     let has : HasAccess c.loop-ahead.progress c.loop-ahead.rest.now c.in-Some.ahead.access
-    c.in-Some.ahead.size = c.in-Some.ensures in
+    c.in-Some.ahead.pc c.in-Some.ahead.size = c.in-Some.ensures in
     omega (
       arith,
       part_is_some (Some c.loop-ahead.progress) None c.loop-ahead.rest.now c.in-Some.ahead.size
@@ -29,7 +29,7 @@ loop-ahead-preserved c =
     let p = c.loop-ahead.progress in
     let rest = c.loop-ahead.rest.now in
     let size = c.in-Some.ahead.size in
-    let has : HasAccess p rest c.in-Some.ahead.access size = c.in-Some.ensures in
+    let has : HasAccess p rest c.in-Some.ahead.access c.in-Some.ahead.pc size = c.in-Some.ensures in
     let low : p.place + size ≤ longest_trace = omega
     (arith, has.there, c.requires.low, c.loop-ahead.invariant.exact) in
     let now = c.count_access.ensures.value in
@@ -48,7 +48,7 @@ loop-ahead-preserved c =
       );
       read = access_is_read _ _ _ p c.count_access.new.progress rest c.behind-rest.result.now
           c.loop-ahead.into.items c.put.new.into.items
-          c.loop-ahead.invariant.read c.in-Some.ahead.access size has low now
+          c.loop-ahead.invariant.read c.in-Some.ahead.access c.in-Some.ahead.pc size has low now
           c.behind-rest.ensures.value
           (c.put.ensures.put c.if-not-put.false);
     }

@@ -1,12 +1,15 @@
 use Rattle.std.proofs.Common.{refl, sym, ap, ◌∙◌, arith}
 use Rattle.trace_format.specs.declared.tag.Tag.TheVariants as tags
-use Rattle.trace_format.specs.Judging.{touch_counted}
-use Rattle.trace_format.proofs.Runs.{access_there}
+use Rattle.trace_format.specs.Judging.{touch_counted, without_pc}
+use Rattle.trace_format.proofs.Runs.{ahead_there, if_some}
 use Rattle.trace_format.proofs.run_read.touch_ahead.Goals as goal
 
-pub returns-in-Some : goal.returns-in-Some
-returns-in-Some c =
-    access_there c.args.progress.now c.args.bytes.now c.split_at.result.0.now
+pub returns : goal.returns
+returns c =
+    let p = c.args.progress.now in
+    let same = ap (touch_counted p) (c.without_pc.ensures ∙ ap without_pc c.touch_of-access.ensures)
+    in
+    if_some c.placed.result _ _ (λ ahead is.
+    ahead_there p c.args.bytes.now c.split_at.result.0.now
     (tags.Touch c.args.kind) 8 c.requires.tagged c.split_at.ensures.front
-    refl (omega arith) c.in-Some.access
-    (ap (touch_counted c.args.progress.now) (sym c.touch_of-access.ensures) ∙ c.in-Some.ensures)
+    refl (omega arith) ahead.access ahead.pc ahead.size (sym same ∙ is.0, is.1)) c.placed.ensures

@@ -8,15 +8,16 @@ use Rattle.sightings.proofs.sightings.Sightings.note_access.Goals as goal
 pub returns-clause-noted : goal.returns-clause-noted
 returns-clause-noted c =
     let with_watch : Watch → Sighted = λ w. record { watch = w; objects = c.self.inside.objects } in
-    rw (← c.self.view_is) (on_ok_weaker c.see.result (ap with_watch) c.see.ensures.watched)
+    λ pc. rw (← c.self.view_is) (on_ok_weaker c.see.result (ap with_watch) c.see.ensures.watched)
 
 pub returns-clause-seen : goal.returns-clause-seen
-returns-clause-seen c =
+returns-clause-seen c = λ pc.
     rw (← c.self.view_is)
     (on_both c.see.result
-    (next_access c.self.inside.objects c.self.inside.detector c.see.new.detector c.args.access)
+    (next_access c.self.inside.objects c.self.inside.detector c.see.new.detector c.args.access
+    pc)
     c.see.ensures.watched
     c.see.ensures.stands)
 
 pub returns-clause-known : goal.returns-clause-known
-returns-clause-known c = rw (← c.self.view_is) c.see.ensures.known
+returns-clause-known c = λ pc. rw (← c.self.view_is) c.see.ensures.known

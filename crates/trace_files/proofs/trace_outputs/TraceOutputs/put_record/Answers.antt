@@ -8,7 +8,7 @@ use Rattle.trace_files.proofs.trace_outputs.TraceOutputs.put_record.Goals as goa
 pub returns-in-Ok-clause-outputs : goal.returns-in-Ok-clause-outputs
 returns-in-Ok-clause-outputs g c =
     let w = c.args.writer.now in
-    let bytes = spell_record w.version w.last c.args.item.now in
+    let bytes = spell_record w.version w.before c.args.item.now in
     let is : c.deref.result.now ≡ bytes =
     c.deref.ensures.value ∙ c.in-Ok.ensures.ok
     ∙ ap (λ (l : List ℕ). l ++ bytes) c.clear.ensures.items in
@@ -17,7 +17,7 @@ returns-in-Ok-clause-outputs g c =
 pub returns-in-Ok-clause-cut : goal.returns-in-Ok-clause-cut
 returns-in-Ok-clause-cut g c =
     let w = c.args.writer.now in
-    let bytes = spell_record w.version w.last c.args.item.now in
+    let bytes = spell_record w.version w.before c.args.item.now in
     let is : c.deref.result.now ≡ bytes =
     c.deref.ensures.value ∙ c.in-Ok.ensures.ok
     ∙ ap (λ (l : List ℕ). l ++ bytes) c.clear.ensures.items in
@@ -26,7 +26,7 @@ returns-in-Ok-clause-cut g c =
 pub returns-in-Err-clause-cut : goal.returns-in-Err-clause-cut
 returns-in-Err-clause-cut g c = λ outputs before on.
     let w = c.args.writer.now in
-    let bytes = spell_record w.version w.last c.args.item.now in
+    let bytes = spell_record w.version w.before c.args.item.now in
     let old = g.S.Shelf.outside c.args.shelf.now in
     AreCut-longer outputs (outputs_with outputs c.args.place bytes) before old NoMemory
     (GoOn-with outputs c.args.place bytes)

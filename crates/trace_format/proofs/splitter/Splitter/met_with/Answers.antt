@@ -15,7 +15,7 @@ returns-in-Touch-clause-met c = λ seen has.
     (s.cut + 1) =
     subst (λ (item : TraceRecord). min s.met s.cut + 1
     ≡ min (length (touches_in (seen ++ item ∷ []))) (s.cut + 1)) (sym c.in-Touch.is)
-    (met_more seen c.in-Touch.field-0 s.cut s.met has.met) in
+    (met_more seen c.in-Touch.field-0 c.in-Touch.field-1 s.cut s.met has.met) in
     ap (λ (n : ℕ). n + 1) (c.min.ensures ∙ (λ i. min (met i) (cut i))) ∙ more
 
 pub returns-in_default : goal.returns-in_default

@@ -1,4 +1,4 @@
-use Rattle.std.proofs.Common.{◌≡◌, ℕ, refl, ap, arith, length}
+use Rattle.std.proofs.Common.{◌≡◌, ℕ, Option, refl, ap, arith, length}
 use Rattle.trace_format.specs.Reading.{counted_after}
 use Rattle.trace_format.specs.Rules.{touches_in}
 use Rattle.trace_format.specs.declared.record.TraceRecord.{TraceRecord}
@@ -28,9 +28,9 @@ returns-in-End c = record {
       omega (arith, same, was, touches_in-more seen c.args.item.now);
 }
 
-other : (n : ℕ) (item : TraceRecord) → ((a : Touch) → item ≡ records.Touch a → ⊥)
+other : (n : ℕ) (item : TraceRecord) → ((a : Touch) (pc : Option ℕ) → item ≡ records.Touch a pc → ⊥)
     → counted_after n item ≡ n
-other n (records.Touch a) not = absurd (not a refl)
+other n (records.Touch a pc) not = absurd (not a pc refl)
 other n (records.Alloc addr size sites) not = refl
 other n (records.Free addr) not = refl
 other n (records.Symbol kind addr size name) not = refl

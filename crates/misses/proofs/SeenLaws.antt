@@ -1,0 +1,151 @@
+-- What is seen of misses, with one record more.
+use Rattle.std.proofs.Common.{◌≡◌, ℕ, ◌+◌, ◌≤◌, List, [], ◌∷◌, ◌++◌, length, map, refl, sym, ap, ◌∙◌}
+use Rattle.std.proofs.Common.{Result, Ok, Err}
+use Rattle.std.proofs.lemmas.Result.{on_ok_weaker}
+use Rattle.std.specs.Prelude.{OnOk}
+use Rattle.std.proofs.lemmas.List.{append-nil}
+use Rattle.base.specs.Lines.{Grid}
+use Rattle.base.specs.TextLines.{text_of}
+use Rattle.misses.specs.Kept.{Kept, StandsFor, kept_of}
+use Rattle.misses.specs.Laws.Totals.{rows-stand}
+use Rattle.misses.specs.Rows.{all_costs, row_of, rows_of}
+use Rattle.misses.specs.declared.all_lines.Row.{Row}
+use Rattle.misses.specs.declared.line_misses.Costs.{Costs}
+use Rattle.objects.specs.Objects.{Objects, no_objects}
+use Rattle.sharing_rules.specs.AccessLists.{AccessList}
+use Rattle.trace_format.specs.Reading.{counted_after}
+use Rattle.trace_format.specs.Rules.{last_position, touches_in}
+use Rattle.trace_format.specs.declared.record.TraceRecord.{TraceRecord}
+use Rattle.trace_format.specs.declared.record.TraceRecord.TheVariants as records
+use Rattle.trace_passes.specs.Rooms.{HasRoom}
+use Rattle.trace_passes.specs.Lives.{objects_after}
+use Rattle.misses.specs.Seen.{HasMissed, MissesNext, missed, misses_begin_at}
+use Rattle.misses.specs.Seen.{misses_noted, nothing_missed}
+use Rattle.misses.specs.Texts.{misses_lines, misses_of_records, told_rows}
+use Rattle.trace_passes.specs.Lives.{objects_noted}
+use Rattle.misses.specs.declared.observer.MissSightings.{MissSightings}
+use Rattle.trace_format.specs.Laws.Touches.{counted-one, position-next, room-next, stands-next}
+use Rattle.trace_format.specs.Laws.Touches.{stands-none}
+use Rattle.trace_passes.specs.Laws.Noting.{none_left, objects_next, same_objects}
+
+-- ---- one record more
+
+noted_position : (k : Kept) (x : TraceRecord) → (misses_noted k x).position
+    ≡ counted_after k.position x
+noted_position k (records.Touch a pc) = refl
+noted_position k (records.Alloc addr size sites) = refl
+noted_position k (records.Free addr) = refl
+noted_position k (records.Symbol kind addr size name) = refl
+noted_position k (records.End e) = refl
+
+noted_grid : (k : Kept) (x : TraceRecord) → (misses_noted k x).grid ≡ k.grid
+noted_grid k (records.Touch a pc) = refl
+noted_grid k (records.Alloc addr size sites) = refl
+noted_grid k (records.Free addr) = refl
+noted_grid k (records.Symbol kind addr size name) = refl
+noted_grid k (records.End e) = refl
+
+module _ (old new : MissSightings) (x : TraceRecord) (is : new ≡ missed old x)
+    (stands : (t : AccessList) → StandsFor t old.misses
+    → StandsFor (t ++ touches_in (x ∷ [])) new.misses)
+    (begun : MissSightings) (xs : List TraceRecord) (so_far : HasMissed begun old xs)
+  where
+    next_stands : (t : AccessList) → StandsFor t begun.misses
+        → StandsFor (t ++ touches_in (xs ++ x ∷ [])) new.misses
+    next_stands t stood =
+        stands-next StandsFor new.misses t xs x
+        (stands (t ++ touches_in xs) (so_far.stands t stood))
+
+    next_position : new.misses.position
+        ≡ begun.misses.position + length (touches_in (xs ++ x ∷ []))
+    next_position =
+        position-next begun.misses.position old.misses.position xs x so_far.position
+        new.misses.position (ap (λ (s : MissSightings). s.misses.position) is
+        ∙ noted_position old.misses x ∙ counted-one old.misses.position x)
+
+    next_objects : new.objects ≡ objects_after begun.objects begun.misses.position (xs ++ x ∷ [])
+    next_objects =
+        let p : ℕ = begun.misses.position in
+        ap (λ (s : MissSightings). s.objects) is
+        ∙ ap (λ (o : Objects). objects_noted o x old.misses.position) so_far.objects
+        ∙ ap (objects_noted (objects_after begun.objects p xs) x) so_far.position
+        ∙ objects_next begun.objects p xs x
+
+    pub misses_next : HasMissed begun new (xs ++ x ∷ [])
+    misses_next = record {
+      stands = next_stands;
+      position = next_position;
+      objects = next_objects;
+      grid = ap (λ (s : MissSightings). s.misses.grid) is ∙ noted_grid old.misses x ∙ so_far.grid;
+    }
+
+-- where no access came, the list is as it was
+pub same_list : (k : Kept) (t : AccessList) → StandsFor t k → StandsFor (t ++ []) k
+same_list k t = stands-none StandsFor k t
+
+-- both parts with one record more
+module _ {T E : Type 0} (r : Result T E) (old : MissSightings) (k : Kept) (o : Objects)
+    (x : TraceRecord) (misses : k ≡ misses_noted old.misses x)
+    (objects : OnOk r (o ≡ objects_noted old.objects x old.misses.position))
+  where
+    abbrev now : MissSightings
+    now = record { misses = k; objects = o }
+
+    noted_both : o ≡ objects_noted old.objects x old.misses.position → now ≡ missed old x
+    noted_both is =
+        ap (λ (m : Kept). record { misses = m; objects = o }) misses
+        ∙ ap (λ (os : Objects). record { misses = misses_noted old.misses x; objects = os }) is
+
+    pub both_noted : OnOk r (now ≡ missed old x)
+    both_noted = on_ok_weaker r noted_both objects
+
+    pub both_seen : ((t : AccessList) → StandsFor t old.misses
+        → StandsFor (t ++ touches_in (x ∷ [])) k)
+        → OnOk r (MissesNext old now x)
+    both_seen stands = on_ok_weaker r
+        (λ is begun xs so_far. misses_next old now x (noted_both is) stands begun xs so_far)
+        objects
+
+pub ok_always : {T E P : Type 0} (r : Result T E) → P → OnOk r P
+ok_always (Ok x) p = p
+ok_always (Err e) p = tt
+
+-- ---- the beginning, and the room
+
+pub nothing_missed_yet : (g : Grid) → HasMissed (nothing_missed g) (nothing_missed g) []
+nothing_missed_yet g = record {
+  stands = stands-none StandsFor (kept_of g []);
+  position = refl;
+  objects = same_objects no_objects (objects_after no_objects 0 []) refl
+      (sym (append-nil _ ∙ none_left 0 []));
+  grid = refl;
+}
+
+pub room_for_miss : (now : MissSightings) (x : TraceRecord)
+    → HasRoom misses_begin_at HasMissed now (x ∷ [])
+    → counted_after now.misses.position x ≤ last_position
+room_for_miss now x room =
+    room-next room.begun.misses.position now.misses.position room.seen x
+    room.given_so_far.position room.first room.begins_there room.room
+
+-- ---- the text
+pub missed_text : (g : Grid) (now : MissSightings) (items : List TraceRecord) (total : Costs)
+    → HasMissed (nothing_missed g) now items
+    → ((t : AccessList) → StandsFor t now.misses → total ≡ all_costs now.misses.grid t)
+    → text_of (misses_lines now.misses.grid now.misses.position now.objects
+    (told_rows (map (row_of now.misses.grid) now.misses.lines)) total) ≡ misses_of_records g items
+unfolding misses_of_records
+missed_text g now items total so_far costs =
+    let t : AccessList = touches_in items in
+    let k : Kept = now.misses in
+    let stands : StandsFor t k = so_far.stands [] refl in
+    ap (λ (rs : List Row). text_of (misses_lines k.grid k.position now.objects (told_rows rs) total))
+    (rows-stand k t stands)
+    ∙ ap (λ (c : Costs). text_of (misses_lines k.grid k.position now.objects
+    (told_rows (rows_of k.grid t)) c)) (costs t stands)
+    ∙ ap (λ (q : Grid). text_of (misses_lines q k.position now.objects (told_rows (rows_of q t))
+    (all_costs q t))) so_far.grid
+    ∙ ap (λ p. text_of (misses_lines g p now.objects (told_rows (rows_of g t)) (all_costs g t)))
+    (ap (λ (x : Kept). x.position) stands)
+    ∙ ap (λ (o : Objects). text_of (misses_lines g (length t) o (told_rows (rows_of g t))
+    (all_costs g t))) so_far.objects

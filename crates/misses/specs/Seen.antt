@@ -1,0 +1,50 @@
+-- What trace records show of the misses of each line, and what stands in memory.
+use Rattle.std.specs.Prelude.{◌≡◌, ℕ, ◌+◌, List, [], ◌∷◌, ◌++◌, length}
+use Rattle.base.specs.Lines.{Grid}
+use Rattle.misses.specs.Kept.{Kept, StandsFor, kept_of, note_access}
+use Rattle.objects.specs.Objects.{no_objects}
+use Rattle.sharing_rules.specs.AccessLists.{AccessList}
+use Rattle.trace_format.specs.Rules.{touches_in}
+use Rattle.trace_format.specs.declared.record.TraceRecord.{TraceRecord}
+use Rattle.trace_format.specs.declared.record.TraceRecord.TheVariants as records
+use Rattle.trace_passes.specs.Lives.{objects_after}
+use Rattle.trace_passes.specs.Lives.{objects_noted}
+use Rattle.misses.specs.declared.observer.MissSightings.{MissSightings}
+
+-- before the first record
+abbrev pub nothing_missed : Grid → MissSightings
+nothing_missed g = record { misses = kept_of g []; objects = no_objects }
+
+-- what the accesses show once a record came
+abbrev pub misses_noted : Kept → TraceRecord → Kept
+misses_noted k (records.Touch a pc) = note_access k a
+misses_noted k _ = k
+
+-- one record more
+abbrev pub missed : MissSightings → TraceRecord → MissSightings
+missed s item = record {
+  misses = misses_noted s.misses item;
+  objects = objects_noted s.objects item s.misses.position;
+}
+
+-- from what was seen first, what is seen now came by these records
+pub record HasMissed (begun now : MissSightings) (items : List TraceRecord) : Type 0 where
+  -- for each list whose misses it had, it has those of the list with their accesses
+  pub stands : (t : AccessList) → StandsFor t begun.misses
+      → StandsFor (t ++ touches_in items) now.misses
+  -- each access moved it on by one
+  pub position : now.misses.position ≡ begun.misses.position + length (touches_in items)
+  -- the objects that stood there before, and those of the records
+  pub objects : now.objects ≡ objects_after begun.objects begun.misses.position items
+  -- under the same layout
+  pub grid : now.misses.grid ≡ begun.misses.grid
+
+-- its first access has this position
+abbrev pub misses_begin_at : MissSightings → ℕ → Type 0
+misses_begin_at begun first = begun.misses.position ≡ first
+
+-- whatever records came before, this one came after them
+abbrev pub MissesNext : MissSightings → MissSightings → TraceRecord → Type 0
+MissesNext old new item =
+    (begun : MissSightings) (items : List TraceRecord)
+    → HasMissed begun old items → HasMissed begun new (items ++ item ∷ [])

@@ -1,0 +1,15 @@
+use Rattle.std.proofs.Common.{[]}
+use Rattle.takings.specs.Laws.BlameKept.{stands-empty}
+use Rattle.takings.proofs.blame.Blame.new.Goals as goal
+
+pub invariant_of-result : goal.invariant_of-result
+invariant_of-result c = (
+  [],
+  rw (c.new.ensures.empty, c.new-2.ensures.empty, c.new-3.ensures.empty)
+      (stands-empty c.args.layout),
+)
+
+pub returns-clause-stands : goal.returns-clause-stands
+returns-clause-stands c =
+    rw (c.new.ensures.empty, c.new-2.ensures.empty, c.new-3.ensures.empty)
+    (stands-empty c.args.layout)
