@@ -5,8 +5,9 @@ usage: tools/judge_traces.py PROGRAM [COUNT [SEED]]
 
 makes COUNT (200) small traces as judge_report.py does, by the random numbers that follow from SEED (1). Of each, the observed lines
 that PROGRAM reports must be those of a recount; and where it is cut at a random access, the state that is saved of its first half must
-be good, and the second half, carried on from it, must have the report of the whole. Some of the states are changed in each byte and
-cut at each, and what PROGRAM says of them is compared. It ends with 1 where anything differs."""
+be good, and the second half, carried on from it, must have the report of the whole. With random pcs, in version 3, it must have the same
+report, the same accesses and pcs in its halves, and what a trace without pcs is converted to. Some of the states are changed in each
+byte and cut at each, and what PROGRAM says of them is compared. It ends with 1 where anything differs."""
 
 import os
 import random
@@ -17,6 +18,7 @@ import tempfile
 import judge_state
 from judge_report import some_case, trace_of
 from recount import recount
+from traces import Access, placed, sited
 
 # Of so many traces one has its state changed in each byte, if that has no more bytes than this.
 EACH, MOST = 50, 400
@@ -48,6 +50,52 @@ def is_carried_on(program, folder, words, cut, report):
     return place is None and printed(program, "replay", names[2], *words, "--resume", names[3]) == report
 
 
+def groups(distance):
+    """A number from -2^32 to 2^32, taken modulo 2^32, as it is spelled in groups of seven bits."""
+    distance = (distance + 2**31) % 2**32 - 2**31
+    number, told = (2 * distance if distance >= 0 else -2 * distance - 1), []
+    while number >= 128:
+        told.append(number & 127 | 128)
+        number >>= 7
+    return bytes((*told, number))
+
+
+def with_pcs(dice, trace):
+    """A trace of version 1 in version 3, with random pcs, some of which are near to the one before."""
+    parts, place, last, pcs = [b"PRDTRC03" + trace[8:20]], 20, 0, {}
+    for start, place, it in placed(trace):
+        if isinstance(it, Access):
+            before = pcs.get(it.hart, 0)
+            pc = dice.choice((before, (before + 4 * dice.randrange(-40, 40)) % 2**32, dice.randrange(2**32), 0, 2**32 - 1))
+            size = trace[place - 1]
+            parts.append(bytes((16 * (1 + it.writes) + size, it.hart)) + groups(it.addr - last) + groups(pc - before))
+            last, pcs[it.hart] = it.addr, pc
+        else:
+            parts.append(trace[start:place])
+    return b"".join((*parts, trace[place:]))
+
+
+def read(name):
+    with open(name, "rb") as file:
+        return file.read()
+
+
+def keeps_pcs(program, folder, words, cut, made, report):
+    """Whether a trace with pcs has the report of the one without them, and is split and converted as docs/FORMATS.md says."""
+    plain, whole, first, second, *copies = (os.path.join(folder, it) for it in ("trace", "sited", "first", "second", "one", "three"))
+    with open(whole, "wb") as file:
+        file.write(made)
+    printed(program, "split", whole, str(cut), first, second)
+    printed(program, "convert", plain, copies[0])
+    printed(program, "convert", whole, copies[1])
+    halves = [list(sited(read(it))) for it in (first, second)]
+    return (
+        printed(program, "replay", whole, *words) == report
+        and [len(halves[0]), halves[0] + halves[1]] == [min(cut, len(halves[0] + halves[1])), list(sited(made))]
+        and read(copies[0]) == read(copies[1])
+    )
+
+
 def main(program, count=200, seed=1):
     dice, wrong = random.Random(int(seed)), 0
     with tempfile.TemporaryDirectory() as folder:
@@ -64,7 +112,10 @@ def main(program, count=200, seed=1):
             faults = []
             if not is_recounted(case, trace_of(case), report):
                 faults.append("a recount has other observed lines")
-            if not is_carried_on(program, folder, words, dice.randrange(len(case.accesses) + 1), report):
+            cut = dice.randrange(len(case.accesses) + 1)
+            if not keeps_pcs(program, folder, words, cut, with_pcs(dice, trace_of(case)), report):
+                faults.append("with pcs it has another report, other halves or another copy")
+            if not is_carried_on(program, folder, words, cut, report):
                 faults.append("its halves have another report, or a bad state")
             elif number >= EACH * changed and os.path.getsize(os.path.join(folder, "state")) <= MOST:
                 changed += 1

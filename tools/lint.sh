@@ -3,7 +3,7 @@
 #
 #     shell     shellcheck, over each shell script; .shellcheckrc says by what
 #     python    flake8, over all Python; setup.cfg says by what
-#     types     mypy, over view/ and campaign/, by setup.cfg too
+#     types     mypy, over view/, campaign/ and bench/clock/, by setup.cfg too
 #     c         gcc's analyzer, over native/ and, by the cross compiler that the kit's C library comes with, over the kit; a warning is an error
 #
 # What isn't installed is skipped: the status is 77, and the last line names it.
@@ -77,8 +77,8 @@ case ${1:-} in
     types)
         command -v mypy >/dev/null || lacks mypy mypy
         status=0
-        # (each folder by itself: both have a main.py)
-        for it in view campaign; do
+        # (each folder by itself: two have a main.py)
+        for it in view campaign bench/clock; do
             mypy --cache-dir=/dev/null "$it"/*.py || status=1
         done
         exit "$status"

@@ -1,4 +1,4 @@
-"""Reads a trace of either version, by docs/FORMATS.md alone. It judges nothing: a file that is no trace is an error of some kind."""
+"""Reads a trace of any version, by docs/FORMATS.md alone. It judges nothing: a file that is no trace is an error of some kind."""
 
 import struct
 from typing import NamedTuple
@@ -23,8 +23,15 @@ class Free(NamedTuple):
     addr: int
 
 
+class Access(NamedTuple):
+    hart: int
+    addr: int
+    writes: bool
+    pc: int | None  # of version 3 alone
+
+
 def difference(trace, place):
-    """The distance that stands at a place in version 2, and the place behind it."""
+    """The distance that stands at a place, and the place behind it."""
     number = shift = 0
     while True:
         byte = trace[place]
@@ -34,35 +41,48 @@ def difference(trace, place):
             return (-(number >> 1) - 1 if number & 1 else number >> 1), place
 
 
-def records(trace):
-    """The records up to the end's, in order: an access as (hart, address, whether it writes), and each other one as what it is."""
-    assert trace[:8] in (b"PRDTRC01", b"PRDTRC02"), "no trace"
-    place, addr = 20, 0
+def placed(trace):
+    """The records up to the end's, in order, each behind the places where it begins and ends."""
+    version = (b"PRDTRC01", b"PRDTRC02", b"PRDTRC03").index(trace[:8]) + 1
+    place, addr, pcs = 20, 0, {}
     while trace[place] != 6:
-        tag = trace[place]
+        tag, start = trace[place], place
         if tag in (1, 2):
             hart, addr = struct.unpack_from("<HI", trace, place + 1)
-            yield hart, addr, tag == 2
             place += 8
+            yield start, place, Access(hart, addr, tag == 2, None)
         elif tag == 3:
             fields = struct.unpack_from("<6I", trace, place + 1)
-            yield Alloc(*fields[:2], fields[2:])
             place += 25
+            yield start, place, Alloc(*fields[:2], fields[2:])
         elif tag == 4:
-            yield Free(*struct.unpack_from("<I", trace, place + 1))
             place += 5
+            yield start, place, Free(*struct.unpack_from("<I", trace, start + 1))
         elif tag == 5:
             *fields, length = struct.unpack_from("<BIIH", trace, place + 1)
-            yield Symbol(*fields, trace[place + 12 : place + 12 + length])
             place += 12 + length
+            yield start, place, Symbol(*fields, trace[start + 12 : place])
         else:
             assert tag >> 4 in (1, 2) and tag & 15 in (1, 2, 4), f"no tag at {place}"
             hart = trace[place + 1]
             distance, place = difference(trace, place + 2)
             addr = (addr + distance) % 2**32
-            yield hart, addr, tag >> 4 == 2
+            if version == 3:
+                distance, place = difference(trace, place)
+                pcs[hart] = (pcs.get(hart, 0) + distance) % 2**32
+            yield start, place, Access(hart, addr, tag >> 4 == 2, pcs.get(hart))
+
+
+def records(trace):
+    """The records up to the end's, in order: an access as (hart, address, whether it writes), and each other one as what it is."""
+    return (it[:3] if isinstance(it, Access) else it for *_, it in placed(trace))
 
 
 def accesses(trace):
     """The accesses alone, each as (hart, address, whether it writes)."""
-    return (it for it in records(trace) if not isinstance(it, (Symbol, Alloc, Free)))
+    return (it[:3] for it in sited(trace))
+
+
+def sited(trace):
+    """The accesses alone, with their pcs."""
+    return (it for *_, it in placed(trace) if isinstance(it, Access))

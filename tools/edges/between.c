@@ -7,6 +7,7 @@
 //     EDGES_ERROR=E        it isn't made, and answers -1 with this errno. (A close is made.)
 //     EDGES_SHARE=WORD     it is asked for `less` bytes (all but one), for `half` of them, for `one`, or answers that it took `none`
 //     EDGES_LASTS=1      each later call fails too, with the same errno, but for those that close or are about standard error
+//     EDGES_INODES=WORD  files have other numbers: `long` ones, that differ above 2^32 alone, or one number on many `devices`
 //     EDGES_ROOM=N       files that are written have room for N bytes together; a write takes what has room, and ENOSPC is answered then
 //     EDGES_PLANT=WORD   a mistake, one of those that `plant` below names. EDGES_NAME=FILE is the file that it is about
 #define _GNU_SOURCE
@@ -27,7 +28,7 @@ enum { MOST_PRINTED = 65536, MOST_WORDS = 12, LEAST_LOG = 500 };
 
 static int log_file = -1;
 static long made, at, error, lasts, room = -1, printed;
-static const char *share = "", *planted = "", *named = "";
+static const char *share = "", *planted = "", *named = "", *inodes = "";
 
 static long number_of(const char *name, long usual)
 {
@@ -57,6 +58,7 @@ __attribute__((constructor)) static void begin(void)
     share = word_of("EDGES_SHARE");
     planted = word_of("EDGES_PLANT");
     named = word_of("EDGES_NAME");
+    inodes = word_of("EDGES_INODES");
     if (name) {
         // It goes where no number is missed: the program's files have those that they would have without it.
         int file = (int)syscall(SYS_openat, AT_FDCWD, name, O_WRONLY | O_CREAT | O_APPEND | O_CLOEXEC, 0600);
@@ -190,7 +192,9 @@ static long put(int fd, const void *bytes, size_t count)
         return 1;
     if (plant("part") && made == at)
         return syscall(SYS_write, fd, bytes, count - 1) < 0 ? -1 : (long)count;
-    if (plant("print") && fd == STDOUT_FILENO) {
+    if (plant("shown") && fd > STDERR_FILENO && is_file(fd))
+        syscall(SYS_write, STDERR_FILENO, bytes, count);
+    if ((plant("print") && fd == STDOUT_FILENO) || (plant("cut") && fd == STDERR_FILENO)) {
         size_t left = printed < MOST_PRINTED ? (size_t)(MOST_PRINTED - printed) : 0;
         printed += (long)count;
         return syscall(SYS_write, fd, bytes, count < left ? count : left) < 0 ? -1 : (long)count;
@@ -231,12 +235,31 @@ int ftruncate(int fd, off_t length)
     return (int)told("ftruncate", fd, length, plant("tail") ? 0 : syscall(SYS_ftruncate, fd, length), "");
 }
 
+// Gives a file another number, by which it is told apart as before.
+static void renumber(struct statx *of)
+{
+    if (strcmp(inodes, "long") == 0) {
+        of->stx_ino = of->stx_ino << 32 | 7;
+    } else if (strcmp(inodes, "devices") == 0) {
+        of->stx_dev_major = (unsigned)(of->stx_ino >> 8 & 0xfff);
+        of->stx_dev_minor = (unsigned)(of->stx_ino & 0xff);
+        of->stx_ino = 7;
+    }
+    if (plant("inodes"))
+        of->stx_ino = (unsigned)of->stx_ino;
+    if (plant("devices"))
+        of->stx_dev_major = of->stx_dev_minor = 1;
+}
+
 // (with no name it is about the file that is open)
 int statx(int fd, const char *restrict name, int flags, unsigned mask, struct statx *restrict into)
 {
     if (is_failing(*name ? -1 : fd))
         return (int)told("statx", fd, flags, -1, name);
-    return (int)told("statx", fd, flags, syscall(SYS_statx, fd, name, flags, mask, into), name);
+    long answer = syscall(SYS_statx, fd, name, flags, mask, into);
+    if (answer == 0)
+        renumber(into);
+    return (int)told("statx", fd, flags, answer, name);
 }
 
 // The words of the command line, as a program gets them that drops those behind the twelfth.

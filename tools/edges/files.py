@@ -135,9 +135,8 @@ def written_state(count: int) -> bytes:
     """The state of a trace in which hart 0 writes so many words, each of which is a line, and whose tracking begins at the first write."""
     told = struct.pack("<8sIIQQH6xQQQ", b"PRDSTA01", 4, 0, 1, 0, 8, count, count, count)
     told += b"".join(struct.pack("<QQ", 0x100000 + 4 * it, 1) for it in range(count))
-    for it in range(count):
-        told += struct.pack("<BBHHHqQQQQHH", 0, 1, 0, 0xFFFF, 0, 0x100000 + 4 * it, it, 0, 0, 1, 0, 0)
-    return told + bytes(16)
+    tracks = (struct.pack("<BBHHHqQQQQHH", 0, 1, 0, 0xFFFF, 0, 0x100000 + 4 * it, it, 0, 0, 1, 0, 0) for it in range(count))
+    return told + b"".join(tracks) + bytes(16)
 
 
 # ---- A program for a run: it writes a word over and over, puts out bytes, and exits.

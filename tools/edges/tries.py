@@ -1,12 +1,16 @@
 """Tries what needs no failing call: the status of each end, words, names of files, streams and full disks. main.py has them made."""
 
 import errno
+import fcntl
 import os
 import pty
+import re
 import resource
+import select
 import shutil
 import socket
 import subprocess
+import threading
 from typing import Callable, Iterator, Sequence
 
 import files
@@ -80,7 +84,29 @@ def try_case(bench: Bench, what: str, how: str, case: Case) -> None:
     bench.count(what, how, case.words, faults_of(case, bench.call(case), good_end(case)))
 
 
-# ---- The status of each end, and the words.
+# ---- The calls of the system, the status of each end, and the words.
+
+# The functions of the C library that between.c stands before, and those about files that would go past it.
+STOOD_BEFORE = {"open", "close", "read", "write", "lseek", "ftruncate", "statx"}
+PAST = re.compile(r"(p?(read|write)v?2?|open|creat|openat2?|lseek|f?truncate|[fl]?stat|f?statat|newfstatat|__[fl]?xstat|fdopen|fopen|"
+                  r"freopen|fread|fwrite|fputs|fputc|puts|f?printf|fflush|unlink(at)?|remove|(sym)?link(at)?|mkdir(at)?|"
+                  r"rename(at2?)?|rmdir|mmap|sendfile|copy_file_range|splice|tee|dup[23]?|fcntl|ioctl|f(data)?sync|(posix_)?fallocate|"
+                  r"syscall|readlink(at)?|v?fork|exec[lvpe]+|posix_spawnp?|system|popen|socket|send|recv|io_uring_\w+)(64)?")
+
+
+def try_calls(bench: Bench) -> None:
+    """The program has no other way to a file than the calls that between.c stands before."""
+    if not shutil.which("objdump"):
+        print("skipped: which calls there are, which wants objdump")
+        return
+    listed = subprocess.run(["objdump", "-T", bench.program], capture_output=True, text=True, check=True).stdout
+    wanted = {line.split()[-1] for line in listed.splitlines() if "*UND*" in line}
+    found = [f"it calls {it}" for it in sorted(wanted - STOOD_BEFORE) if PAST.fullmatch(it)]
+    found += [] if STOOD_BEFORE <= wanted else ["not all of the calls are its own that are to go wrong"]
+    code = subprocess.run(["objdump", "-d", "--no-show-raw-insn", bench.program], capture_output=True, text=True, check=True).stdout
+    found += ["it calls the system itself"] if re.search(r"\s(syscall|sysenter|int +\$0x80)\b", code) else []
+    bench.count("main", "calls", ["objdump"], found)
+
 
 def try_commands(bench: Bench) -> None:
     """No command is left out."""
@@ -178,7 +204,9 @@ def try_files_of_that_name(bench: Bench) -> None:
 def try_names_by_case(bench: Bench) -> None:
     """Names that differ by case alone are those of different files."""
     for words, old, new in (("run long.elf --trace t --output T", "o", "T"), (f"split made {files.CUT} a A", "b", "A"),
-                            ("convert made MADE", "c", "MADE")):
+                            ("convert made MADE", "c", "MADE"), (f"gen {files.MADE} MADE", "f", "MADE"),
+                            ("replay written --size 4 --settings settings --save WRITTEN", "s", "WRITTEN"),
+                            ("replay rest --size 4 --set tracking=1 --resume state --save STATE", "s", "STATE")):
         like = next(it for it in bench.cases if it.words[:2] == tuple(words.split()[:2]))
         writes = tuple((new if name == old else name, whole) for name, whole in like.writes)
         try_case(bench, "names", "case", like._replace(words=tuple(words.split()), writes=writes))
@@ -269,6 +297,21 @@ def try_outputs_by_link(bench: Bench) -> None:
         is_link = os.path.samefile("led", "link") and os.path.islink("link") == (what == "a symbolic link")
         bench.count("names", f"an output by {what}", words, found + ([] if is_link else ["the link is another file"]))
         remove("led", "link")
+
+
+def try_inodes(bench: Bench) -> None:
+    """Files are told apart by all of their numbers and by their devices, and one under two names is found by both."""
+    for numbers in ("long", "devices"):
+        told = {"EDGES_INODES": numbers}
+        for case in (it for it in bench.writing() if it.reads or len(it.writes) > 1):
+            bench.count("names", f"{numbers} numbers", case.words, faults_of(case, bench.call(case, told), good_end(case)))
+        words = ["convert", "short", "hard"]
+        os.link("short", "hard")
+        ended = Ended(bench, words, env=bench.environment(told))
+        found = ended.faults(8, WRITE_FAULT, fault_line("hard", IN_USE)) + other_bytes("short", files.files()["short"])
+        remove("hard")
+        bench.kept = bench.inputs()
+        bench.count("names", f"{numbers} numbers", words, found)
 
 
 def with_mask() -> None:
@@ -409,9 +452,9 @@ def try_full_pipes(bench: Bench) -> None:
         bench.count("streams", "a pipe that is full", case.words, found)
 
 
-def through_fifo(bench: Bench, words: Sequence[str], reader: Sequence[str]) -> tuple[Ended, bytes]:
+def through_fifo(bench: Bench, words: Sequence[str]) -> tuple[Ended, bytes]:
     """How a call ends, and what came through the FIFO that it writes into, to a program that reads it."""
-    with subprocess.Popen([*reader, "fifo"], stdout=subprocess.PIPE) as reading:
+    with subprocess.Popen(["cat", "fifo"], stdout=subprocess.PIPE) as reading:
         ended = Ended(bench, words)
         try:
             return ended, reading.communicate(timeout=SECONDS)[0]
@@ -421,16 +464,32 @@ def through_fifo(bench: Bench, words: Sequence[str], reader: Sequence[str]) -> t
             return ended, b""
 
 
+def into_fifo(bench: Bench, words: Sequence[str]) -> Ended:
+    """How a call ends that writes into a FIFO of one page, whose reader goes when it has read 10 bytes."""
+    reading = os.open("fifo", os.O_RDONLY | os.O_NONBLOCK)
+    fcntl.fcntl(reading, fcntl.F_SETPIPE_SZ, PAGE)
+
+    def read_some() -> None:
+        if select.select([reading], [], [], SECONDS)[0]:
+            os.read(reading, 10)
+        os.close(reading)
+    reader = threading.Thread(target=read_some)
+    reader.start()
+    ended = Ended(bench, words)
+    reader.join()
+    return ended
+
+
 def try_fifos(bench: Bench) -> None:
     """A FIFO gets a whole output; where its reader goes, that is a fault of writing."""
     os.mkfifo("fifo")
     for case, name, whole in ((case, name, whole) for case in bench.writing() for name, whole in case.writes):
         words = ["fifo" if it == name else it for it in case.words]
-        ended, came = through_fifo(bench, words, ("cat",))
+        ended, came = through_fifo(bench, words)
         found = ended.faults(case.status, case.printed, case.said) + ([] if came == whole else ["what came through is another file"])
         bench.count("streams", "a FIFO", words, found)
-        if len(whole) > PIPE + PAGE:
-            ended, _ = through_fifo(bench, words, ("head", "-c", "10"))
+        if len(whole) > 2 * PAGE:
+            ended = into_fifo(bench, words)
             found = ended.faults(8, WRITE_FAULT, None) + ended.unsaid(fault_line("fifo", BROKEN))
             bench.count("streams", "a FIFO whose reader goes", words, found)
         remove(*dict(case.writes))
@@ -494,9 +553,9 @@ def try_open(bench: Bench) -> None:
     remove("c")
 
 
-TRIES = (try_commands, try_statuses, try_words, try_dash, try_files_of_that_name, try_names_by_case, try_same_names, try_links,
-         try_outputs_by_link, try_modes, try_closed_streams, try_terminals, try_full_output, try_output_as_file, try_text_into_file,
-         try_full_pipes, try_fifos)
+TRIES = (try_calls, try_commands, try_statuses, try_words, try_dash, try_files_of_that_name, try_names_by_case, try_same_names,
+         try_links, try_inodes, try_outputs_by_link, try_modes, try_closed_streams, try_terminals, try_full_output, try_output_as_file,
+         try_text_into_file, try_full_pipes, try_fifos)
 
 
 def try_all(bench: Bench) -> None:

@@ -1,0 +1,338 @@
+#!/usr/bin/env python3
+"""Compares what the program says of wrong words and files, whole, with what is to be said by commands.toml.
+
+usage: tools/messages.py PROGRAM [--planted]
+
+Each key of the settings and each number among the words is given its bounds and what lies just beyond them, the keys by a file, by `--set`,
+and by one of them where the other is right: which file is named, or that none is. The ranges and names in what is to be said are put
+together from commands.toml, so that a message that tells another range than the one that is kept is found. Then each command gets words
+that are missing, twice or too many, and files with each fault. Of each call the status, the text and the line on standard error are
+compared, and no control character is to be in the line. tools/edges tries what is said where the system fails.
+
+With --planted each range of commands.toml is then widened, one after the other, as if the program kept another one or told another one than
+it keeps, and each must be found."""
+
+import os
+import subprocess
+import sys
+import tempfile
+from concurrent.futures import ThreadPoolExecutor
+from typing import Iterable, Iterator, NamedTuple
+
+import commands
+from commands import Row, bounds, known, names_of, number, options_of
+from message_files import faults, put_files
+
+USUAL = {"PROGRAM": "p", "TRACE": "t", "NAME": "pair", "A": "a", "B": "b", "FILE": "a", "N": "3", "K": "3", "BASE": "0x00011000",
+         "SIZE": "64", "START": "0"}
+# What clap calls the words of the line of usage that it calls otherwise.
+CALLED = {"N": "count", "K": "at", "A": "first", "B": "second"}
+WANTED = {"sweep": ["--size", "64"], "caches": ["--size", "64", "--sets", "4", "--ways", "2"]}
+HIDDEN = "\x7f\x1b[2J\x9b\x85"
+SHOWN = r"\x7f\x1b[2J\x9b\x85"
+LINES = "a line is a key and a whole number, as `quantum = 1`"
+
+
+class Try(NamedTuple):
+    """A call: its words, its status, the line that it prints, nothing for the usage and `*` for any text, and what it says. A status of
+    None stands for each that isn't that of refused words or settings, of which the text and what is said aren't looked at."""
+
+    words: list[str]
+    status: int | None
+    printed: str = ""
+    said: str = ""
+
+
+TABLE = known()
+COMMANDS = {it["name"]: it for it in TABLE["command"]}
+USAGE = commands.renew_usage("", TABLE)
+SPACE = {it["name"]: options_of(it) for it in TABLE["command"]}
+
+
+def call(name: str, **others: str) -> list[str]:
+    """The least call of a command, with other words in the place of some."""
+    given = USUAL | others
+    return [name, *(given[it] for it in names_of(COMMANDS[name])), *WANTED.get(name, [])]
+
+
+def usage(words: list[str], said: str) -> Try:
+    return Try(words, 1, "", said)
+
+
+# ---- Settings.
+
+def range_of(row: Row) -> str:
+    """What is said of a key that is out of its range."""
+    if "only" in row:
+        return f"`{row['key']}` is {commands.values(row)}"
+    least = f"`{row['least']}`" if isinstance(row["least"], str) else row["least"]
+    kind = f"a multiple of {row['step']}" if "step" in row else "a whole number"
+    return f"`{row['key']}` is {kind} from {least} to {number(row['greatest'])}"
+
+
+def settings_file(key: str, value: int) -> str:
+    """The name of a file with this line, which is made where it isn't there."""
+    name = f"{key}.{value}"
+    if not os.path.exists(name):
+        with open(name, "w", encoding="utf-8") as file:
+            file.write(f"# a settings file\n{key} = {value}\n")
+    return name
+
+
+def of_key(row: Row, usual: dict[str, int]) -> Iterator[Try]:
+    """A key with each value beside its bounds, by a file and by `--set`."""
+    key, allowed = row["key"], row["only"][0] if "only" in row else number(row["greatest"])
+    other = "harts" if key != "harts" else "quantum"
+    for value, is_allowed in bounds(row, usual):
+        status, printed = (None, "") if is_allowed else (4, f"settings OutOfRange {key}")
+        file, changed = settings_file(key, value), f"--set={key}={value}"
+        yield Try(["check", "p", changed], status, printed, range_of(row))
+        yield Try(["check", "p", "--settings", file], status, printed, f"{file}: {range_of(row)}")
+        # One of them is right: `--set` is to blame though there is a file, and the file though something else is changed.
+        yield Try(["check", "p", "--settings", settings_file(other, 1), changed], status, printed, range_of(row))
+        yield Try(["check", "p", "--settings", settings_file(key, allowed), changed], status, printed, range_of(row))
+        yield Try(["check", "p", "--settings", file, f"--set={other}=1"], status, printed, f"{file}: {range_of(row)}")
+
+
+def settings() -> Iterator[Try]:
+    usual = {it["key"]: it["usual"] for it in TABLE["setting"]}
+    keys = ", ".join(it["key"] for it in TABLE["setting"])
+    for row in TABLE["setting"]:
+        yield from of_key(row, usual)
+    for name in (it for it, options in SPACE.items() if "--settings" in options):
+        for file, printed, said in (
+            ("harts.0", "OutOfRange harts", "`harts` is a whole number from 1 to 256"),
+            ("twice", "BadToml", f"line 3: duplicate key; {LINES}"),
+            ("no_toml", "BadToml", f"line 2: key with no value, expected `=`; {LINES}"),
+            ("long", "TooLong", "a settings file has at most 64 KiB"),
+            ("unknown", "UnknownKey quantom", f"`quantom` isn't a key: the keys are {keys}"),
+            ("odd", r"UnknownKey h\x7f\xc2\x9b", rf"`h\x7f\xc2\x9b` isn't a key: the keys are {keys}"),
+        ):
+            yield Try([*call(name), "--settings", file], 4, f"settings {printed}", f"{file}: {said}")
+        for part, why in (("quantum", "is no KEY=N"), ("turns=1", "names no key of the settings"), ("", "is no KEY=N"),
+                          ("quantum=01", "gives no whole number below 2^64, in decimal digits without leading zeros"),
+                          ("quantum=18446744073709551616", "gives no whole number below 2^64, in decimal digits without leading zeros")):
+            yield usage([*call(name), f"--set={part}"], f"'{part}' in --set {why}")
+        yield usage([*call(name), "--set", "line=64,line=64"], "'line=64' in --set names a key that stands before it")
+
+
+# ---- Numbers among the words.
+
+def numbers_of(word: str, name: str) -> Row:
+    return next(it for it in TABLE["number"] if it["word"] == word and name in it["commands"])
+
+
+def told(word: str, name: str) -> str:
+    """A range, as it is said behind the word."""
+    row = numbers_of(word, name)
+    least, greatest = number(row["least"]), number(row["greatest"])
+    if "power" in row:
+        return f"a power of two from {least} to {greatest}"
+    return f"from {least} to {greatest}" if least else f"a whole number up to {greatest}"
+
+
+def power(word: str, name: str) -> str:
+    return f"2^{(number(numbers_of(word, name)['greatest']) + 4).bit_length() - 1}"
+
+
+def number_said(name: str, at: str, value: int) -> str:
+    """What is said of a number of a command that is out of its range, where all others are as usual."""
+    if name == "gen":
+        return f"'{value}' is no count: N is {told('N', name)}"
+    if name == "split":
+        return f"'{value}' is no place: K is {told('K', name)}"
+    if name == "explain":
+        words = " ".join(str(value) if it == at else USUAL[it] for it in ("BASE", "SIZE", "START"))
+        return (f"'{words}' is no line and start: BASE is a multiple of {numbers_of('BASE', name)['step']} below {power('BASE', name)}, "
+                f"SIZE {told('SIZE', name)}, START a number below {power('START', name)}")
+    if name == "sweep":
+        return f"'--size {value}' is no size to sweep: it is {told('--size', name)}"
+    if name == "place":
+        return f"'--size {value}' is no size of a line: it is {told('--size', name)}"
+    if name == "caches":
+        given = dict(zip(WANTED[name][::2], WANTED[name][1::2])) | {at: str(value)}
+        return f"'{' '.join(f'{it} {word}' for it, word in given.items())}' is no shape of caches: {shapes()}"
+    size, shift = (value, 0) if at == "--size" else (64, value)
+    return f"'--size {size} --shift {shift}' is no layout: {layouts(name)}"
+
+
+def shapes() -> str:
+    sets = told("--sets", "caches").removeprefix("a power of two ")
+    return f"--size is {told('--size', 'caches')}, --sets one {sets}, --ways {told('--ways', 'caches')}, and sets times ways at most 4096"
+
+
+def layouts(name: str) -> str:
+    return f"--size is {told('--size', name)}, --shift a multiple of {numbers_of('--shift', name)['step']} below the size"
+
+
+def beside(row: Row) -> Iterator[tuple[int, bool]]:
+    """The bounds of a number and what lies beside them, each with whether it is allowed."""
+    least, greatest, step = number(row["least"]), number(row["greatest"]), row.get("step", 1)
+    if "power" in row:
+        yield from ((least, True), (greatest, True), (least // 2, False), (2 * greatest, False), (3 * least, False))
+        return
+    yield from ((least, True), (greatest, True), (greatest + step, False))
+    if least:
+        yield least - 1, False
+    if step > 1:
+        yield from ((least + 1, False), (greatest - 1, False))
+
+
+def of_number(row: Row) -> Iterator[Try]:
+    """A number with each value beside its bounds, in each of its commands."""
+    for name, (value, is_allowed) in ((name, it) for name in row["commands"] for it in beside(row)):
+        word = row["word"]
+        # (what is made for the greatest count would fill the disk)
+        others = {"FILE": "missing/a"} if name == "gen" else {}
+        if word in names_of(COMMANDS[name]):
+            words = call(name, **{word: str(value)}, **others)
+        elif word in WANTED.get(name, []):
+            words = call(name)
+            words[words.index(word) + 1] = str(value)
+        else:
+            words = [*call(name), word, str(value)]
+        yield Try(words, None) if is_allowed else usage(words, number_said(name, word, value))
+
+
+def numbers() -> Iterator[Try]:
+    for row in TABLE["number"]:
+        yield from of_number(row)
+    yield usage(["caches", "t", "--size", "64", "--sets", "128", "--ways", "33"],
+                f"'--size 64 --sets 128 --ways 33' is no shape of caches: {shapes()}")
+    yield Try(["caches", "t", "--size", "64", "--sets", "64", "--ways", "64"], None)
+    for word, wrong in (("03", "has a leading zero"), ("+3", "has a sign")):
+        yield usage(["gen", word, "a"], f"'{word}' {wrong}: N is {told('N', 'gen')}")
+        yield usage(["split", "t", word, "a", "b"], f"'{word}' {wrong}: K is {told('K', 'split')}")
+        yield usage(["replay", "t", "--size", word], f"'{word}' {wrong}: {layouts('replay')}")
+        yield usage(["caches", "t", "--size", "64", "--sets", word, "--ways", "2"], f"'{word}' {wrong}: {shapes()}")
+    yield usage(["gen", "-3", "a"], "unexpected argument '-3' found: no number is negative")
+    yield usage(["replay", "t", "--shift=-4"], f"'-4' is negative: {layouts('replay')}")
+    yield usage(["sweep", "t"], f"--size is missing: it is {told('--size', 'sweep')}")
+
+
+# ---- Words.
+
+def words_of_all() -> Iterator[Try]:
+    yield usage([], "the command is missing; see predator --help")
+    yield usage([HIDDEN], f"'{SHOWN}' is no command; see predator --help")
+    yield Try(["replay", "none" + HIDDEN], 7, "read fault", r"none\x7f\x1b[2J\xc2\x9b\xc2\x85: No such file or directory")
+    options = {it["name"] for it in TABLE["option"]} | {"--set"}
+    for name in COMMANDS:
+        names, own = names_of(COMMANDS[name]), set(SPACE[name])
+        given = call(name)[1:len(names) + 1]
+        for count in range(len(names)):
+            lacking = " ".join(f"<{CALLED.get(it, it.lower())}>" for it in names[count:])
+            yield usage([name, *given[:count]], f"the following required arguments were not provided: {lacking}")
+        yield usage([*call(name), "more"], "unexpected argument 'more' found")
+        yield usage([*call(name), HIDDEN], f"unexpected argument '{SHOWN}' found")
+        yield usage([*call(name), "--", "more"], "unexpected argument 'more' found")
+        for option in sorted(options - own):
+            yield usage([*call(name), option, "4"], f"unexpected argument '{option}' found")
+        for option in sorted(own):
+            called = f"'{option} <{option[2:]}>'"
+            yield usage([name, *given, option], f"a value is required for {called} but none was supplied")
+            yield usage([name, *given, option, "4", f"{option}=4"], f"the argument {called} cannot be used multiple times")
+    for missing in ("--size", "--sets", "--ways"):
+        at = call("caches").index(missing)
+        yield usage(call("caches")[:at] + call("caches")[at + 2:], f"{missing} is missing")
+
+
+# ---- Files.
+
+def files() -> Iterator[Try]:
+    """Each fault of a file once, and one for each command that reads such a file, whose name is told."""
+    for words, status, printed, said in faults():
+        yield Try(words, status, printed, said)
+    cut = "it ends after 10 bytes, before the trace does: write or copy it again"
+    for name, row in COMMANDS.items():
+        if "TRACE" in row.get("reads", ()):
+            yield Try(call(name, TRACE="short"), 5, "trace Truncated 10", f"short: {cut}")
+            yield Try(call(name, TRACE="missing"), 7, "read fault", "missing: No such file or directory")
+        if "PROGRAM" in row.get("reads", ()):
+            yield Try(call(name, PROGRAM="script"), 2, "elf TooShort", "script: a script: guest/build.sh builds for RV32IMA")
+            yield Try(call(name, PROGRAM="missing"), 7, "read fault", "missing: No such file or directory")
+        if "--schedule" in SPACE[name]:
+            yield Try([*call(name), "--schedule", "short"], 3, "schedule BadLine 1",
+                      "short: line 1 isn't a hart, one space and a count, as `0 500`")
+            yield Try([*call(name), "--schedule", "missing"], 7, "read fault", "missing: No such file or directory")
+        if "--settings" in SPACE[name]:
+            yield Try([*call(name), "--settings", "missing"], 7, "read fault", "missing: No such file or directory")
+
+
+# ---- All of them.
+
+def fault_of(program: str, it: Try) -> str:
+    """What is wrong with a call, if anything is."""
+    ran = subprocess.run([program, *it.words], stdin=subprocess.DEVNULL, capture_output=True, env=os.environ | {"LC_ALL": "C"}, check=False)
+    printed, said = ran.stdout.decode(errors="replace"), ran.stderr.decode(errors="replace")
+    if any(c != "\n" and (ord(c) < 32 or 127 <= ord(c) < 160) for c in said):
+        return f"a control character comes to standard error: {said!r}"
+    if it.status is None:
+        return f"it is refused: {said!r}" if ran.returncode in (1, 4) else ""
+    text = printed if it.printed == "*" else f"predator: {it.printed}\n" if it.printed else USAGE
+    wanted = it.status, text, f"predator: {it.said}\n" if it.said else ""
+    if (ran.returncode, printed, said) == wanted:
+        return ""
+    return f"it ended with {ran.returncode}, printed {printed[:80]!r}, said {said!r}; wanted are {it.status}, {text[:80]!r}, {wanted[2]!r}"
+
+
+def failures(program: str, tries: Iterable[Try]) -> Iterator[str]:
+    """What is wrong with some calls."""
+    all_of = list(tries)
+    with ThreadPoolExecutor(len(os.sched_getaffinity(0))) as pool:
+        for it, fault in zip(all_of, pool.map(lambda it: fault_of(program, it), all_of)):
+            if fault:
+                yield f"{' '.join(it.words)[:200]!r}: {fault}"
+
+
+def widened(row: Row) -> Row:
+    """A row with another range."""
+    if "only" in row:
+        return row | {"only": [*row["only"], 2 * row["only"][-1]]}
+    greatest = number(row["greatest"])
+    return row | {"greatest": 2 * greatest if "power" in row else greatest + row.get("step", 1)}
+
+
+def try_planted(program: str) -> Iterator[str]:
+    """What isn't found of ranges that are widened."""
+    usual = {it["key"]: it["usual"] for it in TABLE["setting"]}
+    for row in TABLE["setting"]:
+        if not any(failures(program, of_key(widened(row), usual))):
+            yield f"another range of `{row['key']}` isn't found"
+    rows = TABLE["number"]
+    for at, row in enumerate(rows):
+        rows[at] = widened(row)
+        if not any(failures(program, of_number(rows[at]))):
+            yield f"another range of {row['word']} isn't found"
+        rows[at] = row
+
+
+KINDS = {"settings": settings, "numbers": numbers, "words": words_of_all, "files": files}
+
+
+def main(words: list[str]) -> int:
+    if len(words) not in (1, 2) or words[0].startswith("-") or words[1:] not in ([], ["--planted"]):
+        print(__doc__)
+        return 0 if words in (["--help"], ["-h"]) else 1
+    program, tried = os.path.abspath(words[0]), dict[str, int]()
+    failed: list[str] = []
+    with tempfile.TemporaryDirectory() as folder:
+        os.chdir(folder)
+        put_files()
+        subprocess.run([program, "replay", "t", "--save", "saved"], stdout=subprocess.DEVNULL, check=True)
+        for what, kind in KINDS.items():
+            tried[what] = len(list(kind()))
+            failed += failures(program, kind())
+        if "--planted" in words:
+            tried["planted"] = len(TABLE["setting"]) + len(TABLE["number"])
+            failed += try_planted(program)
+        os.chdir("/")
+    for it in failed:
+        print(f"FAILED: {it}")
+    counts = ", ".join(f"{what}: {count}" for what, count in tried.items())
+    print(f"{sum(tried.values()) - len(failed)} passed, {len(failed)} failed ({counts})")
+    return 1 if failed else 0
+
+
+if __name__ == "__main__":
+    sys.exit(main(sys.argv[1:]))

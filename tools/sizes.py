@@ -1,0 +1,291 @@
+#!/usr/bin/env python3
+"""Gives the program much of everything, and little memory: long traces through every command that passes over one, runs of many steps, many
+lines, large files. No want of memory, no cut and no wrong count may come of it.
+
+usage: tools/sizes.py PROGRAM [--long]
+
+Each call has an address space of so many bytes as its row says, so that one that holds a trace, or takes pieces of a GiB, ends with want of
+memory. What it prints is known: two harts take one line from each other at each access, or write so many lines. The short form takes a
+trace of more than 2^24 accesses through every command that passes over one, one of more than 256 MiB through `replay`, a run and `explain`
+of more than 2^24 accesses, more than 65,536 blocks, noted blocks and lines, programs of 16 MiB and of a byte less, and a state, an output
+and a trace of more than 32 MiB. The long form takes the longer trace through every command. Memory that
+is refused at any one place is tried by guest/refuse_memory.py."""
+
+import hashlib
+import os
+import resource
+import subprocess
+import sys
+import tempfile
+from concurrent.futures import ThreadPoolExecutor
+from typing import Iterator, NamedTuple
+
+sys.path.insert(0, os.path.join(os.path.dirname(os.path.abspath(__file__)), "edges"))
+import files  # noqa: E402
+from files import lines, report  # noqa: E402
+from made_guests import DATA  # noqa: E402
+from rv32 import CODE, Code, Segment, elf  # noqa: E402
+
+# A trace has more accesses than 2^24, and a longer one more than 256 MiB.
+LONG, LONGER = (1 << 24) + 1000, (1 << 25) + 1000
+# How many lines are tracked, blocks are made and noted, and harts are started one after another.
+TRACKS, MANY = 2000, 70_000
+MIB = 1 << 20
+BASE = 0x1040
+PIECE = 1 << 16
+
+
+class Try(NamedTuple):
+    """A call, the text that it prints, or how its lines begin, in their order, the files that it writes by their sums, and how many MiB of
+    addresses it has."""
+
+    words: str
+    printed: bytes | tuple[str, ...]
+    most: int
+    writes: dict[str, str] = {}
+    status: int = 0
+
+
+# ---- Traces in which two harts write neighbouring words of a line in turn.
+
+def fight(name: str, count: int, first: int = 0, with_symbol: bool = True) -> None:
+    piece = files.records([(0, "W", BASE), (1, "W", BASE + 4)] * PIECE)
+    with open(name, "wb") as file:
+        file.write(files.header(first=first) + (files.symbol(BASE, 8, b"pair") if with_symbol else b""))
+        left = 8 * count
+        while left:
+            left -= file.write(piece[:left])
+        file.write(files.ending(count))
+
+
+def sum_of(pieces: Iterator[bytes]) -> str:
+    made = hashlib.sha256()
+    for it in pieces:
+        made.update(it)
+    return made.hexdigest()
+
+
+def sum_of_file(name: str) -> str:
+    with open(name, "rb") as file:
+        return sum_of(iter(lambda: file.read(MIB), b""))
+
+
+def often(piece: bytes, count: int) -> Iterator[bytes]:
+    """A piece so often, in larger pieces."""
+    many = piece * (PIECE // len(piece) + 1)
+    left = len(piece) * count
+    while left:
+        yield many[:left]
+        left -= min(left, len(many) // len(piece) * len(piece))
+
+
+def converted(count: int) -> str:
+    """The sum of the trace in version 2."""
+    def pieces() -> Iterator[bytes]:
+        yield files.header(version=2) + files.symbol(BASE, 8, b"pair") + files.converted([(0, "W", BASE), (1, "W", BASE + 4)])[20:-25]
+        yield from often(b"\x24\0\7\x24\1\x08", count // 2 - 1)
+        yield files.ending(count)
+    return sum_of(pieces())
+
+
+def halves(count: int, at: int) -> dict[str, str]:
+    pair = files.records([(0, "W", BASE), (1, "W", BASE + 4)])
+
+    def first() -> Iterator[bytes]:
+        yield files.header() + files.symbol(BASE, 8, b"pair")
+        yield from often(pair, at // 2)
+        yield files.ending(at, 0, 4)
+
+    def second() -> Iterator[bytes]:
+        yield files.header(first=at)
+        yield from often(pair, (count - at) // 2)
+        yield files.ending(count - at, count)
+    return {"a": sum_of(first()), "b": sum_of(second())}
+
+
+def fought(count: int, steps: int | None = None) -> bytes:
+    """The report of `replay --size 64` with each line tracked and listed."""
+    rows = [f"line observed {BASE:#010x} 64 start 0 count {count - 1} verdict false", f"object symbol pair {BASE:#010x} 8"]
+    rows += [f"word {BASE + 4 * hart:#010x} reads 0 writes {count // 2} hart {hart}" for hart in (0, 1)]
+    return report("exit 0", count if steps is None else steps, count, "64 0", "1 none 1", rows, 1)
+
+
+def placed(count: int) -> bytes:
+    return lines(f"place pair {BASE:#010x} 8 line 64", "words 2", f"word {BASE:#010x} to 0x00001080 hart 0",
+                 f"word {BASE + 4:#010x} to 0x000010c0 hart 1", "area 0x00001080 128", f"before {count - 1}", "after 0", "many 0", "end")
+
+
+def of_trace(name: str, count: int) -> Iterator[Try]:
+    """Every command that passes over a trace."""
+    at, listed = count // 2, "--size 64 --set tracking=1,report=1"
+    total = f"total cold 2 useful 0 useless {count - 2}"
+    yield Try(f"replay {name} {listed}", fought(count), 40)
+    yield Try(f"misses {name}", lines(
+        "misses 64 0", f"accesses {count}", "lines 1", f"line {BASE:#010x} cold 2 useful 0 useless {count - 2}",
+        f"object symbol pair {BASE:#010x} 8", total, "end"), 40)
+    yield Try(f"sweep {name} --size 8", lines(
+        "sweep 8", f"accesses {count}", f"shift 0 total {count - 1} lines 1", "shift 4 total 0 lines 0", "least 4 total 0", "end"), 40)
+    yield Try(f"caches {name} --size 64 --sets 1 --ways 1", lines(
+        "caches 64 1 1", f"accesses {count}", "lines 1", f"line {BASE:#010x} bounded {count - 1} unbounded {count - 1} evicted 0",
+        f"total bounded {count - 1} unbounded {count - 1} evicted 0", "end"), 40)
+    yield Try(f"place {name} pair", placed(count), 40)
+    yield Try(f"convert {name} c", lines(f"convert 2 {count}"), 40, {"c": converted(count)})
+    yield Try(f"split {name} {at} a b", lines(f"split {at} {count - at}"), 40, halves(count, at))
+
+
+def parts(count: int) -> Iterator[Try]:
+    """The halves that were just written."""
+    listed = "--size 64 --set tracking=1,report=1"
+    yield Try(f"replay a --save s {listed}", ("predator report 1",), 40)
+    yield Try(f"replay b --resume s {listed}", fought(count), 40)
+
+
+# ---- Runs.
+
+def fighting(times: int) -> bytes:
+    """Two harts each write a word of the line at DATA so often, and read it."""
+    code = Code()
+    code.jump("start")
+    code.label("work")
+    with code.times(times, "t1"):
+        code.store("t1", "s0")
+        code.load("t2", "s0")
+    code.back()
+    code.label("other")
+    code.set("s0", DATA + 4)
+    code.jump("work", "ra")
+    code.call("exit", 0)
+    code.label("start")
+    code.set("s0", DATA)
+    code.call("spawn", CODE + 4 * (code.labels["other"] - CODE) // 4)
+    code.jump("work", "ra")
+    code.call("join", 1)
+    code.call("exit_group", 0)
+    return elf([Segment(CODE, code.bytes(), 4 * len(code.words), 5), Segment(DATA, b"", 4096, 6)])
+
+
+def calling(times: int, *calls: tuple[str, int | str, int | str]) -> bytes:
+    """Makes calls so often, of an address in s0 that goes on by 64."""
+    code = Code()
+    code.set("s0", DATA)
+    with code.times(times, "s1"):
+        for name, one, other in calls:
+            code.call(name, one, other)
+        code.addi("s0", "s0", 64)
+    code.call("exit_group", 0)
+    return elf([Segment(CODE, code.bytes(), 4 * len(code.words), 5)])
+
+
+def runs() -> Iterator[Try]:
+    """More than 2^24 accesses of a run and of `explain`, and more blocks, and notes of blocks, than 65,536."""
+    half = LONG // 4 + 1
+    put("fights.elf", fighting(half))
+    rows = [f"word {DATA + 4 * hart:#010x} reads {half} writes {half} hart {hart}" for hart in (0, 1)]
+    counted = ("predator report 1", "outcome exit 0", f"accesses {4 * half}", *rows)
+    yield Try("run fights.elf --set quantum=4,tracking=1,report=1", counted, 80)
+    yield Try(f"explain fights.elf {DATA:#010x} 64 0 --set quantum=4", (f"line {DATA:#010x} 64 start 0 count ", "end"), 80)
+    put("notes.elf", calling(MANY, ("block", "s0", 8)))
+    put("blocks.elf", calling(MANY, ("alloc", 8, 0)))
+    for name in ("notes", "blocks"):
+        yield Try(f"run {name}.elf", ("outcome exit 0", "end"), 160)
+
+
+def programs() -> Iterator[Try]:
+    """Programs of 16 MiB, less a byte and as they may be at most."""
+    code = Code()
+    code.call("exit_group", 0)
+    for size in (16 * MIB - 1, 16 * MIB):
+        name = f"large.{size}.elf"
+        put(name, elf([Segment(CODE, code.bytes(), 4 * len(code.words), 5)]).ljust(size, b"\0"))
+        yield Try(f"run {name}", ("outcome exit 0", "end"), 120)
+        yield Try(f"check {name}", ("entry 0x00010000",), 120)
+        yield Try(f"explain {name} 0x00011000 64 0", ("end",), 120)
+
+
+def many_lines(count: int) -> Iterator[Try]:
+    put("fought", files.trace(files.fought(count)))
+    yield Try("replay fought --size 64 --set tracking=1,report=1", files.fought_report(count), 400)
+    yield Try("misses fought", files.fought_misses(count), 400)
+    if count > 32 * 64:
+        # (these caches have no room for more)
+        return
+    yield Try("caches fought --size 64 --sets 64 --ways 64", files.fought_caches(count), 400)
+
+
+def large_files() -> Iterator[Try]:
+    """Files of more than 32 MiB: a state, what a run puts out, its trace, and what is made."""
+    count = 600_000
+    put("written", files.trace([(0, "W", 0x100000 + 4 * it) for it in range(count)]))
+    state = hashlib.sha256(files.written_state(count)).hexdigest()
+    yield Try("replay written --size 4 --set tracking=1 --save s", ("accesses 600000",), 600, {"s": state})
+    put("rest", files.header(first=count) + files.ending(0))
+    yield Try("replay rest --size 4 --set tracking=1 --resume s --save r", ("accesses 600000",), 600, {"r": state})
+    guest = files.guest(33 * MIB // 8, 33 * 256, 1)
+    put("guest.elf", guest.file)
+    sums = {"t": hashlib.sha256(guest.trace).hexdigest(), "o": hashlib.sha256(guest.output).hexdigest()}
+    yield Try("run guest.elf --trace t --output o", ("outcome exit 0",), 80, sums)
+
+
+def put(name: str, content: bytes) -> None:
+    with open(name, "wb") as file:
+        file.write(content)
+
+
+# ---- All of them.
+
+def fault_of(program: str, it: Try) -> str:
+    """What is wrong with a call, if anything is."""
+    def limit() -> None:
+        resource.setrlimit(resource.RLIMIT_AS, (it.most * MIB, it.most * MIB))
+    ran = subprocess.run([program, *it.words.split()], stdin=subprocess.DEVNULL, capture_output=True, preexec_fn=limit, check=False)
+    if ran.returncode != it.status or ran.stderr:
+        return f"it ended with {ran.returncode}, printed {ran.stdout[:60]!r} and said {ran.stderr[-200:]!r}"
+    if isinstance(it.printed, bytes):
+        if ran.stdout != it.printed:
+            return f"it printed {ran.stdout[:400]!r}, and wanted is {it.printed[:400]!r}"
+    else:
+        rows = iter(ran.stdout.decode().splitlines())
+        for begin in it.printed:
+            if not any(row.startswith(begin) for row in rows):
+                return f"no line begins with '{begin}' in {ran.stdout[:400]!r}"
+    wrong = [name for name, wanted in it.writes.items() if sum_of_file(name) != wanted]
+    return f"{', '.join(wrong)}: other bytes" if wrong else ""
+
+
+def kinds(is_long: bool) -> Iterator[list[Try]]:
+    """The tries of each kind, when their files are there. Those that stand together may be made at once."""
+    fight("fight", LONG)
+    yield list(of_trace("fight", LONG))
+    yield list(parts(LONG))[:1]
+    yield list(parts(LONG))[1:]
+    os.remove("fight")
+    yield [*runs(), *programs(), Try(f"gen {LONG} f", (f"generated {LONG}",), 40)]
+    yield [*many_lines(MANY)]
+    yield [*many_lines(TRACKS)]
+    for it in large_files():
+        yield [it]
+    fight("fight", LONGER)
+    yield list(of_trace("fight", LONGER)) if is_long else list(of_trace("fight", LONGER))[:1]
+
+
+def main(words: list[str]) -> int:
+    if len(words) not in (1, 2) or words[0].startswith("-") or words[1:] not in ([], ["--long"]):
+        print(__doc__)
+        return 0 if words in (["--help"], ["-h"]) else 1
+    program, tried, failed = os.path.abspath(words[0]), 0, 0
+    with tempfile.TemporaryDirectory() as folder:
+        os.chdir(folder)
+        for tries in kinds("--long" in words):
+            with ThreadPoolExecutor(len(os.sched_getaffinity(0))) as pool:
+                for it, fault in zip(tries, pool.map(lambda it: fault_of(program, it), tries)):
+                    tried += 1
+                    if fault:
+                        failed += 1
+                        print(f"FAILED: {it.words}, in {it.most} MiB: {fault}", flush=True)
+        os.chdir("/")
+    print(f"{tried - failed} passed, {failed} failed")
+    return 1 if failed else 0
+
+
+if __name__ == "__main__":
+    sys.exit(main(sys.argv[1:]))
