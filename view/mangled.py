@@ -5,8 +5,8 @@ import shutil
 import subprocess
 
 
-# Symbols of C++ and Rust in a text.
-MANGLED = re.compile(r"(?<![!-~])_[ZR][A-Za-z0-9_$.]+")
+# Symbols of C++ and Rust in a text. (A pattern that begins with a letter is looked for much faster than one that looks back first.)
+MANGLED = re.compile(r"_(?<![!-~]_)[ZR][A-Za-z0-9_$.]+")
 # What the compilers put behind a name that is theirs alone: it differs from build to build.
 SUFFIX, HASH = re.compile(r"\.llvm\.\d+$"), re.compile(r"::h[0-9a-f]{16}$|\[[0-9a-f]{13,16}\]")
 # A name in Go begins with the path of its package.

@@ -9,7 +9,7 @@ from typing import Iterable, Iterator, NamedTuple, Sequence
 
 from keys import Key, OfBlocks, OfSymbol
 from naming import Found, Naming, WordKind
-from reports import Block, Line, Misses, Missed, Report, Symbol, Word, bytes_of, objects_of
+from reports import Block, Line, Misses, Missed, Report, Symbol, bytes_of, objects_of
 
 # So many lines of an object are looked at word by word: its first ones.
 LINES = 64
@@ -30,7 +30,7 @@ class Spot(NamedTuple):
 
     def stands(self) -> str:
         """The rows of what stands on the line: since its start where the report lists it."""
-        return (self.line.stands() if self.line else "") or (self.missed.stands() if self.missed else "")
+        return (self.line.stands if self.line else "") or (self.missed.stands if self.missed else "")
 
     def rows(self) -> list[Symbol | Block]:
         """The objects on the line."""
@@ -113,52 +113,52 @@ def holder(things: Sequence[Symbol | Block], addr: int) -> Found:
     return max(found, key=lambda it: it[1])[0] if found else None
 
 
-def shares_of(words: Iterable[Word], things: Sequence[Symbol | Block], keys: Sequence[Key], naming: Naming) -> Shares:
-    """What each object of some has of a line's accesses, by its key, with an object of it; `keys` are theirs."""
+def shares_of(words: Iterable[tuple[int, int]], things: Sequence[Symbol | Block], keys: Sequence[Key], naming: Naming) -> Shares:
+    """What each object of some has of a line's accesses, by its key, with an object of it: `words` has the place of each
+    word and its number of accesses, and `keys` those of the objects."""
     found: Shares = {}
-    for word in words:
-        end = word.addr + 4
+    ranges = [(at, it.addr, it.addr + it.size) for at, it in enumerate(things)]
+    for addr, accesses in words:
         own: list[tuple[Key, Found, float]] | None = None
-        met = [at for at, it in enumerate(things) if it.addr < end and word.addr < it.addr + it.size]
+        met = [at for at, begin, end in ranges if begin < addr + 4 and addr < end]
         if len(met) > 1:
             # (of one block and symbols that it lies in, the block; of several blocks each by its life)
             blocks = [at for at in met if isinstance(things[at], Block)]
             if len(blocks) != 1:
-                own = [(keys[things.index(thing)], thing, share) for thing, share in holders(things, word.addr)]
+                own = [(keys[things.index(thing)], thing, share) for thing, share in holders(things, addr)]
             met = blocks
         if own is None:
-            own = [(keys[met[0]], things[met[0]], 1)] if met else [(naming.memory.key(word.addr), None, 1)]
+            own = [(keys[met[0]], things[met[0]], 1)] if met else [(naming.memory.key(addr), None, 1)]
         for key, thing, share in own:
-            found[key] = thing, found.get(key, (0, 0))[1] + share * (word.reads + word.writes)
+            found[key] = thing, found.get(key, (0, 0))[1] + share * accesses
     return found
 
 
 def parties(spot: Spot, things: Sequence[Symbol | Block], naming: Naming, keys: Sequence[Key] | None = None) -> Shares:
     """The keys of the objects that are fought over on a line, each with an object of it and its share of the accesses. Where the keys of
     the things are given, and are one, its share isn't looked for."""
-    found: Shares = {}
     is_one = keys is not None and len({*keys}) < 2
     keys = [key_of(it, naming, 0) for it in things] if keys is None else keys
-    for at, key in enumerate(keys):
-        # The first object, as long as it isn't told how the words were accessed.
-        found.setdefault(key, (things[at], -at))
     told = spot.told()
-    if is_one or len(things) < 2 or told is None:
-        return found or {naming.memory.key(max(spot.base, 0)): (None, 0)}
-    return shares_of(told.words(), things, keys, naming) or found
+    found: Shares = {} if is_one or len(things) < 2 or told is None else shares_of(told.accesses(), things, keys, naming)
+    # The first object, as long as it isn't told how the words were accessed.
+    for at, key in enumerate(() if found else keys):
+        found.setdefault(key, (things[at], -at))
+    return found or {naming.memory.key(max(spot.base, 0)): (None, 0)}
 
 
 def spots(report: Report, misses: Misses | None, each: Report | None = None) -> Iterator[Spot]:
     """The lines that the report lists, in its order, and those beside them that have misses."""
-    seen: set[int] = set()
-    missed, words = misses.lines if misses else {}, each.at() if each else {}
+    missed = misses.lines if misses else {}
     for line in report.lines:
         if line.kind == "observed":
-            seen.add(line.base)
-            yield Spot(line.base, line, missed.get(line.base))
-    for base, it in missed.items():
-        if base not in seen:
-            yield Spot(base, None, it, words.get(base))
+            base = line.base
+            yield Spot(base, line, missed.get(base))
+    if missed:
+        seen, words = {it.base for it in report.observed()}, each.at() if each else {}
+        for base, it in missed.items():
+            if base not in seen:
+                yield Spot(base, None, it, words.get(base))
 
 
 class Folding:
@@ -185,11 +185,13 @@ class Folding:
         own = self.found[key]
         own.add(spot)
         if len(shares) > 1:
-            own.beside.update([it for it in shares if it != key])
+            for other in shares:
+                if other != key:
+                    own.beside[other] += 1
         elif len(things) == 1 and isinstance(key, OfSymbol):
             self.known[rows] = own
         for it, its in zip(things, keys):
-            if its in self.found and isinstance(it, Block):
+            if isinstance(it, Block) and its in self.found:
                 self.found[its].lives.add(it.addr << 44 | it.born)
 
 

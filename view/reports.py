@@ -4,23 +4,21 @@ A text may have millions of lines. One pattern judges each listed line with its 
 when they are asked for."""
 
 import re
-import sys
-from typing import Callable, ClassVar, Literal, NamedTuple, TypeVar, cast
+from typing import Callable, ClassVar, Literal, NamedTuple, TypeVar
 
 from faults import Fault
 from kinds import other
 
 SIZES = [1 << it for it in range(2, 11)]
-KINDS = ("observed", "shifted", "doubled")
 ANY, MANY = r"-?0x[0-9a-f]{8,16}", r"\d{1,20}"
 ADDRESS, NUMBER = f"({ANY})", f"({MANY})"
 # The rows below a listed line: what stands on it, and its words.
 STANDS = rf"(?:object (?:symbol [!-~]+ {ANY} {MANY}|block {ANY} {MANY} born {MANY} (?:live|died {MANY})(?:\nsite {ANY} [!-~]+)*)\n)*"
 WORDS = rf"(?:word {ANY} reads {MANY} writes {MANY} (?:hart \d{{1,3}}|many)\n)*"
 LINE = re.compile(
-    rf"line (observed|shifted|doubled) {ADDRESS} {NUMBER} start {NUMBER} count {NUMBER} verdict (false|true|mixed)\n{STANDS}{WORDS}"
+    rf"line (observed|shifted|doubled) {ADDRESS} {NUMBER} start {NUMBER} count {NUMBER} verdict (false|true|mixed)\n({STANDS}){WORDS}"
 )
-MISSES = re.compile(rf"line {ADDRESS} cold {NUMBER} useful {NUMBER} useless {NUMBER}\n{STANDS}")
+MISSES = re.compile(rf"line {ADDRESS} cold {NUMBER} useful {NUMBER} useless {NUMBER}\n({STANDS})")
 OBJECT = re.compile(r"object (?:symbol (\S+) (\S+) (\d+)|block (\S+) (\d+) born (\d+) (?:live|died (\d+)))((?:\nsite .*)*)")
 WORD = re.compile(r"word (\S+) reads (\d+) writes (\d+) (?:hart )?(\w+)")
 SITE = re.compile(r"site (\S+) (\S+)")
@@ -29,6 +27,9 @@ OUTCOME = re.compile(rf"exit {MANY}|budget|deadlock|part|trap hart {MANY} pc {AD
 WHERE = re.compile(rf"^where {ADDRESS} (.*)$", re.MULTILINE)
 LineKind = Literal["observed", "shifted", "doubled"]
 Verdict = Literal["false", "true", "mixed"]
+# The words of a line, one text for all lines.
+KINDS: dict[str, LineKind] = {"observed": "observed", "shifted": "shifted", "doubled": "doubled"}
+VERDICTS: dict[str, Verdict] = {"false": "false", "true": "true", "mixed": "mixed"}
 A = TypeVar("A", bound="Rows")
 
 
@@ -73,33 +74,29 @@ def bytes_of(name: str) -> bytes:
 
 
 class Rows:
-    """The rows of a listed line in a text."""
+    """The rows of a listed line in a text: `stands` are those that tell what stands on it, one text for all lines where it is the same, and
+    its words are between two places."""
 
-    __slots__ = ("text", "begin", "end")
+    __slots__ = ("text", "stands", "begin", "end")
     # The call sites of blocks by their rows: blocks are many, and chains few.
     chains: ClassVar[dict[str, tuple[Site, ...]]] = {}
 
-    def __init__(self, text: str, begin: int, end: int) -> None:
-        self.text, self.begin, self.end = text, begin, end
-
-    def rows(self) -> list[str]:
-        return self.text[self.begin : self.end].split("\n")
-
-    def stands(self) -> str:
-        """The rows that tell what stands on the line, as a text."""
-        words = self.text.find("word ", self.begin, self.begin + 5) if self.begin < self.end else self.begin
-        words = self.text.find("\nword ", self.begin, self.end) if words < 0 else words
-        return self.text[self.begin : self.end if words < 0 else words]
+    def __init__(self, text: str, stands: str, begin: int, end: int) -> None:
+        self.text, self.stands, self.begin, self.end = text, stands, begin, end
 
     def objects(self) -> list[Symbol | Block]:
         """The symbols and the blocks on the line, in the report's order."""
-        return objects_of(self.stands())
+        return objects_of(self.stands)
 
     def words(self) -> list[Word]:
         return [
             Word(int(addr, 16), int(reads), int(writes), hart)
             for addr, reads, writes, hart in WORD.findall(self.text, self.begin, self.end)
         ]
+
+    def accesses(self) -> list[tuple[int, int]]:
+        """The place of each word, and its number of accesses."""
+        return [(int(addr, 16), int(reads) + int(writes)) for addr, reads, writes, _ in WORD.findall(self.text, self.begin, self.end)]
 
 
 def objects_of(rows: str) -> list[Symbol | Block]:
@@ -127,11 +124,10 @@ class Line(Rows):
 
     __slots__ = ("kind", "base", "size", "start", "count", "verdict")
 
-    def __init__(self, text: str, begin: int, end: int, fields: tuple[str, ...]) -> None:
-        self.text, self.begin, self.end = text, begin, end
-        kind, base, size, start, count, verdict = fields
-        # (one text for all lines)
-        self.kind, self.verdict = cast(LineKind, sys.intern(kind)), cast(Verdict, sys.intern(verdict))
+    def __init__(self, text: str, stands: str, begin: int, end: int, fields: tuple[str, ...]) -> None:
+        self.text, self.stands, self.begin, self.end = text, stands, begin, end
+        kind, base, size, start, count, verdict, _ = fields
+        self.kind, self.verdict = KINDS[kind], VERDICTS[verdict]
         self.base, self.size, self.start, self.count = int(base, 16), int(size), int(start), int(count)
 
 
@@ -140,24 +136,30 @@ class Missed(Rows):
 
     __slots__ = ("base", "cold", "useful", "useless")
 
-    def __init__(self, text: str, begin: int, end: int, fields: tuple[str, ...]) -> None:
-        self.text, self.begin, self.end = text, begin, end
-        base, cold, useful, useless = fields
+    def __init__(self, text: str, stands: str, begin: int, end: int, fields: tuple[str, ...]) -> None:
+        self.text, self.stands, self.begin, self.end = text, stands, begin, end
+        base, cold, useful, useless, _ = fields
         self.base, self.cold, self.useful, self.useless = int(base, 16), int(cold), int(useful), int(useless)
 
 
-def listed(text: str, pattern: re.Pattern[str], kind: Callable[[str, int, int, tuple[str, ...]], A], of: str) -> tuple[list[A], int | None]:
+def listed(
+    text: str, pattern: re.Pattern[str], kind: Callable[[str, str, int, int, tuple[str, ...]], A], of: str
+) -> tuple[list[A], int | None]:
     """The lines that a text lists, each with its rows, and where the text goes on behind them."""
     found: list[A] = []
+    known: dict[str, str] = {}
     place = text.find("\nline ") + 1
     if not place:
         return found, None
-    fields = range(1, pattern.groups + 1)
+    last = pattern.groups
     for it in pattern.finditer(text, place):
-        if it.start() != place:
+        begin, end = it.span()
+        if begin != place:
             break
-        place = it.end()
-        found.append(kind(text, it.end(pattern.groups) + 1, place - 1, it.group(*fields)))
+        place = end
+        fields = it.groups()
+        stands = known.setdefault(fields[-1], fields[-1])
+        found.append(kind(text, stands, it.end(last), end - 1, fields))
     if text.startswith(("line ", "object ", "site ", "word "), place):
         row, shown = text.count("\n", 0, place) + 1, text[place : place + 80].partition("\n")[0]
         raise Fault(f"{of}: its row {row} is none that it may have: `{shown}`")
@@ -191,8 +193,8 @@ class Report:
 
     def __init__(self, text: str, of: str = "the report") -> None:
         self.text = text
-        first = text.partition("\n")[0]
-        if not text.strip():
+        first = text[: text.find("\n") if "\n" in text else None]
+        if not text or text.isspace():
             raise Fault(f"{of}: it is empty, and no report")
         if first != "predator report 1":
             what = "a report of another version" if re.fullmatch(r"predator report \d+", first) else "no report"

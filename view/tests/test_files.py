@@ -4,13 +4,11 @@ built."""
 import json
 import os
 import re
-import resource
 import shutil
 import struct
 import subprocess
 import sys
 import tempfile
-import time
 import unittest
 import warnings
 
@@ -145,6 +143,32 @@ class Predicted(unittest.TestCase):
                 self.assertEqual([uri for uri, _ in places(it)], ["file://" + built("apart.c")])
 
 
+# Work of the same kind as view's with a report: a pattern for each row, its numbers, and an object that keeps them.
+READS = r"""
+import collections, re, sys
+Word = collections.namedtuple("Word", "addr reads writes")
+with open(sys.argv[1], encoding="latin-1") as file:
+    rows = re.finditer(r"word (0x[0-9a-f]{8,16}) reads (\d{1,20}) writes (\d{1,20}) (?:hart \d{1,3}|many)\n", file.read())
+print(len({it.addr: it for it in (Word(int(it[1], 16), int(it[2]), int(it[3])) for it in rows)}))
+"""
+# So many times as long may view take at most. (It takes twice as long.)
+TIMES = 4
+# What view does with it; its folder is the first word.
+SHOWS = "import sys; sys.argv[0:1] = []; sys.path.insert(0, sys.argv[0]); import main; main.main(sys.argv[1:])"
+
+
+class Ran:
+    """A script's run: the seconds of a processor that its own code took, the most memory that it had, in KiB, and what it printed."""
+
+    def __init__(self, code, *words):
+        with tempfile.TemporaryFile("w+", encoding="utf-8") as out:
+            child = subprocess.Popen([sys.executable, "-c", code, *words], stdout=out)
+            _, status, used = os.wait4(child.pid, 0)
+            child.returncode = os.waitstatus_to_exitcode(status)
+            out.seek(0)
+            self.seconds, self.memory, self.text = used.ru_utime, used.ru_maxrss, out.read()
+
+
 class Large(unittest.TestCase):
     def write(self, path, lines):
         """A report of so many lines: most are of one array, one in eight has two blocks of some call sites that came and went."""
@@ -167,18 +191,17 @@ class Large(unittest.TestCase):
         lines = 10**6
         with tempfile.TemporaryDirectory() as folder:
             path = os.path.join(folder, "report")
-            begun = time.process_time()
             self.write(path, lines)
-            wrote = time.process_time() - begun
-            code = "import sys; sys.argv[0:1] = []; sys.path.insert(0, sys.argv[0]); import main; main.main(sys.argv[1:])"
-            before = resource.getrusage(resource.RUSAGE_CHILDREN)
-            ran = subprocess.run([sys.executable, "-c", code, os.path.join(HERE, ".."), path], capture_output=True, text=True)
-            after = resource.getrusage(resource.RUSAGE_CHILDREN)
-            self.assertIn(f"{7 * lines // 8}  table", ran.stdout)
-            self.assertIn("block made in work < begin, by 0x00010408 (25000 lives)", ran.stdout)
-            # 20 s of a quiet processor; beside other work all takes longer, the writing too.
-            self.assertLess(after.ru_utime - before.ru_utime, max(20, 4 * wrote))
-            self.assertLess(after.ru_maxrss, 1 << 20)
+            # (a slow or busy processor makes both take longer; a second try is for work that came between one and the other)
+            for _ in range(2):
+                read, shown = Ran(READS, path), Ran(SHOWS, os.path.join(HERE, ".."), path)
+                self.assertEqual(read.text, f"{2 * lines}\n")
+                self.assertIn(f"{7 * lines // 8}  table", shown.text)
+                self.assertIn("block made in work < begin, by 0x00010408 (25000 lives)", shown.text)
+                self.assertLess(shown.memory, 1 << 20)
+                if shown.seconds < TIMES * read.seconds:
+                    break
+            self.assertLess(shown.seconds, TIMES * read.seconds)
 
 
 @unittest.skipUnless(has(PROGRAM, "misses"), "the program isn't built, or has no misses")

@@ -394,7 +394,7 @@ class Objects(unittest.TestCase):
     def test_what_alignment_allows(self):
         block = "object block 0x00002010 64 born 0 live\n"
         for base, wanted in ((0x2020, True), (0x2018, False), (0x2010, True)):
-            line = Line(block, 0, len(block) - 1, ("shifted", hex(base), 64, 0, 100, "false"))
+            line = Line(block, block, len(block), len(block), ("shifted", hex(base), 64, 0, 100, "false", block))
             self.assertEqual(can_lie(line, view_of([]).naming), wanted)
 
     def test_names_in_a_sentence(self):
