@@ -55,6 +55,7 @@ settings_text settings.TooLong = codes "TooLong"
 settings_text settings.BadToml = codes "BadToml"
 settings_text (settings.UnknownKey name) = codes "UnknownKey " ++ name_text name
 settings_text (settings.OutOfRange key) = codes "OutOfRange " ++ key_name key
+settings_text (settings.ChangedOutOfRange key) = codes "OutOfRange " ++ key_name key
 settings_text settings.NoMemory = codes "NoMemory"
 
 -- a fault of a trace has its place, or its numbers
@@ -89,6 +90,7 @@ fault_text (status.Elf fault) = line (codes "predator: elf " ++ elf_text fault)
 fault_text (status.Schedule fault) = line (codes "predator: schedule " ++ schedule_text fault)
 fault_text (status.Settings fault) = line (codes "predator: settings " ++ settings_text fault)
 fault_text (status.Trace fault) = line (codes "predator: trace " ++ trace_text fault)
+fault_text status.NoPcs = line (codes "predator: trace NoPcs")
 fault_text (status.State fault) = line (codes "predator: state " ++ state_text fault)
 fault_text status.ReadFault = line (codes "predator: read fault")
 fault_text status.WriteFault = line (codes "predator: write fault")

@@ -34,6 +34,7 @@ kind_of (status.Elf fault) = refusal
 kind_of (status.Schedule fault) = refusal
 kind_of (status.Settings fault) = refusal
 kind_of (status.Trace fault) = refusal
+kind_of status.NoPcs = refusal
 kind_of (status.State fault) = refusal
 kind_of status.ReadFault = read_fault
 kind_of status.WriteFault = write_fault
@@ -61,6 +62,7 @@ status_of_settings settings.TooLong = status.Settings settings.TooLong
 status_of_settings settings.BadToml = status.Settings settings.BadToml
 status_of_settings (settings.UnknownKey name) = status.Settings (settings.UnknownKey name)
 status_of_settings (settings.OutOfRange key) = status.Settings (settings.OutOfRange key)
+status_of_settings (settings.ChangedOutOfRange key) = status.Settings (settings.ChangedOutOfRange key)
 status_of_settings settings.NoMemory = status.NoMemory
 
 abbrev pub status_of_resume : ResumeFault → Status

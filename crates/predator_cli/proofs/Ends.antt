@@ -97,6 +97,7 @@ no_memory_hidden (status.Elf fault) kind = refl
 no_memory_hidden (status.Schedule fault) kind = let k : refusal ≡ done = kind in cc
 no_memory_hidden (status.Settings fault) kind = let k : refusal ≡ done = kind in cc
 no_memory_hidden (status.Trace fault) kind = let k : refusal ≡ done = kind in cc
+no_memory_hidden status.NoPcs kind = refl
 no_memory_hidden (status.State fault) kind = refl
 no_memory_hidden status.ReadFault kind = refl
 no_memory_hidden status.WriteFault kind = refl
@@ -177,8 +178,8 @@ finish_failed demand a b d s text worked only rose printed =
       memory = refl;
       caused = inr (quiet, rose_a);
       peace = quiet.reads;
-      prints = told_map d.held (λ files is. inr (rose_a, rw is part))
-          (printed_texts demand a b d s text worked only);
+      prints = inr (told_map d.held (λ files is. (rose_a, rw is part))
+          (printed_texts demand a b d s text worked only));
       writes = inr (
         rose_a,
         quiet.writes,
@@ -398,6 +399,9 @@ stopped_faulty demand a b (status.Settings fault) stopped = file_faulty demand a
     stopped.why.0 stopped.why.1 stopped.only
 stopped_faulty demand a b (status.Trace fault) stopped = file_faulty demand a b
     (status.Trace fault) refl stopped.words stopped.memory
+    stopped.why.0 stopped.why.1 stopped.only
+stopped_faulty demand a b status.NoPcs stopped = file_faulty demand a b
+    status.NoPcs refl stopped.words stopped.memory
     stopped.why.0 stopped.why.1 stopped.only
 stopped_faulty demand a b (status.State fault) stopped = file_faulty demand a b
     (status.State fault) refl stopped.words stopped.memory

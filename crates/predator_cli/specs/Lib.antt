@@ -1,6 +1,7 @@
 pub mod Again
 pub mod Answer
 pub mod Apart
+pub mod Blame
 pub mod Caches
 pub mod Check
 pub mod Commands
@@ -14,6 +15,7 @@ pub mod Judged
 pub mod ListedCounts
 pub mod Meets
 pub mod Misses
+pub mod OnDisk
 pub mod Parts
 pub mod Place
 pub mod Recounts

@@ -1,17 +1,18 @@
 // The top call.
-ghost use Rattle.std.specs.Prelude.{◌≡◌, ◌⊎◌, false, None};
+ghost use Rattle.std.specs.Prelude.{◌≡◌, ◌⊎◌, false, None, Some};
 ghost use Rattle.command_line.specs.Demands.{texts};
-ghost use Rattle.command_line.specs.Words.{demand_of};
+ghost use Rattle.command_line.specs.Words.{IsBounded, demand_of, meaning};
 ghost use Rattle.command_files.specs.Statuses.{hides_no_memory, kind_of};
 ghost use Rattle.predator_cli.specs.Meets.{EndsAs, IsCaused, IsComplete, Meets, Prints};
 ghost use Rattle.predator_cli.specs.Meets.{ReadsInPeace};
 ghost use Rattle.predator_cli.specs.Again.{WhereDone};
-ghost use Rattle.predator_cli.specs.Answer.{outputs};
+ghost use Rattle.predator_cli.specs.Answer.{HasNamesApart, outputs};
 ghost use Rattle.predator_cli.specs.Commands.{RepeatsReport, ReportIsRecounted};
 ghost use Rattle.predator_cli.specs.Commands.{StaysWithinBudget};
 ghost use Rattle.predator_cli.specs.Written.{OnlyAt, Writes};
 ghost use Rattle.shelf.specs.Shelf.{Files, Narrows, Told};
 
+use crate::blame::blame;
 use crate::check::check;
 use crate::convert::convert;
 use crate::endings::{refuse, refuse_words};
@@ -31,23 +32,36 @@ use shelf::Shelf;
 use std::alloc::Global;
 use trace_passes::a_trace_is_its_spelling;
 
-// Does what the words ask for.
-fn obey<S: Shelf>(alloc: Global, words: &[String], shelf: &mut S) -> Status
+/// Does what is asked for.
+pub fn obey<S: Shelf>(alloc: Global, demand: &Demand<'_>, shelf: &mut S) -> Status
+    requires apart { HasNamesApart demand.now }
+    requires bounded { IsBounded demand.now }
+    ensures { Meets (Some (meaning demand.now))
+        (S.outside shelf.old) (S.outside shelf.new) result }
+{
+    match demand {
+        Demand::Replay(options) => replay(alloc, options, shelf),
+        Demand::Check(options) => check(alloc, options, shelf),
+        Demand::Run(options) => run(alloc, options, shelf),
+        Demand::Split(options) => split(alloc, options, shelf),
+        Demand::Gen(options) => generate(alloc, options, shelf),
+        Demand::Convert(options) => convert(alloc, options, shelf),
+        Demand::Sweep(options) => sweep(alloc, options, shelf),
+        Demand::Caches(options) => tell_caches(alloc, options, shelf),
+        Demand::Place(options) => place(alloc, options, shelf),
+        Demand::Misses(options) => tell_misses(alloc, options, shelf),
+        Demand::Blame(options) => blame(alloc, options, shelf),
+        Demand::Explain(options) => explain(alloc, options, shelf),
+    }
+}
+
+// Does what words ask for.
+fn obey_words<S: Shelf>(alloc: Global, words: &[String], shelf: &mut S) -> Status
     ensures { Meets (demand_of (texts words.now))
         (S.outside shelf.old) (S.outside shelf.new) result }
 {
     match read_words(alloc, words) {
-        Ok(Demand::Replay(options)) => replay(alloc, &options, shelf),
-        Ok(Demand::Check(options)) => check(alloc, &options, shelf),
-        Ok(Demand::Run(options)) => run(alloc, &options, shelf),
-        Ok(Demand::Split(options)) => split(alloc, &options, shelf),
-        Ok(Demand::Gen(options)) => generate(alloc, &options, shelf),
-        Ok(Demand::Convert(options)) => convert(alloc, &options, shelf),
-        Ok(Demand::Sweep(options)) => sweep(alloc, &options, shelf),
-        Ok(Demand::Caches(options)) => tell_caches(alloc, &options, shelf),
-        Ok(Demand::Place(options)) => place(alloc, &options, shelf),
-        Ok(Demand::Misses(options)) => tell_misses(alloc, &options, shelf),
-        Ok(Demand::Explain(options)) => explain(alloc, &options, shelf),
+        Ok(demand) => obey(alloc, &demand, shelf),
         Err(WordsFault::Usage(_)) => refuse_words(shelf),
         Err(WordsFault::NoMemory) => refuse(alloc, shelf, Status::NoMemory),
     }
@@ -75,16 +89,18 @@ fn obey<S: Shelf>(alloc: Global, words: &[String], shelf: &mut S) -> Status
 /// lines come to. `split` cuts a trace in two before one of its accesses, and prints how many
 /// accesses each half has; `convert` writes a trace in the other version, and prints which
 /// version that is and how many accesses there are. Both read a trace of at most 2^44 bytes to
-/// its end and judge it, and write under their names as they read it again. `sweep`, `caches`
-/// and `misses` pass over a whole trace: `sweep` prints what every shift of a line size counts,
-/// `caches` how many of each line's invalidations are left in private caches of a shape, and
-/// `misses` what the sharing of each of its lines costs. `place` reads such a trace three
-/// times: for the object that it is asked about, for who touches its words, and for what the
-/// accesses come to with each word at a new place. It prints these places; its status is
-/// `Place` where there is no such object, where it is too large, or where the addresses have no
-/// room for the new places. `explain` makes the run that `run` makes of the same files, with an
-/// eye on one line, and ends as it does; it writes no file and prints which instructions and
-/// which harts took the line from each other.
+/// its end and judge it, and write under their names as they read it again. `sweep`, `caches`,
+/// `misses` and `blame` pass over a whole trace: `sweep` prints what every shift of a line size
+/// counts, `caches` how many of each line's invalidations are left in private caches of a shape,
+/// `misses` what the sharing of each of its lines costs, and `blame` which instructions and which
+/// harts took each of its lines from each other. `blame` needs the pc of each access: its status
+/// is `NoPcs` exactly where the first 8 bytes are the magic of version 1 or 2, whatever is behind
+/// them. `place` reads a whole trace three times: for the object that it is asked about, for who
+/// touches its words, and for what the accesses come to with each word at a new place. It prints
+/// these places; its status is `Place` where there is no such object, where it is too large, or
+/// where the addresses have no room for the new places. `explain` makes the run that `run` makes
+/// of the same files, with an eye on one line, and ends as it does; it writes no file and prints
+/// which instructions and which harts took the line from each other.
 pub fn predator<S: Shelf>(alloc: Global, words: &[String], shelf: &mut S) -> Status
     // It ends as the words and the files ask, or by a fault of the outside before which nothing is
     // refused: for the files that are told still, so on a disk for all contents that agree with
@@ -131,7 +147,8 @@ pub fn predator<S: Shelf>(alloc: Global, words: &[String], shelf: &mut S) -> Sta
     // was asked about, the count that it prints is the one that is listed.
     ensures again { Told (S.outside shelf.new).held
         (λ files. WhereDone RepeatsReport (demand_of (texts words.now)) files (kind_of result)) }
-    // The run that is asked for makes at most as many steps as its budget has.
+    // The run that is asked for, by `run` or by `explain`, makes at most as many steps as its budget
+    // has.
     ensures within { (files : Files) → StaysWithinBudget (demand_of (texts words.now)) files }
     // Each count that a report of a run or of a whole trace lists is at most a plain recount of the
     // same line over the same accesses, under the line's own layout with tracking threshold 1, and
@@ -152,5 +169,5 @@ pub fn predator<S: Shelf>(alloc: Global, words: &[String], shelf: &mut S) -> Sta
 {
     runs_are_short();
     a_trace_is_its_spelling();
-    obey(alloc, words, shelf)
+    obey_words(alloc, words, shelf)
 }

@@ -6,6 +6,7 @@ ghost use Rattle.command_files.specs.Readings.{IsStopped};
 ghost use Rattle.predator_cli.specs.Caches.{caches_readings, caches_text};
 ghost use Rattle.predator_cli.specs.Counting.{IsToTell};
 ghost use Rattle.predator_cli.specs.Meets.{Meets};
+ghost use Rattle.predator_cli.specs.Replay.{whole};
 
 use crate::counting::{see_whole, tell};
 use crate::endings::stop;
@@ -22,7 +23,7 @@ fn count_caches<S: Shelf>(
     options: &CachesOptions<'_>,
     shelf: &mut S,
 ) -> Result<Vec<u8>, Status>
-    ensures counted { IfOk result (λ text. IsToTell (caches_text options.now.shape)
+    ensures counted { IfOk result (λ text. IsToTell whole (caches_text options.now.shape)
         options.now.trace.now (S.outside shelf.old) (S.outside shelf.new) text.items) }
     ensures stopped { IfErr result (IsStopped (caches_readings (caches_meaning options.now))
         (S.outside shelf.old) (S.outside shelf.new)) }
