@@ -7,7 +7,7 @@ from typing import Any, Iterable, Iterator, Sequence
 
 from faults import Fault
 from kinds import DOES, IS, How, how_of
-from settings import ASKED, KEYS, OPTIONS, WRITTEN
+from settings import ASKED, BARE, KEYS, OPTIONS, WRITTEN
 
 USAGE = """usage: predator view run PROGRAM [options of run] [OPTIONS] [-- WORD ..]
        predator view replay TRACE [options of replay] [--program PROGRAM] [OPTIONS]
@@ -29,8 +29,10 @@ Options:
   --object NAME      shows this object alone, and those that share lines with it
   --words            lists the words of each object's lines with their fields, and all instructions that fight over the worst one
   --library          shows the objects of the C library and of the kernel too, which are one line else
-  --predicted        shows all predicted lines, those too that say nothing more
-  --explain N        looks for the instructions that fight over the worst lines of the first N objects (3); 0 for none
+  --predicted        counts and shows all predicted lines, those too that say nothing more
+  --no-predicted     counts and shows none
+  --explain N        looks for the instructions that fight over the worst lines of the first N objects (3), each by a run; 0 for none. A
+                     trace that has its instructions tells those of all objects
   --type SITE=TYPE   what the blocks of a call site hold, as arena.c:78=node; a type, or a variable that points to one
   --sources DIR      where the sources are, if they moved
   --html F           writes a page to F; of one of these three options F may be `-`: standard output, in place of the screen
@@ -48,9 +50,9 @@ lacked a hart; 127 a package is missing, or the program. Colours are for termina
 )
 # The options of view's own that have a value, and those that have none; `type` may come more than once.
 VALUES = ("top", "object", "html", "json", "sarif", "against", "fail-above", "by", "type", "program", "back", "sources", "explain")
-FLAGS = ("words", "predicted", "library", "help")
+FLAGS = ("words", "predicted", "no-predicted", "library", "help")
 # Options of `predator native` that have no value, and those that have one.
-MARKS = ("all", "marked", "built")
+MARKS = ("all", "marked", "built", "pcs")
 RECORDS = ("--quantum", "--most")
 # What view writes.
 OUTPUTS = ("html", "json", "sarif")
@@ -129,11 +131,11 @@ class Call:
                         raise Fault(f"a value is required for '{word}'")
                     value, at = words[at], at + 1
                 self.put("help" if word == "-h" else name[2:], value)
-            elif word[2:] in MARKS and word[:2] == "--":
+            elif word[2:] in MARKS and word[:2] == "--" and not (self.how == "run" and word in BARE):
                 self.marks.append(word)
             elif word.startswith("-") and word != "-":
                 self.given.append(word)
-                own = [word] if has_value or at == len(words) else [word, words[at]]
+                own = [word] if has_value or word in BARE or at == len(words) else [word, words[at]]
                 at += len(own) - 1
                 rest += own
             else:
@@ -164,6 +166,8 @@ class Call:
         for it in self.options["type"]:
             if not all(it.partition("=")[::2]):
                 raise Fault(f"'--type' is SITE=TYPE, as arena.c:78=node, and not '{it}'")
+        if "predicted" in self.options and "no-predicted" in self.options:
+            raise Fault("'--predicted' and '--no-predicted' are two answers to one question")
         if "by" in self.options and "fail-above" not in self.options:
             raise Fault("'--by' is for '--fail-above', which isn't there")
         if self.options["type"] and not self.has_types():
@@ -201,8 +205,8 @@ class Call:
         kept: list[str] = []
         at = 0
         while at < len(self.words) and self.words[at] != "--":
-            name, has_value, _ = self.words[at].partition("=")
-            width = 1 if has_value or not name.startswith("--") else 2
+            name = self.words[at].partition("=")[0]
+            width = width_of(self.words[at])
             if name in ASKED:
                 kept += self.words[at : at + width]
             at += width
@@ -212,6 +216,11 @@ class Call:
         """Whether the trace comes from a pipe or a terminal, and can be read once."""
         is_pipe = self.subject == "-" or os.path.exists(self.subject) and not os.path.isfile(self.subject)
         return self.how in ("replay", "sweep") and is_pipe
+
+    def trace(self) -> str | None:
+        """The trace's file, where it is one that is there and can be read again and again."""
+        path = self.subject if self.how == "replay" else self.value_of("--trace")
+        return path if path and os.path.isfile(path) and not self.reads_once() else None
 
     def words_of_pipe(self) -> list[str]:
         """The words of a replay of standard input, in the place of a trace."""
@@ -238,9 +247,13 @@ class Call:
             word = self.words[at]
             if word == "--":
                 return kept + self.words[at:]
-            name, has_value, _ = word.partition("=")
-            width = 2 if name.startswith("--") and not has_value else 1
-            if name not in WRITTEN:
+            width = width_of(word)
+            if word.partition("=")[0] not in (*WRITTEN, *BARE):
                 kept += self.words[at : at + width]
             at += width
         return kept
+
+
+def width_of(word: str) -> int:
+    """How many words an option of the program takes, or a name."""
+    return 2 if word.startswith("--") and "=" not in word and word not in BARE else 1

@@ -14,6 +14,7 @@ from calls import HELP, OUTPUTS, TOP, Call, nearest  # noqa: E402
 from faults import Fault, plain  # noqa: E402
 from model import View, memory_of  # noqa: E402
 from naming import Naming  # noqa: E402
+from passes import Passes, begun  # noqa: E402
 from pipes import fed, kept  # noqa: E402
 from program import Predator  # noqa: E402
 from recording import recorded  # noqa: E402
@@ -65,6 +66,15 @@ def program_of(call: Call) -> "tuple[Program | NativeProgram | None, Sources | N
     for it in call.options["type"]:
         program.type_named(it.partition("=")[2])
     return program, sources
+
+
+def native_of(program: "Program | NativeProgram | None") -> "NativeProgram | None":
+    """A program where it is one of this machine."""
+    if program is None:
+        return None
+    from fields import Program
+
+    return None if isinstance(program, Program) else program
 
 
 def table_of(call: Call) -> str | None:
@@ -121,23 +131,28 @@ def check_seen(view: View) -> None:
 
 def look(call: Call) -> View:
     """All that is found."""
-    program, sources = program_of(call)
-    if call.how == "run":
-        check_name(call.options.get("object"), Naming(None, program))
     if "html" in call.options:
         from drawing import templates
 
         templates()
     predator = Predator() if call.how != "file" else None
+    with begun(call, predator) as passes:
+        return found(call, predator, passes)
+
+
+def found(call: Call, predator: Predator | None, passes: Passes | None) -> View:
+    program, sources = program_of(call)
+    if call.how == "run":
+        check_name(call.options.get("object"), Naming(None, program))
     report = report_of(call, predator)
     strange = stranger(program, report) if program and call.how != "run" else None
     if strange:
         named = f"{call.program} isn't the program" if call.program else f"{table_of(call)} isn't the table"
         say(f"{named} of this report: {strange}; it is left aside")
         call.program = program = sources = None
-    memory = memory_of(call, predator)
+    memory = memory_of(call, predator, native_of(program))
     view = View(call, report, Naming(report, program, sources, call.options["type"], memory))
-    view.count(predator)
+    view.count(predator, passes)
     view.look_for_overflow(predator)
     view.arrange()
     check_seen(view)

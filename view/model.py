@@ -5,22 +5,26 @@ import contextlib
 import functools
 import os
 import re
-import tempfile
 from collections import Counter
-from typing import Iterable, Sequence, cast
+from typing import TYPE_CHECKING, Iterable, Sequence, cast
 
 import advice
 from calls import EXPLAIN, Call
-from keys import Key, OfBlocks, OfStack, OfSymbol, order_of
+from keys import Key, OfBlocks, OfMemory, OfSymbol, order_of
+from kinds import has_pcs
 from library import is_foreign
 from naming import Memory, Naming, shown
 from objects import Spot, Thing, Told, field_at, things_of, words_of, worst_word
 from overflow import Overflow, last_of_file, last_of_run, overflow
-from predicted import Foretold, Layout, judged, layouts
-from program import Predator, Refused, each_line, misses_under, setting, stacks
-from reports import Block, Explained, Misses, Pair, Placed, Report, Symbol
+from passes import Layout, Passes, first_readers, is_blamed
+from predicted import Foretold, judged, worth_counting
+from program import Predator, Refused, misses_under, setting, stacks
+from reports import Blame, Block, Explained, Misses, Pair, Placed, Report, Symbol, Takings
+from unnamed import name_by_instructions
 
-WORD = (4, 0)
+if TYPE_CHECKING:
+    from native import NativeProgram
+
 # The file and the line where something is declared or made.
 Declared = tuple[str, int]
 
@@ -28,7 +32,7 @@ Declared = tuple[str, int]
 class Seen:
     """One object as it is shown: its words, the explained lines, and what to do about it."""
 
-    def __init__(self, thing: Thing, words: list[Told], explained: Explained | None, todo: str, declared: Declared | None) -> None:
+    def __init__(self, thing: Thing, words: list[Told], explained: Takings | None, todo: str, declared: Declared | None) -> None:
         self.thing, self.words, self.explained, self.todo, self.declared = thing, words, explained, todo, declared
 
     def worst(self) -> Told | None:
@@ -57,7 +61,8 @@ class View:
         self.each: Report | None = None
         self.by_layout: dict[Layout, Misses] = {}
         self.notes: list[str] = []
-        self.explained: dict[int, Explained] = {}
+        self.blame: Blame | None = None
+        self.explained: dict[int, Takings] = {}
         self.placed: dict[Key, Placed] = {}
         self.cached: dict[Key, Seen] = {}
         self.foreign: set[Key] = set()
@@ -65,7 +70,7 @@ class View:
         self.label_counts: Counter[str] | None = None
         self.overflow: Overflow | None = None
 
-    def count(self, predator: Predator | None) -> None:
+    def count(self, predator: Predator | None, passes: Passes | None) -> None:
         """Has the misses counted, under the report's layout, for each word, and under the layouts of predicted lines."""
         if predator is None:
             self.notes.append("a report alone doesn't tell misses: `view run` or `view replay` does; objects stand by the report's count")
@@ -73,35 +78,33 @@ class View:
         if not predator.has("misses"):
             self.notes.append("this program has no command `misses`, so misses are unknown; objects stand by the report's count")
             return
-        own = self.report.size, self.report.offset
-        wanted = list(dict.fromkeys([own, WORD, *layouts(self.report)]))
-        trace = self.trace()
         if self.call.reads_once():
             self.notes.append(
                 "a trace from a pipe can be read once, so its misses, and places for its objects, are unknown: write it to a file for these"
             )
             return
-        with tempfile.TemporaryDirectory(prefix="predator-view-") as folder:
-            settings = os.path.join(folder, "settings")
-            with open(settings, "w", encoding="ascii") as file:
-                file.write("tracking = 1\nreport = 1\n")
-            readers = [*map(misses_under, wanted), each_line(own, settings)]
-            try:
-                counted = (
-                    predator.counted_of_file(trace, readers)
-                    if trace
-                    else predator.counted_of_run([*self.call.words_to_run(), *self.call.own], readers)
-                )
-            except Refused as refused:
-                self.notes.append(f"misses are unknown: {refused}")
-                return
+        own, foreseen, blamed = (self.report.size, self.report.offset), self.foreseen_layouts(), is_blamed(self.call, predator)
+        readers = [*first_readers(own, blamed), *map(misses_under, foreseen)]
+        try:
+            if passes is not None and self.call.trace():
+                counted = passes.told(readers)
+            else:
+                counted = predator.counted_of_run([*self.call.words_to_run(), *self.call.own], readers)
+        except Refused as refused:
+            self.notes.append(f"misses are unknown: {refused}")
+            return
         if any(it.accesses != self.report.accesses for it in counted):
             self.notes.append("the trace is a part of what the report counts, so its misses are unknown")
             return
         self.note_lacked(predator)
-        # (the readers of `wanted` tell misses, and the one behind them a report)
-        self.each, self.by_layout = cast(Report, counted.pop()), dict(zip(wanted, cast(list[Misses], counted)))
-        self.misses, self.by_word = self.by_layout[own], self.by_layout[WORD]
+        self.by_word, self.misses, self.each = cast(Misses, counted[0]), cast(Misses, counted[1]), cast(Report, counted[2])
+        self.blame = cast(Blame, counted[3]) if blamed else None
+        self.by_layout = dict(zip(foreseen, cast(list[Misses], counted[len(readers) - len(foreseen) :])))
+
+    def foreseen_layouts(self) -> list[Layout]:
+        """The layouts of the predicted lines whose misses are counted."""
+        options = self.call.options
+        return [] if "no-predicted" in options else worth_counting(self.report, self.naming, "predicted" in options)
 
     def note_lacked(self, predator: Predator) -> None:
         """Notes that a thread never ran since no hart was free."""
@@ -115,27 +118,24 @@ class View:
         """Looks, where the run didn't end well, whether a hart ran out of its stack."""
         if predator is None or self.report.ended_well() or not self.naming.memory.each or self.call.reads_once():
             return
-        trace = self.trace()
+        trace = self.call.trace()
         with contextlib.suppress(Refused, OSError):
             last = last_of_file(trace) if trace else last_of_run(predator, [*self.call.words_to_run(), *self.call.own])
             self.overflow = overflow(last, self.naming.memory)
 
-    def trace(self) -> str | None:
-        """The trace's file, where it is one that can be read again and again."""
-        path = self.call.subject if self.call.how == "replay" else self.call.value_of("--trace")
-        return path if path and os.path.isfile(path) and not self.call.reads_once() else None
-
     def place(self, predator: Predator | None, things: Sequence[Thing]) -> None:
         """Has a placement of the first objects counted, where the trace is a file that can be read again and again."""
-        trace, most = self.trace(), self.call.number("explain", EXPLAIN)
+        trace, most = self.call.trace(), self.call.number("explain", EXPLAIN)
         if predator is None or trace is None or not predator.has("place"):
             return
-        for it in things[:most]:
-            name = it.name_to_place()
-            placed = None if name is None else predator.placed(trace, name, self.report.size)
-            # (of several variables of one name it takes the first)
-            if placed and it.example and placed.addr == it.example.addr:
-                self.placed[it.key] = placed
+        # (what is to be left as it is has no use of it)
+        named = [(it, name) for it in things[:most] if not self.is_little(it) and (name := it.name_to_place()) is not None]
+        placed_at = functools.partial(predator.placed, trace, size=self.report.size)
+        with concurrent.futures.ThreadPoolExecutor(max_workers=min(4, os.cpu_count() or 1)) as pool:
+            for (it, _), placed in zip(named, pool.map(placed_at, [name for _, name in named])):
+                # (of several variables of one name it takes the first)
+                if placed and it.example and placed.addr == it.example.addr:
+                    self.placed[it.key] = placed
 
     def arrange(self) -> None:
         """Puts the lines together by objects."""
@@ -146,8 +146,10 @@ class View:
         for it in self.all.values():
             it.name = self.naming.key_name(it.key, it.example)
         self.rank()
+        if self.blame:
+            name_by_instructions(self.things, self.blame, self.naming)
         self.keys = keys_over_builds(self.all.values(), self.naming)
-        self.predicted = judged(self.report, self.misses, self.by_layout, self.naming)
+        self.predicted = [] if "no-predicted" in self.call.options else judged(self.report, self.misses, self.by_layout, self.naming)
         for line in self.predicted:
             for key, example in line.keys.items():
                 if key not in self.all:
@@ -197,7 +199,9 @@ class View:
         if isinstance(thing.example, Block) and thing.example.sites:
             own = thing.name + self.caller(thing)
             return own if self.label_counts[own] == 1 else f"{thing.name}, by {shown(self.naming.chain(thing.example.sites)[0].addr)}"
-        return f"{thing.name}, at {shown(thing.key.addr)}" if isinstance(thing.key, OfSymbol) else thing.name
+        if isinstance(thing.key, (OfSymbol, OfMemory)):
+            return f"{thing.name}, at {shown(thing.key.addr if isinstance(thing.key, OfSymbol) else thing.key.page)}"
+        return thing.name
 
     def caller(self, thing: Thing) -> str:
         """Of blocks that an inlined function makes the line that it was called from, as a part of their label."""
@@ -215,16 +219,26 @@ class View:
 
     def names_of(self, thing: Thing) -> set[str]:
         """What a call may name an object by: its own name, and those beside it."""
-        own = {it.name for it in (thing, *(self.all[key] for key in thing.beside))}
+        parts = [thing, *(self.all[key] for key in thing.beside)]
+        own = {it.name for it in parts} | {self.naming.key_name(it.key, it.example) for it in parts}
         return own | {self.naming.names.shortened(it) for it in own} | {it.partition(" made at ")[2].partition(" ")[0] for it in own}
 
     def explain(self, predator: Predator | None, things: Sequence[Thing]) -> None:
-        """Has the worst lines of the first objects explained, side by side."""
+        """Tells what takes the worst lines of the first objects: by the trace, or by as many runs side by side."""
         most = self.call.number("explain", EXPLAIN)
-        program = self.call.program
-        if program is None or predator is None or not most:
-            return
-        spots = [spot for spot in (it.worst() for it in things[:most]) if spot.base >= 0]
+        program, trace = self.call.program, self.call.trace()
+        if self.blame is not None:
+            found = (self.blame.takings(it.worst().base) for it in things)
+            self.explained = {it.base: it for it in found if it}
+        elif predator is not None and most and program is None and trace and has_pcs(trace) and not predator.has("blame"):
+            self.notes.append("this program has no command `blame`, so the instructions that fight are unknown")
+        elif program is not None and predator is not None and most:
+            self.explain_by_runs(predator, program, things[:most])
+        shown = None if "words" in self.call.options else 8
+        self.naming.prepare({at for it in self.explained.values() for pair in it.pairs[:shown] for at in pair[:2]})
+
+    def explain_by_runs(self, predator: Predator, program: str, things: Sequence[Thing]) -> None:
+        spots = [spot for spot in (it.worst() for it in things) if spot.base >= 0]
         if spots and not predator.has("explain"):
             self.notes.append("this program has no command `explain`, so the instructions that fight are unknown")
             return
@@ -234,13 +248,11 @@ class View:
                 if isinstance(it, Refused):
                     self.notes.append(f"what fights over {spot.base:#010x} is unknown: {it}")
                 elif it.accesses == self.report.accesses and (spot.line is None or it.count == spot.line.count):
-                    self.explained[spot.base] = it
+                    self.explained[spot.base] = it.takings
                 else:
                     self.notes.append(
                         f"the program under these settings doesn't make this trace, so `explain` says nothing of {spot.base:#010x}"
                     )
-        shown = None if "words" in self.call.options else 8
-        self.naming.prepare({at for it in self.explained.values() for pair in it.pairs[:shown] for at in pair[:2]})
 
     def note_idle(self) -> None:
         """Notes options that matched nothing: a type for blocks that aren't fought over, and a folder without a source of the program."""
@@ -272,12 +284,19 @@ class View:
             self.cached[thing.key] = Seen(thing, words, explained, todo, self.declared(thing))
         return self.cached[thing.key]
 
+    def total(self) -> int:
+        """The misses that aren't cold."""
+        return self.misses.total["useless"] + self.misses.total["useful"] if self.misses else 0
+
+    def is_little(self, thing: Thing) -> bool:
+        """Whether an object has so few of the misses that it is to be left as it is."""
+        is_first = self.things[0] is thing or "object" in self.call.options
+        return not is_first and 0 < (thing.useless + thing.useful) * advice.LITTLE < self.total()
+
     def advised(self, thing: Thing, words: list[Told]) -> str:
         """What to do about an object."""
-        total = self.misses.total["useless"] + self.misses.total["useful"] if self.misses else 0
-        is_first = self.things[0] is thing or "object" in self.call.options
-        if not is_first and 0 < (thing.useless + thing.useful) * advice.LITTLE < total:
-            return advice.little(thing, total)
+        if self.is_little(thing):
+            return advice.little(thing, self.total())
         names = {key: self.label(self.all[key]) for key in thing.beside}
         todo = advice.sentence(thing, words, names, self.align_to(thing), self.misses is not None, self.element(thing), self.turns())
         return todo + advice.placing(self.placed.get(thing.key), lambda addr: field_at(addr, thing.example, self.naming))
@@ -345,7 +364,7 @@ def keys_over_builds(things: Iterable[Thing], naming: Naming) -> dict[Key, str]:
                 " < ".join(naming.functions(it.example.sites)) if isinstance(it.example, Block) and it.example.sites else "-"
             )
         else:
-            text = f"stack {it.key.hart}" if isinstance(it.key, OfStack) else "memory"
+            text = "memory" if isinstance(it.key, OfMemory) else f"{it.key.kind} {it.key[1]}"
         groups.setdefault(text, []).append(it)
     for text, own in groups.items():
         for at, it in enumerate(own):
@@ -353,8 +372,12 @@ def keys_over_builds(things: Iterable[Thing], naming: Naming) -> dict[Key, str]:
     return found
 
 
-def memory_of(call: Call, predator: Predator | None) -> Memory:
-    """Where the stacks of a program lie under the settings of the call."""
+def memory_of(call: Call, predator: Predator | None, native: "NativeProgram | None" = None) -> Memory:
+    """Where the stacks of a program lie: of one of this machine by its table back, and of a guest under the settings of the call."""
+    if native is not None:
+        from native import NativeMemory
+
+        return NativeMemory(native)
     if call.program is None or predator is None:
         return Memory()
     words = call.settings_words()
