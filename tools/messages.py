@@ -20,7 +20,7 @@ from concurrent.futures import ThreadPoolExecutor
 from typing import Iterable, Iterator, NamedTuple
 
 import commands
-from commands import Row, bounds, known, names_of, number, options_of
+from commands import Row, bounds, flags, known, names_of, number, options_of
 from message_files import faults, put_files
 
 USUAL = {"PROGRAM": "p", "TRACE": "t", "NAME": "pair", "A": "a", "B": "b", "FILE": "a", "N": "3", "K": "3", "BASE": "0x00011000",
@@ -47,6 +47,8 @@ TABLE = known()
 COMMANDS = {it["name"]: it for it in TABLE["command"]}
 USAGE = commands.renew_usage("", TABLE)
 SPACE = {it["name"]: options_of(it) for it in TABLE["command"]}
+# The options without a value.
+BARE = set(flags(TABLE))
 
 
 def call(name: str, **others: str) -> list[str]:
@@ -92,6 +94,21 @@ def of_key(row: Row, usual: dict[str, int]) -> Iterator[Try]:
         yield Try(["check", "p", "--settings", settings_file(other, 1), changed], status, printed, range_of(row))
         yield Try(["check", "p", "--settings", settings_file(key, allowed), changed], status, printed, range_of(row))
         yield Try(["check", "p", "--settings", file, f"--set={other}=1"], status, printed, f"{file}: {range_of(row)}")
+        # The file is judged by itself first, so it is to blame also where its number is replaced, by a right one or by a wrong one.
+        yield Try(["check", "p", "--settings", file, f"--set={key}={allowed}"], status, printed, f"{file}: {range_of(row)}")
+        yield Try(["check", "p", "--settings", file, changed], status, printed, f"{file}: {range_of(row)}")
+
+
+def of_both(row: Row) -> Iterator[Try]:
+    """A prediction below its tracking: in a file, which a change would mend, and by a change alone."""
+    low = {"low": "tracking = 100\nprediction = 50\n", "well": "prediction = 50\n"}
+    for name, text in low.items():
+        with open(name, "w", encoding="utf-8") as file:
+            file.write(text)
+    printed = "settings OutOfRange prediction"
+    yield Try(["check", "p", "--settings", "low", "--set=tracking=10"], 4, printed, f"low: {range_of(row)}")
+    yield Try(["check", "p", "--settings", "low", "--set=prediction=200"], 4, printed, f"low: {range_of(row)}")
+    yield Try(["check", "p", "--settings", "well", "--set=tracking=60"], 4, printed, range_of(row))
 
 
 def settings() -> Iterator[Try]:
@@ -99,6 +116,7 @@ def settings() -> Iterator[Try]:
     keys = ", ".join(it["key"] for it in TABLE["setting"])
     for row in TABLE["setting"]:
         yield from of_key(row, usual)
+    yield from of_both(next(it for it in TABLE["setting"] if it["key"] == "prediction"))
     for name in (it for it, options in SPACE.items() if "--settings" in options):
         for file, printed, said in (
             ("harts.0", "OutOfRange harts", "`harts` is a whole number from 1 to 256"),
@@ -228,10 +246,13 @@ def words_of_all() -> Iterator[Try]:
         yield usage([*call(name), "--", "more"], "unexpected argument 'more' found")
         for option in sorted(options - own):
             yield usage([*call(name), option, "4"], f"unexpected argument '{option}' found")
-        for option in sorted(own):
+        for option in sorted(own & BARE):
+            yield usage([*call(name), option, option], f"the argument '{option}' cannot be used multiple times")
+        for option in sorted(own - BARE):
             called = f"'{option} <{option[2:]}>'"
             yield usage([name, *given, option], f"a value is required for {called} but none was supplied")
             yield usage([name, *given, option, "4", f"{option}=4"], f"the argument {called} cannot be used multiple times")
+    yield usage(["run", "p", "--pcs"], "--pcs is for a trace, and --trace is missing")
     for missing in ("--size", "--sets", "--ways"):
         at = call("caches").index(missing)
         yield usage(call("caches")[:at] + call("caches")[at + 2:], f"{missing} is missing")
