@@ -4,6 +4,7 @@ use Rattle.std.proofs.Common.{append_assoc, map, Option}
 use Rattle.std.proofs.Math.Nat.{add-zero}
 use Rattle.std.proofs.lemmas.List.{append-nil}
 use Rattle.std.proofs.lemmas.List.Elements.{filter_map-append}
+use Rattle.std.specs.Option.{unwrap_or}
 use Rattle.std.specs.Prelude.{OnOk, Result, Ok, Err}
 use Rattle.base.specs.Lines.{Grid}
 use Rattle.base.specs.Touch.{Touch}
@@ -57,14 +58,18 @@ access-next old new a pc noted stands begun xs seen =
     }
 
 pub blames-access : {T E : Type 0} (result : Result T E) (old new : Blamed) (x : TraceRecord)
-    (a : Touch) (pc : Option ℕ) → x ≡ records.Touch a pc
-    → OnOk result (new ≡ note_access old (sited_by a pc))
+    (a : Touch) (pc : Option ℕ) (n : ℕ) → x ≡ records.Touch a pc → n ≡ unwrap_or pc 0
+    → OnOk result (new ≡ note_access old (record { access = a; pc = n }))
     → ((u : List Sited) → StandsFor u old
-    → OnOk result (StandsFor (u ++ sited_by a pc ∷ []) new))
+    → OnOk result (StandsFor (u ++ record { access = a; pc = n } ∷ []) new))
     → OnOk result (BlamesNext old new x)
-blames-access (Err e) old new x a pc is noted stands = tt
-blames-access (Ok v) old new x a pc is noted stands =
-    subst (λ y. BlamesNext old new y) (sym is) (access-next old new a pc noted stands)
+blames-access (Err e) old new x a pc n is own noted stands = tt
+blames-access (Ok v) old new x a pc n is own noted stands =
+    subst (λ y. BlamesNext old new y) (sym is)
+    (access-next old new a pc
+    (noted ∙ ap (λ (m : ℕ). note_access old (record { access = a; pc = m })) own)
+    (λ u stood. subst (λ (m : ℕ). StandsFor (u ++ record { access = a; pc = m } ∷ []) new) own
+    (stands u stood)))
 
 -- a record that is none
 quiet-next : (now : Blamed) (x : TraceRecord) → touches_in (x ∷ []) ≡ [] → sited_in (x ∷ []) ≡ []
