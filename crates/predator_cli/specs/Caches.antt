@@ -10,7 +10,7 @@ use Rattle.command_files.specs.Works.{Work}
 use Rattle.predator_cli.specs.Counting.{counted_readings, counted_work}
 
 abbrev pub caches_readings : CachesDemand → List Reading
-caches_readings demand = counted_readings demand.trace
+caches_readings demand = counted_readings whole demand.trace
 
 -- what bounded caches count of each line of a trace, beside unbounded ones
 abbrev pub caches_text : CacheShape → Trace → List ℕ

@@ -10,7 +10,7 @@ use Rattle.command_files.specs.Works.{Work}
 use Rattle.predator_cli.specs.Counting.{counted_readings, counted_work}
 
 abbrev pub misses_readings : MissesDemand → List Reading
-misses_readings demand = counted_readings demand.trace
+misses_readings demand = counted_readings whole demand.trace
 
 -- the misses of each line of a trace, under a layout
 abbrev pub misses_text : Grid → Trace → List ℕ

@@ -19,7 +19,7 @@ use Rattle.predator_cli.specs.Counting.{counted_readings}
 
 -- each reading is of the same file, and is refused alike
 abbrev pub place_readings : PlaceDemand → List Reading
-place_readings demand = counted_readings demand.trace
+place_readings demand = counted_readings whole demand.trace
 
 -- all records of the trace that bytes are, none where they are no trace
 abbrev pub records_of : List ℕ → List TraceRecord
