@@ -1,8 +1,8 @@
 // Command lines as users write them, each against what it asks for.
 use base::Layout;
 use command_line::{
-    CheckOptions, ConvertOptions, Demand, GenOptions, PlaceOptions, ReplayOptions, RunOptions,
-    SplitOptions, WordsFault, read_words,
+    CheckOptions, ConvertOptions, Demand, GenOptions, LayoutOptions, PlaceOptions, ReplayOptions,
+    RunOptions, SplitOptions, WordsFault, read_words,
 };
 use settings::Changes;
 use std::alloc::{AllocError, Global};
@@ -305,7 +305,32 @@ fn reads_layouts(rt: HostRuntime) -> Result<(), Fail> {
     Ok(())
 }
 
-const REFUSED: [&str; 70] = [
+// The words behind the name of a command that reads the trace `t` under a layout, each with the size
+// and the offset of the layout.
+const UNDER: [(&str, u32, u32); 4] = [
+    ("t", 64, 0),
+    ("t --shift 60", 64, 60),
+    ("--size=1024 -- t", 1024, 0),
+    ("--shift 4 t --size 8", 8, 4),
+];
+
+#[test]
+fn reads_traces_under_layouts(rt: HostRuntime) -> Result<(), Fail> {
+    let alloc = rt.alloc();
+    for (words, size, shift) in &UNDER {
+        let Some(layout) = Layout::new(*size, *shift) else {
+            continue;
+        };
+        let options = LayoutOptions { trace: "t", layout };
+        let misses = format!(alloc, "misses {words}")?;
+        answers(&rt, alloc, &misses, &Some(Demand::Misses(options)))?;
+        let blame = format!(alloc, "blame {words}")?;
+        answers(&rt, alloc, &blame, &Some(Demand::Blame(options)))?;
+    }
+    Ok(())
+}
+
+const REFUSED: [&str; 77] = [
     // other words
     "replay",
     "replay a b",
@@ -333,6 +358,10 @@ const REFUSED: [&str; 70] = [
     "place t",
     "place t x y",
     "place t x --shift 4",
+    "misses",
+    "blame",
+    "blame t u",
+    "blame t --settings s",
     // other numbers
     "replay a --size 48",
     "replay a --size 064",
@@ -349,6 +378,9 @@ const REFUSED: [&str; 70] = [
     "place t x --size 3",
     "place t x --size 2048",
     "place t x --size=",
+    "misses t --size 2",
+    "blame t --size 48",
+    "blame t --size 8 --shift 8",
     // other changes of settings
     "run p --set",
     "run p --set=",
