@@ -305,27 +305,41 @@ fn reads_layouts(rt: HostRuntime) -> Result<(), Fail> {
     Ok(())
 }
 
-// The words behind the name of a command that reads the trace `t` under a layout, each with the size
-// and the offset of the layout.
-const UNDER: [(&str, u32, u32); 4] = [
-    ("t", 64, 0),
-    ("t --shift 60", 64, 60),
-    ("--size=1024 -- t", 1024, 0),
-    ("--shift 4 t --size 8", 8, 4),
+// Lines that ask for the misses of `t` or for who takes its lines, each with the size and the offset
+// of the layout.
+const MISSED: [(&str, u32, u32); 3] = [
+    ("misses t", 64, 0),
+    ("misses --size=1024 -- t", 1024, 0),
+    ("misses --shift 4 t --size 8", 8, 4),
 ];
+
+const BLAMED: [(&str, u32, u32); 3] = [
+    ("blame t", 64, 0),
+    ("blame t --size 4", 4, 0),
+    ("blame t --shift=60", 64, 60),
+];
+
+fn under(size: u32, shift: u32) -> Option<LayoutOptions<'static>> {
+    let layout = Layout::new(size, shift)?;
+    Some(LayoutOptions { trace: "t", layout })
+}
+
+fn misses(size: u32, shift: u32) -> Answer<'static> {
+    Some(Demand::Misses(under(size, shift)?))
+}
+
+fn blame(size: u32, shift: u32) -> Answer<'static> {
+    Some(Demand::Blame(under(size, shift)?))
+}
 
 #[test]
 fn reads_traces_under_layouts(rt: HostRuntime) -> Result<(), Fail> {
     let alloc = rt.alloc();
-    for (words, size, shift) in &UNDER {
-        let Some(layout) = Layout::new(*size, *shift) else {
-            continue;
-        };
-        let options = LayoutOptions { trace: "t", layout };
-        let misses = format!(alloc, "misses {words}")?;
-        answers(&rt, alloc, &misses, &Some(Demand::Misses(options)))?;
-        let blame = format!(alloc, "blame {words}")?;
-        answers(&rt, alloc, &blame, &Some(Demand::Blame(options)))?;
+    for (line, size, shift) in &MISSED {
+        answers(&rt, alloc, line, &misses(*size, *shift))?;
+    }
+    for (line, size, shift) in &BLAMED {
+        answers(&rt, alloc, line, &blame(*size, *shift))?;
     }
     Ok(())
 }
