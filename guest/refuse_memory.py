@@ -75,6 +75,7 @@ CALLS = [
     ("sweep", "given.trace", "--size", "64"),
     ("caches", "given.trace", "--size", "64", "--sets", "4", "--ways", "2"),
     ("misses", "given.trace"),
+    ("blame", "sited.trace"),
     ("place", "objects.trace", "both"),
     ("explain", "queue.elf", "0x12000", "64", "73", "--set", "quantum=10"),
 ]
@@ -144,7 +145,8 @@ def main():
         with open("shim.c", "w") as out:
             out.write(SHIM)
         subprocess.run(["cc", "-shared", "-fPIC", "-O1", "-o", "shim.so", "shim.c", "-ldl"], check=True)
-        for words in (("gen", "200", "given.trace"), ("run", "words.elf", "--trace", "objects.trace")):
+        sited = ("run", "queue.elf", "--set", "quantum=10", "--trace", "sited.trace", "--pcs")
+        for words in (("gen", "200", "given.trace"), ("run", "words.elf", "--trace", "objects.trace"), sited):
             subprocess.run([PROGRAM, *words], check=True, stdout=subprocess.DEVNULL)
         sys.exit(1 if sum(try_call(words) for words in CALLS) else 0)
 

@@ -69,17 +69,34 @@ def symbol(addr: int, size: int, name: bytes) -> bytes:
     return struct.pack("<BBIIH", 5, 1, addr, size, len(name)) + name
 
 
+def spelled(number: int) -> bytes:
+    """A distance, in groups of seven bits."""
+    told, groups = (2 * number if number >= 0 else -2 * number - 1), []
+    while told >= 128:
+        groups.append(told & 127 | 128)
+        told >>= 7
+    return bytes((*groups, told))
+
+
+def pc_of(hart: int) -> int:
+    return 0x10000 + 4 * hart
+
+
 def converted(touches: list[Touch]) -> bytes:
     """The trace of these accesses in version 2."""
     made, last = bytearray(header(version=2)), 0
     for hart, kind, addr in touches:
-        number = addr - last
-        told, last = (2 * number if number >= 0 else -2 * number - 1), addr
-        made += bytes((0x14 if kind == "R" else 0x24, hart))
-        while told >= 128:
-            made.append(told & 127 | 128)
-            told >>= 7
-        made.append(told)
+        made += bytes((0x14 if kind == "R" else 0x24, hart)) + spelled(addr - last)
+        last = addr
+    return bytes(made) + ending(len(touches))
+
+
+def sited(touches: list[Touch]) -> bytes:
+    """The trace of these accesses in version 3; each hart makes all of its own at one pc."""
+    made, last, known = bytearray(header(version=3)), 0, set()
+    for hart, kind, addr in touches:
+        made += bytes((0x14 if kind == "R" else 0x24, hart)) + spelled(addr - last) + spelled(0 if hart in known else pc_of(hart))
+        last, known = addr, known | {hart}
     return bytes(made) + ending(len(touches))
 
 
@@ -123,6 +140,14 @@ def fought_misses(count: int) -> bytes:
     rows = [f"line {0x100000 + 128 * line:#010x} cold 2 useful 0 useless 2" for line in range(count)]
     total = f"total cold {2 * count} useful 0 useless {2 * count}"
     return lines("misses 64 0", f"accesses {4 * count}", f"lines {count}", *rows, total, "end")
+
+
+def fought_blame(count: int) -> bytes:
+    first, second = (f"{pc_of(hart):#010x}" for hart in (0, 1))
+    told = [f"pair {first} {second} taken 2 same 0", f"pair {second} {first} taken 1 same 0", "from 0 to 1 taken 2", "from 1 to 0 taken 1"]
+    rows = [it for line in range(count) for it in (f"line {0x100000 + 128 * line:#010x} takings 3 pairs 2 harts 2", *told)]
+    heads = ("predator blame 1", f"accesses {4 * count}", "layout 64 0", f"lines {count}")
+    return lines(*heads, *rows, f"total takings {3 * count}", "end")
 
 
 def fought_caches(count: int) -> bytes:
@@ -212,7 +237,7 @@ def files() -> dict[str, bytes]:
         "long.elf": LONG.file, "small.elf": SMALL.file, "plain.elf": _data("plain.elf"), "adds.elf": _data("adds_bytes.elf"),
         "waits.elf": _data("waits_for_ever.elf"), "traps.elf": _data("traps.elf"),
         "settings": b"tracking = 1\nreport = 1\n", "schedule": b"0 5\n",
-        "made": trace(made(MADE)), "fought": trace(fights), "short": trace(made(200)), "pair": trace(pair, symbol(0x1000, 8, b"pair")),
+        "made": trace(made(MADE)), "fought": trace(fights), "sited": sited(fights), "short": trace(made(200)), "pair": trace(pair, symbol(0x1000, 8, b"pair")),
         "taken": trace([(0, "W", 0x1000), (1, "W", 0x1000), (1, "W", 0x2000), (0, "W", 0x1000)]),
         "turns": trace(pair + [(1, "W", 0x1004)]), "written": trace([(0, "W", 0x100000 + 4 * it) for it in range(LINES)]),
         "state": STATE, "rest": header(first=2) + ending(0), "bad": b"harts = 0\n", "script": b"#!/bin/sh\n",
@@ -256,6 +281,7 @@ def printing_cases() -> list[Case]:
         Case(("replay", "-", *replay), 0, fought_report(LINES), ("settings", "/dev/stdin"), piped="fought"),
         Case(("misses", "fought"), 0, fought_misses(LINES), ("fought",)),
         Case(("misses", "-"), 0, printed_by_case("misses.case", "misses t"), ("/dev/stdin",), piped="turns"),
+        Case(("blame", "sited"), 0, fought_blame(LINES), ("sited",)),
         Case(("caches", "fought", *caches), 0, fought_caches(LINES), ("fought",)),
         Case(("sweep", "pair", "--size", "8"), 0, printed_by_case("sweep.case", "sweep t --size 8"), ("pair",)),
         Case(("place", "pair", "pair"), 0, printed_by_case("place.case", "place t pair"), ("pair",), again="pair"),
@@ -270,6 +296,8 @@ def refused_cases() -> list[Case]:
     outputs = ("--trace", "t", "--output", "o")
     both, state = (("t", b""), ("o", b"")), (("s", b""),)
     cut = "it ends after 10 bytes, before the trace does: write or copy it again"
+    pcs = ("its accesses have no pcs: `predator run --pcs --trace F` writes a trace of a guest with them, `predator native --pcs --trace F` one of a "
+           "program of this machine")
     none = "no object symbol of the trace has this name, nor was exactly one block made at that address"
     rows = [
         (("gen", "03", "f"), 1, usage(), (), (("f", b""),), "'03' has a leading zero: N is a whole number up to 1000000000"),
@@ -282,6 +310,7 @@ def refused_cases() -> list[Case]:
         (("replay", "bad", "--save", "s"), 5, b"predator: trace Truncated 10\n", ("bad",), state, f"bad: {cut}"),
         (("split", "bad", "3", "a", "b"), 5, b"predator: trace Truncated 10\n", ("bad",), (("a", b""), ("b", b"")), f"bad: {cut}"),
         (("convert", "script", "c"), 5, b"predator: trace Truncated 10\n", ("script",), (("c", b""),), f"script: {cut}"),
+        (("blame", "short"), 5, b"predator: trace NoPcs\n", ("short",), (), f"short: {pcs}"),
         (("replay", "short", "--resume", "bad", "--save", "s"), 6, b"predator: state BadState 0\n", ("bad",), state,
          "bad: not a saved state, or only part of one: byte 0 is wrong"),
         (("place", "pair", "none"), 13, b"predator: place NoObject\n", ("pair",), (), none),
