@@ -55,7 +55,8 @@ pub(crate) fn note_touches<S: Shelf, O: Observer>(
     ensures count { length outputs.new ≡ length outputs.old }
 {
     for place in 0..touches.len() {
-        let item = touch_record(version, touches[place].access, touches[place].pc);
+        let touched = touches[place];
+        let item = touch_record(version, touched.access, touched.pc);
         match note_record(shelf, files, outputs, speller, observer, &item) {
             Ok(()) => {}
             Err(error) => return Err(error),
