@@ -1,16 +1,17 @@
 -- What a run leaves: its trace, and what it puts out, in files.
-use Rattle.std.specs.Prelude.{ℕ, List, [], ◌∷◌, ◌++◌, Option, None, Some, map}
+use Rattle.std.specs.Prelude.{◌≡◌, ℕ, List, [], ◌∷◌, ◌++◌, Option, None, Some, map}
 use Rattle.std.specs.List.{filter_map}
 use Rattle.base.specs.Touch.{Touch}
 use Rattle.shelf.specs.Files.{Output as AnOutput}
 use Rattle.trace_format.specs.declared.record.TraceRecord.{TraceRecord}
 use Rattle.trace_format.specs.declared.record.TraceRecord.TheVariants as records
 use Rattle.trace_format.specs.declared.record.Version.{Version}
-use Rattle.trace_format.specs.declared.record.Version.TheVariants.{Three}
-use Rattle.trace_format.specs.Rules.{IsGoodSymbol, IsGoodTrace}
+use Rattle.trace_format.specs.declared.record.Version.TheVariants.{One, Three}
+use Rattle.trace_format.specs.Pcs.{without_pcs}
+use Rattle.trace_format.specs.Rules.{IsGoodSymbol, IsGoodTrace, touches_in}
 use Rattle.trace_passes.specs.Passes.{Trace as ATrace, spell_trace}
 use Rattle.guest.specs.GuestCalls.{RunEvent, quiet, touch, alloc, free, output}
-use Rattle.guest.specs.Runs.{Run, output_of}
+use Rattle.guest.specs.Runs.{Run, output_of, sited_of}
 use Rattle.run_recorder.specs.declared.run_file.Content.{Content}
 use Rattle.run_recorder.specs.declared.run_file.Content.TheVariants.{Trace, Output}
 use Rattle.run_recorder.specs.declared.run_file.RunFile.{RunFile}
@@ -89,3 +90,12 @@ sited_record _ = None
 -- the accesses of which records tell the pc, each with its pc, in order
 abbrev pub sited_records : List TraceRecord → List (Touch × ℕ)
 sited_records items = filter_map sited_record items
+
+-- A trace tells a run with the pc of each access: it is the trace of version 1 but for the pcs, and
+-- its accesses with their pcs are those of the run, in order.
+pub record TellsRun (harts : ℕ) (symbols : List TraceRecord) (r : Run) (t : ATrace) : Type 0 where
+  pub header : t.header ≡ (trace_for One harts symbols r).header
+  pub records : without_pcs t.items ≡ (trace_for One harts symbols r).items
+  pub accesses : touches_in t.items ≡ touches_in (trace_for One harts symbols r).items
+  pub ending : t.ending ≡ (trace_for One harts symbols r).ending
+  pub sites : sited_records t.items ≡ sited_of r
