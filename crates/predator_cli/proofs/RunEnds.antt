@@ -259,10 +259,13 @@ tells_sites : (d : RunDemand) (s : Settings) (files : Files) (t : Trace) (r : Ru
 tells_sites d s files t r good is traced answer = λ pcs name later named_so holds.
     let read : trace_of (content later name) ≡ Some t =
     ap trace_of (written_trace d s files later t r name answer named_so holds)
-    ∙ spelled_again t good in
-    (t, read, subst (λ (x : Settings). TellsSites d x files t)
-    (sym (settings_chosen d.settings files s is))
-    (subst (TellsSites d s files) (sym traced) (demand_sited d s files pcs)))
+    ∙ spelled_again t good in (
+      t,
+      read,
+      subst (λ (x : Settings). TellsSites d x files t)
+          (sym (settings_chosen d.settings files s is))
+          (subst (TellsSites d s files) (sym traced) (demand_sited d s files pcs)),
+    )
 
 repeats : (d : RunDemand) (s : Settings) (files : Files) (t : Trace) (r : Run) → IsKept t
     → t.header.first ≡ 0
@@ -297,7 +300,8 @@ to_write d s t r a m ready = record {
 }
 
 -- the same where the files are those that the options name
-pub handed_on : (options : RunOptions) (v : Version) (harts : ℕ) (symbols : List TraceRecord) (r : Run)
+pub handed_on : (options : RunOptions) (v : Version) (harts : ℕ) (symbols : List TraceRecord) (r :
+    Run)
     (files : List RunFile)
     → files ≡ file_for options.trace Content.Trace ++ file_for options.output Content.Output
     → outputs_for v harts symbols r files ≡ outputs_of_run (run_meaning options)
