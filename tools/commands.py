@@ -59,7 +59,12 @@ def options_of(command: Row) -> list[str]:
 
 def names_of(command: Row) -> list[str]:
     """The words of a command that are no options."""
-    return re.findall(r"\S+", re.sub(r"\[?--[a-z]+ [A-Z]+\]?", "", command["usage"]))
+    return re.findall(r"\S+", re.sub(r"\[?--[a-z]+(?: [A-Z]+)?\]?", "", command["usage"]))
+
+
+def flags(table: dict[str, list[Row]]) -> list[str]:
+    """The options without a value."""
+    return [it["name"] for it in table["option"] if "value" not in it]
 
 
 # The page of help.
@@ -77,7 +82,7 @@ def help_parts(table: dict[str, list[Row]]) -> dict[str, str]:
         "Usage": usage + f"  predator {' | '.join(LAUNCHER)}\n",
         "Commands": "".join(column(9, it["name"], plain(it["does"])) for it in table["command"]),
         "Beside the program": "".join(column(9, it["name"], plain(it["does"])) for it in table["beside"]),
-        "Options": "".join(column(15, f"{it['name']} {it['value']}", plain(it["does"])) for it in table["option"]),
+        "Options": "".join(column(15, f"{it['name']} {it.get('value', '')}".strip(), plain(it["does"])) for it in table["option"]),
         "Exit status": "".join(column(5, str(it["number"]), plain(it["comes"])) for it in table["status"]),
     }
 
@@ -106,9 +111,11 @@ def sentence(row: Row) -> str:
 
 def synopsis(command: Row) -> str:
     found = [f".B predator {command['name']}"]
-    for word in re.findall(r"\[--[a-z]+ [A-Z]+\]|--[a-z]+ [A-Z]+|[A-Z ]+[A-Z](?![a-z])|[A-Z]", command["usage"]):
+    for word in re.findall(r"\[--[a-z]+(?: [A-Z]+)?\]|--[a-z]+ [A-Z]+|[A-Z ]+[A-Z](?![a-z])|[A-Z]", command["usage"]):
         name, _, value = word.strip("[] ").partition(" ")
-        if word.startswith("["):
+        if word.startswith("[") and not value:
+            found.append(".RB [ " + name.replace("-", "\\-") + " ]")
+        elif word.startswith("["):
             found += [".RB [ " + name.replace("-", "\\-"), f".IR {value} ]"]
         elif word.startswith("--"):
             found += [".B " + name.replace("-", "\\-"), f".I {value}"]
@@ -117,11 +124,17 @@ def synopsis(command: Row) -> str:
     return "\n".join(found)
 
 
+def manual_option(option: Row) -> str:
+    name = option["name"].replace("-", "\\-")
+    head = f'.BI {name} " {option["value"]}"' if "value" in option else f".B {name}"
+    return f".TP\n{head}\n" + roff(sentence(option))
+
+
 def manual_parts(table: dict[str, list[Row]]) -> dict[str, str]:
     """The parts of the manual page, by the names of their marks."""
     own = [f".B predator {it['name']}\n" + roff(it["synopsis"]).rstrip() for it in table["beside"]]
     own.append(".B predator " + "\n|\n.B ".join(it.replace("-", "\\-") for it in LAUNCHER))
-    options = (".TP\n.BI " + it["name"].replace("-", "\\-") + f' " {it["value"]}"\n' + roff(sentence(it)) for it in table["option"])
+    options = (manual_option(it) for it in table["option"])
     ends = ((it["number"], f"{it['comes'][0].upper()}{it['comes'][1:]}. It prints {it['printed']}.") for it in table["status"])
     statuses = (f".TP\n.B {number}\n" + roff(text) for number, text in ends)
     keys = ",\n".join(f"`{it['key']}` ({it['is']}: {values(it)}, usually {it['usual']})" for it in table["setting"])
@@ -196,7 +209,7 @@ def launcher_parts(table: dict[str, list[Row]]) -> dict[str, str]:
     readers = " ".join(it["name"] for it in table["command"] if "TRACE" in it.get("reads", ()))
     keys = " ".join(it["key"] for it in table["setting"])
     return {
-        "words": f"declare -gA names_before=({counts})\nwritten_options=({outputs})\n",
+        "words": f"declare -gA names_before=({counts})\nwritten_options=({outputs})\nbare_options=({' '.join(flags(table))})\n",
         "hints": f'trace_readers="{readers}"\nsetting_keys=({keys})\n',
     }
 
@@ -206,7 +219,8 @@ def view_parts(table: dict[str, list[Row]]) -> dict[str, str]:
     usual = ", ".join(f'"{it["key"]}": {it["usual"]}' for it in table["setting"] if isinstance(it["usual"], int))
     run = {it for command in table["command"] if command["name"] == "run" for it in options_of(command)}
     written = [it["name"] for it in table["option"] if it["name"] in run and it.get("writes")]
-    asked = [it["name"] for it in table["option"] if it["name"] in run and not it.get("writes")]
+    bare = [it for it in flags(table) if it in run]
+    asked = [it["name"] for it in table["option"] if it["name"] in run and not it.get("writes") and it["name"] not in bare]
     lines, keys = textwrap.wrap(usual, 130), ", ".join(quoted(it["key"]) for it in table["setting"])
     shown = {it["name"]: options_of(it) for it in table["command"] if it["name"] in ("run", "replay", "sweep")}
     own = "".join(f"    {quoted(name)}: [{', '.join(map(quoted, of))}],\n" for name, of in shown.items())
@@ -214,6 +228,7 @@ def view_parts(table: dict[str, list[Row]]) -> dict[str, str]:
         "usual": "USUAL = {\n" + "\n".join(f"    {it}" for it in lines) + ",\n}\n",
         "keys": f"KEYS = ({keys})\n",
         "options": f"ASKED = ({', '.join(map(quoted, asked))})\nWRITTEN = ({', '.join(map(quoted, written))})\n"
+        + f"BARE = ({', '.join(map(quoted, bare))},)\n"
         + f"OPTIONS = {{\n{own}}}\n",
     }
 
