@@ -73,6 +73,12 @@ class Line(NamedTuple):
         self.latest.pop(it.hart, None)
         self.latest[it.hart] = it.pc, it.addr // 4
 
+    def rows(self):
+        """How many takings there are, and the pairs and the harts in the order of the text."""
+        pairs = ((*both, count, self.same[both]) for both, count in self.pairs.items())
+        harts = ((*both, count) for both, count in self.harts.items())
+        return sum(self.pairs.values()), sorted(pairs, key=lambda it: (-it[2], it[:2])), sorted(harts)
+
 
 def takings(accesses, size=64, shift=0):
     """How many accesses there are, and each line that is taken as (base, takings, pairs, harts), in the order of the text."""
@@ -84,13 +90,8 @@ def takings(accesses, size=64, shift=0):
         if line is None:
             line = lines[base] = Line(set(), {}, Counter(), Counter(), Counter())
         line.note(it)
-    found = [(base, sum(it.pairs.values()), pairs_of(it), sorted((*both, n) for both, n in it.harts.items())) for base, it in lines.items() if it.pairs]
+    found = [(base, *it.rows()) for base, it in lines.items() if it.pairs]
     return count, sorted(found, key=lambda it: (-it[1], it[0]))
-
-
-def pairs_of(line):
-    """The pairs of a line, in the order of the text."""
-    return sorted(((*both, n, line.same[both]) for both, n in line.pairs.items()), key=lambda it: (-it[2], it[:2]))
 
 
 def told(trace, size=64, shift=0):
