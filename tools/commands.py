@@ -70,7 +70,7 @@ def flags_of(table: dict[str, list[Row]]) -> list[str]:
 def has(words: Sequence[str]) -> bool:
     """Whether commands.toml has the command of a call, with its options."""
     own = [{it["name"], *options_of(it)} for it in known()["command"]]
-    return any({words[0], *(it for it in words if it.startswith("--"))} <= it for it in own)
+    return any({words[0], *(it.partition("=")[0] for it in words if it.startswith("--"))} <= it for it in own)
 
 
 # The page of help.
