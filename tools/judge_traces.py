@@ -7,8 +7,8 @@ makes COUNT (200) small traces as judge_report.py does, by the random numbers th
 that PROGRAM reports must be those of a recount; and where it is cut at a random access, the state that is saved of its first half must
 be good, and the second half, carried on from it, must have the report of the whole. With random pcs, in version 3, it must have the same
 report, the same accesses and pcs in its halves, and what a trace without pcs is converted to; and what `blame` prints of it, and of the
-trace without pcs, must be what recount_blame.py does, where PROGRAM has that command. Some of the states are changed in each byte and cut at
-each, and what PROGRAM says of them is compared. It ends with 1 where anything differs."""
+trace without pcs, must be what recount_blame.py does, where PROGRAM has that command. Some of the states are changed in each byte and
+cut at each, and what PROGRAM says of them is compared. It ends with 1 where anything differs."""
 
 import os
 import random
