@@ -14,7 +14,7 @@ import tempfile
 HERE = os.path.dirname(os.path.abspath(__file__))
 sys.path.insert(0, os.path.join(HERE, "..", "studies"))
 from costs import Build, text  # noqa: E402
-from report import Run, block, renew, shown, table  # noqa: E402
+from report import Run, block, front, renew, shown, table  # noqa: E402
 
 OUT = os.path.join(HERE, "out")
 # Of each study its builds: as it is, and after each repair.
@@ -41,10 +41,7 @@ MOST, MOST_OF_ONE = 2, 6
 
 def first(lines):
     """The first lines of a list, each with the beginning of what stands on it."""
-    made = []
-    for it in lines[:MOST]:
-        made += it[: 1 + MOST_OF_ONE] + [".."] * (len(it) > 1 + MOST_OF_ONE)
-    return made
+    return [text for it in lines[:MOST] for text in front(it, 1 + MOST_OF_ONE)]
 
 
 def excerpt(name, run, build):

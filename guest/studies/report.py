@@ -134,6 +134,11 @@ def table(heads, rows):
     return "\n".join(f"| {' | '.join(row)} |" for row in [heads, right, *rows])
 
 
+def front(lines, most):
+    """The first of some lines, and a line that says so where there are more."""
+    return [*lines[:most], *([".."] if len(lines) > most else [])]
+
+
 def block(lines):
     return "\n".join(f"    {it}" for it in lines)
 

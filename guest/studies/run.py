@@ -26,12 +26,14 @@ def summary(runs):
 
 
 def excerpt(name, run):
-    """The first observed lines of a report with what stands on them, or else the first predicted ones, as the program printed them."""
+    """The first observed lines of a report, or else the first predicted ones, as the program printed them, with what stands on each where
+    that isn't what stands on the one before."""
     lines, observed = run.report.lines, run.report.of_kind("observed")
     first = (observed or lines)[:MOST]
     made = [f"{name}: lines {len(lines)}" + (f", {len(observed)} of them observed" if lines else "")]
-    for it in first:
-        made += [it.text, *it.objects, *(it.words if name == SHOWN and it == first[0] else [])]
+    for at, it in enumerate(first):
+        objects = it.objects if not at or it.objects != first[at - 1].objects else []
+        made += [it.text, *objects, *(it.words if name == SHOWN and it == first[0] else [])]
     return block(made + [".."] * (len(observed or lines) > MOST))
 
 
