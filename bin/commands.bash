@@ -9,6 +9,6 @@ written_options=(--trace --output --save) flag_options=()
 
 # Which commands read a TRACE, and the keys of the settings.
 # commands.toml: hints
-trace_readers="replay split convert sweep caches place misses"
+trace_readers="replay split convert sweep caches place misses blame"
 setting_keys=(harts memory stack tracking prediction report quantum budget line seed)
 # (so far)

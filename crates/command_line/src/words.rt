@@ -5,6 +5,7 @@ ghost use Rattle.command_line.specs.Demands.{texts, IsUsage, UnlessMemory};
 ghost use Rattle.command_line.specs.Words.{IsBounded, asked_of, demand_of, is_command, meaning};
 ghost use Rattle.command_line.specs.Words.{IsReadAs, with_names_apart};
 
+use crate::blame::read_blame;
 use crate::caches::read_caches;
 use crate::check::read_check;
 use crate::convert::read_convert;
@@ -32,6 +33,7 @@ pub const USAGE: &str = concat!(
     "usage: predator caches TRACE --size N --sets S --ways W\n",
     "usage: predator place TRACE NAME [--size N]\n",
     "usage: predator misses TRACE [--size N] [--shift N]\n",
+    "usage: predator blame TRACE [--size N] [--shift N]\n",
     "usage: predator explain PROGRAM BASE SIZE START [--settings F] [--schedule F]\n",
 );
 
@@ -59,6 +61,7 @@ fn read_command<'a>(
         "caches" => read_caches(alloc, words),
         "place" => read_place(alloc, words),
         "misses" => read_misses(alloc, words),
+        "blame" => read_blame(alloc, words),
         "explain" => read_explain(alloc, words),
         _ => Err(WordsFault::Usage(Reason::UnknownCommand(command))),
     }

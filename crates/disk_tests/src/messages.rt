@@ -32,7 +32,7 @@ const SHAPE_3: &str = "'--size 64 --sets 3 --ways 8' is no shape of caches: --si
     two from 4 to 1024, --sets one from 1 to 1024, --ways from 1 to 64, and sets times ways at \
     most 4096";
 
-const WRONG_WORDS: [(&str, &str); 41] = [
+const WRONG_WORDS: [(&str, &str); 42] = [
     ("", "the command is missing; see predator --help"),
     ("reply t", "'reply' is no command; see predator --help"),
     ("run p --fast=1", "unexpected argument '--fast' found"),
@@ -121,6 +121,13 @@ const WRONG_WORDS: [(&str, &str); 41] = [
         "misses t --shift 04",
         concat!(
             "'04' has a leading zero: --size is a power of two from 4 to 1024, ",
+            "--shift a multiple of 4 below the size",
+        ),
+    ),
+    (
+        "blame t --size 48 --shift 16",
+        concat!(
+            "'--size 48 --shift 16' is no layout: --size is a power of two from 4 to 1024, ",
             "--shift a multiple of 4 below the size",
         ),
     ),

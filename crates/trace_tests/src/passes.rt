@@ -19,6 +19,7 @@ pub(crate) fn tallied(
     let wanted = Wanted {
         harts: Some(8),
         first: Some(first),
+        pcs: false,
     };
     let mut tally = tally_from(first);
     match pass(alloc, &mut shelf, "t", &wanted, &mut tally) {
