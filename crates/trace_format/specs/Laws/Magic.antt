@@ -1,11 +1,14 @@
 -- What the first 8 bytes say of the version: it is known once they are there, and more bytes leave
 -- it as it is.
-use Rattle.std.proofs.Common.{◌≡◌, ℕ, ◌+◌, ◌≤◌, ◌<◌, Bool, true, false, cond, ◌&&◌, eqb, ltb, leb}
-use Rattle.std.proofs.Common.{List, [], ◌∷◌, ◌++◌, length, take, Option, Some, None, Result, Ok, Err}
-use Rattle.std.proofs.Common.{refl, sym, ap, subst, ◌∙◌, append_assoc, arith}
-use Rattle.std.proofs.lemmas.Bool.Decides.{nat_tests}
+use Rattle.std.proofs.Common.{◌≡◌, ℕ, ◌+◌, ◌≤◌, ◌<◌, true, cond, ◌&&◌, eqb, ltb, leb}
+use Rattle.std.proofs.Common.{List, [], ◌∷◌, ◌++◌, length, take, drop, Option, Some, None, Result}
+use Rattle.std.proofs.Common.{Ok, Err, inl, inr, refl, sym, ap, subst, ◌∙◌, append_assoc, arith}
+use Rattle.std.proofs.lemmas.Bool.Decides.{Decides-eqb, nat_tests}
 use Rattle.std.proofs.lemmas.List.{append-nil, length-append, take-append-le}
+use Rattle.std.proofs.lemmas.Option.{same_Some, none-some}
+use Rattle.std.proofs.lemmas.Slice.Eq.{starts_is}
 use Rattle.std.specs.Cmp.Lexicographic.{pointwise}
+use Rattle.std.specs.List.{starts_with}
 use Rattle.std.specs.Int.{w16, w64}
 use Rattle.base.specs.Fields.{number_at}
 use Rattle.base.specs.declared.ending.Ending.{Ending}
@@ -18,9 +21,9 @@ use Rattle.trace_format.specs.declared.read_so_far.ReadSoFar.{ReadSoFar}
 use Rattle.trace_format.specs.Judging.{begun, fields_judged, header_judged, record_judged, version_at}
 use Rattle.trace_format.specs.Laws.Counts.{by_test}
 use Rattle.trace_format.specs.Laws.Reading.{waiting}
-use Rattle.trace_format.specs.Laws.Records.{granted, not_refused, same_Ok}
+use Rattle.trace_format.specs.Laws.Records.{chosen, granted, not_refused, same_Ok}
 use Rattle.trace_format.specs.Reading.{Reading, begin, byte_read, extent_at, header_read, magic_at}
-use Rattle.trace_format.specs.Reading.{magic_in, part_at, place_of, read_on, reading_of, record_read}
+use Rattle.trace_format.specs.Reading.{magic_in, part_at, read_on, reading_of, record_read}
 use Rattle.trace_format.specs.Reading.{with_fault}
 use Rattle.trace_format.specs.Rules.{last_position, longest_trace}
 use Rattle.trace_format.specs.Spelling.{magic_of}
@@ -44,6 +47,52 @@ pub version_stays : (bytes more : List ℕ) → 8 ≤ length bytes
 version_stays bytes more long =
     by_front (bytes ++ more) ∙ ap version_of_front (take-append-le 8 bytes more long)
     ∙ sym (by_front bytes)
+
+-- bytes begin with the text of the version that is found
+IsHead : List ℕ → Version → Type 0
+IsHead bytes v = bytes ≡ magic_of v ++ drop 8 bytes
+
+one_tried : (bytes : List ℕ) (k v : Version) (rest : Option Version)
+    → (starts_with eqb bytes (magic_of k) ≡ true → IsHead bytes k)
+    → (rest ≡ Some v → IsHead bytes v)
+    → cond (starts_with eqb bytes (magic_of k)) (Some k) rest ≡ Some v → IsHead bytes v
+one_tried bytes k v rest is else e =
+    elim (chosen (starts_with eqb bytes (magic_of k)) (Some k) rest (Some v) e) [
+      | inl h ↦ subst (IsHead bytes) (same_Some k v h.1) (is h.0)
+      | inr h ↦ else h.1
+    ]
+
+head_of : (bytes : List ℕ) (v : Version) → starts_with eqb bytes (magic_of v) ≡ true
+    → IsHead bytes v
+unfolding IsHead
+head_of bytes One is = (starts_is Decides-eqb bytes (magic_of One)
+    (starts_with eqb bytes (magic_of One)) refl).0 is
+head_of bytes Two is = (starts_is Decides-eqb bytes (magic_of Two)
+    (starts_with eqb bytes (magic_of Two)) refl).0 is
+head_of bytes Three is = (starts_is Decides-eqb bytes (magic_of Three)
+    (starts_with eqb bytes (magic_of Three)) refl).0 is
+
+-- Bytes in which a version is found begin with its magic.
+pub version_found : (bytes : List ℕ) (v : Version) → version_at bytes ≡ Some v → bytes
+    ≡ magic_of v ++ drop 8 bytes
+unfolding IsHead
+version_found bytes v =
+    one_tried bytes One v _ (head_of bytes One)
+    (one_tried bytes Two v _ (head_of bytes Two)
+    (one_tried bytes Three v _ (head_of bytes Three) (λ none. absurd (none-some v none))))
+
+eight : (v : Version) → length (magic_of v) ≡ 8
+eight One = refl
+eight Two = refl
+eight Three = refl
+
+-- What begins with a magic has its version, whatever is behind it.
+pub version_kept : (bytes more : List ℕ) (v : Version) → version_at bytes ≡ Some v
+    → version_at (bytes ++ more) ≡ Some v
+version_kept bytes more v e =
+    let size = ap length (version_found bytes v e) in
+    let parts = length-append (magic_of v) (drop 8 bytes) in
+    version_stays bytes more (omega (arith, size, parts, eight v)) ∙ e
 
 -- ---- a reading knows the magic of its bytes
 
