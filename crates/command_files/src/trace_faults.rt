@@ -12,9 +12,10 @@ const NO_TRACE: &str =
 
 const CUT: &str = "write or copy it again";
 
-/// What is said of a trace whose accesses have no pcs, where a command needs them.
-pub const NO_PCS_ADVICE: &str = "its accesses have no pcs: `predator run --pcs --trace F` writes a \
-    trace of a guest with them, `predator native --pcs --trace F` one of a program of this machine";
+/// What to do about a trace without pcs, where a command needs them.
+pub const NO_PCS_ADVICE: &str =
+    "its accesses have no pcs: `predator run PROGRAM --pcs --trace F` writes them for a guest, \
+     `predator native --pcs --trace F -- PROGRAM` for a program of this machine";
 
 const TOO_LONG: &str = "a trace has at most 2^40 accesses, and less than 2^44 bytes";
 

@@ -216,6 +216,11 @@ const ADVICE: [(Status, &str); 10] = [
             docs/FORMATS.md says what stands where",
     ),
     (
+        Status::NoPcs,
+        "its accesses have no pcs: `predator run PROGRAM --pcs --trace F` writes them for a guest, \
+            `predator native --pcs --trace F -- PROGRAM` for a program of this machine",
+    ),
+    (
         Status::State(StateFault::WrongPosition {
             saved: 0,
             first: 6000,
