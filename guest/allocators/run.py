@@ -12,7 +12,7 @@ import tempfile
 
 HERE = os.path.dirname(os.path.abspath(__file__))
 sys.path.insert(0, os.path.join(HERE, "..", "studies"))
-from report import BUILT, PROGRAM, TOP, Run, block, front, renew, table  # noqa: E402
+from report import BUILT, PROGRAM, TOP, Run, block, renew, table, with_objects  # noqa: E402
 
 SETTINGS = "memory = 67108864\n"
 KIT = "the kit's `malloc`"
@@ -79,7 +79,8 @@ def row(name, workload, run, heap):
 
 def first_lines(report):
     """The first observed lines, and the beginning of what stands on each."""
-    return [text for it in report.of_kind("observed")[:MOST] for text in front([it.text, *it.objects], 1 + MOST_OF_ONE)]
+    lines = [(it.text, it.objects) for it in report.of_kind("observed")[:MOST]]
+    return [text for rows in with_objects(lines, MOST_OF_ONE) for text in rows]
 
 
 def main(words):

@@ -134,9 +134,15 @@ def table(heads, rows):
     return "\n".join(f"| {' | '.join(row)} |" for row in [heads, right, *rows])
 
 
-def front(lines, most):
-    """The first of some lines, and a line that says so where there are more."""
-    return [*lines[:most], *([".."] if len(lines) > most else [])]
+def with_objects(lines, most=100):
+    """The rows of some lines, each given as its text and what stands on it: at most so many rows of that, and none where it is what stands
+    on the one before."""
+    made, before = [], None
+    for text, objects in lines:
+        shown_here = [*objects[:most], *([".."] if len(objects) > most else [])]
+        made.append([text, *(shown_here if shown_here != before else [])])
+        before = shown_here
+    return made
 
 
 def block(lines):

@@ -7,7 +7,7 @@ where a program doesn't end with exit 0, or a recount says otherwise than a repo
 import os
 import sys
 
-from report import BUILT, SETTINGS, Run, block, builds, commit, renew, shown, table
+from report import BUILT, SETTINGS, Run, block, builds, commit, renew, shown, table, with_objects
 
 # How many lines of a report a study shows, and the one that shows the words of the first.
 MOST = 4
@@ -26,14 +26,12 @@ def summary(runs):
 
 
 def excerpt(name, run):
-    """The first observed lines of a report, or else the first predicted ones, as the program printed them, with what stands on each where
-    that isn't what stands on the one before."""
+    """The first observed lines of a report with what stands on them, or else the first predicted ones, as the program printed them."""
     lines, observed = run.report.lines, run.report.of_kind("observed")
     first = (observed or lines)[:MOST]
     made = [f"{name}: lines {len(lines)}" + (f", {len(observed)} of them observed" if lines else "")]
-    for at, it in enumerate(first):
-        objects = it.objects if not at or it.objects != first[at - 1].objects else []
-        made += [it.text, *objects, *(it.words if name == SHOWN and it == first[0] else [])]
+    for it, rows in zip(first, with_objects([(it.text, it.objects) for it in first])):
+        made += [*rows, *(it.words if name == SHOWN and it == first[0] else [])]
     return block(made + [".."] * (len(observed or lines) > MOST))
 
 
