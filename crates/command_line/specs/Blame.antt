@@ -1,5 +1,5 @@
--- The command `blame`, which tells which instructions and which harts take the lines of a trace from
--- each other, under a layout.
+-- The command `blame`, which prints which instructions and which harts take the lines of a trace
+-- from each other, under a layout.
 use Rattle.std.specs.Prelude.{List, Option, codes}
 use Rattle.clap.specs.Words.{Text}
 use Rattle.command_line.specs.TraceLayouts.{LayoutDemand, asked_with_layout}

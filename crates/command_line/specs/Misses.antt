@@ -1,4 +1,4 @@
--- The command `misses`, which tells what the sharing of each line costs in a trace, under a layout.
+-- The command `misses`, which prints what the sharing of each line costs in a trace, under a layout.
 use Rattle.std.specs.Prelude.{List, Option, codes}
 use Rattle.clap.specs.Words.{Text}
 use Rattle.command_line.specs.TraceLayouts.{LayoutDemand, asked_with_layout}

@@ -41,7 +41,7 @@ pub enum Demand<'a> {
     Place(PlaceOptions<'a>),
     /// Tell what the sharing of each line costs in a trace.
     Misses(LayoutOptions<'a>),
-    /// Tell which instructions and which harts take the lines of a trace from each other.
+    /// Print which instructions and which harts take the lines of a trace from each other.
     Blame(LayoutOptions<'a>),
     /// Run a program, and tell which instructions take one line from each other.
     Explain(ExplainOptions<'a>),

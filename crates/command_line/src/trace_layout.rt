@@ -12,8 +12,8 @@ use base::Layout;
 use clap::ArgMatches;
 use std::alloc::Global;
 
-/// What a command is asked for that reads a trace under a layout of lines. A name is a text as it
-/// stands in the words.
+/// What a command is asked for that reads a trace under a layout of lines. The name is as it was
+/// given.
 #[derive(Clone, Copy, PartialEq, Eq, Debug)]
 pub struct LayoutOptions<'a> {
     /// The name of the trace.

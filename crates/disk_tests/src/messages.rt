@@ -181,7 +181,7 @@ fn the_wrong_word_is_named(rt: HostRuntime) -> Result<(), Fail> {
     Ok(())
 }
 
-const ADVICE: [(Status, &str); 10] = [
+const ADVICE: [(Status, &str); 11] = [
     (
         Status::Elf(ElfFault::BadFlags),
         "it has compressed instructions, floating-point registers or RV32E's registers: compile \

@@ -1,5 +1,5 @@
 // How a command passes over a whole trace once, and ends with a text of it.
-ghost use Rattle.std.specs.Prelude.{◌≡◌, ◌∷◌, [], IfErr, IfOk, List, OnOk, Some, ℕ};
+ghost use Rattle.std.specs.Prelude.{◌≡◌, [], IfErr, IfOk, List, OnOk, Some, ℕ};
 ghost use Rattle.command_line.specs.Words.{Demand};
 ghost use Rattle.command_files.specs.Readings.{IsAccepted, IsStopped};
 ghost use Rattle.predator_cli.specs.Commands.{RepeatsReport, readings_of, work_of};

@@ -37,8 +37,8 @@ pub use blame_text::write_blame;
 pub use explainer::Explainer;
 pub use laws::{
     false_sharing_takes_no_word, lines_are_told_as_alone, listed_counts_are_told,
-    taken_lines_add_up, takings_add_up, takings_beside_later_counts, two_accesses_are_enough,
-    victims_hold_the_line,
+    sited_lists_are_access_lists, taken_lines_add_up, takings_add_up, takings_beside_later_counts,
+    two_accesses_are_enough, victims_hold_the_line,
 };
 pub use sited::{Sides, Sited, Taking};
 pub use tables::Taken;
