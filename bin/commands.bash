@@ -4,7 +4,8 @@
 # How many words stand before those of a PROGRAM's own `main`, which options name files that are written, and which have no value.
 # commands.toml: words
 declare -gA names_before=([run]=1 [explain]=4)
-written_options=(--trace --output --save) flag_options=()
+written_options=(--trace --output --save)
+bare_options=(--pcs)
 # (so far)
 
 # Which commands read a TRACE, and the keys of the settings.

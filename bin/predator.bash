@@ -23,7 +23,7 @@ _predator() {
     if [ "$of" = view ] && ((COMP_CWORD > 2)) && [[ ${COMP_WORDS[2]} == @(run|replay|native|sweep) ]]; then of="view ${COMP_WORDS[2]}"; fi
     case $of in
     # commands.toml: options
-        'run') options="--settings --set --schedule --trace --output" ;;
+        'run') options="--settings --set --schedule --trace --pcs --output" ;;
         'replay') options="--settings --set --size --shift --save --resume" ;;
         'check') options="--settings --set" ;;
         'split') options="" ;;
@@ -38,7 +38,7 @@ _predator() {
         'view') options="--top --object --words --library --predicted --explain --type --sources --html --json --sarif --against --fail-above --by --program --back" ;;
         'campaign') options="--to --profile --cores --html --check" ;;
         'native') options="--built --quantum --all --marked --pcs --most --trace --table --report --settings --size --shift --mend --build" ;;
-        'view run') options="--top --object --words --library --predicted --explain --type --sources --html --json --sarif --against --fail-above --by --settings --set --schedule --trace --output" ;;
+        'view run') options="--top --object --words --library --predicted --explain --type --sources --html --json --sarif --against --fail-above --by --settings --set --schedule --trace --pcs --output" ;;
         'view replay') options="--top --object --words --library --predicted --explain --type --sources --html --json --sarif --against --fail-above --by --program --back --settings --set --size --shift --save --resume" ;;
         'view sweep') options="--size --html" ;;
         'view native') options="--top --object --words --library --predicted --explain --type --sources --html --json --sarif --against --fail-above --by --built --quantum --all --marked --most --settings --set --size --shift" ;;

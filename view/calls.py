@@ -7,7 +7,7 @@ from typing import Any, Iterable, Iterator, Sequence
 
 from faults import Fault
 from kinds import DOES, IS, How, how_of
-from settings import ASKED, KEYS, OPTIONS, WRITTEN
+from settings import ASKED, BARE, KEYS, OPTIONS, WRITTEN
 
 USAGE = """usage: predator view run PROGRAM [options of run] [OPTIONS] [-- WORD ..]
        predator view replay TRACE [options of replay] [--program PROGRAM] [OPTIONS]
@@ -133,7 +133,7 @@ class Call:
                 self.marks.append(word)
             elif word.startswith("-") and word != "-":
                 self.given.append(word)
-                own = [word] if has_value or at == len(words) else [word, words[at]]
+                own = [word] if has_value or word in BARE or at == len(words) else [word, words[at]]
                 at += len(own) - 1
                 rest += own
             else:
@@ -201,8 +201,8 @@ class Call:
         kept: list[str] = []
         at = 0
         while at < len(self.words) and self.words[at] != "--":
-            name, has_value, _ = self.words[at].partition("=")
-            width = 1 if has_value or not name.startswith("--") else 2
+            name = self.words[at].partition("=")[0]
+            width = width_of(self.words[at])
             if name in ASKED:
                 kept += self.words[at : at + width]
             at += width
@@ -238,9 +238,13 @@ class Call:
             word = self.words[at]
             if word == "--":
                 return kept + self.words[at:]
-            name, has_value, _ = word.partition("=")
-            width = 2 if name.startswith("--") and not has_value else 1
-            if name not in WRITTEN:
+            width = width_of(word)
+            if word.partition("=")[0] not in (*WRITTEN, *BARE):
                 kept += self.words[at : at + width]
             at += width
         return kept
+
+
+def width_of(word: str) -> int:
+    """How many words an option of the program takes, or a name."""
+    return 2 if word.startswith("--") and "=" not in word and word not in BARE else 1

@@ -8,7 +8,6 @@ from typing import Iterable, NamedTuple
 
 sys.path.insert(0, os.path.join(os.path.dirname(os.path.abspath(__file__)), ".."))
 
-from commands import has  # noqa: E402
 from message_files import NO_PCS  # noqa: E402
 from traces import groups  # noqa: E402
 
@@ -344,4 +343,4 @@ def refused_cases() -> list[Case]:
 
 
 def cases() -> list[Case]:
-    return [it for it in writing_cases() + printing_cases() + refused_cases() if has(it.words)]
+    return writing_cases() + printing_cases() + refused_cases()

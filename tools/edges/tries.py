@@ -15,7 +15,6 @@ from typing import Callable, Iterator, Sequence
 
 import files
 from bench import OLDER, SECONDS, Bench, Fault, content
-from commands import has
 from files import Case, SMALL, report
 from judge import faults_of, good_end
 
@@ -177,8 +176,7 @@ def try_dash(bench: Bench) -> None:
         try_case(bench, "main", "-", piped)
     remove("-")
     bench.kept = bench.inputs()
-    calls = ("replay - --size 64", "misses -", "blame -", "caches - --size 64 --sets 64 --ways 64", "sweep - --size 8")
-    for words in filter(lambda it: has(it.split()), calls):
+    for words in ("replay - --size 64", "misses -", "blame -", "caches - --size 64 --sets 64 --ways 64", "sweep - --size 8"):
         with open("bad", "rb") as given:
             ended = Ended(bench, words.split(), stdin=given)
         found = ended.faults(5, b"predator: trace Truncated 10\n", None)

@@ -23,7 +23,7 @@ use std::alloc::Global;
 
 /// A line for each command.
 pub const USAGE: &str = concat!(
-    "usage: predator run PROGRAM [--settings F] [--schedule F] [--trace F] [--output F]\n",
+    "usage: predator run PROGRAM [--settings F] [--schedule F] [--trace F] [--pcs] [--output F]\n",
     "usage: predator replay TRACE [--settings F] [--size N] [--shift N] [--save F] [--resume F]\n",
     "usage: predator check PROGRAM [--settings F]\n",
     "usage: predator split TRACE K A B\n",
@@ -72,8 +72,8 @@ fn read_command<'a>(
 /// Usage comes exactly where they name no command, the command refuses the words after it, a number
 /// is not decimal digits without leading zeros, below 2^64, the layout isn't allowed, a trace of
 /// more than 10^9 accesses is asked for, a size to sweep or of a line is none, `--set` names no key,
-/// one twice or no number, or the name of an output equals the name of another output or of an
-/// input. Want of memory may come before any of them but the first.
+/// one twice or no number, pcs are asked for without a trace, or the name of an output equals the
+/// name of another output or of an input. Want of memory may come before any of them but the first.
 pub fn read_words<'a>(alloc: Global, words: &'a [String]) -> Result<Demand<'a>, WordsFault<'a>>
     ensures accepted { IfOk result (λ demand. demand_of (texts words.now) ≡ Some (meaning demand)) }
     ensures refused { result ≢ Err WordsFault.NoMemory → (IsErrAnd result IsUsage)
