@@ -16,18 +16,16 @@ HERE = os.path.dirname(os.path.abspath(__file__))
 sys.path.insert(0, HERE)
 
 import results  # noqa: E402
-from commands import command_of, settings_text  # noqa: E402
+from commands import command_of, settings_text, wants_pcs  # noqa: E402
 from folder import Record, campaign_of, of_group, seeds_in, short  # noqa: E402
 
 TRIES = 3
 # The statuses with which a call has printed what is wanted: a run and a replay also where the program came to no exit.
 GOOD = {"run": (0, 10, 11, 12), "replay": (0, 10, 11, 12)}
-# Accesses in a trace of version 1 and of version 2, by their tags.
-SPANS = {
-    b"PRDTRC01": re.compile(rb"(?:[\1\2].{7})+", re.DOTALL),
-    b"PRDTRC02": re.compile(rb"(?:[\x11\x12\x14\x21\x22\x24].[\x80-\xff]*[\0-\x7f])+", re.DOTALL),
-}
-ONE = re.compile(rb"[\x11\x12\x14\x21\x22\x24].[\x80-\xff]*[\0-\x7f]", re.DOTALL)
+# An access in a trace of each version, by its tag, and as many as follow each other.
+TAGS, DISTANCE = rb"[\x11\x12\x14\x21\x22\x24].", rb"[\x80-\xff]*[\0-\x7f]"
+ONE = {b"PRDTRC01": rb"[\1\2].{7}", b"PRDTRC02": TAGS + DISTANCE, b"PRDTRC03": TAGS + DISTANCE + DISTANCE}
+SPANS = {magic: re.compile(b"(?:" + it + b")+", re.DOTALL) for magic, it in ONE.items()}
 BLOCK = re.compile(r"^object block (0x[0-9a-f]+) \d+ born (\d+)", re.MULTILINE)
 
 
@@ -78,6 +76,7 @@ def makings(trace: str, wanted: set[tuple[int, int]]) -> dict[tuple[int, int], i
     made: dict[tuple[int, ...], int] = {}
     with open(trace, "rb") as file, mmap.mmap(file.fileno(), 0, access=mmap.ACCESS_READ) as data:
         magic, place, position = data[:8], 20, 0
+        one = re.compile(ONE[magic], re.DOTALL)
         while data[place] != 6:
             tag = data[place]
             if tag == 3:
@@ -96,7 +95,7 @@ def makings(trace: str, wanted: set[tuple[int, int]]) -> dict[tuple[int, int], i
                 if run is None:
                     raise SystemExit(f"batch.py: {trace}: it is no trace")
                 end = run.end()
-                position += (end - place) // 8 if magic == b"PRDTRC01" else len(ONE.findall(data, place, end))
+                position += (end - place) // 8 if magic == b"PRDTRC01" else len(one.findall(data, place, end))
                 place = end
     return found
 
@@ -108,6 +107,7 @@ class Batch:
         self.group = campaign["groups"][self.batch["group"]]
         self.program = campaign["programs"][self.group["program"]]
         self.base = of_group(campaign, self.group)
+        self.has_pcs = any(wants_pcs(it[0]) for it in self.group["calls"])
 
     def is_same(self, record: Record) -> bool:
         """Whether a record is of the same runs but for its seed."""
@@ -124,7 +124,7 @@ class Batch:
     def words(self, settings: str, trace: str | None) -> list[str]:
         words = ["run", self.program["file"], "--settings", settings]
         words += ["--schedule", self.program["schedule"]["file"]] if self.program["schedule"] else []
-        return words + (["--trace", trace] if trace else [])
+        return words + (["--trace", trace, *(["--pcs"] if self.has_pcs else [])] if trace else [])
 
     def make(self, seed: int, known: Record | None, work: str) -> Record:
         """The record of a run: what is known of it, and what is still to make."""
@@ -153,7 +153,7 @@ class Batch:
             return os.path.join(work, "trace")
         folder = os.path.join("traces", os.path.dirname(self.name))
         os.makedirs(folder, exist_ok=True)
-        return os.path.join(folder, f"{seed}.{short(self.base)}.trace")
+        return os.path.join(folder, f"{seed}.{short(self.base)}.{'pcs' if self.has_pcs else 'trace'}")
 
     def run(self, record: Record, work: str, trace: str | None) -> None:
         settings = os.path.join(work, "settings")

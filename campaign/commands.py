@@ -16,4 +16,10 @@ def command_of(record: Record, call: str = "run") -> str:
     words = f"predator run {shlex.quote(record['program']['file'])} --settings <(printf '{text}')"
     if record["schedule"]:
         words += f" --schedule {shlex.quote(record['schedule']['file'])}"
-    return words if call == "run" else f"{words} --trace trace >report; predator {call} -- trace"
+    pcs = " --pcs" if wants_pcs(call) else ""
+    return words if call == "run" else f"{words} --trace trace{pcs} >report; predator {call} -- trace"
+
+
+def wants_pcs(call: str) -> bool:
+    """Whether a count wants the pc of each access in its trace."""
+    return call.startswith("blame")

@@ -11,6 +11,7 @@ from folder import Record  # noqa: E402
 from naming import Memory, Naming, shown  # noqa: E402
 from objects import Spot, parties  # noqa: E402
 from reports import Block, LineKind, Misses, Report, Site, Symbol  # noqa: E402
+from takings import Blame  # noqa: E402
 
 
 class At(NamedTuple):
@@ -34,11 +35,15 @@ Key = Union[At, InBlock]
 # An object by its name and where the line begins in it.
 Party = tuple[str, int]
 Layout = tuple[int, int]
+# A layout, a line, and two instructions, the victim's and the taker's.
+Taking = tuple[Layout, Key, str, str]
 
 
 class Line(NamedTuple):
-    """A line of one run: what it is the same by in all runs, the objects on it with their shares, and its numbers, none where not told."""
+    """A line of one run: where it begins, what it is the same by in all runs, the objects on it with their shares, and its numbers, none
+    where not told."""
 
+    base: int
     key: Key
     parties: dict[Party, float]
     counted: int | None
@@ -46,7 +51,7 @@ class Line(NamedTuple):
 
 
 class Told:
-    """What is told of one run: its report, and the misses and other reports by their layouts."""
+    """What is told of one run: its report, and the misses, other reports and takings by their layouts."""
 
     # (where there is a report)
     naming: Naming
@@ -57,6 +62,7 @@ class Told:
         self.report = Report(texts["run"]) if "run" in texts else None
         self.misses: dict[Layout, Misses] = {}
         self.replays: dict[Layout, Report] = {}
+        self.blames = [Blame(text) for call, text in texts.items() if call.startswith("blame")]
         for call, text in texts.items():
             if call.startswith("misses"):
                 it = Misses(text)
@@ -94,7 +100,7 @@ class Told:
         things = (spot.missed.objects() if spot.missed else []) or spot.rows()
         count = spot.line.count if spot.line else None
         useless = spot.missed.useless if spot.missed else None
-        return Line(self.key(spot.base, things), self.parties(spot), count, useless)
+        return Line(spot.base, self.key(spot.base, things), self.parties(spot), count, useless)
 
     def parties(self, spot: Spot) -> dict[Party, float]:
         """The names of the objects on a line, each with its share of the accesses and where the line begins in it."""
@@ -102,6 +108,19 @@ class Told:
         for key, (thing, share) in parties(spot, spot.rows(), self.naming).items():
             name, addr = (self.block_name(thing), thing.addr) if isinstance(thing, Block) else (self.naming.key_name(key, thing), spot.base)
             found[name, spot.base - (thing.addr if isinstance(thing, Symbol) else addr)] = max(share, 0)
+        return found
+
+    def pairs(self) -> dict[Taking, tuple[int, int]]:
+        """How often each two instructions took each line, and how often over one word. A line that no other text has is told by its
+        address."""
+        keys = {(layout, it.base): it.key for layout, _, it in self.lines()}
+        found: dict[Taking, tuple[int, int]] = {}
+        for blame in self.blames:
+            layout = blame.size, blame.offset
+            for base, it in ((base, it) for base, own in blame.lines.items() for it in own):
+                place = layout, keys.get((layout, base), At("at", base)), it.victim, it.taker
+                taken, same = found.get(place, (0, 0))
+                found[place] = taken + it.taken, same + it.same
         return found
 
     def order(self, block: Block) -> int | None:

@@ -171,6 +171,8 @@ def counts_of(data: Record, line: int, lines: Lines) -> list[list[str]]:
         calls.append(["misses", "--size", str(size), "--shift", str(shift)])
     for size, shift in layouts_of(data, "replays", lines):
         calls.append(["replay", "--size", str(size), "--shift", str(shift)])
+    for size, shift in layouts_of(data, "blame", lines):
+        calls.append(["blame", "--size", str(size), "--shift", str(shift)])
     calls += [["sweep", "--size", str(it)] for it in data.get("sweeps", [])]
     for at, it in enumerate(data.get("caches", [])):
         if it["sets"] * it["ways"] > 4096 or it["sets"] & (it["sets"] - 1):

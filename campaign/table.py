@@ -18,11 +18,13 @@ sys.path[:0] = [HERE, os.path.join(HERE, "..", "view")]
 import results  # noqa: E402
 from commands import command_of, settings_text  # noqa: E402
 from folder import Record, campaign_of, seeds_in  # noqa: E402
-from lines import InBlock, Key, Layout, Party, Told  # noqa: E402
-from naming import Memory  # noqa: E402
+from lines import At, InBlock, Key, Layout, Party, Taking, Told  # noqa: E402
+from naming import Memory, shown as address  # noqa: E402
 from program import Predator, setting, stacks  # noqa: E402
 
 KINDS = ("observed", "shifted", "doubled")
+# The numbers of a row that are a least, a middle and a greatest one.
+TRIPLES = ("count", "useless", "taken", "same")
 LINES: tuple[str, ...] = (
     "program",
     "settings",
@@ -38,6 +40,8 @@ LINES: tuple[str, ...] = (
     "count greatest",
 )
 LINES += ("missed", "useless least", "useless middle", "useless greatest", "worst seed", "beside")
+PAIRS = ("program", "settings", "size", "shift", "object", "offset", "victim", "taker", "seeds", "taken in")
+PAIRS += ("taken least", "taken middle", "taken greatest", "same least", "same middle", "same greatest", "worst seed")
 OBJECTS = tuple("lines" if it == "offset" else it for it in LINES[:-1])
 RUNS = ("program", "settings", "seed", "outcome", "steps", "accesses", "lines", "cold", "useful", "useless")
 SHIFT = re.compile(r"^shift (\d+) total (\d+) lines (\d+)$", re.MULTILINE)
@@ -50,6 +54,7 @@ Number = int | None
 # What a table's lines stand under: a group, a layout and a kind.
 Under = tuple[int, Layout, str]
 Rows = dict[Under, list[Record]]
+Pairs = dict[tuple[int, Layout], list[Record]]
 # What a seed says of a line or an object: the seed, the count, and the useless misses.
 Seen = tuple[int, Number, Number]
 
@@ -63,6 +68,8 @@ class Part:
         self.failed: list[Record] = []
         self.sweeps: dict[tuple[int, str], list[tuple[int, dict[int, int], int]]] = {}
         self.caches: dict[tuple[int, str], list[tuple[int, ...]]] = {}
+        # of each group and two instructions in a line the seeds in which the second took it from the first, and how often
+        self.pairs: dict[tuple[int, Taking], list[tuple[int, int, int]]] = {}
 
     def note(self, group: int, record: Record, memory: Memory) -> None:
         head = {"program": record["program"]["name"], "settings": record["settings"], "seed": record["seed"]}
@@ -75,6 +82,8 @@ class Part:
             # (a Counter adds up shares too)
             names.update(cast(Mapping[Party, int], line.parties))
             seen.append((told.seed, line.counted, line.useless))
+        for place, (taken, same) in told.pairs().items():
+            self.pairs.setdefault((group, place), []).append((told.seed, taken, same))
         own = told.misses.get((told.report.size, told.report.offset))
         costs = [own.total[it] if own else None for it in ("cold", "useful", "useless")]
         self.runs.append((group, told.seed, told.report.outcome, told.report.steps, told.report.accesses, len(told.report.lines), *costs))
@@ -94,6 +103,8 @@ class Part:
             self.sweeps.setdefault(call, []).extend(sweeps)
         for call, caches in other.caches.items():
             self.caches.setdefault(call, []).extend(caches)
+        for pair, takings in other.pairs.items():
+            self.pairs.setdefault(pair, []).extend(takings)
         self.runs += other.runs
         self.failed += other.failed
 
@@ -155,6 +166,29 @@ def families(part: Part) -> dict[Under, dict[str, "Family"]]:
     return found
 
 
+def pair_rows(part: Part) -> Pairs:
+    """Of each group and layout the pairs of instructions that take a line, those first that do so most often in some seed."""
+    names = {(under[:2], key): own for under, key, own in line_names(part)}
+    found: Pairs = {}
+    for (group, (layout, key, victim, taker)), seen in part.pairs.items():
+        name, offset = names.get(((group, layout), key)) or (address(key.base) if isinstance(key, At) else "-", 0)
+        told = {"taken": middle(it[1] for it in seen), "same": middle(it[2] for it in seen)}
+        worst_of = -max((taken, -seed) for seed, taken, _ in seen)[1]
+        row = {"object": name, "offset": offset, "victim": victim, "taker": taker, "taken in": len(seen), **told, "worst": worst_of}
+        found.setdefault((group, layout), []).append(row)
+    return {key: sorted(own, key=pair_weight) for key, own in sorted(found.items())}
+
+
+def pair_weight(row: Record) -> tuple[int, str, int, str, str]:
+    return -row["taken"][2], row["object"], row["offset"], row["victim"], row["taker"]
+
+
+def line_names(part: Part) -> Iterator[tuple[Under, Key, Party]]:
+    """The object of each line that a report lists or that has misses."""
+    for (group, layout, kind, key), (names, _) in part.lines.items():
+        yield (group, layout, kind), key, own_name(key, sorted(names, key=lambda it: (-names[it], it)))
+
+
 class Family:
     """An object: how many lines it has, and what each seed says of the worst of them."""
 
@@ -210,6 +244,12 @@ def cells(campaign: Record, key: Under, row: Record, seeds: Mapping[int, int]) -
     )
 
 
+def pair_cells(campaign: Record, key: tuple[int, Layout], row: Record, seeds: Mapping[int, int]) -> list[Any]:
+    group = campaign["groups"][key[0]]
+    head = [group["program"], settings_of(group), *key[1], row["object"], row["offset"], row["victim"], row["taker"]]
+    return [*head, seeds[key[0]], row["taken in"], *row["taken"], *row["same"], row["worst"]]
+
+
 def record_of(campaign: Record, at: int, seed: int) -> Record:
     group = campaign["groups"][at]
     program = campaign["programs"][group["program"]]
@@ -217,10 +257,10 @@ def record_of(campaign: Record, at: int, seed: int) -> Record:
 
 
 def with_names(row: Record) -> Record:
-    return {key: dict(zip(("least", "middle", "greatest"), it)) if key in ("count", "useless") else it for key, it in row.items()}
+    return {key: dict(zip(("least", "middle", "greatest"), it)) if key in TRIPLES else it for key, it in row.items()}
 
 
-def json_of_group(campaign: Record, part: Part, at: int, lines: Rows, objects: Rows) -> Record:
+def json_of_group(campaign: Record, part: Part, at: int, lines: Rows, objects: Rows, pairs: Pairs) -> Record:
     group, runs = campaign["groups"][at], [it for it in part.runs if it[0] == at]
     outcomes: dict[str, list[int]] = {}
     for it in sorted(runs, key=lambda it: it[1]):
@@ -234,6 +274,8 @@ def json_of_group(campaign: Record, part: Part, at: int, lines: Rows, objects: R
     found["outcomes"] = [
         {"outcome": it, "seeds": len(own), "first": own[0]} for it, own in sorted(outcomes.items(), key=lambda it: -len(it[1]))
     ]
+    blamed = ((layout, own) for (of, layout), own in pairs.items() if of == at)
+    found["blame"] = [{"size": layout[0], "shift": layout[1], "pairs": [with_names(it) for it in own]} for layout, own in blamed]
     found["sweeps"] = [sweep_of(call, own) for (of, call), own in sorted(part.sweeps.items()) if of == at]
     found["caches"] = [caches_of(call, own) for (of, call), own in sorted(part.caches.items()) if of == at]
     return found
@@ -297,14 +339,16 @@ def write(campaign: Record) -> Record:
     """Writes the tables, and tells what failed."""
     part, missing = read(campaign)
     lines, objects = rows_of(part)
+    pairs = pair_rows(part)
     seeds = Counter(it[0] for it in part.runs)
     head = {"format": "predator campaign table 1", "predator": campaign["predator"], "programs": campaign["programs"]}
-    groups = [json_of_group(campaign, part, at, lines, objects) for at in range(len(campaign["groups"]))]
+    groups = [json_of_group(campaign, part, at, lines, objects, pairs) for at in range(len(campaign["groups"]))]
     whole = {**head, "runs": len(part.runs), "failed": part.failed, "missing": missing, "groups": groups}
     runs = sorted(part.runs, key=lambda it: it[:2])
     told = {
         "table.tsv": tsv(LINES, (cells(campaign, key, it, seeds) for key in ordered(lines) for it in lines[key])),
         "objects.tsv": tsv(OBJECTS, (cells(campaign, key, it, seeds) for key in ordered(objects) for it in objects[key])),
+        "pairs.tsv": tsv(PAIRS, (pair_cells(campaign, key, it, seeds) for key, own in pairs.items() for it in own)),
         "runs.tsv": tsv(RUNS, ((campaign["groups"][it[0]]["program"], settings_of(campaign["groups"][it[0]]), *it[1:]) for it in runs)),
         "table.json": json.dumps(whole, indent=1) + "\n",
     }

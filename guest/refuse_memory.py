@@ -13,6 +13,11 @@ import sys
 import tempfile
 
 TOP = os.path.join(os.path.dirname(os.path.abspath(__file__)), "..")
+sys.path.insert(0, os.path.join(TOP, "tools"))
+
+from commands import has  # noqa: E402
+from traces import with_pcs  # noqa: E402
+
 PROGRAM = os.path.abspath(os.environ.get("PREDATOR_PROGRAM") or os.path.join(TOP, "crates/predator/out/predator"))
 DATA = os.path.join(TOP, "crates/worked_runs/data")
 LINE = b"predator: no memory\n"
@@ -66,6 +71,7 @@ __attribute__((destructor)) static void tell(void)
 CALLS = [
     ("run", "allocates.elf", "--settings", "S", "--trace", "t", "--output", "o"),
     ("run", "queue.elf", "--trace", "t"),
+    ("run", "queue.elf", "--trace", "t", "--pcs"),
     ("run", "words.elf", "--schedule", "C", "--output", "o"),
     ("replay", "given.trace", "--settings", "S"),
     ("check", "symbols.elf"),
@@ -76,6 +82,7 @@ CALLS = [
     ("caches", "given.trace", "--size", "64", "--sets", "4", "--ways", "2"),
     ("misses", "given.trace"),
     ("place", "objects.trace", "both"),
+    ("blame", "sited.trace"),
     ("explain", "queue.elf", "0x12000", "64", "73", "--set", "quantum=10"),
 ]
 WRITTEN = ("t", "o", "f", "a", "b", "c")
@@ -146,7 +153,10 @@ def main():
         subprocess.run(["cc", "-shared", "-fPIC", "-O1", "-o", "shim.so", "shim.c", "-ldl"], check=True)
         for words in (("gen", "200", "given.trace"), ("run", "words.elf", "--trace", "objects.trace")):
             subprocess.run([PROGRAM, *words], check=True, stdout=subprocess.DEVNULL)
-        sys.exit(1 if sum(try_call(words) for words in CALLS) else 0)
+        with open("given.trace", "rb") as given, open("sited.trace", "wb") as out:
+            # (so many instructions that lines of many pairs are there)
+            out.write(with_pcs(given.read(), lambda it, before: 0x10000 + 4 * (it.hart + it.addr // 4 % 8)))
+        sys.exit(1 if sum(try_call(words) for words in CALLS if has(words)) else 0)
 
 
 if len(sys.argv) > 1:

@@ -97,7 +97,7 @@ try_launcher() {
         # (the words apart)
         # shellcheck disable=SC2086
         try "$it" 0 "$predator" $it
-        prints "$it" "usage: predator run PROGRAM [--settings F] [--schedule F] [--trace F] [--output F]"
+        prints "$it" "$(head -n 1 "$top/crates/worked_runs/data/usage.txt")"
     done
     try "help of two lines" 0 "$predator" caches --help
     prints "help of two lines" "and how often it was evicted."

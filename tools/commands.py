@@ -15,7 +15,7 @@ import subprocess
 import sys
 import textwrap
 import tomllib
-from collections.abc import Callable, Iterator
+from collections.abc import Callable, Iterator, Sequence
 from typing import Any
 
 TOP = os.path.abspath(os.path.join(os.path.dirname(os.path.abspath(__file__)), ".."))
@@ -59,7 +59,18 @@ def options_of(command: Row) -> list[str]:
 
 def names_of(command: Row) -> list[str]:
     """The words of a command that are no options."""
-    return re.findall(r"\S+", re.sub(r"\[?--[a-z]+ [A-Z]+\]?", "", command["usage"]))
+    return re.findall(r"\S+", re.sub(r"\[?--[a-z]+( [A-Z]+)?\]?", "", command["usage"]))
+
+
+def flags_of(table: dict[str, list[Row]]) -> list[str]:
+    """The options that have no value."""
+    return [it["name"] for it in table["option"] if "value" not in it]
+
+
+def has(words: Sequence[str]) -> bool:
+    """Whether commands.toml has the command of a call, with its options."""
+    own = [{it["name"], *options_of(it)} for it in known()["command"]]
+    return any({words[0], *(it.partition("=")[0] for it in words if it.startswith("--"))} <= it for it in own)
 
 
 # The page of help.
@@ -77,7 +88,7 @@ def help_parts(table: dict[str, list[Row]]) -> dict[str, str]:
         "Usage": usage + f"  predator {' | '.join(LAUNCHER)}\n",
         "Commands": "".join(column(9, it["name"], plain(it["does"])) for it in table["command"]),
         "Beside the program": "".join(column(9, it["name"], plain(it["does"])) for it in table["beside"]),
-        "Options": "".join(column(15, f"{it['name']} {it['value']}", plain(it["does"])) for it in table["option"]),
+        "Options": "".join(column(15, f"{it['name']} {it.get('value', '')}".rstrip(), plain(it["does"])) for it in table["option"]),
         "Exit status": "".join(column(5, str(it["number"]), plain(it["comes"])) for it in table["status"]),
     }
 
@@ -106,9 +117,11 @@ def sentence(row: Row) -> str:
 
 def synopsis(command: Row) -> str:
     found = [f".B predator {command['name']}"]
-    for word in re.findall(r"\[--[a-z]+ [A-Z]+\]|--[a-z]+ [A-Z]+|[A-Z ]+[A-Z](?![a-z])|[A-Z]", command["usage"]):
+    for word in re.findall(r"\[--[a-z]+(?: [A-Z]+)?\]|--[a-z]+ [A-Z]+|[A-Z ]+[A-Z](?![a-z])|[A-Z]", command["usage"]):
         name, _, value = word.strip("[] ").partition(" ")
-        if word.startswith("["):
+        if word.startswith("[") and not value:
+            found.append(".RB [ " + name.replace("-", "\\-") + " ]")
+        elif word.startswith("["):
             found += [".RB [ " + name.replace("-", "\\-"), f".IR {value} ]"]
         elif word.startswith("--"):
             found += [".B " + name.replace("-", "\\-"), f".I {value}"]
@@ -117,11 +130,16 @@ def synopsis(command: Row) -> str:
     return "\n".join(found)
 
 
+def option_head(option: Row) -> str:
+    name = option["name"].replace("-", "\\-")
+    return f'.TP\n.BI {name} " {option["value"]}"\n' if "value" in option else f".TP\n.B {name}\n"
+
+
 def manual_parts(table: dict[str, list[Row]]) -> dict[str, str]:
     """The parts of the manual page, by the names of their marks."""
     own = [f".B predator {it['name']}\n" + roff(it["synopsis"]).rstrip() for it in table["beside"]]
     own.append(".B predator " + "\n|\n.B ".join(it.replace("-", "\\-") for it in LAUNCHER))
-    options = (".TP\n.BI " + it["name"].replace("-", "\\-") + f' " {it["value"]}"\n' + roff(sentence(it)) for it in table["option"])
+    options = (option_head(it) + roff(sentence(it)) for it in table["option"])
     ends = ((it["number"], f"{it['comes'][0].upper()}{it['comes'][1:]}. It prints {it['printed']}.") for it in table["status"])
     statuses = (f".TP\n.B {number}\n" + roff(text) for number, text in ends)
     keys = ",\n".join(f"`{it['key']}` ({it['is']}: {values(it)}, usually {it['usual']})" for it in table["setting"])
@@ -161,9 +179,11 @@ def format_parts(table: dict[str, list[Row]]) -> dict[str, str]:
 
 
 def view_options(table: dict[str, list[Row]]) -> dict[str, list[str]]:
-    """The options of view, by what it does with a file: for a report alone, and for a program or a trace beside those of its command."""
+    """The options of view, by what it does with a file: for a report alone, and for a program or a trace beside those of its command that
+    have a value."""
     own, recorder = (next(it for it in table["beside"] if it["name"] == name) for name in ("view", "native"))
-    of = {it["name"]: options_of(it) for it in table["command"]}
+    flags = flags_of(table)
+    of = {it["name"]: [option for option in options_of(it) if option not in flags] for it in table["command"]}
     layout = [it for it in of["replay"] if it not in ("--save", "--resume")]
     return {
         "view": [*own["options"], *own["names"]],
@@ -194,9 +214,9 @@ def launcher_parts(table: dict[str, list[Row]]) -> dict[str, str]:
     counts = " ".join(f"[{it['name']}]={len(names_of(it))}" for it in table["command"] if it.get("main"))
     outputs = " ".join(it["name"] for it in table["option"] if it.get("writes"))
     readers = " ".join(it["name"] for it in table["command"] if "TRACE" in it.get("reads", ()))
-    keys = " ".join(it["key"] for it in table["setting"])
+    keys, flags = " ".join(it["key"] for it in table["setting"]), " ".join(flags_of(table))
     return {
-        "words": f"declare -gA names_before=({counts})\nwritten_options=({outputs})\n",
+        "words": f"declare -gA names_before=({counts})\nwritten_options=({outputs}) flag_options=({flags})\n",
         "hints": f'trace_readers="{readers}"\nsetting_keys=({keys})\n',
     }
 
@@ -204,11 +224,12 @@ def launcher_parts(table: dict[str, list[Row]]) -> dict[str, str]:
 def view_parts(table: dict[str, list[Row]]) -> dict[str, str]:
     """What view and campaign know, by the names of its marks."""
     usual = ", ".join(f'"{it["key"]}": {it["usual"]}' for it in table["setting"] if isinstance(it["usual"], int))
-    run = {it for command in table["command"] if command["name"] == "run" for it in options_of(command)}
+    of, flags = {it["name"]: options_of(it) for it in table["command"]}, flags_of(table)
+    run = [it for it in of["run"] if it not in flags]
     written = [it["name"] for it in table["option"] if it["name"] in run and it.get("writes")]
     asked = [it["name"] for it in table["option"] if it["name"] in run and not it.get("writes")]
     lines, keys = textwrap.wrap(usual, 130), ", ".join(quoted(it["key"]) for it in table["setting"])
-    shown = {it["name"]: options_of(it) for it in table["command"] if it["name"] in ("run", "replay", "sweep")}
+    shown = {"run": run, "replay": of["replay"], "sweep": of["sweep"]}
     own = "".join(f"    {quoted(name)}: [{', '.join(map(quoted, of))}],\n" for name, of in shown.items())
     return {
         "usual": "USUAL = {\n" + "\n".join(f"    {it}" for it in lines) + ",\n}\n",

@@ -15,6 +15,7 @@ a case that isn't what it should be, or does too little to tell, is a fault. The
 Calls of the cases in KNOWN are told apart, and don't change the status; it is a fault where none of them grows any more."""
 
 import argparse
+import itertools
 import os
 import re
 import resource
@@ -27,10 +28,12 @@ import threading
 from concurrent.futures import Future, ThreadPoolExecutor
 from typing import Callable, Iterable, Iterator, NamedTuple
 
+import commands
 import made_guests
 import made_traces
 from made_guests import DATA, Guest, GuestCase
-from made_traces import Made, TraceCase, rest_of
+from made_traces import CODE, Made, TraceCase, rest_of
+from traces import with_pcs
 
 # The size grows by 4, and a cost by no more than this.
 MOST = 6.0
@@ -126,6 +129,15 @@ def misses(trace: str, made: Made) -> Call:
     return Call(["misses", trace], [(f"accesses {made.accesses}", 1)] if made.settings else listed(made))
 
 
+def blame(trace: str, made: Made) -> Call:
+    """With pcs, of which the first has the first address, and so on."""
+    numbers = itertools.count()
+    with open(trace, "rb") as plain, open(f"{trace}.sited", "wb") as file:
+        file.write(with_pcs(plain.read(), lambda it, before: CODE + 4 * (next(numbers) % made.pcs)))
+    told = [] if made.settings else [(f"lines {made.lines}", 1), ("line", made.lines), ("pair", -max(made.lines, made.pcs // 2))]
+    return Call(["blame", f"{trace}.sited"], [(f"accesses {made.accesses}", 1), *told])
+
+
 def sweep(trace: str, made: Made) -> Call:
     return Call(["sweep", trace, "--size", "64"], [(f"accesses {made.accesses}", 1), ("shift", 16)])
 
@@ -154,7 +166,7 @@ def generate(trace: str, made: Made) -> Call:
 
 OF_TRACES: dict[str, Callable[[str, Made], Call]] = {
     "replay": replay, "replay--size": replay_words, "replay--save": replay_save, "replay--resume": replay_resume, "misses": misses,
-    "sweep": sweep, "caches": caches, "place": place, "convert": convert, "split": split, "gen": generate,
+    "blame": blame, "sweep": sweep, "caches": caches, "place": place, "convert": convert, "split": split, "gen": generate,
 }
 
 
@@ -189,6 +201,11 @@ def run_trace(program: str, guest: Guest) -> Call:
     return call._replace(words=[*call.words, "--trace", f"{program}.trace"])
 
 
+def run_pcs(program: str, guest: Guest) -> Call:
+    call = run_trace(program, guest)
+    return call._replace(words=[*call.words, "--pcs"])
+
+
 def run_output(program: str, guest: Guest) -> Call:
     call = run(program, guest)
     return call._replace(words=[*call.words, "--output", f"{program}.output"])
@@ -204,7 +221,7 @@ def check(program: str, guest: Guest) -> Call:
 
 
 OF_GUESTS: dict[str, Callable[[str, Guest], Call]] = {
-    "run": run, "run--trace": run_trace, "run--output": run_output, "explain": explain, "check": check,
+    "run": run, "run--trace": run_trace, "run--pcs": run_pcs, "run--output": run_output, "explain": explain, "check": check,
 }
 
 
@@ -373,10 +390,16 @@ class Measures:
         return row._replace(greater=greater.cost - nothing.cost, fault=fault)
 
 
+def is_known(command: str) -> bool:
+    """Whether commands.toml has the command, and the option that its name has."""
+    name, _, option = command.partition("--")
+    return commands.has([name, *([f"--{option}"] if option else [])])
+
+
 def chosen(words: argparse.Namespace, folder: str) -> list[tuple[Case, str]]:
     cases = [Case(it, folder) for it in [*made_traces.CASES, *made_guests.CASES]]
     wanted = [it for it in cases if not words.names or any(name in it.name for name in words.names)]
-    return [(case, command) for case in wanted for command in case.commands(words.all)]
+    return [(case, command) for case in wanted for command in case.commands(words.all) if is_known(command)]
 
 
 def judged(rows: list[Row]) -> tuple[list[Row], list[Row], list[Row]]:

@@ -6,8 +6,9 @@ usage: tools/judge_traces.py PROGRAM [COUNT [SEED]]
 makes COUNT (200) small traces as judge_report.py does, by the random numbers that follow from SEED (1). Of each, the observed lines
 that PROGRAM reports must be those of a recount; and where it is cut at a random access, the state that is saved of its first half must
 be good, and the second half, carried on from it, must have the report of the whole. With random pcs, in version 3, it must have the same
-report, the same accesses and pcs in its halves, and what a trace without pcs is converted to. Some of the states are changed in each
-byte and cut at each, and what PROGRAM says of them is compared. It ends with 1 where anything differs."""
+report, the same accesses and pcs in its halves, and what a trace without pcs is converted to; and what `blame` prints of it, and of the
+trace without pcs, must be what recount_blame.py does, where PROGRAM has that command. Some of the states are changed in each byte and
+cut at each, and what PROGRAM says of them is compared. It ends with 1 where anything differs."""
 
 import os
 import random
@@ -16,9 +17,10 @@ import sys
 import tempfile
 
 import judge_state
+import recount_blame
 from judge_report import some_case, trace_of
 from recount import recount
-from traces import Access, placed, sited
+from traces import sited, with_pcs
 
 # Of so many traces one has its state changed in each byte, if that has no more bytes than this.
 EACH, MOST = 50, 400
@@ -50,29 +52,14 @@ def is_carried_on(program, folder, words, cut, report):
     return place is None and printed(program, "replay", names[2], *words, "--resume", names[3]) == report
 
 
-def groups(distance):
-    """A number from -2^32 to 2^32, taken modulo 2^32, as it is spelled in groups of seven bits."""
-    distance = (distance + 2**31) % 2**32 - 2**31
-    number, told = (2 * distance if distance >= 0 else -2 * distance - 1), []
-    while number >= 128:
-        told.append(number & 127 | 128)
-        number >>= 7
-    return bytes((*told, number))
+def some_pcs(dice):
+    """Random pcs, some of which are near to the one before, or are the same as others."""
 
+    def pc_of(_, before):
+        near = (before + 4 * dice.randrange(-40, 40)) % 2**32
+        return dice.choice((before, near, dice.randrange(2**32), 4 * dice.randrange(4), 0, 2**32 - 1))
 
-def with_pcs(dice, trace):
-    """A trace of version 1 in version 3, with random pcs, some of which are near to the one before."""
-    parts, place, last, pcs = [b"PRDTRC03" + trace[8:20]], 20, 0, {}
-    for start, place, it in placed(trace):
-        if isinstance(it, Access):
-            before = pcs.get(it.hart, 0)
-            pc = dice.choice((before, (before + 4 * dice.randrange(-40, 40)) % 2**32, dice.randrange(2**32), 0, 2**32 - 1))
-            size = trace[place - 1]
-            parts.append(bytes((16 * (1 + it.writes) + size, it.hart)) + groups(it.addr - last) + groups(pc - before))
-            last, pcs[it.hart] = it.addr, pc
-        else:
-            parts.append(trace[start:place])
-    return b"".join((*parts, trace[place:]))
+    return pc_of
 
 
 def read(name):
@@ -96,8 +83,22 @@ def keeps_pcs(program, folder, words, cut, made, report):
     )
 
 
+def is_blamed(program, folder, case, made):
+    """Whether `blame` prints of a trace with pcs, which is there, and of the one without them, what a recount does."""
+    layout = case.layout or (64, 0)
+    words = ["--size", str(layout[0]), "--shift", str(layout[1])] if case.layout else []
+    plain, whole = (os.path.join(folder, it) for it in ("trace", "sited"))
+    return all(
+        printed(program, "blame", name, *words) == "".join(f"{it}\n" for it in recount_blame.told(trace, *layout))
+        for name, trace in ((whole, made), (plain, read(plain)))
+    )
+
+
 def main(program, count=200, seed=1):
     dice, wrong = random.Random(int(seed)), 0
+    has_blame = "usage: predator blame " in printed(program)
+    if not has_blame:
+        print("skipped: what takes which line, since the program has no `blame`")
     with tempfile.TemporaryDirectory() as folder:
         trace, settings = os.path.join(folder, "trace"), os.path.join(folder, "settings")
         changed = 0
@@ -113,8 +114,11 @@ def main(program, count=200, seed=1):
             if not is_recounted(case, trace_of(case), report):
                 faults.append("a recount has other observed lines")
             cut = dice.randrange(len(case.accesses) + 1)
-            if not keeps_pcs(program, folder, words, cut, with_pcs(dice, trace_of(case)), report):
+            made = with_pcs(trace_of(case), some_pcs(dice))
+            if not keeps_pcs(program, folder, words, cut, made, report):
                 faults.append("with pcs it has another report, other halves or another copy")
+            if has_blame and not is_blamed(program, folder, case, made):
+                faults.append("a recount has other takings")
             if not is_carried_on(program, folder, words, cut, report):
                 faults.append("its halves have another report, or a bad state")
             elif number >= EACH * changed and os.path.getsize(os.path.join(folder, "state")) <= MOST:

@@ -14,7 +14,7 @@ SITES = (0, 0, 0, 0)
 
 class Made(NamedTuple):
     """A trace: how many harts and accesses it has; how many lines are listed with `tracking` and `report` of 1 and the settings here; how
-    many lines of objects and of sites stand below them; and a name for `place`."""
+    many lines of objects and of sites stand below them; and a name for `place`. For `blame` its accesses have so many pcs, in turn."""
 
     trace: bytes
     harts: int
@@ -24,6 +24,7 @@ class Made(NamedTuple):
     sites: int = 0
     object: str = ""
     settings: str = ""
+    pcs: int = 2
 
 
 class Trace:
@@ -304,6 +305,22 @@ def large_object(n: int) -> Made:
     return it.made(n // 16, objects=n // 16, object=f"0x{LINES:x}")
 
 
+def instructions(n: int) -> Made:
+    """Two harts take a line from each other by so many pairs of instructions."""
+    it = Trace()
+    for i in range(n):
+        it.touch(i % 2, LINES + 4 * (i % 2))
+    return it.made(1)._replace(pcs=n // 2)
+
+
+def instructions_of_lines(n: int) -> Made:
+    """So many lines with a few pairs each, all of them different."""
+    it = Trace()
+    for i in shuffled(n):
+        it.share(LINES + LINE * i)
+    return it.made(n)._replace(pcs=3 * n)
+
+
 class TraceCase(NamedTuple):
     """A trace of two sizes, of which `size` is the lesser one, and the commands that it is made for; the greatest size that it may have; a
     size that costs next to nothing, if another trace can't stand for that; and commands whose text of it is a square."""
@@ -336,9 +353,11 @@ CASES = [
     TraceCase("blocks under one", blocks_under_one, 2048, OBJECTS),
     TraceCase("blocks at one place", blocks_at_one_place, 2048, f"{SAVED} misses"),
     TraceCase("blocks dead before", blocks_before, 1024, "replay", never="misses"),
-    TraceCase("lines", lines, 4096, f"{SAVED} replay--size misses sweep caches convert split gen"),
-    TraceCase("lines apart", lines_apart, 4096, f"{SAVED} misses sweep caches", 60000),
+    TraceCase("lines", lines, 4096, f"{SAVED} replay--size misses sweep caches convert split gen blame"),
+    TraceCase("lines apart", lines_apart, 4096, f"{SAVED} misses sweep caches blame", 60000),
+    TraceCase("many instructions on a line", instructions, 16384, "blame"),
+    TraceCase("many instructions on many lines", instructions_of_lines, 4096, "blame"),
     TraceCase("predictions at each border", borders, 1024, SAVED),
-    TraceCase("256 harts on a line", harts, 16384, "replay misses sweep caches"),
+    TraceCase("256 harts on a line", harts, 16384, "replay misses sweep caches blame"),
     TraceCase("a large object", large_object, 16384, "place replay", never="misses"),
 ]

@@ -6,6 +6,7 @@ import shutil
 import struct
 from typing import Iterator
 
+from commands import has
 from rv32 import CODE, Code, Segment, elf, named
 from traces import OBJECT
 
@@ -100,6 +101,7 @@ SCHEDULES = {
 FILES: dict[str, bytes] = {
     "t": trace(symbol(8, b"pair") + write(0x1000) + write(0x1004, 1), 2), "p": program(), "rest": trace(b"", 0, first=1),
     "few": trace(b"", 0, first=2, harts=4), "behind": trace(b"", 0, first=2),
+    "second": b"PRDTRC02" + trace(b"", 0)[8:],
     "large": trace(symbol((1 << 24) + 4, b"large") + write(0x1000), 1),
     "full": trace(symbol(8, b"pair") + write(0x1000) + write(0xFFFFFFFC), 2),
     "twice": b"quantum = 1\n\nquantum = 2\n", "no_toml": b"\nquantum\n", "long": b"#" * ((1 << 16) + 1), "unknown": b"quantom = 3\n",
@@ -131,6 +133,11 @@ def faults() -> Iterator[Fault]:
         yield ["convert", name, "a"], 5, f"trace {row[1]}", f"{name}: {row[2]}"
     for name, row in SCHEDULES.items():
         yield ["run", "p", "--schedule", name], 3, f"schedule {row[1]}", f"{name}: {row[2]}"
+    if has(["blame"]):
+        no_pcs = "its accesses have no pcs: `predator run --pcs --trace F` writes a trace of a guest with them, `predator native --pcs " \
+            "--trace F` one of a program of this machine"
+        for name in ("t", "second"):
+            yield ["blame", name], 5, "trace NoPcs", f"{name}: {no_pcs}"
     none = "no object symbol of the trace has this name, nor was exactly one block made at that address"
     yield ["place", "t", "none"], 13, "place NoObject", none
     yield ["place", "large", "large"], 13, "place TooLarge", "an object that is placed has at most 16 MiB"

@@ -22,6 +22,7 @@ from typing import Iterator, NamedTuple
 
 sys.path.insert(0, os.path.join(os.path.dirname(os.path.abspath(__file__)), "edges"))
 import files  # noqa: E402
+from commands import has  # noqa: E402
 from files import lines, report  # noqa: E402
 from made_guests import DATA  # noqa: E402
 from rv32 import CODE, Code, Segment, elf  # noqa: E402
@@ -53,6 +54,17 @@ def fight(name: str, count: int, first: int = 0, with_symbol: bool = True) -> No
     with open(name, "wb") as file:
         file.write(files.header(first=first) + (files.symbol(BASE, 8, b"pair") if with_symbol else b""))
         left = 8 * count
+        while left:
+            left -= file.write(piece[:left])
+        file.write(files.ending(count))
+
+
+def fight_by(name: str, count: int) -> None:
+    """The same in version 3, by an instruction of each hart."""
+    piece = files.TURN * PIECE
+    with open(name, "wb") as file:
+        file.write(files.header(version=3) + files.sited(files.in_turn(2))[20:-25])
+        left = len(files.TURN) * (count // 2 - 1)
         while left:
             left -= file.write(piece[:left])
         file.write(files.ending(count))
@@ -133,6 +145,15 @@ def of_trace(name: str, count: int) -> Iterator[Try]:
     yield Try(f"split {name} {at} a b", lines(f"split {at} {count - at}"), 40, halves(count, at))
 
 
+def blamed(count: int) -> Iterator[Try]:
+    """Each access but the first takes the line."""
+    one, other = (f"{pc:#010x}" for pc in files.PCS)
+    yield Try("blame blamed", lines(
+        "predator blame 1", f"accesses {count}", "layout 64 0", "lines 1", f"line {BASE:#010x} takings {count - 1} pairs 2 harts 2",
+        f"pair {one} {other} taken {count // 2} same 0", f"pair {other} {one} taken {count // 2 - 1} same 0",
+        f"from 0 to 1 taken {count // 2}", f"from 1 to 0 taken {count // 2 - 1}", f"total takings {count - 1}", "end"), 40)
+
+
 def parts(count: int) -> Iterator[Try]:
     """The halves that were just written."""
     listed = "--size 64 --set tracking=1,report=1"
@@ -206,6 +227,8 @@ def many_lines(count: int) -> Iterator[Try]:
     put("fought", files.trace(files.fought(count)))
     yield Try("replay fought --size 64 --set tracking=1,report=1", files.fought_report(count), 400)
     yield Try("misses fought", files.fought_misses(count), 400)
+    put("sited", files.sited(files.by_line(files.fought(count))))
+    yield Try("blame sited", files.fought_blame(count), 400)
     if count > 32 * 64:
         # (these caches have no room for more)
         return
@@ -224,6 +247,8 @@ def large_files() -> Iterator[Try]:
     put("guest.elf", guest.file)
     sums = {"t": hashlib.sha256(guest.trace).hexdigest(), "o": hashlib.sha256(guest.output).hexdigest()}
     yield Try("run guest.elf --trace t --output o", ("outcome exit 0",), 80, sums)
+    sums = {"t": hashlib.sha256(guest.sited).hexdigest()}
+    yield Try("run guest.elf --trace t --pcs --output o", ("outcome exit 0",), 80, sums)
 
 
 def put(name: str, content: bytes) -> None:
@@ -259,6 +284,9 @@ def kinds(is_long: bool) -> Iterator[list[Try]]:
     yield list(parts(LONG))[:1]
     yield list(parts(LONG))[1:]
     os.remove("fight")
+    fight_by("blamed", LONG)
+    yield list(blamed(LONG))
+    os.remove("blamed")
     yield [*runs(), *programs(), Try(f"gen {LONG} f", (f"generated {LONG}",), 40)]
     yield [*many_lines(MANY)]
     yield [*many_lines(TRACKS)]
@@ -276,8 +304,9 @@ def main(words: list[str]) -> int:
     with tempfile.TemporaryDirectory() as folder:
         os.chdir(folder)
         for tries in kinds("--long" in words):
+            known = [it for it in tries if has(it.words.split())]
             with ThreadPoolExecutor(len(os.sched_getaffinity(0))) as pool:
-                for it, fault in zip(tries, pool.map(lambda it: fault_of(program, it), tries)):
+                for it, fault in zip(known, pool.map(lambda it: fault_of(program, it), known)):
                     tried += 1
                     if fault:
                         failed += 1

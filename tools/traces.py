@@ -1,7 +1,8 @@
-"""Reads a trace of any version, by docs/FORMATS.md alone. It judges nothing: a file that is no trace is an error of some kind."""
+"""Reads a trace of any version, and gives one pcs, by docs/FORMATS.md alone. It judges nothing: a file that is no trace is an error of some
+kind."""
 
 import struct
-from typing import NamedTuple
+from typing import Callable, NamedTuple
 
 OBJECT, FUNCTION = 1, 2
 
@@ -86,3 +87,28 @@ def accesses(trace):
 def sited(trace):
     """The accesses alone, with their pcs."""
     return (it for *_, it in placed(trace) if isinstance(it, Access))
+
+
+def groups(distance):
+    """A number from -2^32 to 2^32, taken modulo 2^32, as it is spelled in groups of seven bits."""
+    distance = (distance + 2**31) % 2**32 - 2**31
+    number, told = (2 * distance if distance >= 0 else -2 * distance - 1), []
+    while number >= 128:
+        told.append(number & 127 | 128)
+        number >>= 7
+    return bytes((*told, number))
+
+
+def with_pcs(trace, pc_of: Callable[[Access, int], int]):
+    """A trace of version 1 in version 3, with pcs that are made of each access and the pc of its hart's access before."""
+    parts, place, last, pcs = [b"PRDTRC03" + trace[8:20]], 20, 0, {}
+    for start, place, it in placed(trace):
+        if isinstance(it, Access):
+            before = pcs.get(it.hart, 0)
+            pc = pc_of(it, before)
+            size = trace[place - 1]
+            parts.append(bytes((16 * (1 + it.writes) + size, it.hart)) + groups(it.addr - last) + groups(pc - before))
+            last, pcs[it.hart] = it.addr, pc
+        else:
+            parts.append(trace[start:place])
+    return b"".join((*parts, trace[place:]))

@@ -26,6 +26,7 @@ for it in test_screens.Screens test_screens.OfThisMachine test_screens.Pipes tes
 done
 "$python" "$here/../tools/recount_misses.py" --try || failed=1
 "$python" "$here/../tools/recount_place.py" --try || failed=1
+"$python" "$here/../tools/recount_blame.py" --try || failed=1
 for it in "${children[@]}"; do
     wait "${it%%:*}" || { failed=1 && cat "$work/${it#*:}"; }
     echo "${it#*:}: $(tail -n 1 "$work/${it#*:}")"

@@ -15,11 +15,12 @@ def option(words, name, usual=None):
     return words[words.index(name) + 1] if name in words else usual
 
 
-def trace_of(seed):
+def trace_of(seed, has_pcs):
     """A trace of two blocks of one call site, four accesses, and the seed as the exit's number of steps."""
-    head = b"PRDTRC01" + struct.pack("<IQ", 8, 0)
+    head = (b"PRDTRC03" if has_pcs else b"PRDTRC01") + struct.pack("<IQ", 8, 0)
     block = b"\3" + struct.pack("<6I", 0x20000, 64, 0x10010, 0x10020, 0, 0)
-    access = b"\2" + struct.pack("<HI", 1, 0x20000) + b"\4"
+    # (with pcs, those of the first access and then 0 and the pc of the one before)
+    access = b"\x24\1\x80\x80\x10\x88\x80\x08" if has_pcs else b"\2" + struct.pack("<HI", 1, 0x20000) + b"\4"
     other = b"\3" + struct.pack("<6I", 0x20100 + 64 * (seed % 3), 64, 0x10010, 0x10020, 0, 0)
     return head + block + access * 2 + other + access * 2 + b"\6" + struct.pack("<Q", seed)
 
@@ -56,6 +57,15 @@ def misses(seed, size, shift):
     return f"misses {size} {shift}\naccesses 4\nlines 1\n{line}total cold 2 useful 1 useless {50 + seed % 10}\nend\n"
 
 
+def blame(seed, size, shift):
+    """The variable's line is taken by a pair in each seed, and by another one in odd seeds; a line that nothing else tells of, once."""
+    pairs = [f"pair 0x00010044 0x00010044 taken {40 + seed} same 0\n"]
+    pairs += [f"pair 0x0001003c 0x00010044 taken {seed} same {seed}\n"] * (seed % 2)
+    line = f"line 0x00011000 takings 99 pairs {len(pairs)} harts 1\n{''.join(pairs)}from 0 to 1 taken 99\n"
+    line += "line 0x00012000 takings 1 pairs 1 harts 1\npair 0x00010004 0x00010008 taken 1 same 1\nfrom 0 to 1 taken 1\n"
+    return f"predator blame 1\naccesses 4\nlayout {size} {shift}\nlines 2\n{line}total takings 100\nend\n"
+
+
 def seed_of(words):
     """The seed of a run's settings, or that of the trace that is counted."""
     if "--settings" in words:
@@ -66,7 +76,7 @@ def seed_of(words):
 
 
 def main(words):
-    if not words or words[0] not in ("run", "replay", "misses", "sweep", "caches", "check"):
+    if not words or words[0] not in ("run", "replay", "misses", "blame", "sweep", "caches", "check"):
         print("usage: predator run PROGRAM")
         return 1
     if words[0] == "check":
@@ -86,12 +96,18 @@ def main(words):
             os.kill(os.getppid(), 9)
         if "--trace" in words:
             with open(option(words, "--trace"), "wb") as file:
-                file.write(trace_of(seed))
+                file.write(trace_of(seed, "--pcs" in words))
         print(report(seed), end="")
     elif words[0] == "replay":
         print(report(seed, size, shift), end="")
     elif words[0] == "misses":
         print(misses(seed, size, shift), end="")
+    elif words[0] == "blame":
+        with open(words[-1], "rb") as file:
+            if file.read(8) != b"PRDTRC03":
+                print("predator: trace NoPcs")
+                return 5
+        print(blame(seed, size, shift), end="")
     elif words[0] == "sweep":
         print(
             f"sweep {size}\naccesses 4\nshift 0 total {seed} lines 1\nshift 4 total 5 lines 1\n"

@@ -25,6 +25,7 @@ FAULTS = {
     GOOD + "misses:\n- {size: 64, shift: 64}\n": "plan.yaml:5: a shift is below the size of the line, and 64 isn't below 64",
     GOOD + "caches:\n- {size: 64, sets: 1}\n": "plan.yaml:5: 'caches.0' lacks 'ways'",
     GOOD + "caches:\n- {size: 64, sets: 3, ways: 1}\n": "plan.yaml:5: sets are a power of two",
+    GOOD + "blame:\n- {size: 64, shift: 2}\n": "plan.yaml:5: 'blame.0",
     GOOD + "traces: never\n": "plan.yaml:4: 'traces' is one of lost, kept, and not \"never\"",
     "programs:\n  one: one\nseeds:\n- 1\n- 7-3\n": "plan.yaml:5: '7-3' is no range of seeds",
     "programs:\n  one: one\nseeds:\n- 1\n- x\n": "plan.yaml:5: 'seeds.1' ",
@@ -59,9 +60,11 @@ class Plans(Folder):
             self.assertEqual(str(found.exception), f"plan.yaml:{line}: predator refuses {path} under these settings: {said[wrong]}")
 
     def test_a_plan_is_counted(self):
-        self.plan(GOOD + "settings:\n  quantum: [1, 10]\n  report: 5\nmisses: [{size: 16, shift: all}, 64]\nsweeps: [64]\nbatch: 2\n")
+        self.plan(
+            GOOD + "settings:\n  quantum: [1, 10]\n  report: 5\nmisses: [{size: 16, shift: all}, 64]\nsweeps: [64]\nblame: [64]\nbatch: 2\n"
+        )
         status, out, _ = self.campaign("--check")
-        self.assertEqual((status, out), (0, "1 programs, 6 runs, 36 counts of their traces, 4 jobs\n"))
+        self.assertEqual((status, out), (0, "1 programs, 6 runs, 42 counts of their traces, 4 jobs\n"))
 
     def test_what_stands_where(self):
         """Seeds once each and in order; a program's own settings before the others; the line of the settings where no misses are named."""

@@ -8,7 +8,7 @@ HERE = os.path.dirname(os.path.abspath(__file__))
 sys.path[:0] = [os.path.join(HERE, ".."), os.path.join(HERE, "..", "..", "view")]
 
 from naming import Memory  # noqa: E402
-from table import Part, cells, middle, rows_of, worst  # noqa: E402
+from table import Part, cells, middle, pair_rows, rows_of, worst  # noqa: E402
 
 LAYOUT = 64, 0
 
@@ -93,8 +93,39 @@ class Tables(unittest.TestCase):
         lines, _ = rows(record(1, ["line observed 0x00020fc0 64 start 1 count 101 verdict false"]), memory=Memory((0x20000, 0x21000), 2))
         self.assertEqual(lines[0, LAYOUT, "observed"][0]["object"], "stack of hart 0")
 
+    def test_pairs_of_instructions_go_by_their_lines(self):
+        text = "predator blame 1\naccesses 8\nlayout 64 0\nlines 2\nline 0x00011000 takings 8 pairs 2 harts 1\n"
+        text += "pair 0x00010044 0x00010044 taken 5 same 2\npair 0x0001003c 0x00010044 taken {} same 0\nfrom 0 to 1 taken 8\n"
+        text += "line -0x00000020 takings 1 pairs 1 harts 1\npair 0x00000004 0x00000008 taken 1 same 1\nfrom 0 to 1 taken 1\n"
+        text += "total takings 9\nend\n"
+        part = Part()
+        for seed, count in ((1, 3), (2, 9)):
+            part.note(0, record(seed, [symbol(0x11000, 110, 9)], **{"blame_--size_64_--shift_0": text.format(count)}), Memory())
+        told = [
+            (it["object"], it["offset"], it["victim"], it["taken in"], it["taken"], it["same"], it["worst"])
+            for it in pair_rows(part)[0, LAYOUT]
+        ]
+        self.assertEqual(
+            told,
+            [
+                ("low", 32, "0x0001003c", 2, (3, 3, 9), (0, 0, 0), 2),
+                ("low", 32, "0x00010044", 2, (5, 5, 5), (2, 2, 2), 1),
+                ("-0x00000020", 0, "0x00000004", 2, (1, 1, 1), (1, 1, 1), 1),
+            ],
+        )
+
+    def test_pairs_of_a_block_go_by_the_block(self):
+        text = "predator blame 1\naccesses 8\nlayout 64 0\nlines 1\nline {} takings 8 pairs 1 harts 1\n"
+        text += "pair 0x00010044 0x00010044 taken 8 same 0\nfrom 0 to 1 taken 8\ntotal takings 8\nend\n"
+        part = Part()
+        for seed, addr, born in ((1, 0x20000, 5), (2, 0x30020, 9)):
+            told = {"blame_--size_64_--shift_0": text.format(f"{addr + 64:#010x}")}
+            part.note(0, record(seed, [block(addr, addr + 64, 120, born)], {f"{addr:#010x} {born}": 2}, **told), Memory())
+        (row,) = pair_rows(part)[0, LAYOUT]
+        self.assertEqual((row["object"], row["offset"], row["taken in"]), ("block 2 of work@0x00010020", 64, 2))
+
     def test_cells_stand_under_their_heads(self):
-        from table import LINES, OBJECTS
+        from table import LINES, OBJECTS, PAIRS, pair_cells
 
         lines, objects = rows(record(1, [symbol(0x11000, 110, 5)]))
         campaign = {"groups": [{"program": "one", "settings": {"quantum": 3}}]}
@@ -102,6 +133,10 @@ class Tables(unittest.TestCase):
         told = dict(zip(LINES, cells(campaign, key, lines[key][0], {0: 4}), strict=True))
         self.assertEqual((told["settings"], told["seeds"], told["count middle"], told["worst seed"]), ("quantum=3", 4, 110, 1))
         self.assertEqual(dict(zip(OBJECTS, cells(campaign, key, objects[key][0], {0: 4}), strict=True))["lines"], 1)
+        row = {"object": "low", "offset": 32, "victim": "0x00010004", "taker": "0x00010008", "taken in": 1}
+        row |= {"taken": (5, 6, 7), "same": (0, 1, 2), "worst": 3}
+        told = dict(zip(PAIRS, pair_cells(campaign, (0, LAYOUT), row, {0: 4}), strict=True))
+        self.assertEqual((told["size"], told["taker"], told["seeds"], told["same greatest"]), (64, "0x00010008", 4, 2))
 
 
 if __name__ == "__main__":

@@ -102,6 +102,21 @@ class Workflow(Folder):
         self.assertEqual(self.campaign()[0], 0)
         self.assertEqual(self.calls(), [f"misses {seed}" for seed in range(1, 6)], "kept traces serve what is asked later")
 
+    def test_a_trace_has_pcs_where_they_are_counted(self):
+        self.plan(PLAN.replace("1-12", "1-3") + "traces: kept\nreplays: [64]\n")
+        self.assertEqual(self.campaign()[0], 0)
+        self.assertEqual(len(self.calls()), 6)
+        self.plan(PLAN.replace("1-12", "1-3") + "traces: kept\nreplays: [64]\nblame: [64]\n")
+        self.assertEqual(self.campaign()[::2], (0, ""))
+        wanted = [f"{call} {seed}" for call in ("run", "blame") for seed in (1, 2, 3)]
+        self.assertEqual(self.calls(), sorted(wanted), "a trace without pcs is kept, and doesn't serve")
+        rows = [it.split("\t")[4:] for it in self.read("plan.campaign", "pairs.tsv").splitlines()[1:]]
+        self.assertEqual(rows[0], "counters 0 0x00010044 0x00010044 3 3 41 42 43 0 0 0 3".split())
+        self.assertEqual(rows[1], "counters 0 0x0001003c 0x00010044 3 2 1 1 3 1 1 3 3".split())
+        self.assertEqual(rows[2], "0x00012000 0 0x00010004 0x00010008 3 3 1 1 1 1 1 1 1".split())
+        (group,) = json.loads(self.read("plan.campaign", "table.json"))["groups"]
+        self.assertEqual(group["blame"][0]["pairs"][0]["taken"], {"least": 41, "middle": 42, "greatest": 43})
+
     def test_each_result_says_what_it_stands_on(self):
         self.plan("programs: {one: one}\nseeds: 3\nsettings: {quantum: 10}\nsweeps: [64]\ncaches: [{size: 64, sets: 1, ways: 1}]\n")
         self.assertEqual(self.campaign()[0], 0)

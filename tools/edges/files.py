@@ -3,10 +3,17 @@ crates/worked_runs/data. None of it is taken from the program."""
 
 import os
 import struct
+import sys
 from typing import Iterable, NamedTuple
+
+sys.path.insert(0, os.path.join(os.path.dirname(os.path.abspath(__file__)), ".."))
+
+from commands import has  # noqa: E402
+from traces import groups  # noqa: E402
 
 DATA = os.path.join(os.path.dirname(os.path.abspath(__file__)), "..", "..", "crates", "worked_runs", "data")
 Touch = tuple[int, str, int]
+Sited = tuple[int, str, int, int]
 # Pieces in which a run's program puts out its bytes, and the bytes of the last one.
 PIECES, REST = 16, 1
 # How many words it writes, how many lines the traces have, and how many accesses one has that is made, and cut behind so many of them:
@@ -73,14 +80,33 @@ def converted(touches: list[Touch]) -> bytes:
     """The trace of these accesses in version 2."""
     made, last = bytearray(header(version=2)), 0
     for hart, kind, addr in touches:
-        number = addr - last
-        told, last = (2 * number if number >= 0 else -2 * number - 1), addr
-        made += bytes((0x14 if kind == "R" else 0x24, hart))
-        while told >= 128:
-            made.append(told & 127 | 128)
-            told >>= 7
-        made.append(told)
+        made += bytes((0x14 if kind == "R" else 0x24, hart)) + groups(addr - last)
+        last = addr
     return bytes(made) + ending(len(touches))
+
+
+def sited(touches: Iterable[Sited], end: bytes = b"") -> bytes:
+    """The trace of these accesses in version 3, each with its pc."""
+    made, last, pcs, count = bytearray(header(version=3)), 0, dict[int, int](), 0
+    for hart, kind, addr, pc in touches:
+        made += bytes((0x14 if kind == "R" else 0x24, hart)) + groups(addr - last) + groups(pc - pcs.get(hart, 0))
+        last, pcs[hart], count = addr, pc, count + 1
+    return bytes(made) + (end or ending(count))
+
+
+# The pcs of two harts that write neighbouring words in turn, and how each two of these accesses are spelled behind others.
+PCS = (0x10044, 0x20048)
+TURN = b"\x24\0\7\0\x24\1\x08\0"
+
+
+def in_turn(count: int) -> list[Sited]:
+    """So many of these accesses."""
+    return [(at % 2, "W", 0x1040 + 4 * (at % 2), PCS[at % 2]) for at in range(count)]
+
+
+def by_line(touches: list[Touch]) -> list[Sited]:
+    """Accesses with pcs that each line has for itself, one for each hart."""
+    return [(hart, kind, addr, addr // 64 * 64 + 4 * hart) for hart, kind, addr in touches]
 
 
 def halves(touches: list[Touch], at: int) -> tuple[bytes, bytes]:
@@ -125,6 +151,16 @@ def fought_misses(count: int) -> bytes:
     return lines("misses 64 0", f"accesses {4 * count}", f"lines {count}", *rows, total, "end")
 
 
+def fought_blame(count: int) -> bytes:
+    rows = []
+    for base in range(0x100000, 0x100000 + 128 * count, 128):
+        one, other = f"{base:#010x}", f"{base + 4:#010x}"
+        rows += [f"line {one} takings 3 pairs 2 harts 2", f"pair {one} {other} taken 2 same 0", f"pair {other} {one} taken 1 same 0"]
+        rows += ["from 0 to 1 taken 2", "from 1 to 0 taken 1"]
+    told = (f"accesses {4 * count}", "layout 64 0", f"lines {count}", *rows, f"total takings {3 * count}")
+    return lines("predator blame 1", *told, "end")
+
+
 def fought_caches(count: int) -> bytes:
     rows = [f"line {0x100000 + 128 * line:#010x} bounded 3 unbounded 3 evicted 0" for line in range(count)]
     total = f"total bounded {3 * count} unbounded {3 * count} evicted 0"
@@ -164,11 +200,12 @@ def _put_out(count: int) -> list[int]:
 
 
 class Guest(NamedTuple):
-    """A program, how many steps it makes, its trace, and what it puts out."""
+    """A program, how many steps it makes, its trace, without pcs and with them, and what it puts out."""
 
     file: bytes
     steps: int
     trace: bytes
+    sited: bytes
     output: bytes
 
 
@@ -189,8 +226,16 @@ def guest(writes: int, pieces: int, rest: int, code: int = 0) -> Guest:
     head = struct.pack("<4sBBB9xHHIIIIIHHHHHH", b"\x7fELF", 1, 1, 1, 2, 243, 1, 0x10000, 52, 0, 0, 52, 32, 1, 40, 0, 0)
     head += struct.pack("<8I", 1, 84, 0x10000, 0, len(text), 0x2000, 7, 4)
     piece = text.ljust(4096, b"\0")
-    told = header() + records([(0, "W", 0x11000)] * writes) + struct.pack("<BBBHIQQ", 6, 0, 0, 0, code, steps, writes)
-    return Guest(head + text, steps, told, piece * pieces + piece[:rest])
+    end = struct.pack("<BBBHIQQ", 6, 0, 0, 0, code, steps, writes)
+    # (the store is the fourth instruction)
+    first = sited([(0, "W", 0x11000, 0x1000C)], end)[20:-25]
+    return Guest(
+        head + text,
+        steps,
+        header() + records([(0, "W", 0x11000)] * writes) + end,
+        header(version=3) + (first + b"\x24\0\0\0" * (writes - 1) if writes else b"") + end,
+        piece * pieces + piece[:rest],
+    )
 
 
 LONG, SMALL = guest(WRITES, PIECES, REST), guest(3, 0, REST)
@@ -215,6 +260,7 @@ def files() -> dict[str, bytes]:
         "made": trace(made(MADE)), "fought": trace(fights), "short": trace(made(200)), "pair": trace(pair, symbol(0x1000, 8, b"pair")),
         "taken": trace([(0, "W", 0x1000), (1, "W", 0x1000), (1, "W", 0x2000), (0, "W", 0x1000)]),
         "turns": trace(pair + [(1, "W", 0x1004)]), "written": trace([(0, "W", 0x100000 + 4 * it) for it in range(LINES)]),
+        "sited": sited(by_line(fights)), "few": sited(in_turn(3)),
         "state": STATE, "rest": header(first=2) + ending(0), "bad": b"harts = 0\n", "script": b"#!/bin/sh\n",
     }
 
@@ -232,6 +278,8 @@ def writing_cases() -> list[Case]:
         Case(("run", "long.elf", "--trace", "t"), 0, plain, ("long.elf",), (("t", LONG.trace),), LONG.output + b"\n"),
         Case(("run", "small.elf", "--output", "o", "--set", "budget=5"), 10, report("budget", 5, 1, "64 0", "16 64 100"), ("small.elf",),
              (("o", b""),), b"predator: `budget` in the settings allows more steps, up to 68719476736\n"),
+        Case(("run", "long.elf", "--trace", "t", "--pcs", "--output", "o"), 0, plain, ("long.elf",),
+             (("t", LONG.sited), ("o", LONG.output))),
         Case(("gen", str(MADE), "f"), 0, printed_by_case("gen.case", f"gen {MADE} f"), (), (("f", trace(made(MADE))),)),
         Case(("gen", "0", "f"), 0, printed_by_case("gen.case", "gen 0 f"), (), (("f", trace([])),)),
         Case(("split", "made", str(CUT), "a", "b"), 0, lines(f"split {CUT} {MADE - CUT}"), ("made",), (("a", first), ("b", second)),
@@ -246,7 +294,8 @@ def writing_cases() -> list[Case]:
 
 
 def printing_cases() -> list[Case]:
-    """Calls that write nothing. Three of them print more than 64 KiB."""
+    """Calls that write nothing. Some of them print more than 64 KiB."""
+    none_taken = lines("predator blame 1", "accesses 3", "layout 4 0", "lines 0", "total takings 0", "end")
     replay = ("--size", "64", "--settings", "settings")
     caches = ("--size", "64", "--sets", "64", "--ways", "64")
     explain = ("explain", "adds.elf", "0x00011000", "64", "0", "--set", "quantum=1")
@@ -256,6 +305,8 @@ def printing_cases() -> list[Case]:
         Case(("replay", "-", *replay), 0, fought_report(LINES), ("settings", "/dev/stdin"), piped="fought"),
         Case(("misses", "fought"), 0, fought_misses(LINES), ("fought",)),
         Case(("misses", "-"), 0, printed_by_case("misses.case", "misses t"), ("/dev/stdin",), piped="turns"),
+        Case(("blame", "sited"), 0, fought_blame(LINES), ("sited",)),
+        Case(("blame", "-", "--size", "4"), 0, none_taken, ("/dev/stdin",), piped="few"),
         Case(("caches", "fought", *caches), 0, fought_caches(LINES), ("fought",)),
         Case(("sweep", "pair", "--size", "8"), 0, printed_by_case("sweep.case", "sweep t --size 8"), ("pair",)),
         Case(("place", "pair", "pair"), 0, printed_by_case("place.case", "place t pair"), ("pair",), again="pair"),
@@ -271,6 +322,8 @@ def refused_cases() -> list[Case]:
     both, state = (("t", b""), ("o", b"")), (("s", b""),)
     cut = "it ends after 10 bytes, before the trace does: write or copy it again"
     none = "no object symbol of the trace has this name, nor was exactly one block made at that address"
+    no_pcs = ("its accesses have no pcs: `predator run --pcs --trace F` writes a trace of a guest with them, `predator native --pcs "
+              "--trace F` one of a program of this machine")
     rows = [
         (("gen", "03", "f"), 1, usage(), (), (("f", b""),), "'03' has a leading zero: N is a whole number up to 1000000000"),
         (("run", "script", *outputs), 2, b"predator: elf TooShort\n", ("script",), both,
@@ -280,6 +333,7 @@ def refused_cases() -> list[Case]:
         (("run", "small.elf", "--settings", "bad", *outputs), 4, b"predator: settings OutOfRange harts\n", ("bad",), both,
          "bad: `harts` is a whole number from 1 to 256"),
         (("replay", "bad", "--save", "s"), 5, b"predator: trace Truncated 10\n", ("bad",), state, f"bad: {cut}"),
+        (("blame", "short"), 5, b"predator: trace NoPcs\n", ("short",), (), f"short: {no_pcs}"),
         (("split", "bad", "3", "a", "b"), 5, b"predator: trace Truncated 10\n", ("bad",), (("a", b""), ("b", b"")), f"bad: {cut}"),
         (("convert", "script", "c"), 5, b"predator: trace Truncated 10\n", ("script",), (("c", b""),), f"script: {cut}"),
         (("replay", "short", "--resume", "bad", "--save", "s"), 6, b"predator: state BadState 0\n", ("bad",), state,
@@ -291,4 +345,4 @@ def refused_cases() -> list[Case]:
 
 
 def cases() -> list[Case]:
-    return writing_cases() + printing_cases() + refused_cases()
+    return [it for it in writing_cases() + printing_cases() + refused_cases() if has(it.words)]

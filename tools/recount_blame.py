@@ -1,0 +1,151 @@
+#!/usr/bin/env python3
+"""Counts anew by which instructions the lines of a trace with pcs are taken.
+
+usage: tools/recount_blame.py TRACE [--size N] [--shift N]       (64 and 0 unless they are given)
+       tools/recount_blame.py --try                              the worked lists below, and what they are to give
+
+Written from docs/RULES.md and the trace of docs/FORMATS.md alone: of each line the harts whose caches hold it, and the latest access of
+each hart that came. It prints what `predator blame` prints, also where the trace has no pcs."""
+
+import sys
+from collections import Counter
+from typing import NamedTuple
+
+from judge_report import address
+from traces import Access, sited
+
+# Accesses, each with its pc. Hart 0 writes a word, and then three harts add three times to a byte each, two of which lie in one word: when
+# each hart makes one step at a time, and when it makes three.
+BY_ONE = (
+    "W0 11008 10004, R1 11004 1003c, W1 11004 10044, R2 11005 1003c, R1 11004 1003c, R0 11000 1003c, W2 11005 10044, "
+    "W1 11004 10044, W0 11000 10044, R2 11005 1003c, R1 11004 1003c, R0 11000 1003c, W2 11005 10044, W1 11004 10044, "
+    "W0 11000 10044, R2 11005 1003c, R0 11000 1003c, W2 11005 10044, W0 11000 10044"
+)
+BY_THREE = (
+    "W0 11008 10004, R1 11004 1003c, W1 11004 10044, R1 11004 1003c, R0 11000 1003c, W1 11004 10044, R2 11005 1003c, "
+    "W2 11005 10044, W0 11000 10044, R1 11004 1003c, R2 11005 1003c, R0 11000 1003c, W1 11004 10044, W2 11005 10044, "
+    "W0 11000 10044, R2 11005 1003c, R0 11000 1003c, W0 11000 10044, W2 11005 10044"
+)
+# The rows of pairs and of harts, each a tuple of its numbers.
+PAIRS = [(0x10044, 0x10044, 5, 2), (0x1003C, 0x10044, 3, 0), (0x10004, 0x10044, 1, 0)]
+WORD = [(0x10044, 0x10044, 3, 3), (0x1003C, 0x10044, 2, 2)]
+HARTS = [(0, 1, 1), (0, 2, 3), (1, 0, 2), (2, 0, 1), (2, 1, 2)]
+# Accesses, size and shift, and by docs/RULES.md each line that is taken, with its pairs and harts.
+WORKED = [
+    (BY_ONE, (64, 0), [(0x11000, 9, PAIRS, HARTS)]),
+    (BY_THREE, (64, 0), [(0x11000, 9, PAIRS, [(0, 1, 3), (0, 2, 1), (1, 2, 2), (2, 0, 3)])]),
+    (BY_ONE, (4, 0), [(0x11004, 5, WORD, [(1, 2, 3), (2, 1, 2)])]),
+    (BY_ONE, (128, 32), [(0x10FA0, 9, PAIRS, HARTS)]),
+    ("", (64, 0), []),
+    ("R1 1000 4, W0 1000 8", (64, 0), [(0x1000, 1, [(4, 8, 1, 1)], [(1, 0, 1)])]),
+    # Of the two readers that lose the line the later one is the victim; the earlier one's last access is of another line.
+    ("R1 1000 4, R2 1004 8, R1 2000 c, W0 1000 10", (64, 0), [(0x1000, 1, [(8, 16, 1, 0)], [(2, 0, 1)])]),
+    # What the taker read itself since is no victim's; a line that is taken oftener comes first.
+    (
+        "W0 1000 4, R1 1000 8, W1 1004 c, W0 2000 4, W1 2000 c, W0 2004 4",
+        (64, 0),
+        [(0x2000, 2, [(4, 12, 1, 1), (12, 4, 1, 0)], [(0, 1, 1), (1, 0, 1)]), (0x1000, 1, [(4, 12, 1, 0)], [(0, 1, 1)])],
+    ),
+]
+
+
+class Line(NamedTuple):
+    """A line: the harts whose caches hold it; the pc and the word of each hart's latest access, in the order of these; and its takings, by
+    the pcs of victim and taker, those of one word among them, and by their harts."""
+
+    holders: set
+    latest: dict
+    pairs: Counter
+    same: Counter
+    harts: Counter
+
+    def note(self, it):
+        if it.writes:
+            if self.holders - {it.hart}:
+                victim = next(hart for hart in reversed(self.latest) if hart != it.hart)
+                assert victim in self.holders, f"hart {victim} is taken from, and held nothing"
+                pc, word = self.latest[victim]
+                self.pairs[pc, it.pc] += 1
+                self.same[pc, it.pc] += word == it.addr // 4
+                self.harts[victim, it.hart] += 1
+            self.holders.clear()
+        self.holders.add(it.hart)
+        self.latest.pop(it.hart, None)
+        self.latest[it.hart] = it.pc, it.addr // 4
+
+    def rows(self):
+        """How many takings there are, and the pairs and the harts in the order of the text."""
+        pairs = ((*both, count, self.same[both]) for both, count in self.pairs.items())
+        harts = ((*both, count) for both, count in self.harts.items())
+        return sum(self.pairs.values()), sorted(pairs, key=lambda it: (-it[2], it[:2])), sorted(harts)
+
+
+def takings(accesses, size=64, shift=0):
+    """How many accesses there are, and each line that is taken as (base, takings, pairs, harts), in the order of the text."""
+    lines, count = {}, 0
+    for it in accesses:
+        count += 1
+        base = (it.addr - shift) // size * size + shift
+        line = lines.get(base)
+        if line is None:
+            line = lines[base] = Line(set(), {}, Counter(), Counter(), Counter())
+        line.note(it)
+    found = [(base, *it.rows()) for base, it in lines.items() if it.pairs]
+    return count, sorted(found, key=lambda it: (-it[1], it[0]))
+
+
+def told(trace, size=64, shift=0):
+    """The whole text, or what is said of a trace without pcs."""
+    if trace[:8] in (b"PRDTRC01", b"PRDTRC02"):
+        yield "predator: trace NoPcs"
+        return
+    count, lines = takings(sited(trace), size, shift)
+    yield "predator blame 1"
+    yield f"accesses {count}"
+    yield f"layout {size} {shift}"
+    yield f"lines {len(lines)}"
+    for base, taken, pairs, harts in lines:
+        yield f"line {address(base)} takings {taken} pairs {len(pairs)} harts {len(harts)}"
+        for victim, taker, number, same in pairs:
+            yield f"pair {address(victim)} {address(taker)} taken {number} same {same}"
+        for victim, taker, number in harts:
+            yield f"from {victim} to {taker} taken {number}"
+    yield f"total takings {sum(it[1] for it in lines)}"
+    yield "end"
+
+
+def listed(text):
+    """A worked list."""
+    for it in text.split(", ") if text else ():
+        hart, addr, pc = it.split()
+        yield Access(int(hart[1:]), int(addr, 16), hart[0] == "W", int(pc, 16))
+
+
+def try_worked():
+    """How many of the worked lists give something else."""
+    wrong = 0
+    for text, layout, wanted in WORKED:
+        _, found = takings(listed(text), *layout)
+        if found != wanted:
+            wrong += 1
+            print(f"{text} in lines of {layout}: {found}, and {wanted} is wanted")
+    print(f"{len(WORKED)} lists, {wrong} wrong")
+    return wrong
+
+
+def main(words):
+    if words == ["--try"]:
+        return 1 if try_worked() else 0
+    options = {"--size": 64, "--shift": 0}
+    for name, number in zip(words[1::2], words[2::2]):
+        options[name] = int(number)
+    if len(words) % 2 == 0 or words[0].startswith("-") or len(options) > 2:
+        print(__doc__)
+        return 0 if words in (["--help"], ["-h"]) else 1
+    with open(words[0], "rb") as file:
+        sys.stdout.writelines(f"{it}\n" for it in told(file.read(), *options.values()))
+    return 0
+
+
+if __name__ == "__main__":
+    sys.exit(main(sys.argv[1:]))
