@@ -49,7 +49,8 @@ class Thing:
     """An object that is fought over: a variable, the blocks of a call site, or memory without an object."""
 
     def __init__(self, key: Key, example: Found) -> None:
-        self.key, self.example, self.name = key, example, ""
+        # (the note is shown behind the name, where an object has a row of its own)
+        self.key, self.example, self.name, self.note = key, example, "", ""
         self.spots: list[Spot] = []
         self.lives: set[int] = set()
         self.beside: Counter[Key] = Counter()

@@ -124,7 +124,7 @@ def thing(view: View, it: Thing) -> Given:
     worst, fight = seen.worst(), seen.fight()
     drawn = sorted(worth_drawing(view, it), key=lambda one: one.base)
     return {
-        "name": view.label(it),
+        "name": view.label(it) + it.note,
         "useless": it.useless if view.misses else "-",
         "useful": it.useful if view.misses else "-",
         "count": it.count,

@@ -31,18 +31,21 @@ def listing(texts: Iterable[str]) -> str:
     return " and ".join(list(dict.fromkeys(texts))[:NAMED])
 
 
-def name_of(thing: Thing, pcs: Sequence[int], naming: Naming) -> str:
-    """The name of an object that instructions use."""
+def name(thing: Thing, pcs: Sequence[int], naming: Naming) -> None:
+    """Names an object that instructions use."""
     users = listing(map(naming.instruction, pcs))
     functions = list(dict.fromkeys(it for it in map(naming.frame, pcs) if it))
     it = thing.example
     if isinstance(thing.key, OfStack):
-        return f"{thing.name}, used in {listing(functions)}" if functions else thing.name
-    if isinstance(it, Block) and it.sites:
-        # (the elements of an array are mostly used by one function; what an arena hands out is by several)
-        arena = f"{thing.name.replace('block made', f'block of {it.size:,} made', 1)} (an arena: the instructions that use it are {users})"
-        return arena if len(functions) > 1 else thing.name
-    return f"{'block' if it else 'memory'} used at {users}"
+        thing.name += f", used in {listing(functions)}" if functions else ""
+    elif not isinstance(it, Block):
+        thing.name = f"memory used at {users}"
+    elif not it.sites:
+        thing.name = f"block used at {users}"
+    elif len(functions) > 1:
+        # (the elements of an array are mostly used by one function, and what an arena hands out by several)
+        thing.name = thing.name.replace("block made", f"block of {it.size:,} made", 1)
+        thing.note = f" (an arena: the instructions that use it are {users})"
 
 
 def name_by_instructions(things: Iterable[Thing], blame: Blame, naming: Naming) -> None:
@@ -54,4 +57,4 @@ def name_by_instructions(things: Iterable[Thing], blame: Blame, naming: Naming) 
             found.append((it, worst_pairs(taken)))
     naming.prepare({at for _, pcs in found for at in pcs})
     for it, pcs in found:
-        it.name = name_of(it, pcs, naming)
+        name(it, pcs, naming)
