@@ -84,7 +84,8 @@ def row(view: View, place: int, thing: Thing, paint: Paint, width: int) -> Itera
     beside = [view.label(view.all[it]) for it in thing.beside]
     near = f", beside {', '.join(beside[:3])}" + (f" and {len(beside) - 3} more" if len(beside) > 3 else "") if beside else ""
     cells = "".join(f" {it:>8}" for it in (*numbers, thing.count))
-    yield f"{place:>3} {cells} {len(thing.spots):>6}  " + paint(BOLD, plain(short(view.label(thing)))) + plain(lives + short(near + thing.note))
+    name = paint(BOLD, plain(short(view.label(thing))))
+    yield f"{place:>3} {cells} {len(thing.spots):>6}  {name}" + plain(lives + short(near + thing.note))
     worst = seen.worst()
     if worst:
         much = f"{counted(worst.writes, 'write')} and {counted(worst.reads, 'read')} by {owner(worst)}"

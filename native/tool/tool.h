@@ -39,6 +39,7 @@ typedef struct {
 } ThreadHead; /* how each entry of valgrind's table of threads begins */
 extern ThreadHead *VG_(get_ThreadState)(ThreadId);
 extern ThreadId VG_(lwpid_to_vgtid)(Int lwp);
+extern Addr VG_(brk_base), VG_(brk_limit);
 enum { STATUS_RUNS = 2, STATUS_IN_CALL = 3, STATUS_YIELDS = 4 };
 
 /* The mapping that an address lies in, if there is one: where it begins and ends, and the path of its file, `[heap]` or none. */
@@ -49,7 +50,7 @@ static inline Bool mapping_of(Addr addr, Bool anew, Addr *from, Addr *to, const 
         return False;
     *from = it->start;
     *to = it->end + 1;
-    *path = it->isCH ? "[heap]" : VG_(am_get_filename)(it);
+    *path = VG_(brk_base) <= addr && addr < VG_(brk_limit) ? "[heap]" : VG_(am_get_filename)(it);
     return True;
 }
 static inline const HChar *mapped_file(Addr addr)
