@@ -41,7 +41,7 @@ void *__wrap_predator_realloc(const char *name, void *old, unsigned long size) {
 void __wrap_predator_free(void *it) { free(it); }
 char *__wrap_predator_strdup(const char *name, const char *text) { return strdup(text); }
 C
-gcc "${strict[@]}" -DPREDATOR_RUNTIME "$here/tries/writer.c" "$here/lib/compat.c" "$here"/tool/{trace,objects,sites}.c heap.c \
+gcc "${strict[@]}" -DPREDATOR_RUNTIME "$here/tries/writer.c" "$here/lib/compat.c" "$here"/tool/{trace,objects,sites,nameless}.c heap.c \
     "${heap[@]}" -o writer && gcc "${strict[@]}" "$here/tool/mend.c" -o mend || exit 1
 # (what it has at its end is the program's until that is over)
 export ASAN_OPTIONS=$ASAN_OPTIONS:detect_leaks=0

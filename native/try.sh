@@ -415,6 +415,7 @@ within "pipe: killed: accesses" 300000 1000000000 "$("$judge" accesses from-pipe
 # The second way, the instructions of accesses, and how all ends that is ended.
 . "$here/tries/built.sh"
 . "$here/tries/pcs.sh"
+. "$here/tries/nameless.sh"
 . "$here/tries/ends.sh"
 
 # The report, where the proved program is built.

@@ -36,12 +36,12 @@ judge_c() {
     local headers=/usr/include/valgrind picolibc=${PICOLIBC:-/usr/lib/picolibc/riscv64-unknown-elf} it status=0
     local strict=(-fanalyzer -Wall -Werror -O2 -c -o /dev/null)
     command -v gcc >/dev/null || lacks gcc gcc
-    for it in native/lib/*.c native/tool/{trace,objects,sites}.c; do
+    for it in native/lib/*.c native/tool/{trace,objects,sites,nameless}.c; do
         gcc "${strict[@]}" -std=gnu11 -Wno-unused-parameter -fPIC -fexceptions -pthread -DPREDATOR_RUNTIME "$it" || status=1
     done
     gcc "${strict[@]}" -std=gnu11 native/tool/mend.c || status=1
     if [ -e "$headers/pub_tool_tooliface.h" ]; then
-        for it in native/tool/{tool,trace,objects,sites,elf,turns,preload}.c; do
+        for it in native/tool/{tool,trace,objects,sites,nameless,elf,turns,preload}.c; do
             gcc "${strict[@]}" -std=gnu99 -fno-builtin "-I$headers" "-I$headers/vki" \
                 -DVGA_amd64=1 -DVGO_linux=1 -DVGP_amd64_linux=1 -DVGPV_amd64_linux_vanilla=1 "$it" || status=1
         done

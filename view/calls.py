@@ -29,8 +29,10 @@ Options:
   --object NAME      shows this object alone, and those that share lines with it
   --words            lists the words of each object's lines with their fields, and all instructions that fight over the worst one
   --library          shows the objects of the C library and of the kernel too, which are one line else
-  --predicted        shows all predicted lines, those too that say nothing more
-  --explain N        looks for the instructions that fight over the worst lines of the first N objects (3); 0 for none
+  --predicted        counts and shows all predicted lines, those too that say nothing more
+  --no-predicted     counts and shows none
+  --explain N        looks for the instructions that fight over the worst lines of the first N objects (3), each by a run; 0 for none. A
+                     trace that has its instructions tells those of all objects
   --type SITE=TYPE   what the blocks of a call site hold, as arena.c:78=node; a type, or a variable that points to one
   --sources DIR      where the sources are, if they moved
   --html F           writes a page to F; of one of these three options F may be `-`: standard output, in place of the screen
@@ -48,10 +50,12 @@ lacked a hart; 127 a package is missing, or the program. Colours are for termina
 )
 # The options of view's own that have a value, and those that have none; `type` may come more than once.
 VALUES = ("top", "object", "html", "json", "sarif", "against", "fail-above", "by", "type", "program", "back", "sources", "explain")
-FLAGS = ("words", "predicted", "library", "help")
+FLAGS = ("words", "predicted", "no-predicted", "library", "help")
 # Options of `predator native` that have no value, and those that have one.
-MARKS = ("all", "marked", "built")
+MARKS = ("all", "marked", "built", "pcs")
 RECORDS = ("--quantum", "--most")
+# With it a trace has each access's instruction; it has no value.
+PCS = "--pcs"
 # What view writes.
 OUTPUTS = ("html", "json", "sarif")
 # How many objects the first screen shows, and how many of their lines are explained, where the call doesn't say.
@@ -129,6 +133,8 @@ class Call:
                         raise Fault(f"a value is required for '{word}'")
                     value, at = words[at], at + 1
                 self.put("help" if word == "-h" else name[2:], value)
+            elif word == PCS and self.how == "run":
+                rest.append(word)
             elif word[2:] in MARKS and word[:2] == "--":
                 self.marks.append(word)
             elif word.startswith("-") and word != "-":
@@ -164,6 +170,8 @@ class Call:
         for it in self.options["type"]:
             if not all(it.partition("=")[::2]):
                 raise Fault(f"'--type' is SITE=TYPE, as arena.c:78=node, and not '{it}'")
+        if "predicted" in self.options and "no-predicted" in self.options:
+            raise Fault("'--predicted' and '--no-predicted' are two answers to one question")
         if "by" in self.options and "fail-above" not in self.options:
             raise Fault("'--by' is for '--fail-above', which isn't there")
         if self.options["type"] and not self.has_types():

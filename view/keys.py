@@ -26,14 +26,23 @@ class OfStack(NamedTuple):
     hart: int
 
 
+class OfFile(NamedTuple):
+    """Memory without an object where a file is mapped, by the file's path."""
+
+    kind: Literal["file"]
+    path: str
+
+
 class OfMemory(NamedTuple):
-    """Memory without an object, by the page that it is in."""
+    """Other memory without an object, by the page that it is in."""
 
     kind: Literal["memory"]
     page: int
 
 
-Key = Union[OfSymbol, OfBlocks, OfStack, OfMemory]
+# What lies where no object is.
+OfPlace = Union[OfStack, OfFile, OfMemory]
+Key = Union[OfSymbol, OfBlocks, OfPlace]
 
 
 def order_of(key: Key) -> tuple[str | int, ...]:

@@ -20,6 +20,11 @@ def front(path: str) -> bytes:
     return b""
 
 
+def has_pcs(path: str) -> bool:
+    """Whether a file is a trace that has the instruction of each access."""
+    return front(path)[:8] == b"PRDTRC03"
+
+
 def how_of(path: str) -> How:
     """What is done with a file. (What is wrong with a program for another machine the program says.)"""
     head = front(path)

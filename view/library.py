@@ -3,6 +3,7 @@
 import re
 from typing import Iterable
 
+from keys import OfFile
 from naming import BEGINNINGS, OWN, Naming
 from objects import Thing
 from reports import Block, Site, Symbol
@@ -18,6 +19,8 @@ def is_foreign(thing: Thing, naming: Naming) -> bool:
     """Whether an object isn't the program's own, as far as its file and its debug information tell."""
     if naming.program is None or naming.program.dwarf is None:
         return False
+    if isinstance(thing.key, OfFile):
+        return bool(LIBRARIES.search(thing.key.path))
     if isinstance(thing.example, Symbol):
         return is_foreign_symbol(thing.example, naming)
     if isinstance(thing.example, Block) and thing.example.sites and thing.example.sites[0].name != OWN:

@@ -67,6 +67,15 @@ def program_of(call: Call) -> "tuple[Program | NativeProgram | None, Sources | N
     return program, sources
 
 
+def native_of(program: "Program | NativeProgram | None") -> "NativeProgram | None":
+    """A program where it is one of this machine."""
+    if program is None:
+        return None
+    from fields import Program
+
+    return None if isinstance(program, Program) else program
+
+
 def table_of(call: Call) -> str | None:
     """The table back of a program of this machine: the one that is named, or that beside the trace."""
     if "back" in call.options or call.program or call.how != "replay":
@@ -135,7 +144,7 @@ def look(call: Call) -> View:
         named = f"{call.program} isn't the program" if call.program else f"{table_of(call)} isn't the table"
         say(f"{named} of this report: {strange}; it is left aside")
         call.program = program = sources = None
-    memory = memory_of(call, predator)
+    memory = memory_of(call, predator, native_of(program))
     view = View(call, report, Naming(report, program, sources, call.options["type"], memory))
     view.count(predator)
     view.look_for_overflow(predator)

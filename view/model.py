@@ -7,18 +7,23 @@ import os
 import re
 import tempfile
 from collections import Counter
-from typing import Iterable, Sequence, cast
+from typing import TYPE_CHECKING, Iterable, Sequence, cast
 
 import advice
 from calls import EXPLAIN, Call
-from keys import Key, OfBlocks, OfStack, OfSymbol, order_of
+from keys import Key, OfBlocks, OfMemory, OfSymbol, order_of
+from kinds import has_pcs
 from library import is_foreign
 from naming import Memory, Naming, shown
 from objects import Spot, Thing, Told, field_at, things_of, words_of, worst_word
 from overflow import Overflow, last_of_file, last_of_run, overflow
-from predicted import Foretold, Layout, judged, layouts
-from program import Predator, Refused, each_line, misses_under, setting, stacks
-from reports import Block, Explained, Misses, Pair, Placed, Report, Symbol
+from predicted import Foretold, Layout, judged, worth_counting
+from program import Predator, Refused, blame_under, each_line, misses_under, setting, stacks
+from reports import Blame, Block, Explained, Misses, Pair, Placed, Report, Symbol, Takings
+from unnamed import name_by_instructions
+
+if TYPE_CHECKING:
+    from native import NativeProgram
 
 WORD = (4, 0)
 # The file and the line where something is declared or made.
@@ -28,7 +33,7 @@ Declared = tuple[str, int]
 class Seen:
     """One object as it is shown: its words, the explained lines, and what to do about it."""
 
-    def __init__(self, thing: Thing, words: list[Told], explained: Explained | None, todo: str, declared: Declared | None) -> None:
+    def __init__(self, thing: Thing, words: list[Told], explained: Takings | None, todo: str, declared: Declared | None) -> None:
         self.thing, self.words, self.explained, self.todo, self.declared = thing, words, explained, todo, declared
 
     def worst(self) -> Told | None:
@@ -57,7 +62,8 @@ class View:
         self.each: Report | None = None
         self.by_layout: dict[Layout, Misses] = {}
         self.notes: list[str] = []
-        self.explained: dict[int, Explained] = {}
+        self.blame: Blame | None = None
+        self.explained: dict[int, Takings] = {}
         self.placed: dict[Key, Placed] = {}
         self.cached: dict[Key, Seen] = {}
         self.foreign: set[Key] = set()
@@ -74,7 +80,7 @@ class View:
             self.notes.append("this program has no command `misses`, so misses are unknown; objects stand by the report's count")
             return
         own = self.report.size, self.report.offset
-        wanted = list(dict.fromkeys([own, WORD, *layouts(self.report)]))
+        wanted = list(dict.fromkeys([WORD, own, *self.foreseen_layouts()]))
         trace = self.trace()
         if self.call.reads_once():
             self.notes.append(
@@ -85,7 +91,7 @@ class View:
             settings = os.path.join(folder, "settings")
             with open(settings, "w", encoding="ascii") as file:
                 file.write("tracking = 1\nreport = 1\n")
-            readers = [*map(misses_under, wanted), each_line(own, settings)]
+            readers = [*map(misses_under, wanted), each_line(own, settings), *([blame_under(own)] if self.is_blamed(predator) else [])]
             try:
                 counted = (
                     predator.counted_of_file(trace, readers)
@@ -99,9 +105,20 @@ class View:
             self.notes.append("the trace is a part of what the report counts, so its misses are unknown")
             return
         self.note_lacked(predator)
-        # (the readers of `wanted` tell misses, and the one behind them a report)
-        self.each, self.by_layout = cast(Report, counted.pop()), dict(zip(wanted, cast(list[Misses], counted)))
+        # (the readers of `wanted` tell misses; behind them come a report, and who takes which lines)
+        self.by_layout, behind = dict(zip(wanted, cast(list[Misses], counted))), counted[len(wanted) :]
         self.misses, self.by_word = self.by_layout[own], self.by_layout[WORD]
+        self.each, self.blame = cast(Report, behind[0]), cast(Blame, behind[1]) if len(behind) > 1 else None
+
+    def is_blamed(self, predator: Predator) -> bool:
+        """Whether the trace says itself which instructions fight, and the program reads that."""
+        trace = self.trace()
+        return bool(trace and has_pcs(trace) and self.call.number("explain", EXPLAIN) and predator.has("blame"))
+
+    def foreseen_layouts(self) -> list[Layout]:
+        """The layouts of the predicted lines whose misses are counted."""
+        options = self.call.options
+        return [] if "no-predicted" in options else worth_counting(self.report, self.naming, "predicted" in options)
 
     def note_lacked(self, predator: Predator) -> None:
         """Notes that a thread never ran since no hart was free."""
@@ -130,12 +147,13 @@ class View:
         trace, most = self.trace(), self.call.number("explain", EXPLAIN)
         if predator is None or trace is None or not predator.has("place"):
             return
-        for it in things[:most]:
-            name = it.name_to_place()
-            placed = None if name is None else predator.placed(trace, name, self.report.size)
-            # (of several variables of one name it takes the first)
-            if placed and it.example and placed.addr == it.example.addr:
-                self.placed[it.key] = placed
+        named = [(it, name) for it in things[:most] if (name := it.name_to_place()) is not None]
+        placed_at = functools.partial(predator.placed, trace, size=self.report.size)
+        with concurrent.futures.ThreadPoolExecutor(max_workers=min(4, os.cpu_count() or 1)) as pool:
+            for (it, _), placed in zip(named, pool.map(placed_at, [name for _, name in named])):
+                # (of several variables of one name it takes the first)
+                if placed and it.example and placed.addr == it.example.addr:
+                    self.placed[it.key] = placed
 
     def arrange(self) -> None:
         """Puts the lines together by objects."""
@@ -146,8 +164,10 @@ class View:
         for it in self.all.values():
             it.name = self.naming.key_name(it.key, it.example)
         self.rank()
+        if self.blame:
+            name_by_instructions(self.things, self.blame, self.naming)
         self.keys = keys_over_builds(self.all.values(), self.naming)
-        self.predicted = judged(self.report, self.misses, self.by_layout, self.naming)
+        self.predicted = [] if "no-predicted" in self.call.options else judged(self.report, self.misses, self.by_layout, self.naming)
         for line in self.predicted:
             for key, example in line.keys.items():
                 if key not in self.all:
@@ -197,7 +217,9 @@ class View:
         if isinstance(thing.example, Block) and thing.example.sites:
             own = thing.name + self.caller(thing)
             return own if self.label_counts[own] == 1 else f"{thing.name}, by {shown(self.naming.chain(thing.example.sites)[0].addr)}"
-        return f"{thing.name}, at {shown(thing.key.addr)}" if isinstance(thing.key, OfSymbol) else thing.name
+        if isinstance(thing.key, (OfSymbol, OfMemory)):
+            return f"{thing.name}, at {shown(thing.key.addr if isinstance(thing.key, OfSymbol) else thing.key.page)}"
+        return thing.name
 
     def caller(self, thing: Thing) -> str:
         """Of blocks that an inlined function makes the line that it was called from, as a part of their label."""
@@ -215,16 +237,26 @@ class View:
 
     def names_of(self, thing: Thing) -> set[str]:
         """What a call may name an object by: its own name, and those beside it."""
-        own = {it.name for it in (thing, *(self.all[key] for key in thing.beside))}
+        parts = [thing, *(self.all[key] for key in thing.beside)]
+        own = {it.name for it in parts} | {self.naming.key_name(it.key, it.example) for it in parts}
         return own | {self.naming.names.shortened(it) for it in own} | {it.partition(" made at ")[2].partition(" ")[0] for it in own}
 
     def explain(self, predator: Predator | None, things: Sequence[Thing]) -> None:
-        """Has the worst lines of the first objects explained, side by side."""
+        """Tells what takes the worst lines of the first objects: by the trace, or by as many runs side by side."""
         most = self.call.number("explain", EXPLAIN)
-        program = self.call.program
-        if program is None or predator is None or not most:
-            return
-        spots = [spot for spot in (it.worst() for it in things[:most]) if spot.base >= 0]
+        program, trace = self.call.program, self.trace()
+        if self.blame is not None:
+            found = (self.blame.takings(it.worst().base) for it in things)
+            self.explained = {it.base: it for it in found if it}
+        elif predator is not None and most and program is None and trace and has_pcs(trace) and not predator.has("blame"):
+            self.notes.append("this program has no command `blame`, so the instructions that fight are unknown")
+        elif program is not None and predator is not None and most:
+            self.explain_by_runs(predator, program, things[:most])
+        shown = None if "words" in self.call.options else 8
+        self.naming.prepare({at for it in self.explained.values() for pair in it.pairs[:shown] for at in pair[:2]})
+
+    def explain_by_runs(self, predator: Predator, program: str, things: Sequence[Thing]) -> None:
+        spots = [spot for spot in (it.worst() for it in things) if spot.base >= 0]
         if spots and not predator.has("explain"):
             self.notes.append("this program has no command `explain`, so the instructions that fight are unknown")
             return
@@ -234,13 +266,11 @@ class View:
                 if isinstance(it, Refused):
                     self.notes.append(f"what fights over {spot.base:#010x} is unknown: {it}")
                 elif it.accesses == self.report.accesses and (spot.line is None or it.count == spot.line.count):
-                    self.explained[spot.base] = it
+                    self.explained[spot.base] = it.takings
                 else:
                     self.notes.append(
                         f"the program under these settings doesn't make this trace, so `explain` says nothing of {spot.base:#010x}"
                     )
-        shown = None if "words" in self.call.options else 8
-        self.naming.prepare({at for it in self.explained.values() for pair in it.pairs[:shown] for at in pair[:2]})
 
     def note_idle(self) -> None:
         """Notes options that matched nothing: a type for blocks that aren't fought over, and a folder without a source of the program."""
@@ -345,7 +375,7 @@ def keys_over_builds(things: Iterable[Thing], naming: Naming) -> dict[Key, str]:
                 " < ".join(naming.functions(it.example.sites)) if isinstance(it.example, Block) and it.example.sites else "-"
             )
         else:
-            text = f"stack {it.key.hart}" if isinstance(it.key, OfStack) else "memory"
+            text = "memory" if isinstance(it.key, OfMemory) else f"{it.key.kind} {it.key[1]}"
         groups.setdefault(text, []).append(it)
     for text, own in groups.items():
         for at, it in enumerate(own):
@@ -353,8 +383,12 @@ def keys_over_builds(things: Iterable[Thing], naming: Naming) -> dict[Key, str]:
     return found
 
 
-def memory_of(call: Call, predator: Predator | None) -> Memory:
-    """Where the stacks of a program lie under the settings of the call."""
+def memory_of(call: Call, predator: Predator | None, native: "NativeProgram | None" = None) -> Memory:
+    """Where the stacks of a program lie: of one of this machine by its table back, and of a guest under the settings of the call."""
+    if native is not None:
+        from native import NativeMemory
+
+        return NativeMemory(native)
     if call.program is None or predator is None:
         return Memory()
     words = call.settings_words()

@@ -3,7 +3,7 @@
 import os
 from typing import TYPE_CHECKING, Any, Iterable, NamedTuple, Sequence, Union
 
-from keys import Key, OfBlocks, OfMemory, OfStack, OfSymbol
+from keys import Key, OfBlocks, OfFile, OfMemory, OfPlace, OfStack, OfSymbol
 from mangled import Names
 from reports import Block, Report, Site, Symbol
 from source_lines import Sources
@@ -51,13 +51,21 @@ class Memory:
         self.low, self.high = stacks or (0, 0)
         self.each = (self.high - self.low) // harts if harts else 0
 
-    def key(self, addr: int) -> OfStack | OfMemory:
+    def key(self, addr: int) -> OfPlace:
         if self.each and self.low <= addr < self.high:
             return OfStack("stack", (self.high - 1 - addr) // self.each)
         return OfMemory("memory", addr // 4096 * 4096)
 
+    def owner(self, hart: int) -> str:
+        """Whose a stack is that is put together by a hart."""
+        return f"hart {hart}"
+
     def top(self, hart: int) -> int:
         return self.high - hart * self.each
+
+    def below(self, addr: int) -> int:
+        """How far an address of a stack is below the top of that."""
+        return (self.high - 1 - addr) % self.each + 1
 
 
 def shown(addr: int) -> str:
@@ -129,6 +137,20 @@ class Naming:
         place = self.sources.place(site.addr) if self.sources else None
         return self.names.note(place.function) if place and place.function else self.called(site)
 
+    def instruction(self, addr: int) -> str:
+        """An instruction's line in the source and its function, or its address."""
+        sources = self.sources
+        place = sources.place(addr) if sources else None
+        names = [self.names.note(it.function) for it in sources.frames(addr) if it.function] if sources else []
+        near = sources.near(addr) if sources and place is None else None
+        told = place.short() if place else f"near {near.short()}" if near else self.library(addr) or f"0x{addr:08x}"
+        return f"{told} ({' < '.join(names[:2])})" if names else told
+
+    def frame(self, addr: int) -> str:
+        """The function whose frame an instruction runs in, which isn't inlined, or an empty text."""
+        frames = self.sources.frames(addr) if self.sources else []
+        return self.names.note(frames[-1].function) if frames and frames[-1].function else ""
+
     def chain(self, sites: Sequence[Site]) -> list[Site]:
         """The sites of a block from the one that wants it on: without the allocator's own, and without where harts begin."""
         own = [it for it in sites if it.name not in ALLOCATORS] or list(sites)
@@ -161,7 +183,9 @@ class Naming:
             return self.readable(key.name)
         if isinstance(key, OfBlocks):
             return self.block(example.sites if isinstance(example, Block) else ())
-        return f"stack of hart {key.hart}" if isinstance(key, OfStack) else f"memory at {shown(key.page)}"
+        if isinstance(key, OfFile):
+            return f"memory of {os.path.basename(key.path)}"
+        return f"stack of {self.memory.owner(key.hart)}" if isinstance(key, OfStack) else f"memory at {shown(key.page)}"
 
     def type_of_block(self, block: Block) -> Any:
         """The type of a block's elements as the call tells it, or none."""
@@ -182,7 +206,7 @@ class Naming:
             offset = addr - thing.addr
             return self.typed(thing, name, offset) or self.parts(None, name, offset)
         key = self.memory.key(addr)
-        below = f", {self.memory.top(key.hart) - addr} below its top" if isinstance(key, OfStack) else ""
+        below = f", {self.memory.below(addr)} below its top" if isinstance(key, OfStack) else ""
         return shown(addr) + below, "", shown(addr)
 
     def typed(self, thing: Symbol | Block, name: str, offset: int) -> tuple[str, str, str] | None:

@@ -11,7 +11,9 @@ from typing import Iterable, Iterator, NamedTuple
 
 from faults import Fault
 from fields import Die, Program, Variable, chosen, last_name, sound
+from keys import OfFile, OfMemory, OfPlace, OfStack
 from mangled import demangled
+from naming import Memory
 from reports import Report
 from source_lines import Place, Sources, places
 
@@ -45,6 +47,9 @@ class Back:
         self.path, self.program = path, ""
         self.pages: dict[int, int] = {}
         self.maps: list[tuple[int, str]] = []
+        # Where stacks and mapped files were, each from and to an address, and whose or which it was.
+        self.stacks: list[tuple[int, int, int]] = []
+        self.mapped: list[tuple[int, int, str]] = []
         self.sites: dict[int, list[Site]] = {}
         self.frames: dict[int, list[Site]] = {}
         try:
@@ -65,6 +70,12 @@ class Back:
         elif kind == "map":
             *_, bias, file = rest.split(" ", 3)
             self.maps.append((int(bias, 16), file))
+        elif kind == "stack":
+            low, high, thread = rest.split(" ")
+            self.stacks.append((int(low, 16), int(high, 16), int(thread)))
+        elif kind == "file":
+            low, high, name = rest.split(" ", 2)
+            self.mapped.append((int(low, 16), int(high, 16), name))
         elif kind == "site":
             addr, _, function, line = SITE.fullmatch(rest).groups()  # type: ignore[union-attr]
             self.sites[int(addr, 16)] = [Site(known(function), known(line))]
@@ -197,6 +208,52 @@ class NativeProgram:
             if line.kind == "observed" and all(self.back.was(it) is None for it in range(max(line.base, 0), line.base + line.size, 4)):
                 return f"it has no page of {line.base:#010x}"
         return None
+
+
+class NativeMemory(Memory):
+    """What lies where no object is: a thread's stack, a file that was mapped, or a page."""
+
+    def __init__(self, native: NativeProgram) -> None:
+        super().__init__()
+        self.native, self.known = native, dict[int, OfPlace]()
+        # (a stack may be another thread's later on)
+        self.threads: dict[int, list[int]] = {}
+        first: dict[tuple[int, int], int] = {}
+        for low, high, thread in native.back.stacks:
+            own = self.threads.setdefault(first.setdefault((low, high), thread), [])
+            if thread not in own:
+                own.append(thread)
+
+    def key(self, addr: int) -> OfPlace:
+        page = addr // PAGE * PAGE
+        if page not in self.known:
+            self.known[page] = self.found(page)
+        return self.known[page]
+
+    def found(self, page: int) -> OfPlace:
+        back, was = self.native.back, self.native.back.was(page)
+        if was is None:
+            return OfMemory("memory", page)
+        stack = self.stack(was)
+        if stack:
+            return OfStack("stack", stack[2])
+        path = next((name for low, high, name in reversed(back.mapped) if low <= was < high), None)
+        own = None if path else self.native.file(page)
+        path = own[0].path if own else path
+        return OfFile("file", path) if path else OfMemory("memory", page)
+
+    def stack(self, was: int) -> tuple[int, int, int] | None:
+        """The first stack that was at an address of the program, or none."""
+        return next((it for it in self.native.back.stacks if it[0] <= was < it[1]), None)
+
+    def owner(self, hart: int) -> str:
+        threads = self.threads.get(hart, [hart])
+        return f"thread {hart}" if len(threads) == 1 else f"threads {', '.join(map(str, threads[:-1]))} and {threads[-1]}"
+
+    def below(self, addr: int) -> int:
+        was = self.native.back.was(addr) or 0
+        stack = self.stack(was)
+        return stack[1] - was if stack else 0
 
 
 class NativeSources(Sources):

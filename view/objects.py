@@ -49,7 +49,8 @@ class Thing:
     """An object that is fought over: a variable, the blocks of a call site, or memory without an object."""
 
     def __init__(self, key: Key, example: Found) -> None:
-        self.key, self.example, self.name = key, example, ""
+        # (the note is shown behind the name, where an object has a row of its own)
+        self.key, self.example, self.name, self.note = key, example, "", ""
         self.spots: list[Spot] = []
         self.lives: set[int] = set()
         self.beside: Counter[Key] = Counter()
@@ -140,11 +141,23 @@ def parties(spot: Spot, things: Sequence[Symbol | Block], naming: Naming, keys: 
     is_one = keys is not None and len({*keys}) < 2
     keys = [key_of(it, naming, 0) for it in things] if keys is None else keys
     told = spot.told()
+    if is_one and things and told and not is_touched(told, things):
+        return shares_of(told.accesses(), (), (), naming)
     found: Shares = {} if is_one or len(things) < 2 or told is None else shares_of(told.accesses(), things, keys, naming)
     # The first object, as long as it isn't told how the words were accessed.
     for at, key in enumerate(() if found else keys):
         found.setdefault(key, (things[at], -at))
     return found or {naming.memory.key(max(spot.base, 0)): (None, 0)}
+
+
+def is_touched(line: Line, things: Sequence[Symbol | Block]) -> bool:
+    """Whether an access of a line was of one of some objects on it, as far as its words are told."""
+    base, end = line.base, line.base + line.size
+    for it in things:
+        if it.addr <= base and end <= it.addr + it.size:
+            return True
+    words = line.accesses()
+    return not words or any(it.addr < addr + 4 and addr < it.addr + it.size for it in things for addr, _ in words)
 
 
 def spots(report: Report, misses: Misses | None, each: Report | None = None) -> Iterator[Spot]:
@@ -161,20 +174,27 @@ def spots(report: Report, misses: Misses | None, each: Report | None = None) -> 
                 yield Spot(base, None, it, words.get(base))
 
 
+# No object.
+NONE = None, None
+
+
 class Folding:
     """Lines as they are put under their objects."""
 
     def __init__(self, naming: Naming) -> None:
         self.naming = naming
         self.found: dict[Key, Thing] = {}
-        self.known: dict[str, Thing] = {}
+        self.known: dict[str, tuple[Thing, Symbol] | tuple[None, None]] = {}
 
     def add(self, spot: Spot) -> None:
         rows = spot.stands()
-        if rows in self.known:
+        known, symbol = self.known.get(rows, NONE)
+        if known and symbol:
             # (the same one object as on a line before)
-            self.known[rows].add(spot)
-            return
+            told = spot.told()
+            if told is None or is_touched(told, (symbol,)):
+                known.add(spot)
+                return
         things = objects_of(rows)
         keys = [key_of(it, self.naming, 0) for it in things]
         shares = parties(spot, things, self.naming, keys)
@@ -188,8 +208,8 @@ class Folding:
             for other in shares:
                 if other != key:
                     own.beside[other] += 1
-        elif len(things) == 1 and isinstance(key, OfSymbol):
-            self.known[rows] = own
+        elif len(things) == 1 and isinstance(key, OfSymbol) and isinstance(things[0], Symbol):
+            self.known[rows] = own, things[0]
         for it, its in zip(things, keys):
             if isinstance(it, Block) and its in self.found:
                 self.found[its].lives.add(it.addr << 44 | it.born)

@@ -11,8 +11,8 @@ from library import row_of
 from naming import shown
 from objects import Spot, Thing, Told, words_of
 from predicted import Foretold
-from reports import Explained
-from screen import counted, next_step, place_of
+from reports import Takings
+from screen import counted, next_step
 
 # Colours that the colour blind tell apart (Okabe and Ito); each hart has a letter too.
 COLOURS = ("#e69f00", "#56b4e9", "#009e73", "#f0e442", "#8fb8ff", "#ff9f6b", "#e6a9c9", "#bdbdbd")
@@ -70,7 +70,7 @@ def row(spot: Spot, seen: Seen, size: int) -> Given:
     }
 
 
-def matrix(explained: Explained) -> Given:
+def matrix(explained: Takings) -> Given:
     """How often each hart takes the line from each."""
     harts = sorted({it for pair in explained.harts for it in pair})
     most = max(explained.harts.values(), default=1)
@@ -93,7 +93,7 @@ def side(view: View, addr: int, role: str) -> Given:
             lines.append({"number": number, "text": text[number - 1], "hit": number == place.line})
     lacks = f"{place.file} isn't here: --sources tells where it is" if place else "it has no line of a source"
     at = f", {shown(addr)}" if place else ""
-    return {"role": role, "place": place_of(view.naming, addr) + at, "lines": lines, "lacks": lacks}
+    return {"role": role, "place": view.naming.instruction(addr) + at, "lines": lines, "lacks": lacks}
 
 
 def pairs(view: View, seen: Seen) -> Iterator[Given]:
@@ -124,7 +124,7 @@ def thing(view: View, it: Thing) -> Given:
     worst, fight = seen.worst(), seen.fight()
     drawn = sorted(worth_drawing(view, it), key=lambda one: one.base)
     return {
-        "name": view.label(it),
+        "name": view.label(it) + it.note,
         "useless": it.useless if view.misses else "-",
         "useful": it.useful if view.misses else "-",
         "count": it.count,
@@ -133,7 +133,7 @@ def thing(view: View, it: Thing) -> Given:
         "is_block": isinstance(it.key, OfBlocks),
         "beside": [view.label(view.all[key]) for key in it.beside],
         "worst": worst.whole() if worst else "",
-        "fight": [place_of(view.naming, at) for at in (fight.taker, fight.victim)] if fight else [],
+        "fight": [view.naming.instruction(at) for at in (fight.taker, fight.victim)] if fight else [],
         "declared": "{}:{}".format(*seen.declared) if seen.declared else "",
         "todo": in_code(seen.todo),
         "rows": [row(one, seen, view.report.size) for one in drawn],

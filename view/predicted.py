@@ -10,6 +10,10 @@ from reports import Block, Line, Misses, Report, Symbol
 # The size of a layout's lines, and its offset.
 Layout = tuple[int, int]
 
+# Of so many layouts the misses are counted for a first screen; each takes a pass over the trace.
+LAYOUTS = 4
+UNCOUNTED, UNALIGNED = "its misses weren't counted", "data aligned as it is can't come to lie so"
+
 # How the kit's allocator aligns blocks.
 OF_BLOCKS = 16
 
@@ -46,6 +50,19 @@ def layouts(report: Report) -> list[Layout]:
     return sorted({layout_of(it) for it in report.predicted()})
 
 
+def worth_counting(report: Report, naming: Naming, is_all: bool) -> list[Layout]:
+    """The layouts of predicted lines whose misses are to be counted: all, or those of the lines that are taken most and can come to be."""
+    if is_all:
+        return layouts(report)
+    found: list[Layout] = []
+    for line in sorted(report.predicted(), key=lambda it: (-it.count, it.base)):
+        if len(found) == LAYOUTS:
+            break
+        if layout_of(line) not in found and can_lie(line, naming):
+            found.append(layout_of(line))
+    return found
+
+
 def alignment(thing: Symbol | Block, naming: Naming) -> int:
     """How an object's declaration or its allocator aligns it, as far as that is known."""
     if isinstance(thing, Symbol):
@@ -80,14 +97,14 @@ def judged(report: Report, misses: Misses | None, by_layout: dict[Layout, Misses
         keys = {key_of(it, naming, line.base): it for it in line.objects()}
         counted = by_layout.get(layout_of(line))
         if misses is None or counted is None:
-            found.append(Foretold(line, keys, None, None, False, "its misses weren't counted"))
+            found.append(Foretold(line, keys, None, None, False, UNCOUNTED if misses is None or can_lie(line, naming) else UNALIGNED))
             continue
         own = counted.lines[line.base].useless if line.base in counted.lines else 0
         seen = inside([line], misses)
         if own <= seen:
             why = "it has no more useless misses than the observed lines there"
         else:
-            why = "" if can_lie(line, naming) else "data aligned as it is can't come to lie so"
+            why = "" if can_lie(line, naming) else UNALIGNED
         found.append(Foretold(line, keys, own, seen, not why, why))
     return sorted(found, key=lambda it: (not it.is_shown, (it.inside or 0) - (it.useless or 0), -it.line.count, it.line.base))
 

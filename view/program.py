@@ -10,7 +10,7 @@ import threading
 from typing import Any, Callable, NamedTuple, Sequence, Union
 
 from faults import Fault
-from reports import Explained, Misses, Placed, Report
+from reports import Blame, Explained, Misses, Placed, Report
 from settings import USUAL
 
 TOP = os.path.dirname(os.path.dirname(os.path.abspath(__file__)))
@@ -18,7 +18,7 @@ TOP = os.path.dirname(os.path.dirname(os.path.abspath(__file__)))
 REPORTED = (0, 10, 11, 12)
 PIECE = 1 << 20
 # What a reader tells of a trace.
-Counted = Union[Misses, Report]
+Counted = Union[Misses, Report, Blame]
 
 
 def launcher() -> str:
@@ -132,6 +132,10 @@ class Reader(NamedTuple):
 
 def misses_under(layout: tuple[int, int]) -> Reader:
     return Reader(["misses", *layout_words(layout)], (0,), Misses)
+
+
+def blame_under(layout: tuple[int, int]) -> Reader:
+    return Reader(["blame", *layout_words(layout)], (0,), Blame)
 
 
 def each_line(layout: tuple[int, int], settings: str) -> Reader:

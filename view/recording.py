@@ -1,14 +1,16 @@
 """Has a program of this machine recorded by `predator native`: from then on the call is one of its trace."""
 
 import contextlib
+import mmap
 import os
+import shutil
 import subprocess
 import tempfile
 from typing import Iterator
 
-from calls import RECORDS, Call
+from calls import EXPLAIN, PCS, RECORDS, Call
 from faults import Fault
-from program import launcher
+from program import Predator, launcher
 
 # What the recorder ends with where it refuses words, files or programs.
 REFUSED = (125, 126, 127)
@@ -29,6 +31,26 @@ def parted(words: list[str], program: str) -> tuple[list[str], list[str]]:
     return recorder, replay
 
 
+def is_built(program: str) -> bool:
+    """Whether a program was linked with the recorder that needs no valgrind."""
+    path = program if "/" in program or os.path.isfile(program) else shutil.which(program)
+    with contextlib.suppress(OSError, ValueError), open(path or "", "rb") as file:
+        with mmap.mmap(file.fileno(), 0, access=mmap.ACCESS_READ) as text:
+            return text.find(b"libtsan-predator.so") >= 0
+    return False
+
+
+def marks_of(call: Call) -> list[str]:
+    """The words of the recorder that have no value: those of the call, the recorder that the program is for, and that the trace is to have
+    the instructions of its accesses, where these have a use."""
+    marks = dict.fromkeys(call.marks)
+    if is_built(call.subject):
+        marks["--built"] = None
+    if call.number("explain", EXPLAIN) and Predator().has("blame"):
+        marks[PCS] = None
+    return list(marks)
+
+
 @contextlib.contextmanager
 def recorded(call: Call) -> Iterator[None]:
     """Records the program of a call, where it is one of this machine, and has the call name its trace as long as that is there. What the
@@ -41,7 +63,7 @@ def recorded(call: Call) -> Iterator[None]:
         recorder, replay = parted(call.words, program)
         # (as a shell has it, a name with a slash is a file, and another one is looked for)
         name = program if "/" in program or not os.path.isfile(program) else os.path.join(".", program)
-        words = [launcher(), "native", *call.marks, *recorder, "--trace", trace, "--", name, *call.own[1:]]
+        words = [launcher(), "native", *marks_of(call), *recorder, "--trace", trace, "--", name, *call.own[1:]]
         status = subprocess.run(words, stdout=2).returncode
         if not os.path.exists(trace):
             raise Fault(f"`predator native` was refused: status {status}", status if status in REFUSED[2:] else 2)

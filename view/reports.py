@@ -23,6 +23,9 @@ OBJECT = re.compile(r"object (?:symbol (\S+) (\S+) (\d+)|block (\S+) (\d+) born 
 WORD = re.compile(r"word (\S+) reads (\d+) writes (\d+) (?:hart )?(\w+)")
 SITE = re.compile(r"site (\S+) (\S+)")
 SITES = re.compile(rf"\nsite {ANY} .*(?:\nsite .*)*")
+PAIR = re.compile(rf"^pair {ADDRESS} {ADDRESS} taken {NUMBER} same {NUMBER}$", re.MULTILINE)
+FROM = re.compile(rf"^from {NUMBER} to {NUMBER} taken {NUMBER}$", re.MULTILINE)
+TAKEN = re.compile(rf"^line {ADDRESS} takings {MANY} pairs {MANY} harts {MANY}\n(?:(?:pair|from) .*\n)+", re.MULTILINE)
 OUTCOME = re.compile(rf"exit {MANY}|budget|deadlock|part|trap hart {MANY} pc {ADDRESS} [a-z-]+")
 WHERE = re.compile(rf"^where {ADDRESS} (.*)$", re.MULTILINE)
 LineKind = Literal["observed", "shifted", "doubled"]
@@ -264,6 +267,37 @@ class Pair(NamedTuple):
     same: int
 
 
+class Takings(NamedTuple):
+    """What takes a line: pairs of instructions, and how often each hart takes it from which."""
+
+    base: int
+    pairs: list[Pair]
+    harts: dict[tuple[int, int], int]
+
+
+def takings(base: int, rows: str) -> Takings:
+    """What the rows of a line say that take it."""
+    pairs = [Pair(int(a, 16), int(b, 16), int(c), int(d)) for a, b, c, d in PAIR.findall(rows)]
+    return Takings(base, pairs, {(int(a), int(b)): int(c) for a, b, c in FROM.findall(rows)})
+
+
+class Blame:
+    """What `blame` says of a trace: what takes each line, which is read when it is asked for."""
+
+    def __init__(self, text: str, of: str = "blame") -> None:
+        head = re.match(r"predator blame 1\naccesses (\d+)\nlayout (\d+) (\d+)\nlines (\d+)\n", text)
+        if not head or not re.search(r"^total takings \d+\nend\n\Z", text[-80:], re.MULTILINE):
+            raise Fault(f"{of}: it isn't what `blame` prints")
+        self.accesses, self.text = int(head[1]), text
+        self.places = {int(it[1], 16): it.span() for it in TAKEN.finditer(text)}
+        if len(self.places) != int(head[4]):
+            raise Fault(f"{of}: it tells of {head[4]} lines and has {len(self.places)}")
+
+    def takings(self, base: int) -> Takings | None:
+        place = self.places.get(base)
+        return takings(base, self.text[slice(*place)]) if place else None
+
+
 class Explained:
     """What `explain` says of a line."""
 
@@ -276,10 +310,8 @@ class Explained:
             raise Fault(f"{of}: it isn't what `explain` prints")
         self.base, self.size, self.start, self.count = int(line[1], 16), int(line[2]), int(line[3]), int(line[4])
         self.steps, self.accesses = int(steps[1]), int(accesses[1])
-        pairs = re.findall(rf"^pair {ADDRESS} {ADDRESS} taken (\d+) same (\d+)$", text, re.MULTILINE)
-        self.pairs = [Pair(int(a, 16), int(b, 16), int(c), int(d)) for a, b, c, d in pairs]
-        harts = re.findall(r"^from (\d+) to (\d+) taken (\d+)$", text, re.MULTILINE)
-        self.harts = {(int(a), int(b)): int(c) for a, b, c in harts}
+        self.takings = takings(self.base, text)
+        self.pairs, self.harts = self.takings.pairs, self.takings.harts
         sites = re.findall(rf"^site {ADDRESS} reads (\d+) writes (\d+) (hart \d+|many) (\S+)$", text, re.MULTILINE)
         self.sites = {int(it[0], 16): (int(it[1]), int(it[2]), it[3], it[4]) for it in sites}
 

@@ -11,10 +11,9 @@ from faults import plain
 from keys import OfBlocks
 from library import row_of
 from model import View
-from naming import Naming
 from objects import Thing, Told
 from overflow import is_strange
-from predicted import Foretold, inside, together
+from predicted import UNCOUNTED, Foretold, inside, together
 
 BOLD, RED, DIM, END = "1", "1;31", "2", "0"
 
@@ -29,22 +28,12 @@ class Paint:
         return f"\033[{code}m{text}\033[{END}m" if self.is_on else text
 
 
-def place_of(naming: Naming, addr: int) -> str:
-    """An instruction's line in the source and its function, or its address."""
-    sources = naming.sources
-    place = sources.place(addr) if sources else None
-    names = [naming.names.note(it.function) for it in sources.frames(addr) if it.function] if sources else []
-    near = sources.near(addr) if sources and place is None else None
-    told = place.short() if place else f"near {near.short()}" if near else naming.library(addr) or f"0x{addr:08x}"
-    return f"{told} ({' < '.join(names[:2])})" if names else told
-
-
 def outcome(view: View, paint: Paint) -> Iterator[str]:
     """How the run ended: loudly where that isn't exit 0."""
     report, naming = view.report, view.naming
     told = report.outcome
     if told.startswith("trap") and naming.sources:
-        told += f", at {place_of(naming, int(told.split(' ')[4], 16))}"
+        told += f", at {naming.instruction(int(told.split(' ')[4], 16))}"
     if not report.ended_well():
         yield paint(RED, plain(f"!! THE RUN DIDN'T END BY EXIT 0: {told}"))
         yield paint(RED, f"!! {next_step(view)}")
@@ -95,13 +84,14 @@ def row(view: View, place: int, thing: Thing, paint: Paint, width: int) -> Itera
     beside = [view.label(view.all[it]) for it in thing.beside]
     near = f", beside {', '.join(beside[:3])}" + (f" and {len(beside) - 3} more" if len(beside) > 3 else "") if beside else ""
     cells = "".join(f" {it:>8}" for it in (*numbers, thing.count))
-    yield f"{place:>3} {cells} {len(thing.spots):>6}  " + paint(BOLD, plain(short(view.label(thing)))) + plain(lives + short(near))
+    name = paint(BOLD, plain(short(view.label(thing))))
+    yield f"{place:>3} {cells} {len(thing.spots):>6}  {name}" + plain(lives + short(near + thing.note))
     worst = seen.worst()
     if worst:
         much = f"{counted(worst.writes, 'write')} and {counted(worst.reads, 'read')} by {owner(worst)}"
         yield from fold(f"worst field  {short(worst.whole())}: {much}", " " * 8, " " * 21, width)
     for fight in seen.fights()[: None if "words" in view.call.options else 1]:
-        one, other = (place_of(view.naming, it) for it in fight[:2])
+        one, other = (view.naming.instruction(it) for it in fight[:2])
         took = counted(fight.taken, "time") + (f", {fight.same} of them for the same word" if fight.same else ", never for the same word")
         yield from fold(short(f"fighting     {other} takes the line from {one}, {took}"), " " * 8, " " * 21, width)
     yield from fold(short(f"to do        {seen.todo}"), " " * 8, " " * 21, width)
@@ -162,7 +152,8 @@ def predictions(view: View, paint: Paint, width: int) -> Iterator[str]:
     for it in together(shown):
         yield from fold(view.naming.names.shortened(prediction(view, it)), "    ", "      ", width)
     if folded:
-        why = f"since {'it says' if folded == 1 else 'they say'} no more, or can't come to be: --predicted shows all"
+        more = "can't come to be, or weren't counted" if any(it.why == UNCOUNTED for it in found) and view.misses else "or can't come to be"
+        why = f"since {'it says' if folded == 1 else 'they say'} no more, {more}: --predicted shows all"
         yield paint(DIM, f"{counted(folded, 'predicted line')} folded away, {why}")
 
 

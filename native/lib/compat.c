@@ -404,3 +404,85 @@ Bool predator_get_objname(DiEpoch now, Addr addr, const HChar **name)
     *name = text;
     return it != 0;
 }
+
+/* ---- Mappings ---- */
+
+typedef struct {
+    Addr from, to;
+    HChar *path; /* or none */
+} Mapping;
+static Mapping *mappings;
+static UInt mapping_count, mapping_room;
+
+/* A row of the system's table: `FROM-TO PERMS OFFSET DEVICE FILE   PATH`. */
+static void add_mapping(const HChar *row)
+{
+    HChar *at;
+    Mapping it = {strtoul(row, &at, 16), 0, 0};
+    if (*at != '-')
+        return;
+    it.to = strtoul(at + 1, &at, 16);
+    for (int field = 0; field < 4; field++) {
+        at += strspn(at, " ");
+        at += strcspn(at, " ");
+    }
+    at += strspn(at, " ");
+    it.path = *at ? predator_strdup("", at) : 0;
+    if (mapping_count == mapping_room) {
+        mapping_room = mapping_room ? 2 * mapping_room : 256;
+        mappings = predator_realloc("", mappings, mapping_room * sizeof it);
+    }
+    mappings[mapping_count++] = it;
+}
+
+static void read_mappings(void)
+{
+    static HChar text[2 * PATH_MAX];
+    SizeT count = 0;
+    SysRes file = predator_open("/proc/self/maps", O_RDONLY, 0), more;
+    if (sr_isError(file))
+        return;
+    while (mapping_count > 0)
+        if (mappings[--mapping_count].path)
+            predator_free(mappings[mapping_count].path);
+    while (more = CALL(SYS_read, sr_Res(file), text + count, sizeof text - 1 - count, 0), !sr_isError(more) && sr_Res(more) > 0) {
+        HChar *row = text, *end;
+        text[count += sr_Res(more)] = 0;
+        for (; (end = strchr(row, '\n')); row = end + 1) {
+            *end = 0;
+            add_mapping(row);
+        }
+        count -= row - text;
+        memmove(text, row, count);
+    }
+    predator_close(sr_Res(file));
+}
+
+/* (they stand in the order of their addresses) */
+static const Mapping *known_mapping(Addr addr)
+{
+    UInt low = 0, high = mapping_count;
+    while (low < high) {
+        UInt mid = low + (high - low) / 2;
+        if (mappings[mid].to <= addr)
+            low = mid + 1;
+        else
+            high = mid;
+    }
+    return low < mapping_count && mappings[low].from <= addr ? &mappings[low] : 0;
+}
+
+Bool mapping_of(Addr addr, Bool anew, Addr *from, Addr *to, const HChar **path)
+{
+    const Mapping *it = anew ? 0 : known_mapping(addr);
+    if (!it) {
+        read_mappings();
+        it = known_mapping(addr);
+    }
+    if (!it)
+        return False;
+    *from = it->from;
+    *to = it->to;
+    *path = it->path;
+    return True;
+}

@@ -117,6 +117,9 @@ const HChar *predator_DebugInfo_get_filename(const DebugInfo *);
 Int predator_DebugInfo_syms_howmany(const DebugInfo *);
 void predator_DebugInfo_syms_getidx(const DebugInfo *, Int, Addr *, UInt *, const HChar **, const HChar ***, Bool *, Bool *, Bool *);
 const DebugInfo *predator_find_DebugInfo(DiEpoch, Addr);
+/* The mapping that an address lies in, if there is one: where it begins and ends, and the path of its file, `[heap]` and the like, or none. What
+   is mapped is looked up where that isn't known, or `anew`. */
+Bool mapping_of(Addr addr, Bool anew, Addr *from, Addr *to, const HChar **path);
 #define MAPPED_FILE(addr) NULL /* (each file that is mapped is found by its segments) */
 typedef struct InlIPCursor InlIPCursor; /* (the lines of code, and what was inlined there, are found by the table back) */
 static inline InlIPCursor *predator_new_IIPC(DiEpoch now, Addr addr) { return NULL; }

@@ -356,6 +356,21 @@ static void first_thread(void)
     harts[0].steps = &steps;
 }
 
+/* The first thread's stack grows as far as the limit says. */
+static void tell_first_stack(void)
+{
+    struct rlimit most;
+    Addr from, to;
+    const HChar *path;
+    inside = recording = 1;
+    if (trace_is_open() && mapping_of((Addr)__builtin_frame_address(0), True, &from, &to, &path)) {
+        if (getrlimit(RLIMIT_STACK, &most) == 0 && most.rlim_cur < to && to - most.rlim_cur < from)
+            from = to - most.rlim_cur;
+        trace_stack(0, from, to);
+    }
+    inside = recording = 0;
+}
+
 static void in_child(void)
 {
     int me = self;
@@ -397,6 +412,7 @@ void __attribute__((constructor)) begin(void)
     first_thread();
     if (path && *path && !trace_begin(path, table && *table ? table : 0))
         _Exit(125);
+    tell_first_stack();
     /* (what the program starts runs without a trace) */
     unsetenv("PREDATOR_TRACE");
     unsetenv("PREDATOR_TABLE");

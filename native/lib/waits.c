@@ -28,6 +28,9 @@ static void *begins(void *mine)
     it->tid = CALL(SYS_gettid, 0, 0, 0, 0).value;
     it->steps = &steps;
     rest(self);
+    inside = recording = 1;
+    trace_thread(self, (Addr)__builtin_frame_address(0), (Addr)pthread_self());
+    inside = recording = 0;
     pthread_cleanup_push(ends, it);
     result = it->start_c11 ? (void *)(long)it->start_c11(it->argument) : it->start(it->argument);
     pthread_cleanup_pop(1);

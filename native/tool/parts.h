@@ -1,4 +1,5 @@
-/* What trace.c, which writes, objects.c, which knows symbols and blocks, and sites.c, which knows where code stands, have of each other. */
+/* What trace.c, which writes, objects.c, which knows symbols and blocks, sites.c, which knows where code stands, and nameless.c, which knows what
+   has no name, have of each other. */
 #ifndef PREDATOR_PARTS_H
 #define PREDATOR_PARTS_H
 
@@ -53,6 +54,9 @@ void symbols_left_out(const HChar *path, Addr bias);
 void sites_begin(void);
 void sites_read(const DebugInfo *, UInt library); /* the functions of a library */
 UInt site_of(Addr addr);                          /* what a call site is in the trace, which is told of it once */
+
+void nameless_begin(void);
+void tell_file(Addr addr);                        /* the file that is mapped at an address, if it wasn't told */
 
 extern Bool libraries_came;
 void objects_begin(void);

@@ -20,6 +20,7 @@ static UInt stride = 1;                      /* words of each access in the buff
 static ULong *buffer, *noted, *limit, *most; /* the buffer, its next free word, the end of the turn, and where the buffer is full */
 static ThreadId noted_of;                    /* the thread whose accesses are in it */
 static Bool turn_is_over;
+static Bool begins[MOST_THREADS + 1]; /* threads that haven't run yet */
 static Bool instruments; /* code that is translated now notes its accesses */
 static UInt live, started; /* threads, and calls of PREDATOR_START without one of PREDATOR_STOP */
 static Int exit_code = -1;
@@ -113,6 +114,9 @@ static void judge_recording(void)
 
 static void on_start(ThreadId tid, ULong blocks)
 {
+    if (begins[tid])
+        stack_begins(tid);
+    begins[tid] = False;
     if (noted_of != tid) {
         write_noted();
         noted_of = tid;
@@ -327,6 +331,7 @@ static Addr next_word;                   /* that of the thread that is about to 
 static void on_create(ThreadId parent, ThreadId child)
 {
     turns_expect(child);
+    begins[child] = True;
     ends_at[child] = parent ? next_word : 0;
     live++;
     had_threads = had_threads || live >= 2;

@@ -39,13 +39,25 @@ typedef struct {
 } ThreadHead; /* how each entry of valgrind's table of threads begins */
 extern ThreadHead *VG_(get_ThreadState)(ThreadId);
 extern ThreadId VG_(lwpid_to_vgtid)(Int lwp);
+extern Addr VG_(brk_base), VG_(brk_limit);
 enum { STATUS_RUNS = 2, STATUS_IN_CALL = 3, STATUS_YIELDS = 4 };
 
-/* The path of the file that is mapped at an address, or none. */
-static inline const HChar *mapped_file(Addr addr)
+/* The mapping that an address lies in, if there is one: where it begins and ends, and the path of its file, `[heap]` or none. */
+static inline Bool mapping_of(Addr addr, Bool anew, Addr *from, Addr *to, const HChar **path)
 {
     const NSegment *it = VG_(am_find_nsegment)(addr);
-    return it ? VG_(am_get_filename)(it) : NULL;
+    if (!it)
+        return False;
+    *from = it->start;
+    *to = it->end + 1;
+    *path = VG_(brk_base) <= addr && addr < VG_(brk_limit) ? "[heap]" : VG_(am_get_filename)(it);
+    return True;
+}
+static inline const HChar *mapped_file(Addr addr)
+{
+    Addr from, to;
+    const HChar *path;
+    return mapping_of(addr, False, &from, &to, &path) ? path : NULL;
 }
 #define MAPPED_FILE(addr) mapped_file(addr)
 
@@ -67,5 +79,7 @@ void turns_expect(ThreadId tid);                  /* a thread is about to exist:
 void turns_forget(ThreadId tid);
 
 #include "trace.h"
+
+void stack_begins(ThreadId tid);                  /* nameless.c: a thread is about to run for the first time */
 
 #endif

@@ -273,6 +273,7 @@ UInt folded(UInt index, Addr addr)
     if (!(it->pages[page / 64] >> (page % 64) & 1)) {
         it->pages[page / 64] |= 1UL << (page % 64);
         table_text("0x%08x 0x%lx\n", it->place + page * (UInt)PAGE, it->region + page * PAGE);
+        tell_file(it->region + page * PAGE);
     }
     return it->place + offset;
 }
@@ -312,6 +313,7 @@ Bool trace_begin(const HChar *path, const HChar *table_path)
     header[7] = trace_pcs ? '3' : '1';
     spell(header + 16, MOST_HARTS, 2);
     objects_begin();
+    nameless_begin();
     table_text("program %s%s%s\n", own[0] == '/' ? "" : VG_(get_startup_wd)(), own[0] == '/' ? "" : "/", own);
     trace_put(header, 20);
     trace_flush();

@@ -1,4 +1,4 @@
-/* What native/tool/trace.c and objects.c do, for the tool and for the runtime of native/lib. */
+/* What native/tool/trace.c, objects.c and nameless.c do, for the tool and for the runtime of native/lib. */
 #ifndef PREDATOR_TRACE_H
 #define PREDATOR_TRACE_H
 
@@ -11,6 +11,8 @@ Bool trace_is_open(void);
 Bool trace_has(Int fd);                           /* one of its files */
 void trace_access(UInt hart, Bool writes, Addr addr, UInt size, UInt pc);
 UInt trace_pc(Addr addr);                         /* what an instruction's address is in the trace, which is told of it once */
+void trace_thread(UInt hart, Addr stack, Addr own); /* a thread has begun, with these pointers to its stack and to what it has for itself */
+void trace_stack(UInt hart, Addr from, Addr to);  /* where a stack lies */
 void trace_flush(void);
 void trace_end(Bool by_exit, Int code);
 void trace_stop(const HChar *why);                /* the trace ends here; the program goes on */

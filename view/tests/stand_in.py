@@ -12,6 +12,7 @@ HERE = os.path.dirname(os.path.abspath(__file__))
 sys.path[:0] = [HERE, os.path.join(HERE, "..", "..", "tools")]
 
 import judge_report  # noqa: E402
+import recount_blame  # noqa: E402
 import recount_misses  # noqa: E402
 import recount_place  # noqa: E402
 import traces  # noqa: E402
@@ -19,10 +20,11 @@ import traces  # noqa: E402
 LACKS = os.environ.get("STAND_IN_LACKS", "").split()
 USUAL = {"harts": 8, "memory": 1 << 24, "stack": 1 << 16, "tracking": 16, "report": 100, "quantum": 100, "budget": 10**8, "line": 64}
 USAGE = {
-    "run": "PROGRAM [--settings F] [--schedule F] [--trace F] [--output F]",
+    "run": "PROGRAM [--settings F] [--schedule F] [--trace F] [--pcs] [--output F]",
     "replay": "TRACE [--settings F] [--size N] [--shift N] [--save F] [--resume F]",
     "check": "PROGRAM [--settings F]",
     "misses": "TRACE [--size N] [--shift N]",
+    "blame": "TRACE [--size N] [--shift N]",
     "explain": "PROGRAM BASE SIZE START [--settings F] [--schedule F]",
     "place": "TRACE NAME [--size N]",
     "sweep": "TRACE --size N",
@@ -38,7 +40,7 @@ def words_of(words):
             return names + words[at:], options
         if word.startswith("--"):
             name, has_value, value = word.partition("=")
-            if not has_value:
+            if not has_value and name != "--pcs":
                 value, at = words[at], at + 1
             options[name] = value
         else:
@@ -117,7 +119,8 @@ def run(names, options):
         print(os.environ["STAND_IN_PUTS"], file=sys.stderr)
     if "--trace" in options:
         with open(options["--trace"], "wb") as file:
-            file.write(judge_report.trace_of(case))
+            pcs, trace = iter([it[4] for it in machine.accesses]), judge_report.trace_of(case)
+            file.write(traces.with_pcs(trace, lambda *_: next(pcs)) if "--pcs" in options else trace)
     yield from judge_report.report_of(case)
 
 
@@ -167,6 +170,13 @@ def misses(names, options):
     return recount_misses.told(read(names[0]), int(options.get("--size", 64)), int(options.get("--shift", 0)))
 
 
+def blame(names, options):
+    lines = list(recount_blame.told(read(names[0]), int(options.get("--size", 64)), int(options.get("--shift", 0))))
+    if lines[0].startswith("predator: "):
+        raise LookupError(lines[0])
+    return lines
+
+
 def place(names, options):
     lines = recount_place.told(read(names[0]), names[1].encode(), int(options.get("--size", 64)))
     if lines[0].startswith("predator: "):
@@ -197,7 +207,7 @@ def sweep(names, options):
 
 def main(words):
     known = {name: told for name, told in USAGE.items() if name not in LACKS}
-    works = {"run": run, "replay": replay, "check": check, "misses": misses, "explain": explain, "place": place, "sweep": sweep}
+    works = {it.__name__: it for it in (run, replay, check, misses, blame, explain, place, sweep)}
     if not words or words[0] not in known:
         print(*(f"usage: predator {name} {told}" for name, told in known.items()), sep="\n")
         return 1

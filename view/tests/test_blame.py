@@ -1,0 +1,247 @@
+"""What takes the lines of a trace that has its instructions, and what is named by these."""
+
+import json
+import os
+import subprocess
+import sys
+import tempfile
+import unittest
+
+from calling import HERE, PROGRAM, STAND_IN, TOP, TURNS, built, has, joined, view
+
+sys.path[:0] = [os.path.dirname(HERE)]
+
+from faults import Fault  # noqa: E402
+from reports import Blame, Pair  # noqa: E402
+
+TEXT = (
+    "predator blame 1\naccesses 19\nlayout 64 0\nlines 2\n"
+    "line 0x00011000 takings 6 pairs 2 harts 1\n"
+    "pair 0x00010044 0x0001003c taken 5 same 2\npair 0xfffffffc 0x00010044 taken 1 same 0\nfrom 0 to 255 taken 6\n"
+    "line -0x00000020 takings 1 pairs 1 harts 1\npair 0x00000000 0x00010044 taken 1 same 1\nfrom 1 to 0 taken 1\n"
+    "total takings 7\nend\n"
+)
+EMPTY = "predator blame 1\naccesses 0\nlayout 64 0\nlines 0\ntotal takings 0\nend\n"
+ROLES = ("victim", "taker")
+# Notes each call of the program behind it.
+NOTES = '#!/bin/sh\necho "$*" >>"$CALLS"\nexec "$BEHIND" "$@"\n'
+
+
+class Read(unittest.TestCase):
+    def test_lines(self):
+        found = Blame(TEXT)
+        self.assertEqual(found.accesses, 19)
+        first, other = found.takings(0x11000), found.takings(-0x20)
+        self.assertEqual(first.pairs, [Pair(0x10044, 0x1003C, 5, 2), Pair(0xFFFFFFFC, 0x10044, 1, 0)])
+        self.assertEqual((first.base, first.harts), (0x11000, {(0, 255): 6}))
+        self.assertEqual((other.pairs, other.harts), ([Pair(0, 0x10044, 1, 1)], {(1, 0): 1}))
+        self.assertIsNone(found.takings(0x11040))
+        self.assertIsNone(Blame(EMPTY).takings(0))
+
+    def test_what_is_none(self):
+        for text in ("", TEXT[:-4], TEXT.replace("lines 2", "lines 3"), TEXT.replace("blame 1", "blame 2"), "predator: trace NoPcs\n"):
+            with self.assertRaises(Fault):
+                Blame(text)
+
+
+class Shown(unittest.TestCase):
+    def setUp(self):
+        folder = tempfile.TemporaryDirectory()
+        self.addCleanup(folder.cleanup)
+        self.folder = folder.name
+
+    def path(self, name):
+        return os.path.join(self.folder, name)
+
+    def shows(self, text, *parts):
+        for it in parts:
+            self.assertIn(it, joined(text))
+
+    def calls(self, *words, program=STAND_IN, **more):
+        """The status of a call of view, its text, and the commands of the program that it made."""
+        with open(self.path("notes"), "w", encoding="ascii") as file:
+            file.write(NOTES)
+        os.chmod(file.name, 0o755)
+        status, text, said = view(*words, program=file.name, CALLS=self.path("calls"), BEHIND=program, **more)
+        self.assertEqual((status, said), (0, ""))
+        with open(self.path("calls"), encoding="utf-8") as file:
+            made = [it.split(" ", 1)[0] for it in file.read().split("\n")]
+        os.remove(file.name)
+        return text, [it for it in made if it]
+
+
+class Traces(Shown):
+    """Traces of guests."""
+
+    program = STAND_IN
+
+    def setUp(self):
+        super().setUp()
+        self.trace = self.path("trace")
+
+    def record(self, name, *words):
+        words = ["run", built(f"{name}.elf"), *TURNS, "--trace", self.trace, *words]
+        # (one of the programs ends by a trap)
+        subprocess.run([self.program, *words], stdout=subprocess.DEVNULL)
+
+    def found(self, *words, **more):
+        """The screen of a replay, and its record."""
+        path = self.path("json")
+        status, text, said = view("replay", self.trace, *words, "--json", path, program=self.program, **more)
+        self.assertEqual((status, said), (0, ""))
+        with open(path, encoding="utf-8") as file:
+            return text, json.load(file)
+
+
+class Guests(Traces):
+    def test_the_same_as_by_a_run(self):
+        for name in ("ring", "arena", "flags"):
+            self.record(name, "--pcs")
+            _, found = self.found("--program", built(f"{name}.elf"), "--words")
+            for thing in found["objects"]:
+                base = max(thing["lines"], key=lambda it: (it["useless"], it["count"] or 0, -int(it["base"], 16)))["base"]
+                words = ["explain", built(f"{name}.elf"), base, "64", "0", *TURNS]
+                rows = subprocess.run([self.program, *words], capture_output=True, text=True, check=True).stdout.split("\n")
+                pairs = [it.split()[1:] for it in rows if it.startswith("pair ")]
+                wanted = sorted((int(it[5]) - int(it[3]), -int(it[3]), it[0], it[1]) for it in pairs)[:8]
+                fights = [(it["same"] - it["taken"], -it["taken"], *(it[one]["address"] for one in ROLES)) for it in thing["fights"]]
+                self.assertEqual(sorted(fights), wanted, (name, thing["name"]))
+                harts = [f"from {it['from']} to {it['to']} taken {it['taken']}" for it in thing["harts"]]
+                self.assertEqual(harts, [it for it in rows if it.startswith("from ")])
+
+    def test_rows_and_page(self):
+        self.record("ring", "--pcs")
+        text, calls = self.calls("replay", self.trace, "--program", built("ring.elf"), "--html", self.path("html"), program=self.program)
+        self.shows(text, "ring.c:34 (note < consumer) takes the line from ring.c:34 (note < producer)")
+        self.assertEqual((calls.count("blame"), calls.count("explain")), (1, 0))
+        with open(self.path("html"), encoding="utf-8") as file:
+            page = file.read()
+        self.assertIn("takes the line", page)
+        self.assertIn("seen[", page)
+        # (a program isn't wanted)
+        text, _ = self.found()
+        self.assertRegex(joined(text), "fighting 0x0001[0-9a-f]{4} takes the line from 0x0001[0-9a-f]{4}, 150 times")
+
+    def test_a_run_whose_trace_is_kept(self):
+        words = ("run", built("ring.elf"), *TURNS, "--trace", self.trace)
+        text, calls = self.calls(*words, "--pcs", program=self.program)
+        self.assertEqual((calls.count("blame"), calls.count("explain"), calls.count("run")), (1, 0, 1))
+        self.shows(text, "ring.c:34 (note < consumer) takes the line from ring.c:34 (note < producer)")
+        _, calls = self.calls(*words, program=self.program)
+        self.assertEqual((calls.count("blame"), calls.count("explain")), (0, 2))
+
+    def test_without_instructions(self):
+        self.record("ring")
+        text, calls = self.calls("replay", self.trace, program=self.program)
+        self.assertNotIn("fighting", text)
+        self.assertNotIn("blame", calls)
+        self.record("ring", "--pcs")
+        text, calls = self.calls("replay", self.trace, "--explain", "0", program=self.program)
+        self.assertNotIn("fighting", text)
+        self.assertNotIn("blame", calls)
+
+    def test_a_stack_and_memory(self):
+        self.record("pieces", "--pcs")
+        text, found = self.found("--program", built("pieces.elf"))
+        self.assertNotIn("(an arena", text)
+        self.record("odd", "--pcs")
+        text, found = self.found("--program", built("odd.elf"))
+        self.shows(text, "stack of hart 0, used in ")
+        names = [it["name"] for it in found["objects"] if it["kind"] == "stack"]
+        for name in ("stack of hart 0", *names):
+            only, _ = self.found("--program", built("odd.elf"), "--object", name)
+            self.shows(only, names[0])
+
+
+@unittest.skipUnless(has(PROGRAM, "misses", "blame"), "the program isn't built, or has no blame")
+class GuestsOfTheProgram(Guests):
+    program = PROGRAM
+
+
+class Lacking(Traces):
+    def test_a_program_without_blame(self):
+        self.record("ring", "--pcs")
+        text, _ = self.found(lacks="blame")
+        self.assertNotIn("fighting", text)
+        self.shows(text, "note: this program has no command `blame`, so the instructions that fight are unknown")
+        text, found = self.found("--program", built("ring.elf"), *TURNS, lacks="blame")
+        self.assertEqual(found["notes"], [])
+        self.shows(text, "ring.c:34 (note < consumer) takes the line from ring.c:34 (note < producer), 142 times")
+
+
+class Predictions(Shown):
+    def test_none_are_asked_for(self):
+        words = ("run", built("apart.elf"), *TURNS, "--explain", "0")
+        text, some = self.calls(*words)
+        self.assertIn("Predicted: what would be so", text)
+        text, none = self.calls(*words, "--no-predicted", "--json", self.path("json"))
+        self.assertNotIn("redicted", text)
+        self.assertEqual(none.count("misses"), 2)
+        with open(self.path("json"), encoding="utf-8") as file:
+            self.assertEqual(json.load(file)["predicted"], [])
+        _, every = self.calls(*words, "--predicted")
+        self.assertLess(some.count("misses"), every.count("misses"))
+        self.assertLessEqual(some.count("misses"), 6)
+        status, _, said = view(*words, "--predicted", "--no-predicted")
+        self.assertEqual((status, "two answers" in said), (2, True))
+
+    def test_those_that_could_be_shown_are(self):
+        for name in ("apart", "ring", "arena", "anderson", "flags"):
+            shown = []
+            for word in ((), ("--predicted",)):
+                view("run", built(f"{name}.elf"), *TURNS, "--explain", "0", *word, "--json", self.path("json"))
+                with open(self.path("json"), encoding="utf-8") as file:
+                    shown.append([(it["base"], it["size"], it["useless"]) for it in json.load(file)["predicted"] if it["shown"]])
+            self.assertEqual(*shown, name)
+
+
+RECORDER = os.path.join(TOP, "native", "out", "predator-amd64-linux")
+
+
+@unittest.skipUnless(os.path.exists(RECORDER), "the recorder of native/ isn't built")
+class OfThisMachine(Shown):
+    """A program whose words lie in no object, by both recorders."""
+
+    def compiled(self, name, *words):
+        source = os.path.join(TOP, "native", "tries", f"{name}.c")
+        subprocess.run(["gcc", "-g", "-O1", "-pthread", source, "-o", name, *words], cwd=self.folder, check=True)
+        return f"./{name}"
+
+    def shown(self, program, *words):
+        """What one call shows of a program, which leaves nothing behind."""
+        left = self.path("left")
+        os.makedirs(left, exist_ok=True)
+        status, text, said = view(*words, program, program=STAND_IN, cwd=self.folder, TMPDIR=left)
+        self.assertEqual(status, 0)
+        self.assertTrue(said.startswith("stack 0x"), said)
+        self.assertEqual(os.listdir(left), [])
+        return text
+
+    def judge(self, text):
+        self.shows(text, "stack of thread 0, used in on_stack", "memory of data file", "(in_plain)")
+        self.assertRegex(joined(text), r"[0-9] memory used at nameless\.c:[0-9]+ \(in_plain\) worst field")
+        self.assertRegex(joined(text), r"fighting nameless\.c:[0-9]+ \(in_file\) takes the line from nameless\.c:[0-9]+ \(in_file\), ")
+        self.assertRegex(joined(text), r"block of 4,096 made at nameless\.c:[0-9]+ < main \(an arena: the instructions that use it ")
+        self.assertRegex(joined(text), r"are nameless\.c:[0-9]+ \((odd|even)\) and nameless\.c:[0-9]+ \((odd|even)\)\)")
+
+    def test_by_valgrind(self):
+        program = self.compiled("nameless")
+        self.judge(self.shown(program, "--top", "4"))
+        self.judge(self.shown(program, "native", "--top=4", "--no-predicted", "--"))
+
+    def test_by_the_compiler(self):
+        # (which of the two records it the program's file says)
+        library = os.path.join(TOP, "native", "out", "lib")
+        self.judge(self.shown(self.compiled("nameless", "-fsanitize=thread", f"-L{library}"), "--top", "4"))
+
+    def test_without_instructions(self):
+        program = self.compiled("nameless")
+        for more in ({"lacks": "blame"}, {}):
+            words = () if more else ("--explain", "0")
+            _, text, _ = view("native", program, *words, cwd=self.folder, **more)
+            self.assertNotIn("fighting", text)
+            self.shows(text, "stack of thread 0", "memory of data file", "memory at 0x")
+
+
+if __name__ == "__main__":
+    unittest.main()
