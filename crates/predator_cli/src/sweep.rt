@@ -7,6 +7,7 @@ ghost use Rattle.layout_sweep.specs.Seen.{HasSwept, begins_at};
 ghost use Rattle.layout_sweep.specs.Standing.{StandsFor};
 ghost use Rattle.predator_cli.specs.Counting.{IsToTell};
 ghost use Rattle.predator_cli.specs.Meets.{Meets};
+ghost use Rattle.predator_cli.specs.Replay.{whole};
 ghost use Rattle.predator_cli.specs.Sweep.{sweep_readings, sweep_text_of};
 
 use crate::counting::{see_whole, tell};

@@ -6,6 +6,7 @@ ghost use Rattle.command_files.specs.Readings.{IsStopped};
 ghost use Rattle.predator_cli.specs.Counting.{IsToTell};
 ghost use Rattle.predator_cli.specs.Meets.{Meets};
 ghost use Rattle.predator_cli.specs.Misses.{misses_readings, misses_text};
+ghost use Rattle.predator_cli.specs.Replay.{whole};
 
 use crate::counting::{see_whole, tell};
 use crate::endings::stop;
