@@ -284,10 +284,11 @@ run_repeats : (d : RunDemand) (s : Settings) (o : Option Files) (t : Trace) (r :
     → Told o (λ files. r ≡ run_for_demand d s files)
     → Told o (λ files. first_refusal (run_readings d) files ≡ None) → Told o (RepeatsReport (run d))
 run_repeats d s o t r good first read traced same accepts =
-    told_both o (λ files e f. f e) read
-    (told_both o (λ files told answer e. repeats d s files t r good first e told answer) traced
+    let both : Told o (λ files. settings_in d.settings files ≡ Ok s → RunRepeats d files) =
+    told_both o (λ files told answer e. repeats d s files t r good first e told answer) traced
     (told_both o (λ files none w. accepted_answer (run d) files none ∙ w) accepts
-    (works d s o t r read traced same)))
+    (works d s o t r read traced same)) in
+    told_both o (λ files e f. f e) read both
 
 -- what is to be written, before it is
 to_write : (d : RunDemand) (s : Settings) (t : Trace) (r : Run) (a m : Outside)
