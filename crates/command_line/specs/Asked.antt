@@ -12,4 +12,5 @@ asked app demand words = if is_empty (fault_of app words) then demand (matches_o
 
 -- a flag is among the words: `clap` gives it the value `true`, and else `false`
 abbrev pub is_flagged : Text → List Row → Bool
-is_flagged name rows = option_map_or (λ value. bytes_eq value (codes "true")) (first_of name rows) false
+is_flagged name rows = option_map_or (λ value. bytes_eq value (codes "true")) (first_of name rows)
+    false

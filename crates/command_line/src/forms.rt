@@ -2,8 +2,8 @@
 ghost use Rattle.std.specs.Prelude.{◌≡◌, ◌≢◌, IfOk, IfErr, [], true};
 ghost use Rattle.clap.specs.Words.{app_of, fault_of, first_of, found_of, is_simple_and_free};
 ghost use Rattle.clap.specs.Words.{matches_of, rows_of};
-ghost use Rattle.command_line.specs.Apps.{form_app, plain_app, with_flag, with_option, with_options};
-ghost use Rattle.command_line.specs.Apps.{with_word, with_words};
+ghost use Rattle.command_line.specs.Apps.{form_app, plain_app, with_flag, with_option};
+ghost use Rattle.command_line.specs.Apps.{with_options, with_word, with_words};
 ghost use Rattle.command_line.specs.Asked.{is_flagged};
 ghost use Rattle.command_line.specs.Demands.{names_of, text_of, texts, UnlessMemory};
 

@@ -32,7 +32,7 @@ const SHAPE_3: &str = "'--size 64 --sets 3 --ways 8' is no shape of caches: --si
     two from 4 to 1024, --sets one from 1 to 1024, --ways from 1 to 64, and sets times ways at \
     most 4096";
 
-const WRONG_WORDS: [(&str, &str); 42] = [
+const WRONG_WORDS: [(&str, &str); 44] = [
     ("", "the command is missing; see predator --help"),
     ("reply t", "'reply' is no command; see predator --help"),
     ("run p --fast=1", "unexpected argument '--fast' found"),
@@ -48,6 +48,14 @@ const WRONG_WORDS: [(&str, &str); 42] = [
     (
         "run p --trace",
         "a value is required for '--trace <trace>' but none was supplied",
+    ),
+    (
+        "run p --trace t --pcs --pcs",
+        "the argument '--pcs' cannot be used multiple times",
+    ),
+    (
+        "run p --pcs --output o",
+        "--pcs is for a trace, and --trace is missing",
     ),
     ("check p q", "unexpected argument 'q' found"),
     ("gen 3 f g", "unexpected argument 'g' found"),

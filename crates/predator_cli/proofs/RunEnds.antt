@@ -259,10 +259,13 @@ tells_sites : (d : RunDemand) (s : Settings) (files : Files) (t : Trace) (r : Ru
 tells_sites d s files t r good is traced answer = λ pcs name later named_so holds.
     let read : trace_of (content later name) ≡ Some t =
     ap trace_of (written_trace d s files later t r name answer named_so holds)
-    ∙ spelled_again t good in
-    (t, read, subst (λ (x : Settings). TellsSites d x files t)
-    (sym (settings_chosen d.settings files s is))
-    (subst (TellsSites d s files) (sym traced) (demand_sited d s files pcs)))
+    ∙ spelled_again t good in (
+      t,
+      read,
+      subst (λ (x : Settings). TellsSites d x files t)
+          (sym (settings_chosen d.settings files s is))
+          (subst (TellsSites d s files) (sym traced) (demand_sited d s files pcs)),
+    )
 
 repeats : (d : RunDemand) (s : Settings) (files : Files) (t : Trace) (r : Run) → IsKept t
     → t.header.first ≡ 0
@@ -281,10 +284,11 @@ run_repeats : (d : RunDemand) (s : Settings) (o : Option Files) (t : Trace) (r :
     → Told o (λ files. r ≡ run_for_demand d s files)
     → Told o (λ files. first_refusal (run_readings d) files ≡ None) → Told o (RepeatsReport (run d))
 run_repeats d s o t r good first read traced same accepts =
-    told_both o (λ files e f. f e) read
-    (told_both o (λ files told answer e. repeats d s files t r good first e told answer) traced
+    let both : Told o (λ files. settings_in d.settings files ≡ Ok s → RunRepeats d files) =
+    told_both o (λ files told answer e. repeats d s files t r good first e told answer) traced
     (told_both o (λ files none w. accepted_answer (run d) files none ∙ w) accepts
-    (works d s o t r read traced same)))
+    (works d s o t r read traced same)) in
+    told_both o (λ files e f. f e) read both
 
 -- what is to be written, before it is
 to_write : (d : RunDemand) (s : Settings) (t : Trace) (r : Run) (a m : Outside)
@@ -297,7 +301,8 @@ to_write d s t r a m ready = record {
 }
 
 -- the same where the files are those that the options name
-pub handed_on : (options : RunOptions) (v : Version) (harts : ℕ) (symbols : List TraceRecord) (r : Run)
+pub handed_on : (options : RunOptions) (v : Version) (harts : ℕ) (symbols : List TraceRecord) (r :
+    Run)
     (files : List RunFile)
     → files ≡ file_for options.trace Content.Trace ++ file_for options.output Content.Output
     → outputs_for v harts symbols r files ≡ outputs_of_run (run_meaning options)

@@ -370,14 +370,18 @@ fn run_guest<S: Shelf>(
     ensures done { IfOk result (λ shown. kind_of shown.status ≡ done) }
     ensures text { IfOk result (λ shown. shown.text.items
         ≡ report_of (levels_of None loaded.settings) (native_of loaded.settings)
-        (trace_for (version_with options.now.pcs) loaded.settings.harts loaded.symbols.items (rest_of loaded.guest))) }
+        (trace_for (version_with options.now.pcs) loaded.settings.harts loaded.symbols.items
+        (rest_of loaded.guest))) }
     ensures good { OnOk result (IsKept
-        (trace_for (version_with options.now.pcs) loaded.settings.harts loaded.symbols.items (rest_of loaded.guest))) }
+        (trace_for (version_with options.now.pcs) loaded.settings.harts loaded.symbols.items
+        (rest_of loaded.guest))) }
     ensures written { OnOk result (AreWritten (outputs_of_run (run_meaning options.now)
-        (trace_for (version_with options.now.pcs) loaded.settings.harts loaded.symbols.items (rest_of loaded.guest))
+        (trace_for (version_with options.now.pcs) loaded.settings.harts loaded.symbols.items
+        (rest_of loaded.guest))
         (rest_of loaded.guest)) (S.outside shelf.old) (S.outside shelf.new)) }
     ensures cut { IfErr result (AreCut (outputs_of_run (run_meaning options.now)
-        (trace_for (version_with options.now.pcs) loaded.settings.harts loaded.symbols.items (rest_of loaded.guest))
+        (trace_for (version_with options.now.pcs) loaded.settings.harts loaded.symbols.items
+        (rest_of loaded.guest))
         (rest_of loaded.guest)) (S.outside shelf.old) (S.outside shelf.new)) }
 {
     let (files, count) = files_of(options);
@@ -415,7 +419,8 @@ fn run_loaded<S: Shelf>(
     requires budget { loaded.guest.setup.budget ≡ loaded.settings.budget }
     ensures { (old : Outside)
         → IsReady (run_meaning options.now) loaded.settings
-        (trace_for (version_with options.now.pcs) loaded.settings.harts loaded.symbols.items (rest_of loaded.guest))
+        (trace_for (version_with options.now.pcs) loaded.settings.harts loaded.symbols.items
+        (rest_of loaded.guest))
         (rest_of loaded.guest) old (S.outside shelf.old)
         → Meets (Some (asks (run_meaning options.now))) old (S.outside shelf.new) result }
 {

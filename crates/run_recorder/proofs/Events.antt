@@ -12,7 +12,7 @@ use Rattle.trace_format.specs.declared.record.TraceRecord.{TraceRecord}
 use Rattle.trace_format.specs.declared.record.TraceRecord.TheVariants as records
 use Rattle.trace_format.specs.declared.record.Version.{Version}
 use Rattle.trace_format.specs.declared.record.Header.{Header}
-use Rattle.trace_format.specs.Spelling.{before_after, nothing_before, spell_record, spell_records}
+use Rattle.trace_format.specs.Spelling.{before_after, nothing_before, spell_records}
 use Rattle.trace_format.specs.Writing.{Writing, before_behind, begun_with}
 use Rattle.trace_format.specs.Laws.Writing.{begun-all, begun-append, begun-more, writer-more}
 use Rattle.guest.specs.Runs.{Run, output_of}
@@ -65,7 +65,8 @@ pub untraced : (files : List RunFile) (bytes : Content → List ℕ) (w : Writin
     → has_trace files ≡ false
     → outputs_of files bytes ≡ outputs_of files (longer bytes (record_part w item))
 untraced files bytes w item none =
-    untraced_as files bytes (longer bytes (record_part w item)) none (sym (append-nil (bytes Output)))
+    untraced_as files bytes (longer bytes (record_part w item)) none (sym (append-nil (bytes
+    Output)))
 
 record_bytes : (v : Version) (harts : ℕ) (items : List TraceRecord) (put : List ℕ)
     (item : TraceRecord) (content : Content)
@@ -102,7 +103,8 @@ pub writer_on : (v : Version) (files : List RunFile) (items : List TraceRecord) 
 writer_on v files items w later item behind next traced =
     next traced ∙ writer-more v w items item (behind traced)
 
-output_bytes : (v : Version) (harts : ℕ) (items : List TraceRecord) (put bytes : List ℕ) (content : Content)
+output_bytes : (v : Version) (harts : ℕ) (items : List TraceRecord) (put bytes : List ℕ) (content :
+    Content)
     → longer (bytes_so_far v harts items put) (output_part bytes) content
     ≡ bytes_so_far v harts items (put ++ bytes) content
 output_bytes v harts items put bytes Trace = append-nil (begun_with v (head harts) items)
@@ -124,28 +126,33 @@ more_spelled v harts items more = (
   begun-append v (head harts) items more,
 )
 
-goes_on : (v : Version) (harts : ℕ) (items more : List TraceRecord) (put out : List ℕ) (content : Content)
+goes_on : (v : Version) (harts : ℕ) (items more : List TraceRecord) (put out : List ℕ) (content :
+    Content)
     → (rest : List ℕ) × (bytes_so_far v harts (items ++ more) (put ++ out) content
     ≡ bytes_so_far v harts items put content ++ rest)
 goes_on v harts items more put out Trace = more_spelled v harts items more
 goes_on v harts items more put out Output = (out, refl)
 
 -- the fronts of what was noted are fronts of what comes
-pub noted_on : (v : Version) (harts : ℕ) (files : List RunFile) (items more : List TraceRecord) (put out : List ℕ)
+pub noted_on : (v : Version) (harts : ℕ) (files : List RunFile) (items more : List TraceRecord) (put
+    out : List ℕ)
     → GoOn (outputs_of files (bytes_so_far v harts items put))
     (outputs_of files (bytes_so_far v harts (items ++ more) (put ++ out)))
 noted_on v harts files items more put out =
-    more_on files (bytes_so_far v harts items put) (bytes_so_far v harts (items ++ more) (put ++ out))
+    more_on files (bytes_so_far v harts items put) (bytes_so_far v harts (items ++ more) (put
+    ++ out))
     (goes_on v harts items more put out)
 
-more_records : (v : Version) (harts : ℕ) (items more : List TraceRecord) (put : List ℕ) (content : Content)
+more_records : (v : Version) (harts : ℕ) (items more : List TraceRecord) (put : List ℕ) (content :
+    Content)
     → (rest : List ℕ) × (bytes_so_far v harts (items ++ more) put content
     ≡ bytes_so_far v harts items put content ++ rest)
 more_records v harts items more put Trace = more_spelled v harts items more
 more_records v harts items more put Output = ([], sym (append-nil put))
 
 -- the same where nothing more is put out
-pub records_on : (v : Version) (harts : ℕ) (files : List RunFile) (items more : List TraceRecord) (put : List ℕ)
+pub records_on : (v : Version) (harts : ℕ) (files : List RunFile) (items more : List TraceRecord)
+    (put : List ℕ)
     → GoOn (outputs_of files (bytes_so_far v harts items put))
     (outputs_of files (bytes_so_far v harts (items ++ more) put))
 records_on v harts files items more put =
@@ -153,7 +160,8 @@ records_on v harts files items more put =
     (more_records v harts items more put)
 
 -- what is cut is cut of what comes
-pub cut_on : (v : Version) (harts : ℕ) (files : List RunFile) (items more : List TraceRecord) (put out : List ℕ)
+pub cut_on : (v : Version) (harts : ℕ) (files : List RunFile) (items more : List TraceRecord) (put
+    out : List ℕ)
     (before now : Outside)
     (e : ShelfError) → AreCutAfter v harts items put files before now e
     → AreCutAfter v harts (items ++ more) (put ++ out) files before now e
@@ -164,12 +172,14 @@ cut_on v harts files items more put out before now e cut =
 
 -- all that a run leaves, its end last
 whole_bytes : (v : Version) (harts : ℕ) (symbols : List TraceRecord) (r : Run) (content : Content)
-    → bytes_so_far v harts (records_of v symbols r ++ records.End r.ending ∷ []) (output_of r) content
+    → bytes_so_far v harts (records_of v symbols r ++ records.End r.ending
+    ∷ []) (output_of r) content
     ≡ bytes_of v harts symbols r content
 whole_bytes v harts symbols r Trace = begun-all v (head harts) (records_of v symbols r) r.ending
 whole_bytes v harts symbols r Output = refl
 
-pub whole_put : (v : Version) (harts : ℕ) (symbols : List TraceRecord) (files : List RunFile) (r : Run)
+pub whole_put : (v : Version) (harts : ℕ) (symbols : List TraceRecord) (files : List RunFile) (r :
+    Run)
     → outputs_of files (bytes_so_far v harts (records_of v symbols r ++ records.End r.ending ∷ [])
     (output_of r))
     ≡ outputs_for v harts symbols r files
@@ -179,7 +189,8 @@ whole_put v harts symbols files r =
     (whole_bytes v harts symbols r)
 
 -- what is cut after some of its records and bytes is cut of a whole run
-pub cut_whole : (v : Version) (harts : ℕ) (symbols : List TraceRecord) (files : List RunFile) (r : Run)
+pub cut_whole : (v : Version) (harts : ℕ) (symbols : List TraceRecord) (files : List RunFile) (r :
+    Run)
     (items more : List TraceRecord)
     (put out : List ℕ) (before now : Outside) (e : ShelfError)
     → items ++ more ≡ records_of v symbols r ++ records.End r.ending ∷ [] → put ++ out ≡ output_of r
@@ -205,19 +216,22 @@ noted_silent v harts items item other put files waiting w before now same on =
     (subst (λ (l : List ℕ). AreNoted v harts (items ++ item ∷ []) l files waiting w before now)
     (sym (append-nil put)) on)
 
-pub cut_silent : (v : Version) (harts : ℕ) (items : List TraceRecord) (item other : TraceRecord) (put : List ℕ)
+pub cut_silent : (v : Version) (harts : ℕ) (items : List TraceRecord) (item other : TraceRecord)
+    (put : List ℕ)
     (files : List RunFile)
     (before now : Outside) (e : ShelfError) → item ≡ other
     → AreCutAfter v harts (items ++ item ∷ []) put files before now e
     → AreCutAfter v harts (items ++ other ∷ []) (put ++ []) files before now e
 cut_silent v harts items item other put files before now e same cut =
-    subst (λ (x : TraceRecord). AreCutAfter v harts (items ++ x ∷ []) (put ++ []) files before now e)
+    subst (λ (x : TraceRecord). AreCutAfter v harts (items ++ x ∷ []) (put
+    ++ []) files before now e)
     same
     (subst (λ (l : List ℕ). AreCutAfter v harts (items ++ item ∷ []) l files before now e)
     (sym (append-nil put)) cut)
 
 -- what is cut is cut of more records
-pub cut_records : (v : Version) (harts : ℕ) (files : List RunFile) (items more : List TraceRecord) (put : List ℕ)
+pub cut_records : (v : Version) (harts : ℕ) (files : List RunFile) (items more : List TraceRecord)
+    (put : List ℕ)
     (before now : Outside)
     (e : ShelfError) → AreCutAfter v harts items put files before now e
     → AreCutAfter v harts (items ++ more) put files before now e

@@ -235,7 +235,8 @@ cut_seen v harts symbols files events whole later before now e goes cut =
     (output_in later.events) before now e all outs cut
 
 -- what is cut at the symbols is cut of the whole run
-pub cut_before : (v : Version) (harts : ℕ) (symbols : List TraceRecord) (files : List RunFile) (whole : Run)
+pub cut_before : (v : Version) (harts : ℕ) (symbols : List TraceRecord) (files : List RunFile)
+    (whole : Run)
     (before now : Outside) (e : ShelfError)
     → AreCutAfter v harts symbols [] files before now e
     → AreCut (outputs_for v harts symbols whole files) before now e
@@ -245,7 +246,8 @@ cut_before v harts symbols files whole before now e cut =
     before now e (sym (append_assoc symbols (records_in v whole.events)
     (records.End whole.ending ∷ []))) refl cut
 
-pub cut_start : (v : Version) (harts : ℕ) (symbols : List TraceRecord) (files : List RunFile) (whole : Run)
+pub cut_start : (v : Version) (harts : ℕ) (symbols : List TraceRecord) (files : List RunFile) (whole
+    : Run)
     (before now : Outside) (e : ShelfError)
     → AreCutAfter v harts [] [] files before now e
     → AreCut (outputs_for v harts symbols whole files) before now e

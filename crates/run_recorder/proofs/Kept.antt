@@ -1,6 +1,6 @@
 -- The trace of a run keeps the rules of the format.
 use Rattle.std.proofs.Common.{◌≡◌, ℕ, suc, ◌+◌, ◌*◌, ◌^◌, ◌≤◌, List, [], ◌∷◌, ◌++◌, length, refl}
-use Rattle.std.proofs.Common.{Option, None, Some, sym, ap, ◌∙◌, arith}
+use Rattle.std.proofs.Common.{Option, sym, ap, ◌∙◌, arith}
 use Rattle.std.specs.Int.{w32, to_le_bytes}
 use Rattle.std.specs.List.{All, flat_map}
 use Rattle.std.proofs.Math.Nat.{mul-suc}
@@ -330,7 +330,8 @@ run_short v harts symbols r told few good short =
     (ending_long r.ending) (symbols_short v nothing_before symbols told) few
     (events_short v harts (before_behind nothing_before symbols) r.events good) short
 
-pub kept_rules : (v : Version) (harts : ℕ) (symbols : List TraceRecord) (s : Setup) (r : Run) → 1 ≤ harts
+pub kept_rules : (v : Version) (harts : ℕ) (symbols : List TraceRecord) (s : Setup) (r : Run)
+    → 1 ≤ harts
     → harts ≤ 256
     → All IsSymbolRecord symbols → length symbols ≤ 2 ^ 20 → IsShort s r → s.budget ≤ 2 ^ 36
     → All (IsGoodRecord v harts) (records_in v r.events) → IsEndOf harts r.ending.outcome

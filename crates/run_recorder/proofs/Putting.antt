@@ -149,6 +149,7 @@ pub put_none : (files : List RunFile) (bytes more : Content → List ℕ) (waiti
     (before now : Outside) → IsOutputs waiting (outputs_of files bytes) before now
     → AreCut (outputs_of files (longer bytes more)) before now NoMemory
 put_none files bytes more waiting before now on =
-    AreCut-longer (outputs_of files bytes) (outputs_of files (longer bytes more)) before now NoMemory
+    AreCut-longer (outputs_of files bytes) (outputs_of files (longer bytes more)) before now
+    NoMemory
     (more_on files bytes (longer bytes more) (λ c. (more c, refl)))
     (IsOutputs-cut waiting (outputs_of files bytes) before now NoMemory (λ e. cc) on)

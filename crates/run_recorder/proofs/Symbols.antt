@@ -83,7 +83,8 @@ symbol_room begins given symbols i item first now below is all begins_there so =
 }
 
 -- what is cut at a symbol is cut of them all
-pub symbols_cut : (v : Version) (harts : ℕ) (symbols : List TraceRecord) (i : ℕ) (item : TraceRecord)
+pub symbols_cut : (v : Version) (harts : ℕ) (symbols : List TraceRecord) (i : ℕ) (item :
+    TraceRecord)
     (files : List RunFile)
     (before now : Outside) (e : ShelfError) → i < length symbols → item ≡ get_or symbols i item
     → AreCutAfter v harts (take i symbols ++ item ∷ []) [] files before now e

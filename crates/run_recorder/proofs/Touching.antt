@@ -52,7 +52,8 @@ records-put : (v : Version) (ts : List Touched)
 records-put v [] = refl
 records-put v (t ∷ ts) = ap (λ (l : List TraceRecord). touch_record v t ∷ l) (records-put v ts)
 
-pub touched_records : (v : Version) (events : List RunEvent) (ts : List Touched) → AreTouches events ts
+pub touched_records : (v : Version) (events : List RunEvent) (ts : List Touched)
+    → AreTouches events ts
     → records_in v events ≡ touch_records v ts
 touched_records v events ts touched =
     records-seen v events ∙ ap (records_in v) touched ∙ records-put v ts
@@ -73,7 +74,8 @@ pub touched_output : (events : List RunEvent) (ts : List Touched) → AreTouches
     → output_in events ≡ []
 touched_output events ts touched = output-seen events ∙ ap output_in touched ∙ output-put ts
 
-pub touches_put : (v : Version) (ts : List Touched) → length (touches_among (touch_records v ts)) ≡ length ts
+pub touches_put : (v : Version) (ts : List Touched) → length (touches_among (touch_records v ts))
+    ≡ length ts
 touches_put v [] = refl
 touches_put v (t ∷ ts) = ap (λ (n : ℕ). suc n) (touches_put v ts)
 
@@ -94,10 +96,12 @@ pub touched_count : (events : List RunEvent) (ts : List Touched) → AreTouches 
     → length (touches_in events) ≡ length ts
 touched_count events ts touched =
     ap length (sym (touches-in One events))
-    ∙ ap (λ (l : List TraceRecord). length (touches_among l)) (touched_records One events ts touched)
+    ∙ ap (λ (l : List TraceRecord). length (touches_among l)) (touched_records One events ts
+    touched)
     ∙ touches_put One ts
 
-touch-among : (v : Version) (e : RunEvent) → length (touches_among (record_in v e)) ≡ length (touch_in e)
+touch-among : (v : Version) (e : RunEvent) → length (touches_among (record_in v e))
+    ≡ length (touch_in e)
 touch-among v quiet = refl
 touch-among v (touch a pc) = refl
 touch-among v (alloc at size sites) = refl
@@ -248,7 +252,8 @@ touch_room begins given v touches i t item first now below is told r on =
     let all : HasRoom begins given first ((front ++ item ∷ [])
     ++ touch_records v (drop (i + 1) touches)) = subst (HasRoom begins given first) (sym whole) r in
     room_rest begins given first now front (item ∷ [])
-    (room_front begins given first (front ++ item ∷ []) (touch_records v (drop (i + 1) touches)) all)
+    (room_front begins given first (front ++ item ∷ []) (touch_records v (drop (i + 1) touches))
+    all)
     on
 
 -- what is cut at one is cut of them all
@@ -415,7 +420,8 @@ pub cut_more : (v : Version) (harts : ℕ) (earlier : List TraceRecord) (files :
     (xs ys : List RunEvent) (told : List TraceRecord) (out : List ℕ) (whole rest later : Run)
     (before now : Outside) (e : ShelfError) → whole ≡ led_with xs rest → rest ≡ led_with ys later
     → records_in v ys ≡ told → output_in ys ≡ out
-    → AreCutAfter v harts ((earlier ++ records_in v xs) ++ told) (output_in xs ++ out) files before now
+    → AreCutAfter v harts ((earlier ++ records_in v xs) ++ told) (output_in xs
+    ++ out) files before now
     e
     → AreCut (outputs_for v harts earlier whole files) before now e
 cut_more v harts earlier files xs ys told out whole rest later before now e goes led is put cut =
@@ -428,7 +434,8 @@ cut_more v harts earlier files xs ys told out whole rest later before now e goes
     (append_assoc earlier (records_in v xs) told
     ∙ ap (λ (l : List TraceRecord). earlier ++ (records_in v xs ++ l)) (sym is)
     ∙ ap (λ (l : List TraceRecord). earlier ++ l) (sym (records-append v xs ys)))
-    (subst (λ (l : List ℕ). AreCutAfter v harts ((earlier ++ records_in v xs) ++ told) l files before
+    (subst (λ (l : List ℕ). AreCutAfter v harts ((earlier ++ records_in v xs)
+    ++ told) l files before
     now e)
     (ap (λ (l : List ℕ). output_in xs ++ l) (sym put) ∙ sym (output-append xs ys)) cut))
 
@@ -436,7 +443,8 @@ pub cut_turn : (v : Version) (harts : ℕ) (earlier : List TraceRecord) (files :
     (xs : List RunEvent) (ts : List Touched) (event : RunEvent) (whole rest later : Run)
     (before now : Outside) (e : ShelfError) → whole ≡ led_with xs rest
     → IsLedTo rest ts (led_by event later)
-    → AreCutAfter v harts ((earlier ++ records_in v xs) ++ (touch_records v ts ++ record_in v event))
+    → AreCutAfter v harts ((earlier ++ records_in v xs) ++ (touch_records v ts
+    ++ record_in v event))
     (output_in xs ++ bytes_in event) files before now e
     → AreCut (outputs_for v harts earlier whole files) before now e
 cut_turn v harts earlier files xs ts event whole rest later before now e goes led cut =
@@ -452,8 +460,10 @@ pub cut_touches : (v : Version) (harts : ℕ) (earlier : List TraceRecord) (file
     before now e
     → AreCut (outputs_for v harts earlier whole files) before now e
 cut_touches v harts earlier files xs ts whole rest later before now e goes led cut =
-    cut_more v harts earlier files xs led.events (touch_records v ts) [] whole rest later before now e
+    cut_more v harts earlier files xs led.events (touch_records v ts) [] whole rest later before now
+    e
     goes led.led (touched_records v led.events ts led.touched)
     (touched_output led.events ts led.touched)
-    (subst (λ (l : List ℕ). AreCutAfter v harts ((earlier ++ records_in v xs) ++ touch_records v ts) l
+    (subst (λ (l : List ℕ). AreCutAfter v harts ((earlier ++ records_in v xs)
+    ++ touch_records v ts) l
     files before now e) (sym (append-nil (output_in xs))) cut)

@@ -1,5 +1,6 @@
 // The files of a run, on their way, and how the records of a trace are spelled.
-ghost use Rattle.std.specs.Prelude.{◌≡◌, ◌<◌, ◌≤◌, ◌++◌, ◌∷◌, List, ℕ, [], length, IfErr, OnOk, true};
+ghost use Rattle.std.specs.Prelude.{◌≡◌, ◌<◌, ◌≤◌, ◌++◌, ◌∷◌, List, ℕ, [], length, IfErr, OnOk};
+ghost use Rattle.std.specs.Prelude.{true};
 ghost use Rattle.shelf.specs.Shelf.{Outside};
 ghost use Rattle.shelf.specs.Files.{Output, AreCut};
 ghost use Rattle.shelf.specs.OnTheirWay.{AreApart, AreBegun, IsNew, IsOutputs, outputs_with};

@@ -43,8 +43,8 @@ pub(crate) fn note_touches<S: Shelf, O: Observer>(
         ((harts : ℕ) (items : List ARecord) (put : List ℕ) (before : Outside)
         → AreNoted version harts items put files.now outputs.old speller.old.writer before
         (S.outside shelf.old)
-        → AreNoted version harts (items ++ touch_records version touches.now) put files.now outputs.new
-        speller.new.writer before (S.outside shelf.new)) }
+        → AreNoted version harts (items ++ touch_records version touches.now) put files.now
+        outputs.new speller.new.writer before (S.outside shelf.new)) }
     ensures cut { IfErr result (λ error. (harts : ℕ) (items : List ARecord) (put : List ℕ)
         (before : Outside)
         → AreNoted version harts items put files.now outputs.old speller.old.writer before
@@ -87,7 +87,8 @@ pub(crate) fn note_turn<S: Shelf, O: Observer>(
     ensures given { OnOk result ((begun : O) (earlier : List ARecord)
         → O.given begun observer.old earlier
         → O.given begun observer.new
-        (earlier ++ (touch_records version touches.now ++ records_told version guest.now.config event))) }
+        (earlier
+        ++ (touch_records version touches.now ++ records_told version guest.now.config event))) }
     ensures good { OnOk result (All (IsGoodRecord version guest.now.setup.harts)
         (touch_records version touches.now ++ records_told version guest.now.config event)) }
     ensures noted { OnOk result
@@ -95,7 +96,8 @@ pub(crate) fn note_turn<S: Shelf, O: Observer>(
         → AreNoted version harts items put files.now outputs.old speller.old.writer before
         (S.outside shelf.old)
         → AreNoted version harts
-        (items ++ (touch_records version touches.now ++ records_told version guest.now.config event))
+        (items
+        ++ (touch_records version touches.now ++ records_told version guest.now.config event))
         (put ++ bytes_told guest.now.config event) files.now outputs.new
         speller.new.writer before (S.outside shelf.new)) }
     ensures cut { IfErr result (λ error. (harts : ℕ) (items : List ARecord) (put : List ℕ)
@@ -103,13 +105,16 @@ pub(crate) fn note_turn<S: Shelf, O: Observer>(
         → AreNoted version harts items put files.now outputs.old speller.old.writer before
         (S.outside shelf.old)
         → AreCutAfter version harts
-        (items ++ (touch_records version touches.now ++ records_told version guest.now.config event))
+        (items
+        ++ (touch_records version touches.now ++ records_told version guest.now.config event))
         (put ++ bytes_told guest.now.config event) files.now before (S.outside shelf.new) error) }
     ensures begun { OnOk result (AreBegun (waiting_names outputs.new) (S.outside shelf.new)) }
     ensures count { length outputs.new ≡ length outputs.old }
 {
     match note_touches(shelf, files, outputs, speller, observer, version, touches) {
-        Ok(()) => note_event(shelf, files, outputs, speller, observer, guest, version, event),
+        Ok(()) => note_event(
+            shelf, files, outputs, speller, observer, guest, version, event,
+        ),
         Err(error) => Err(error),
     }
 }

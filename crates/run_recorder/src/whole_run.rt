@@ -130,7 +130,8 @@ fn follow<S: Shelf, O: Observer>(
         → O.given begun observer.old earlier
         → O.given begun observer.new (earlier ++ records_in version (rest_of guest.old).events)) }
     ensures good { OnOk result
-        (All (IsGoodRecord version guest.old.setup.harts) (records_in version (rest_of guest.old).events)) }
+        (All (IsGoodRecord version guest.old.setup.harts)
+        (records_in version (rest_of guest.old).events)) }
     ensures noted { OnOk result ((earlier : List ARecord) (before : Outside)
         → AreNoted version guest.old.setup.harts earlier [] files.now outputs.old
         speller.old.writer before (S.outside shelf.old)
@@ -261,7 +262,8 @@ fn note_run<'a, S: Shelf, O: Observer>(
     ensures good { OnOk result
         (IsKept (trace_for version guest.old.setup.harts symbols.now (rest_of guest.old))) }
     ensures written { OnOk result
-        (AreWritten (outputs_for version guest.old.setup.harts symbols.now (rest_of guest.old) files.now)
+        (AreWritten
+        (outputs_for version guest.old.setup.harts symbols.now (rest_of guest.old) files.now)
         (S.outside shelf.old) (S.outside shelf.new)) }
     ensures cut { IfErr result (λ error.
         AreCut (outputs_for version guest.old.setup.harts symbols.now (rest_of guest.old) files.now)
@@ -275,7 +277,9 @@ fn note_run<'a, S: Shelf, O: Observer>(
         Ok(()) => {}
         Err(error) => return Err(error),
     }
-    let ending = match follow(shelf, files, guest, outputs, speller, observer, version, touches) {
+    let ending = match follow(
+        shelf, files, guest, outputs, speller, observer, version, touches,
+    ) {
         Ok(ending) => ending,
         Err(error) => return Err(error),
     };
@@ -286,9 +290,10 @@ fn note_run<'a, S: Shelf, O: Observer>(
 }
 
 /// Runs a guest to its end. The observer sees each record of the run's trace in this version, the
-/// end last: the symbols, and then what each step tells, an access of version 3 with its pc. The files are written while the run goes on, each with
-/// what its content says. Output that no file gets is shown to the shelf as it comes, and once the
-/// files are written how the guest ended, where its exit code isn't 0 or it lacks a hart.
+/// end last: the symbols, and then what each step tells, an access of version 3 with its pc. The
+/// files are written while the run goes on, each with what its content says. Output that no file
+/// gets is shown to the shelf as it comes, and once the files are written how the guest ended, where
+/// its exit code isn't 0 or it lacks a hart.
 ///
 /// The guest is one that has made no step, of 1 to 256 harts, as `Guest::new` gives it, with a
 /// budget of at most 2^36. There are at most 2^20 symbols. The observer was given nothing. No two
@@ -320,13 +325,15 @@ pub fn record_run<S: Shelf, O: Observer>(
     ensures given { OnOk result (O.given observer.old observer.new
         (all_records (trace_for version guest.setup.harts symbols.now (rest_of guest)))) }
     // the trace keeps the rules of the format
-    ensures good { OnOk result (IsKept (trace_for version guest.setup.harts symbols.now (rest_of guest))) }
+    ensures good { OnOk result
+        (IsKept (trace_for version guest.setup.harts symbols.now (rest_of guest))) }
     // what is written, at an error too
     ensures written { OnOk result
         (AreWritten (outputs_for version guest.setup.harts symbols.now (rest_of guest) files.now)
         (S.outside shelf.old) (S.outside shelf.new)) }
     ensures cut { IfErr result
-        (λ error. AreCut (outputs_for version guest.setup.harts symbols.now (rest_of guest) files.now)
+        (λ error. AreCut
+        (outputs_for version guest.setup.harts symbols.now (rest_of guest) files.now)
         (S.outside shelf.old) (S.outside shelf.new) error) }
 {
     let mut outputs = TraceOutputs::new(alloc);

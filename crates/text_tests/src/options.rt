@@ -108,7 +108,7 @@ fn reads_replays(rt: HostRuntime) -> Result<(), Fail> {
     all_answer(&rt, rt.alloc(), &REPLAYS)
 }
 
-const RUNS: [(&str, Answer<'static>); 3] = [
+const RUNS: [(&str, Answer<'static>); 5] = [
     (
         "run p",
         Some(Demand::Run(RunOptions {
@@ -116,6 +116,7 @@ const RUNS: [(&str, Answer<'static>); 3] = [
             settings: None,
             schedule: None,
             trace: None,
+            pcs: false,
             output: None,
             set: NONE,
         })),
@@ -127,10 +128,24 @@ const RUNS: [(&str, Answer<'static>); 3] = [
             settings: Some("s"),
             schedule: Some("l"),
             trace: Some("t"),
+            pcs: false,
             output: Some("o"),
             set: NONE,
         })),
     ),
+    (
+        "run --pcs p --trace t",
+        Some(Demand::Run(RunOptions {
+            program: "p",
+            settings: None,
+            schedule: None,
+            trace: Some("t"),
+            pcs: true,
+            output: None,
+            set: NONE,
+        })),
+    ),
+    ("run p --pcs --output o", None),
     // two inputs may have one name
     (
         "run p --settings p --schedule p",
@@ -139,6 +154,7 @@ const RUNS: [(&str, Answer<'static>); 3] = [
             settings: Some("p"),
             schedule: Some("p"),
             trace: None,
+            pcs: false,
             output: None,
             set: NONE,
         })),

@@ -1,5 +1,5 @@
 use Rattle.std.proofs.Common.{◌≡◌, ◌≢◌, ◌∙◌, IfOk, IfErr, [], true, ap, subst, sym}
-use Rattle.clap.specs.Words.{App, app_of, fault_of, found_of, is_simple_and_free, matches_of}
+use Rattle.clap.specs.Words.{App, fault_of, found_of, is_simple_and_free, matches_of}
 use Rattle.clap.specs.Words.{rows_of}
 use Rattle.command_line.specs.Apps.{with_flag}
 use Rattle.command_line.specs.Demands.{texts, UnlessMemory}

@@ -14,7 +14,8 @@ returns-in-Ok g c = λ old ready.
     let r = rest_of c.args.loaded.guest in
     let shown = c.in-Ok.ensures in
     c.finish.ensures (run d) old
-    (rw c.deref.ensures.value (shown_worked d s (trace_for (version_with d.pcs) s.harts c.args.loaded.symbols.items r)
+    (rw c.deref.ensures.value (shown_worked d s (trace_for (version_with d.pcs) s.harts
+    c.args.loaded.symbols.items r)
     old
     (g.S.Shelf.outside c.args.shelf.now) (g.S.Shelf.outside c.run_guest.new.shelf) r
     c.in-Ok.shown.status c.in-Ok.shown.text.items ready
@@ -26,6 +27,7 @@ returns-in-Err g c = λ old ready.
     let s = c.args.loaded.settings in
     let r = rest_of c.args.loaded.guest in
     c.refuse.ensures (Some (run d)) old
-    (rw c.from.ensures (shown_cut d s (trace_for (version_with d.pcs) s.harts c.args.loaded.symbols.items r) old
+    (rw c.from.ensures (shown_cut d s (trace_for (version_with d.pcs) s.harts
+    c.args.loaded.symbols.items r) old
     (g.S.Shelf.outside c.args.shelf.now)
     (g.S.Shelf.outside c.run_guest.new.shelf) r c.in-Err.error ready c.in-Err.ensures.cut))

@@ -25,7 +25,8 @@ begin_one-requires-clause-name g c =
 pub begin_one-requires-clause-begun : goal.begin_one-requires-clause-begun
 begin_one-requires-clause-begun g c =
     IsOutputs-begun c.loop-place.outputs
-    (outputs_of (take c.loop-place.place c.args.files.now) (bytes_so_far c.args.version c.args.harts [] []))
+    (outputs_of (take c.loop-place.place c.args.files.now) (bytes_so_far c.args.version c.args.harts
+    [] []))
     (g.S.Shelf.outside c.args.shelf.now) (g.S.Shelf.outside c.loop-place.shelf)
     c.loop-place.invariant
 
@@ -57,13 +58,15 @@ returns-clause-outputs g c =
 pub returns-clause-begun : goal.returns-clause-begun
 returns-clause-begun g c =
     IsOutputs-begun c.loop-place.outputs
-    (outputs_of (take c.loop-place.place c.args.files.now) (bytes_so_far c.args.version c.args.harts [] []))
+    (outputs_of (take c.loop-place.place c.args.files.now) (bytes_so_far c.args.version c.args.harts
+    [] []))
     (g.S.Shelf.outside c.args.shelf.now) (g.S.Shelf.outside c.loop-place.shelf)
     c.loop-place.invariant
 
 pub returns-clause-count : goal.returns-clause-count
 returns-clause-count g c =
-    on_their_way-count c.args.files.now (bytes_so_far c.args.version c.args.harts [] []) c.loop-place.outputs
+    on_their_way-count c.args.files.now (bytes_so_far c.args.version c.args.harts [] [])
+    c.loop-place.outputs
     (g.S.Shelf.outside c.args.shelf.now) (g.S.Shelf.outside c.loop-place.shelf)
     (begun_all (bytes_so_far c.args.version c.args.harts [] []) c.args.files.now c.loop-place.place
     c.loop-place.outputs (g.S.Shelf.outside c.args.shelf.now)

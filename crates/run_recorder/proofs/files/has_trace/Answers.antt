@@ -1,5 +1,5 @@
 use Rattle.std.proofs.Common.{refl, ap, sym, ◌∙◌}
-use Rattle.run_recorder.proofs.Beginning.{file_at, no_file}
+use Rattle.run_recorder.proofs.Beginning.{no_file}
 use Rattle.run_recorder.proofs.Traced.{no_trace_left, trace_here, trace_on}
 use Rattle.run_recorder.specs.Recording.{is_trace}
 use Rattle.run_recorder.proofs.files.has_trace.Goals as goal

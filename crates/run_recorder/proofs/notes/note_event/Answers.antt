@@ -19,10 +19,12 @@ returns-in-Touch-clause-noted g c =
     let files = c.args.files.now in
     let new = g.S.Shelf.outside c.note_record.new.shelf in
     rw c.in-Touch.is
-    (on_ok_weaker c.note_record.result (λ f harts items put before on. noted_silent c.args.version harts items
+    (on_ok_weaker c.note_record.result (λ f harts items put before on. noted_silent c.args.version
+    harts items
     c.touch_record.result
     (records.Touch c.in-Touch.access (pc_for c.args.version c.in-Touch.pc)) put files
-    c.note_record.new.outputs c.note_record.new.speller.writer before new c.touch_record.ensures.value (f c.args.version harts items put before on))
+    c.note_record.new.outputs c.note_record.new.speller.writer before new
+    c.touch_record.ensures.value (f c.args.version harts items put before on))
     c.note_record.ensures.noted)
 
 pub returns-in-Touch-clause-cut : goal.returns-in-Touch-clause-cut
@@ -32,7 +34,8 @@ returns-in-Touch-clause-cut g c =
     let old = g.S.Shelf.outside c.args.shelf.now in
     let new = g.S.Shelf.outside c.note_record.new.shelf in
     let item : TraceRecord = c.touch_record.result in
-    let told : TraceRecord = records.Touch c.in-Touch.access (pc_for c.args.version c.in-Touch.pc) in
+    let told : TraceRecord = records.Touch c.in-Touch.access (pc_for c.args.version c.in-Touch.pc)
+    in
     rw c.in-Touch.is
     (IfErr-weaker c.note_record.result (λ e. (v : Version) (harts : ℕ)
     (items : List TraceRecord) (put : List ℕ) (before : Outside)
@@ -42,7 +45,8 @@ returns-in-Touch-clause-cut g c =
     → AreNoted c.args.version harts items put files c.args.outputs.now
     c.args.speller.now.writer before old
     → AreCutAfter c.args.version harts (items ++ told ∷ []) (put ++ []) files before new e)
-    (λ e cut harts items put before on. cut_silent c.args.version harts items item told put files before new e
+    (λ e cut harts items put before on. cut_silent c.args.version harts items item told put files
+    before new e
     c.touch_record.ensures.value
     (cut c.args.version harts items put before on))
     c.note_record.ensures.cut)
@@ -65,7 +69,8 @@ returns-in-Alloc-clause-noted g c =
     (on_ok_weaker c.note_record-in-Alloc.result
     (λ f harts items put before on. noted_silent c.args.version harts items c.alloc_record.result
     (records.Alloc c.in-Alloc.addr c.in-Alloc.size c.in-Alloc.sites) put files
-    c.note_record-in-Alloc.new.outputs c.note_record-in-Alloc.new.speller.writer before new c.alloc_record.ensures.value
+    c.note_record-in-Alloc.new.outputs c.note_record-in-Alloc.new.speller.writer before new
+    c.alloc_record.ensures.value
     (f c.args.version harts items put before on))
     c.note_record-in-Alloc.ensures.noted)
 
@@ -86,7 +91,8 @@ returns-in-Alloc-clause-cut g c =
     → AreNoted c.args.version harts items put files c.args.outputs.now
     c.args.speller.now.writer before old
     → AreCutAfter c.args.version harts (items ++ told ∷ []) (put ++ []) files before new e)
-    (λ e cut harts items put before on. cut_silent c.args.version harts items item told put files before new e
+    (λ e cut harts items put before on. cut_silent c.args.version harts items item told put files
+    before new e
     c.alloc_record.ensures.value
     (cut c.args.version harts items put before on))
     c.note_record-in-Alloc.ensures.cut)
@@ -100,7 +106,8 @@ returns-in-Free-clause-noted g c =
     (on_ok_weaker c.note_record-in-Free.result
     (λ f harts items put before on. noted_silent c.args.version harts items c.free_record.result
     (records.Free c.in-Free.addr) put files
-    c.note_record-in-Free.new.outputs c.note_record-in-Free.new.speller.writer before new c.free_record.ensures.value
+    c.note_record-in-Free.new.outputs c.note_record-in-Free.new.speller.writer before new
+    c.free_record.ensures.value
     (f c.args.version harts items put before on))
     c.note_record-in-Free.ensures.noted)
 
@@ -121,7 +128,8 @@ returns-in-Free-clause-cut g c =
     → AreNoted c.args.version harts items put files c.args.outputs.now
     c.args.speller.now.writer before old
     → AreCutAfter c.args.version harts (items ++ told ∷ []) (put ++ []) files before new e)
-    (λ e cut harts items put before on. cut_silent c.args.version harts items item told put files before new e
+    (λ e cut harts items put before on. cut_silent c.args.version harts items item told put files
+    before new e
     c.free_record.ensures.value
     (cut c.args.version harts items put before on))
     c.note_record-in-Free.ensures.cut)

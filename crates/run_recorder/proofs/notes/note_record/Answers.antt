@@ -1,4 +1,4 @@
-use Rattle.std.proofs.Common.{◌≡◌, ◌∷◌, ◌++◌, [], ℕ, List, subst, true}
+use Rattle.std.proofs.Common.{◌∷◌, ◌++◌, [], ℕ, List, subst}
 use Rattle.std.proofs.lemmas.Result.{IfErr-weaker}
 use Rattle.shelf.specs.Shelf.{Outside}
 use Rattle.shelf.specs.declared.shelf.ShelfError.TheVariants.{NoMemory}

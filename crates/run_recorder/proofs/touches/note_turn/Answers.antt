@@ -14,14 +14,16 @@ use Rattle.run_recorder.proofs.touches.note_turn.Goals as goal
 pub note_touches-requires-clause-room : goal.note_touches-requires-clause-room
 note_touches-requires-clause-room g c =
     room_front g.O.Observer.begins g.O.Observer.given c.args.observer.now
-    (touch_records c.args.version c.args.touches.now) (records_told c.args.version c.args.guest.now.config c.args.event)
+    (touch_records c.args.version c.args.touches.now) (records_told c.args.version
+    c.args.guest.now.config c.args.event)
     c.requires.room
 
 pub note_event-requires-clause-room : goal.note_event-requires-clause-room
 note_event-requires-clause-room g c =
     room_rest g.O.Observer.begins g.O.Observer.given c.args.observer.now
     c.note_touches.new.observer (touch_records c.args.version c.args.touches.now)
-    (records_told c.args.version c.args.guest.now.config c.args.event) c.requires.room c.in-Ok.ensures.given
+    (records_told c.args.version c.args.guest.now.config c.args.event) c.requires.room
+    c.in-Ok.ensures.given
 
 pub returns-in-Ok-clause-given : goal.returns-in-Ok-clause-given
 returns-in-Ok-clause-given g c =
@@ -35,7 +37,8 @@ pub returns-in-Ok-clause-good : goal.returns-in-Ok-clause-good
 returns-in-Ok-clause-good g c =
     let harts = c.args.guest.now.setup.harts in
     on_ok_weaker c.note_event.result
-    (λ f. All-append (IsGoodRecord c.args.version harts) (touch_records c.args.version c.args.touches.now)
+    (λ f. All-append (IsGoodRecord c.args.version harts) (touch_records c.args.version
+    c.args.touches.now)
     (records_told c.args.version c.args.guest.now.config c.args.event)
     (c.in-Ok.ensures.good harts c.requires.theirs) c.note_event.ensures.good)
     c.note_event.ensures.given
@@ -48,7 +51,8 @@ returns-in-Ok-clause-noted g c =
     let out = bytes_told c.args.guest.now.config c.args.event in
     on_ok_weaker c.note_event.result
     (λ f harts items put before on. noted_behind c.args.version harts files c.note_event.new.outputs
-    c.note_event.new.speller.writer items front told (put ++ out) before (g.S.Shelf.outside c.note_event.new.shelf)
+    c.note_event.new.speller.writer items front told (put ++ out) before (g.S.Shelf.outside
+    c.note_event.new.shelf)
     (f harts (items ++ front) put before (c.in-Ok.ensures.noted harts items put before on)))
     c.note_event.ensures.noted
 
@@ -70,14 +74,16 @@ returns-in-Ok-clause-cut g c =
     → AreNoted c.args.version harts items put files c.args.outputs.now
     c.args.speller.now.writer before old
     → AreCutAfter c.args.version harts (items ++ (front ++ told)) (put ++ out) files before new e)
-    (λ e f harts items put before on. cut_behind c.args.version harts files items front told (put ++ out) before
+    (λ e f harts items put before on. cut_behind c.args.version harts files items front told (put
+    ++ out) before
     new e
     (f harts (items ++ front) put before (c.in-Ok.ensures.noted harts items put before on)))
     c.note_event.ensures.cut
 
 pub returns-in-Err-clause-cut : goal.returns-in-Err-clause-cut
 returns-in-Err-clause-cut g c = λ harts items put before on.
-    cut_in_front c.args.version harts c.args.files.now items (touch_records c.args.version c.args.touches.now)
+    cut_in_front c.args.version harts c.args.files.now items (touch_records c.args.version
+    c.args.touches.now)
     (records_told c.args.version c.args.guest.now.config c.args.event) put
     (bytes_told c.args.guest.now.config c.args.event) before
     (g.S.Shelf.outside c.note_touches.new.shelf) c.in-Err.error

@@ -17,7 +17,8 @@ returns-in-Err-clause-cut g c =
     let new = g.S.Shelf.outside c.begin.new.shelf in
     cut_start c.args.version c.args.guest.now.setup.harts c.args.symbols.now c.args.files.now
     (rest_of c.args.guest.now) old new c.in-Err.error
-    (subst (λ (n : ℕ). AreCutAfter c.args.version n [] [] c.args.files.now old new c.in-Err.error) c.harts.ensures
+    (subst (λ (n : ℕ). AreCutAfter c.args.version n [] [] c.args.files.now old new c.in-Err.error)
+    c.harts.ensures
     c.in-Err.ensures.cut)
 
 pub returns-in-Err-note_symbols-clause-cut : goal.returns-in-Err-note_symbols-clause-cut
@@ -78,7 +79,8 @@ pub returns-in-Ok-end-clause-good : goal.returns-in-Ok-end-clause-good
 returns-in-Ok-end-clause-good g c =
     let r = rest_of c.args.guest.now in
     let harts = c.args.guest.now.setup.harts in
-    kept_rules c.args.version harts c.args.symbols.now c.args.guest.now.setup r c.requires.some c.requires.most
+    kept_rules c.args.version harts c.args.symbols.now c.args.guest.now.setup r c.requires.some
+    c.requires.most
     c.requires.symbols c.requires.few
     c.requires.short c.requires.budget
     c.in-Ok-follow.ensures.good (subst (λ (e : Ending). IsEndOf harts e.outcome)
@@ -104,7 +106,8 @@ returns-in-Ok-end-clause-written g c =
     c.in-Ok-follow.ensures.ending
     ∙ whole_put v harts symbols files r)
     (c.in-Ok-end.ensures.written v harts (symbols ++ records_in v r.events) (output_of r) old
-    (c.in-Ok-follow.ensures.noted symbols old (c.in-Ok-note_symbols.ensures.noted v harts old first)))
+    (c.in-Ok-follow.ensures.noted symbols old (c.in-Ok-note_symbols.ensures.noted v harts old
+    first)))
 
 pub returns-in-Err-end-clause-cut : goal.returns-in-Err-end-clause-cut
 returns-in-Err-end-clause-cut g c =
@@ -126,4 +129,5 @@ returns-in-Err-end-clause-cut g c =
     c.in-Ok-follow.ensures.ending
     ∙ whole_put v harts symbols files r)
     (c.in-Err-end.ensures.cut v harts (symbols ++ records_in v r.events) (output_of r) old
-    (c.in-Ok-follow.ensures.noted symbols old (c.in-Ok-note_symbols.ensures.noted v harts old first)))
+    (c.in-Ok-follow.ensures.noted symbols old (c.in-Ok-note_symbols.ensures.noted v harts old
+    first)))
