@@ -221,6 +221,11 @@ class Call:
         is_pipe = self.subject == "-" or os.path.exists(self.subject) and not os.path.isfile(self.subject)
         return self.how in ("replay", "sweep") and is_pipe
 
+    def trace(self) -> str | None:
+        """The trace's file, where it is one that is there and can be read again and again."""
+        path = self.subject if self.how == "replay" else self.value_of("--trace")
+        return path if path and os.path.isfile(path) and not self.reads_once() else None
+
     def words_of_pipe(self) -> list[str]:
         """The words of a replay of standard input, in the place of a trace."""
         return ["-" if it == self.subject else it for it in self.words]
