@@ -2,7 +2,7 @@
 _predator() {
     local word=${COMP_WORDS[COMP_CWORD]} before=${COMP_WORDS[COMP_CWORD - 1]} options
     # commands.toml: names
-    local commands="run replay check split gen convert sweep caches place misses explain view campaign native" own="--help --version --prove"
+    local commands="run replay check split gen convert sweep caches place misses blame explain view campaign native" own="--help --version --prove"
     # (so far)
     if ((COMP_CWORD == 1)); then
         mapfile -t COMPREPLY < <(compgen -W "$commands help $own" -- "$word")
@@ -23,7 +23,7 @@ _predator() {
     if [ "$of" = view ] && ((COMP_CWORD > 2)) && [[ ${COMP_WORDS[2]} == @(run|replay|native|sweep) ]]; then of="view ${COMP_WORDS[2]}"; fi
     case $of in
     # commands.toml: options
-        'run') options="--settings --set --schedule --trace --output" ;;
+        'run') options="--settings --set --schedule --trace --pcs --output" ;;
         'replay') options="--settings --set --size --shift --save --resume" ;;
         'check') options="--settings --set" ;;
         'split') options="" ;;
@@ -33,12 +33,18 @@ _predator() {
         'caches') options="--size --sets --ways" ;;
         'place') options="--size" ;;
         'misses') options="--size --shift" ;;
+        'blame') options="--size --shift" ;;
         'explain') options="--settings --set --schedule" ;;
         'view') options="--top --object --words --library --predicted --no-predicted --explain --type --sources --html --json --sarif --against --fail-above --by --program --back" ;;
         'campaign') options="--to --profile --cores --html --check" ;;
         'native') options="--built --quantum --all --marked --pcs --most --trace --table --report --settings --size --shift --mend --build" ;;
+<<<<<<< HEAD
         'view run') options="--top --object --words --library --predicted --no-predicted --explain --type --sources --html --json --sarif --against --fail-above --by --settings --set --schedule --trace --output" ;;
         'view replay') options="--top --object --words --library --predicted --no-predicted --explain --type --sources --html --json --sarif --against --fail-above --by --program --back --settings --set --size --shift --save --resume" ;;
+=======
+        'view run') options="--top --object --words --library --predicted --explain --type --sources --html --json --sarif --against --fail-above --by --settings --set --schedule --trace --pcs --output" ;;
+        'view replay') options="--top --object --words --library --predicted --explain --type --sources --html --json --sarif --against --fail-above --by --program --back --settings --set --size --shift --save --resume" ;;
+>>>>>>> b0562aaa20f5f643cbb8ce985b7a51ea8cd98f3f
         'view sweep') options="--size --html" ;;
         'view native') options="--top --object --words --library --predicted --no-predicted --explain --type --sources --html --json --sarif --against --fail-above --by --built --quantum --all --marked --most --settings --set --size --shift" ;;
     # (so far)

@@ -111,7 +111,7 @@ class Told:
         return found
 
     def pairs(self) -> dict[Taking, tuple[int, int]]:
-        """How often each two instructions took each line, and how often over one word. A line that no other text has is told by its
+        """How often each two instructions took each line, and how often over one word. A line that no other text has goes by its
         address."""
         keys = {(layout, it.base): it.key for layout, _, it in self.lines()}
         found: dict[Taking, tuple[int, int]] = {}

@@ -40,7 +40,7 @@ LINES: tuple[str, ...] = (
     "count greatest",
 )
 LINES += ("missed", "useless least", "useless middle", "useless greatest", "worst seed", "beside")
-PAIRS = ("program", "settings", "size", "shift", "object", "offset", "victim", "taker", "seeds", "taken in")
+PAIRS: tuple[str, ...] = ("program", "settings", "size", "shift", "object", "offset", "victim", "taker", "seeds", "taken in")
 PAIRS += ("taken least", "taken middle", "taken greatest", "same least", "same middle", "same greatest", "worst seed")
 OBJECTS = tuple("lines" if it == "offset" else it for it in LINES[:-1])
 RUNS = ("program", "settings", "seed", "outcome", "steps", "accesses", "lines", "cold", "useful", "useless")

@@ -164,6 +164,10 @@ try_commands() {
     try "takings" 0 "$predator" explain programs/counters.elf 0x00011000 64 41
     quiet "takings"
     prints "takings" "line 0x00011000 64 start 41 count 4007"
+    try "takings of all lines" 0 bash -c '"$0" run programs/counters.elf --trace sited --pcs --output o >/dev/null && "$0" blame sited' "$predator"
+    prints "takings of all lines" "line 0x00011000 takings 4007 pairs 4 harts 10"
+    try "no pcs" 5 "$predator" blame t
+    prints "no pcs" "predator: trace NoPcs"
     try "misses" 0 "$predator" misses t
     prints "misses" "line 0x00011000 cold 8 useful 1 useless 4000"
     try "a sweep" 0 "$predator" sweep t --size 64

@@ -15,7 +15,7 @@ import subprocess
 import sys
 import textwrap
 import tomllib
-from collections.abc import Callable, Iterator, Sequence
+from collections.abc import Callable, Iterator
 from typing import Any
 
 TOP = os.path.abspath(os.path.join(os.path.dirname(os.path.abspath(__file__)), ".."))
@@ -59,18 +59,12 @@ def options_of(command: Row) -> list[str]:
 
 def names_of(command: Row) -> list[str]:
     """The words of a command that are no options."""
-    return re.findall(r"\S+", re.sub(r"\[?--[a-z]+( [A-Z]+)?\]?", "", command["usage"]))
+    return re.findall(r"\S+", re.sub(r"\[?--[a-z]+(?: [A-Z]+)?\]?", "", command["usage"]))
 
 
-def flags_of(table: dict[str, list[Row]]) -> list[str]:
-    """The options that have no value."""
+def flags(table: dict[str, list[Row]]) -> list[str]:
+    """The options without a value."""
     return [it["name"] for it in table["option"] if "value" not in it]
-
-
-def has(words: Sequence[str]) -> bool:
-    """Whether commands.toml has the command of a call, with its options."""
-    own = [{it["name"], *options_of(it)} for it in known()["command"]]
-    return any({words[0], *(it.partition("=")[0] for it in words if it.startswith("--"))} <= it for it in own)
 
 
 # The page of help.
@@ -88,7 +82,7 @@ def help_parts(table: dict[str, list[Row]]) -> dict[str, str]:
         "Usage": usage + f"  predator {' | '.join(LAUNCHER)}\n",
         "Commands": "".join(column(9, it["name"], plain(it["does"])) for it in table["command"]),
         "Beside the program": "".join(column(9, it["name"], plain(it["does"])) for it in table["beside"]),
-        "Options": "".join(column(15, f"{it['name']} {it.get('value', '')}".rstrip(), plain(it["does"])) for it in table["option"]),
+        "Options": "".join(column(15, f"{it['name']} {it.get('value', '')}".strip(), plain(it["does"])) for it in table["option"]),
         "Exit status": "".join(column(5, str(it["number"]), plain(it["comes"])) for it in table["status"]),
     }
 
@@ -130,16 +124,17 @@ def synopsis(command: Row) -> str:
     return "\n".join(found)
 
 
-def option_head(option: Row) -> str:
+def manual_option(option: Row) -> str:
     name = option["name"].replace("-", "\\-")
-    return f'.TP\n.BI {name} " {option["value"]}"\n' if "value" in option else f".TP\n.B {name}\n"
+    head = f'.BI {name} " {option["value"]}"' if "value" in option else f".B {name}"
+    return f".TP\n{head}\n" + roff(sentence(option))
 
 
 def manual_parts(table: dict[str, list[Row]]) -> dict[str, str]:
     """The parts of the manual page, by the names of their marks."""
     own = [f".B predator {it['name']}\n" + roff(it["synopsis"]).rstrip() for it in table["beside"]]
     own.append(".B predator " + "\n|\n.B ".join(it.replace("-", "\\-") for it in LAUNCHER))
-    options = (option_head(it) + roff(sentence(it)) for it in table["option"])
+    options = (manual_option(it) for it in table["option"])
     ends = ((it["number"], f"{it['comes'][0].upper()}{it['comes'][1:]}. It prints {it['printed']}.") for it in table["status"])
     statuses = (f".TP\n.B {number}\n" + roff(text) for number, text in ends)
     keys = ",\n".join(f"`{it['key']}` ({it['is']}: {values(it)}, usually {it['usual']})" for it in table["setting"])
@@ -179,11 +174,9 @@ def format_parts(table: dict[str, list[Row]]) -> dict[str, str]:
 
 
 def view_options(table: dict[str, list[Row]]) -> dict[str, list[str]]:
-    """The options of view, by what it does with a file: for a report alone, and for a program or a trace beside those of its command that
-    have a value."""
+    """The options of view, by what it does with a file: for a report alone, and for a program or a trace beside those of its command."""
     own, recorder = (next(it for it in table["beside"] if it["name"] == name) for name in ("view", "native"))
-    flags = flags_of(table)
-    of = {it["name"]: [option for option in options_of(it) if option not in flags] for it in table["command"]}
+    of = {it["name"]: options_of(it) for it in table["command"]}
     layout = [it for it in of["replay"] if it not in ("--save", "--resume")]
     return {
         "view": [*own["options"], *own["names"]],
@@ -214,9 +207,9 @@ def launcher_parts(table: dict[str, list[Row]]) -> dict[str, str]:
     counts = " ".join(f"[{it['name']}]={len(names_of(it))}" for it in table["command"] if it.get("main"))
     outputs = " ".join(it["name"] for it in table["option"] if it.get("writes"))
     readers = " ".join(it["name"] for it in table["command"] if "TRACE" in it.get("reads", ()))
-    keys, flags = " ".join(it["key"] for it in table["setting"]), " ".join(flags_of(table))
+    keys = " ".join(it["key"] for it in table["setting"])
     return {
-        "words": f"declare -gA names_before=({counts})\nwritten_options=({outputs}) flag_options=({flags})\n",
+        "words": f"declare -gA names_before=({counts})\nwritten_options=({outputs})\nbare_options=({' '.join(flags(table))})\n",
         "hints": f'trace_readers="{readers}"\nsetting_keys=({keys})\n',
     }
 
@@ -224,17 +217,18 @@ def launcher_parts(table: dict[str, list[Row]]) -> dict[str, str]:
 def view_parts(table: dict[str, list[Row]]) -> dict[str, str]:
     """What view and campaign know, by the names of its marks."""
     usual = ", ".join(f'"{it["key"]}": {it["usual"]}' for it in table["setting"] if isinstance(it["usual"], int))
-    of, flags = {it["name"]: options_of(it) for it in table["command"]}, flags_of(table)
-    run = [it for it in of["run"] if it not in flags]
+    run = {it for command in table["command"] if command["name"] == "run" for it in options_of(command)}
     written = [it["name"] for it in table["option"] if it["name"] in run and it.get("writes")]
-    asked = [it["name"] for it in table["option"] if it["name"] in run and not it.get("writes")]
+    bare = [it for it in flags(table) if it in run]
+    asked = [it["name"] for it in table["option"] if it["name"] in run and not it.get("writes") and it["name"] not in bare]
     lines, keys = textwrap.wrap(usual, 130), ", ".join(quoted(it["key"]) for it in table["setting"])
-    shown = {"run": run, "replay": of["replay"], "sweep": of["sweep"]}
+    shown = {it["name"]: options_of(it) for it in table["command"] if it["name"] in ("run", "replay", "sweep")}
     own = "".join(f"    {quoted(name)}: [{', '.join(map(quoted, of))}],\n" for name, of in shown.items())
     return {
         "usual": "USUAL = {\n" + "\n".join(f"    {it}" for it in lines) + ",\n}\n",
         "keys": f"KEYS = ({keys})\n",
         "options": f"ASKED = ({', '.join(map(quoted, asked))})\nWRITTEN = ({', '.join(map(quoted, written))})\n"
+        + f"BARE = ({', '.join(map(quoted, bare))},)\n"
         + f"OPTIONS = {{\n{own}}}\n",
     }
 

@@ -28,7 +28,6 @@ import threading
 from concurrent.futures import Future, ThreadPoolExecutor
 from typing import Callable, Iterable, Iterator, NamedTuple
 
-import commands
 import made_guests
 import made_traces
 from made_guests import DATA, Guest, GuestCase
@@ -390,16 +389,10 @@ class Measures:
         return row._replace(greater=greater.cost - nothing.cost, fault=fault)
 
 
-def is_known(command: str) -> bool:
-    """Whether commands.toml has the command, and the option that its name has."""
-    name, _, option = command.partition("--")
-    return commands.has([name, *([f"--{option}"] if option else [])])
-
-
 def chosen(words: argparse.Namespace, folder: str) -> list[tuple[Case, str]]:
     cases = [Case(it, folder) for it in [*made_traces.CASES, *made_guests.CASES]]
     wanted = [it for it in cases if not words.names or any(name in it.name for name in words.names)]
-    return [(case, command) for case in wanted for command in case.commands(words.all) if is_known(command)]
+    return [(case, command) for case in wanted for command in case.commands(words.all)]
 
 
 def judged(rows: list[Row]) -> tuple[list[Row], list[Row], list[Row]]:

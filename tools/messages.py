@@ -20,7 +20,7 @@ from concurrent.futures import ThreadPoolExecutor
 from typing import Iterable, Iterator, NamedTuple
 
 import commands
-from commands import Row, bounds, known, names_of, number, options_of
+from commands import Row, bounds, flags, known, names_of, number, options_of
 from message_files import faults, put_files
 
 USUAL = {"PROGRAM": "p", "TRACE": "t", "NAME": "pair", "A": "a", "B": "b", "FILE": "a", "N": "3", "K": "3", "BASE": "0x00011000",
@@ -47,6 +47,8 @@ TABLE = known()
 COMMANDS = {it["name"]: it for it in TABLE["command"]}
 USAGE = commands.renew_usage("", TABLE)
 SPACE = {it["name"]: options_of(it) for it in TABLE["command"]}
+# The options without a value.
+BARE = set(flags(TABLE))
 
 
 def call(name: str, **others: str) -> list[str]:
@@ -216,7 +218,7 @@ def words_of_all() -> Iterator[Try]:
     yield usage([], "the command is missing; see predator --help")
     yield usage([HIDDEN], f"'{SHOWN}' is no command; see predator --help")
     yield Try(["replay", "none" + HIDDEN], 7, "read fault", r"none\x7f\x1b[2J\xc2\x9b\xc2\x85: No such file or directory")
-    options, flags = {it["name"] for it in TABLE["option"]} | {"--set"}, set(commands.flags_of(TABLE))
+    options = {it["name"] for it in TABLE["option"]} | {"--set"}
     for name in COMMANDS:
         names, own = names_of(COMMANDS[name]), set(SPACE[name])
         given = call(name)[1:len(names) + 1]
@@ -228,17 +230,16 @@ def words_of_all() -> Iterator[Try]:
         yield usage([*call(name), "--", "more"], "unexpected argument 'more' found")
         for option in sorted(options - own):
             yield usage([*call(name), option, "4"], f"unexpected argument '{option}' found")
-        for option in sorted(own & flags):
-            yield usage([name, *given, option, option], f"the argument '{option}' cannot be used multiple times")
-        for option in sorted(own - flags):
+        for option in sorted(own & BARE):
+            yield usage([*call(name), option, option], f"the argument '{option}' cannot be used multiple times")
+        for option in sorted(own - BARE):
             called = f"'{option} <{option[2:]}>'"
             yield usage([name, *given, option], f"a value is required for {called} but none was supplied")
             yield usage([name, *given, option, "4", f"{option}=4"], f"the argument {called} cannot be used multiple times")
+    yield usage(["run", "p", "--pcs"], "--pcs is for a trace, and --trace is missing")
     for missing in ("--size", "--sets", "--ways"):
         at = call("caches").index(missing)
         yield usage(call("caches")[:at] + call("caches")[at + 2:], f"{missing} is missing")
-    if "--pcs" in SPACE["run"]:
-        yield usage(["run", "p", "--pcs"], "--pcs is for a trace, and --trace is missing")
 
 
 # ---- Files.

@@ -22,7 +22,6 @@ from typing import Iterator, NamedTuple
 
 sys.path.insert(0, os.path.join(os.path.dirname(os.path.abspath(__file__)), "edges"))
 import files  # noqa: E402
-from commands import has  # noqa: E402
 from files import lines, report  # noqa: E402
 from made_guests import DATA  # noqa: E402
 from rv32 import CODE, Code, Segment, elf  # noqa: E402
@@ -304,9 +303,8 @@ def main(words: list[str]) -> int:
     with tempfile.TemporaryDirectory() as folder:
         os.chdir(folder)
         for tries in kinds("--long" in words):
-            known = [it for it in tries if has(it.words.split())]
             with ThreadPoolExecutor(len(os.sched_getaffinity(0))) as pool:
-                for it, fault in zip(known, pool.map(lambda it: fault_of(program, it), known)):
+                for it, fault in zip(tries, pool.map(lambda it: fault_of(program, it), tries)):
                     tried += 1
                     if fault:
                         failed += 1

@@ -7,7 +7,7 @@ from typing import Any, Iterable, Iterator, Sequence
 
 from faults import Fault
 from kinds import DOES, IS, How, how_of
-from settings import ASKED, KEYS, OPTIONS, WRITTEN
+from settings import ASKED, BARE, KEYS, OPTIONS, WRITTEN
 
 USAGE = """usage: predator view run PROGRAM [options of run] [OPTIONS] [-- WORD ..]
        predator view replay TRACE [options of replay] [--program PROGRAM] [OPTIONS]
@@ -54,8 +54,6 @@ FLAGS = ("words", "predicted", "no-predicted", "library", "help")
 # Options of `predator native` that have no value, and those that have one.
 MARKS = ("all", "marked", "built", "pcs")
 RECORDS = ("--quantum", "--most")
-# With it a trace has each access's instruction; it has no value.
-PCS = "--pcs"
 # What view writes.
 OUTPUTS = ("html", "json", "sarif")
 # How many objects the first screen shows, and how many of their lines are explained, where the call doesn't say.
@@ -133,13 +131,11 @@ class Call:
                         raise Fault(f"a value is required for '{word}'")
                     value, at = words[at], at + 1
                 self.put("help" if word == "-h" else name[2:], value)
-            elif word == PCS and self.how == "run":
-                rest.append(word)
-            elif word[2:] in MARKS and word[:2] == "--":
+            elif word[2:] in MARKS and word[:2] == "--" and not (self.how == "run" and word in BARE):
                 self.marks.append(word)
             elif word.startswith("-") and word != "-":
                 self.given.append(word)
-                own = [word] if has_value or at == len(words) else [word, words[at]]
+                own = [word] if has_value or word in BARE or at == len(words) else [word, words[at]]
                 at += len(own) - 1
                 rest += own
             else:
@@ -209,8 +205,8 @@ class Call:
         kept: list[str] = []
         at = 0
         while at < len(self.words) and self.words[at] != "--":
-            name, has_value, _ = self.words[at].partition("=")
-            width = 1 if has_value or name == PCS or not name.startswith("--") else 2
+            name = self.words[at].partition("=")[0]
+            width = width_of(self.words[at])
             if name in ASKED:
                 kept += self.words[at : at + width]
             at += width
@@ -251,9 +247,13 @@ class Call:
             word = self.words[at]
             if word == "--":
                 return kept + self.words[at:]
-            name, has_value, _ = word.partition("=")
-            width = 2 if name.startswith("--") and name != PCS and not has_value else 1
-            if name not in WRITTEN and name != PCS:
+            width = width_of(word)
+            if word.partition("=")[0] not in (*WRITTEN, *BARE):
                 kept += self.words[at : at + width]
             at += width
         return kept
+
+
+def width_of(word: str) -> int:
+    """How many words an option of the program takes, or a name."""
+    return 2 if word.startswith("--") and "=" not in word and word not in BARE else 1

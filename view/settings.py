@@ -13,12 +13,13 @@ USUAL = {
 KEYS = ("harts", "memory", "stack", "tracking", "prediction", "report", "quantum", "budget", "line", "seed")
 # (so far)
 
-# The options that say under what a program runs, those whose files are written, and all of a run and of a replay.
+# The options that say under what a program runs, those whose files are written, those without a value, and all of a run and of a replay.
 # commands.toml: options
 ASKED = ("--settings", "--set", "--schedule")
 WRITTEN = ("--trace", "--output")
+BARE = ("--pcs",)
 OPTIONS = {
-    "run": ["--settings", "--set", "--schedule", "--trace", "--output"],
+    "run": ["--settings", "--set", "--schedule", "--trace", "--pcs", "--output"],
     "replay": ["--settings", "--set", "--size", "--shift", "--save", "--resume"],
     "sweep": ["--size"],
 }

@@ -12,12 +12,12 @@ import tempfile
 
 HERE = os.path.dirname(os.path.abspath(__file__))
 sys.path.insert(0, os.path.join(HERE, "..", "studies"))
-from report import BUILT, PROGRAM, TOP, Run, block, renew, table  # noqa: E402
+from report import BUILT, PROGRAM, TOP, Run, block, renew, table, with_objects  # noqa: E402
 
 SETTINGS = "memory = 67108864\n"
 KIT = "the kit's `malloc`"
-# How many lines of a report are shown.
-MOST = 4
+# How many lines of a report are shown, and of each how many lines that say what stands there.
+MOST, MOST_OF_ONE = 4, 6
 SHIM = [os.path.join(HERE, "shim", "shim.c")]
 FETCHED = os.path.join(HERE, "fetched")
 # Each allocator's sources, and the flags that its own documents name for a release with locks.
@@ -78,8 +78,9 @@ def row(name, workload, run, heap):
 
 
 def first_lines(report):
-    """The first observed lines, and what stands on them."""
-    return [text for it in report.of_kind("observed")[:MOST] for text in [it.text, *it.objects]]
+    """The first observed lines, and the beginning of what stands on each."""
+    lines = [(it.text, it.objects) for it in report.of_kind("observed")[:MOST]]
+    return [text for rows in with_objects(lines, MOST_OF_ONE) for text in rows]
 
 
 def main(words):

@@ -14,7 +14,7 @@ import tempfile
 HERE = os.path.dirname(os.path.abspath(__file__))
 sys.path.insert(0, os.path.join(HERE, "..", "studies"))
 from costs import Build, text  # noqa: E402
-from report import Run, block, renew, shown, table  # noqa: E402
+from report import Run, block, renew, shown, table, with_objects  # noqa: E402
 
 OUT = os.path.join(HERE, "out")
 # Of each study its builds: as it is, and after each repair.
@@ -40,11 +40,8 @@ MOST, MOST_OF_ONE = 2, 6
 
 
 def first(lines):
-    """The first lines of a list, each with the beginning of what stands on it."""
-    made = []
-    for it in lines[:MOST]:
-        made += it[: 1 + MOST_OF_ONE] + [".."] * (len(it) > 1 + MOST_OF_ONE)
-    return made
+    """The rows of the first lines of a list, each with the beginning of what stands on it."""
+    return [text for rows in with_objects(lines[:MOST], MOST_OF_ONE) for text in rows]
 
 
 def excerpt(name, run, build):
@@ -52,8 +49,8 @@ def excerpt(name, run, build):
     observed = run.report.of_kind("observed")
     missed = [it for it in build.missed if it.useless > 0]
     return block(
-        [f"{name}: lines {len(run.report.lines)}, {len(observed)} of them observed", *first([[it.text, *it.objects] for it in observed])]
-        + [f"{name}: lines with useless misses {len(missed)}", *first([it.texts for it in missed])]
+        [f"{name}: lines {len(run.report.lines)}, {len(observed)} of them observed", *first([(it.text, it.objects) for it in observed])]
+        + [f"{name}: lines with useless misses {len(missed)}", *first([(it.texts[0], it.texts[1:]) for it in missed])]
     )
 
 

@@ -134,6 +134,17 @@ def table(heads, rows):
     return "\n".join(f"| {' | '.join(row)} |" for row in [heads, right, *rows])
 
 
+def with_objects(lines, most=100):
+    """The rows of some lines, each given as its text and what stands on it: at most so many rows of that, and none where it is what stands
+    on the one before."""
+    made, before = [], None
+    for text, objects in lines:
+        shown_here = [*objects[:most], *([".."] if len(objects) > most else [])]
+        made.append([text, *(shown_here if shown_here != before else [])])
+        before = shown_here
+    return made
+
+
 def block(lines):
     return "\n".join(f"    {it}" for it in lines)
 

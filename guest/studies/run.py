@@ -7,7 +7,7 @@ where a program doesn't end with exit 0, or a recount says otherwise than a repo
 import os
 import sys
 
-from report import BUILT, SETTINGS, Run, block, builds, commit, renew, shown, table
+from report import BUILT, SETTINGS, Run, block, builds, commit, renew, shown, table, with_objects
 
 # How many lines of a report a study shows, and the one that shows the words of the first.
 MOST = 4
@@ -30,8 +30,8 @@ def excerpt(name, run):
     lines, observed = run.report.lines, run.report.of_kind("observed")
     first = (observed or lines)[:MOST]
     made = [f"{name}: lines {len(lines)}" + (f", {len(observed)} of them observed" if lines else "")]
-    for it in first:
-        made += [it.text, *it.objects, *(it.words if name == SHOWN and it == first[0] else [])]
+    for it, rows in zip(first, with_objects([(it.text, it.objects) for it in first])):
+        made += [*rows, *(it.words if name == SHOWN and it == first[0] else [])]
     return block(made + [".."] * (len(observed or lines) > MOST))
 
 

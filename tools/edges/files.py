@@ -8,7 +8,7 @@ from typing import Iterable, NamedTuple
 
 sys.path.insert(0, os.path.join(os.path.dirname(os.path.abspath(__file__)), ".."))
 
-from commands import has  # noqa: E402
+from message_files import NO_PCS  # noqa: E402
 from traces import groups  # noqa: E402
 
 DATA = os.path.join(os.path.dirname(os.path.abspath(__file__)), "..", "..", "crates", "worked_runs", "data")
@@ -322,8 +322,6 @@ def refused_cases() -> list[Case]:
     both, state = (("t", b""), ("o", b"")), (("s", b""),)
     cut = "it ends after 10 bytes, before the trace does: write or copy it again"
     none = "no object symbol of the trace has this name, nor was exactly one block made at that address"
-    no_pcs = ("its accesses have no pcs: `predator run --pcs --trace F` writes a trace of a guest with them, `predator native --pcs "
-              "--trace F` one of a program of this machine")
     rows = [
         (("gen", "03", "f"), 1, usage(), (), (("f", b""),), "'03' has a leading zero: N is a whole number up to 1000000000"),
         (("run", "script", *outputs), 2, b"predator: elf TooShort\n", ("script",), both,
@@ -333,7 +331,7 @@ def refused_cases() -> list[Case]:
         (("run", "small.elf", "--settings", "bad", *outputs), 4, b"predator: settings OutOfRange harts\n", ("bad",), both,
          "bad: `harts` is a whole number from 1 to 256"),
         (("replay", "bad", "--save", "s"), 5, b"predator: trace Truncated 10\n", ("bad",), state, f"bad: {cut}"),
-        (("blame", "short"), 5, b"predator: trace NoPcs\n", ("short",), (), f"short: {no_pcs}"),
+        (("blame", "short"), 5, b"predator: trace NoPcs\n", ("short",), (), f"short: {NO_PCS}"),
         (("split", "bad", "3", "a", "b"), 5, b"predator: trace Truncated 10\n", ("bad",), (("a", b""), ("b", b"")), f"bad: {cut}"),
         (("convert", "script", "c"), 5, b"predator: trace Truncated 10\n", ("script",), (("c", b""),), f"script: {cut}"),
         (("replay", "short", "--resume", "bad", "--save", "s"), 6, b"predator: state BadState 0\n", ("bad",), state,
@@ -345,4 +343,4 @@ def refused_cases() -> list[Case]:
 
 
 def cases() -> list[Case]:
-    return [it for it in writing_cases() + printing_cases() + refused_cases() if has(it.words)]
+    return writing_cases() + printing_cases() + refused_cases()

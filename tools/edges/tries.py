@@ -15,7 +15,6 @@ from typing import Callable, Iterator, Sequence
 
 import files
 from bench import OLDER, SECONDS, Bench, Fault, content
-from commands import has
 from files import Case, SMALL, report
 from judge import faults_of, good_end
 
@@ -23,7 +22,7 @@ IN_USE = "the same file is in use under another name, and stays as it is"
 BROKEN, NO_SPACE, NO_STREAM = "Broken pipe", "No space left on device", "Bad file descriptor"
 READ_FAULT, WRITE_FAULT = b"predator: read fault\n", b"predator: write fault\n"
 # The commands that read a trace once, and so from standard input too.
-READ_ONCE = ("replay", "misses", "blame", "caches", "sweep")
+FROM_INPUT = ("replay", "misses", "blame", "caches", "sweep")
 # The memory, in bytes, that a call gets which is to want more, and the bytes of a disk that is filled.
 LITTLE, DISK = 48 << 20, 16384
 # How many bytes a pipe takes that nobody reads, and how many more of them a reader makes room for that takes a few.
@@ -169,7 +168,7 @@ def try_words(bench: Bench) -> None:
 
 def try_dash(bench: Bench) -> None:
     """As the trace of a command that reads it once `-` is standard input, though there is a file of that name."""
-    once = [it for it in bench.cases if it.words[0] in READ_ONCE and it.status == 0 and not it.writes]
+    once = [it for it in bench.cases if it.words[0] in FROM_INPUT and it.status == 0 and not it.writes]
     put("-", b"no trace")
     bench.kept = bench.inputs()
     for case in (it for it in once if not it.piped):
@@ -177,8 +176,7 @@ def try_dash(bench: Bench) -> None:
         try_case(bench, "main", "-", piped)
     remove("-")
     bench.kept = bench.inputs()
-    calls = ("replay - --size 64", "misses -", "blame -", "caches - --size 64 --sets 64 --ways 64", "sweep - --size 8")
-    for words in filter(lambda it: has(it.split()), calls):
+    for words in ("replay - --size 64", "misses -", "blame -", "caches - --size 64 --sets 64 --ways 64", "sweep - --size 8"):
         with open("bad", "rb") as given:
             ended = Ended(bench, words.split(), stdin=given)
         found = ended.faults(5, b"predator: trace Truncated 10\n", None)

@@ -87,6 +87,7 @@ fn files_of<'a>(demand: &Demand<'a>) -> FilesRead<'a> {
         Demand::Sweep(options) => of_trace(options.trace, false),
         Demand::Caches(options) => of_trace(options.trace, false),
         Demand::Misses(options) => of_trace(options.trace, false),
+        Demand::Blame(options) => of_trace(options.trace, false),
         Demand::Place(options) => of_trace(options.trace, true),
         Demand::Gen(_) => no_files(),
     }
@@ -106,6 +107,7 @@ pub fn trace_to_read<'a>(alloc: Global, words: &'a [String]) -> Option<TraceToRe
         Ok(Demand::Caches(options)) => Some(read_so(options.trace, false)),
         Ok(Demand::Place(options)) => Some(read_so(options.trace, true)),
         Ok(Demand::Misses(options)) => Some(read_so(options.trace, false)),
+        Ok(Demand::Blame(options)) => Some(read_so(options.trace, false)),
         Ok(Demand::Run(_)) => None,
         Ok(Demand::Check(_)) => None,
         Ok(Demand::Gen(_)) => None,
@@ -150,6 +152,7 @@ pub fn file_refused<'a>(demand: &Demand<'a>, status: &Status) -> Option<&'a str>
             }
         }
         Status::Trace(_)
+        | Status::NoPcs
         | Status::State(StateFault::WrongSettings(HARTS) | StateFault::WrongPosition { .. }) => {
             trace
         }
@@ -187,6 +190,7 @@ pub fn file_to_look_at<'a>(alloc: Global, words: &'a [String], status: &Status) 
         Ok(Demand::Caches(_)) => None,
         Ok(Demand::Place(_)) => None,
         Ok(Demand::Misses(_)) => None,
+        Ok(Demand::Blame(_)) => None,
         Err(WordsFault::Usage(_)) => None,
         Err(WordsFault::NoMemory) => None,
     }

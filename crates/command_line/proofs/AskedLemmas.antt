@@ -11,7 +11,7 @@ use Rattle.command_line.specs.declared.demand.Demand as code
 use Rattle.command_line.specs.declared.demand.WordsFault.{WordsFault}
 use Rattle.command_line.specs.declared.demand.WordsFault.TheVariants.{Usage, NoMemory}
 
-taken_by : {D : Type 0} (app : App) (demand : List Row → Option D) (words : List Text)
+pub taken_by : {D : Type 0} (app : App) (demand : List Row → Option D) (words : List Text)
     (rows : List Row) → fault_of app words ≡ [] → rows ≡ matches_of app words
     → asked app demand words ≡ demand rows
 unfolding asked
@@ -48,9 +48,20 @@ refused_by app demand words fault =
     none_at_fault (fault_of app words) (demand (matches_of app words)) fault
 
 -- words with a fault are refused
+pub refused_unless : {D : Type 0} (app : App) (demand : List Row → Option D) (words : List Text)
+    (fault : WordsFault) → UnlessMemory fault (fault_of app words ≢ [])
+    → UnlessMemory fault (asked app demand words ≡ None)
+refused_unless app demand words (Usage reason) refused = refused_by app demand words refused
+refused_unless app demand words NoMemory refused = tt
+
+-- and so is a command that they ask nothing of
+pub said_refused : {D : Type 0} (say : D → Demand) (asked : Option D) (fault : WordsFault)
+    → UnlessMemory fault (asked ≡ None) → UnlessMemory fault (given_apart say asked ≡ None)
+said_refused say asked (Usage reason) none = ap (given_apart say) none
+said_refused say asked NoMemory none = tt
+
 pub asked_refused : {D : Type 0} (say : D → Demand) (app : App) (demand : List Row → Option D)
     (words : List Text) (fault : WordsFault) → UnlessMemory fault (fault_of app words ≢ [])
     → UnlessMemory fault (given_apart say (asked app demand words) ≡ None)
-asked_refused say app demand words (Usage reason) refused =
-    ap (given_apart say) (refused_by app demand words refused)
-asked_refused say app demand words NoMemory refused = tt
+asked_refused say app demand words fault refused =
+    said_refused say (asked app demand words) fault (refused_unless app demand words fault refused)

@@ -11,6 +11,7 @@ use Rattle.base.specs.Lines.{is_line_size}
 use Rattle.clap.specs.Walk.{is_empty}
 use Rattle.clap.specs.Words.{App, Row, Text, fault_of, first_of, matches_of}
 use Rattle.command_line.specs.Asked.{asked}
+use Rattle.command_line.specs.Blame.{asked_of_blame}
 use Rattle.command_line.specs.Caches.{asked_of_caches}
 use Rattle.command_line.specs.Check.{asked_of_check}
 use Rattle.command_line.specs.Convert.{asked_of_convert}
@@ -27,9 +28,10 @@ use Rattle.command_line.specs.Run.{asked_of_run}
 use Rattle.command_line.specs.Split.{asked_of_split}
 use Rattle.command_line.specs.Sweep.{SweepDemand, allowed_size, asked_of_sweep, is_swept_size}
 use Rattle.command_line.specs.Sweep.{size_in, sweep_app, sweep_of, sweep_with}
-use Rattle.command_line.specs.Words.{Demand, Named, asked_among, asked_of, caches, check, commands}
-use Rattle.command_line.specs.Words.{convert, demand_of, explain, gen, inputs, misses, outputs}
-use Rattle.command_line.specs.Words.{place, replay, run, split, sweep, terms_of, with_names_apart}
+use Rattle.command_line.specs.Words.{Demand, Named, asked_among, asked_of, blame, caches, check}
+use Rattle.command_line.specs.Words.{commands, convert, demand_of, explain, gen, inputs, misses}
+use Rattle.command_line.specs.Words.{outputs, place, replay, run, split, sweep, terms_of}
+use Rattle.command_line.specs.Words.{with_names_apart}
 
 -- what a test lets through
 let_through : {A : Type 0} (b : Bool) (o : Option A) (x : A) → (if b then o else None) ≡ Some x
@@ -131,7 +133,8 @@ each_bounded words =
     (also (mapped place IsGood (asked_of_place words)
     (of_words (λ (d : PlaceDemand). IsGood (place d)) place_app place_of place_bounded words))
     (also (mapped misses IsGood (asked_of_misses words) (λ d is. tt))
-    (also (mapped explain IsGood (asked_of_explain words) (λ d is. tt)) tt))))))))))
+    (also (mapped blame IsGood (asked_of_blame words) (λ d is. tt))
+    (also (mapped explain IsGood (asked_of_explain words) (λ d is. tt)) tt)))))))))))
 
 pub words_bounded : (words : List Text) (d : Demand) → demand_of words ≡ Some d
     → (terms_of d).IsWithin

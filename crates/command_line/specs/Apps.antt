@@ -2,6 +2,7 @@
 use Rattle.std.specs.Prelude.{List, [], ◌∷◌, true, Some}
 use Rattle.clap.specs.Words.{App, Rule, Text, new_app, new_rule, with_rule}
 use Rattle.clap.specs.Simple.{on_top}
+use Rattle.clap.specs.declared.builder.action.ArgAction.TheVariants.{SetTrue}
 
 -- a command whose words have no flag for help
 abbrev pub plain_app : Text → App
@@ -15,12 +16,19 @@ positional name = record (new_rule name) { required = true }
 abbrev pub long_option : Text → Rule
 long_option name = record (new_rule name) { long = Some name }
 
+-- `--name`, without a value
+abbrev pub long_flag : Text → Rule
+long_flag name = record (new_rule name) { long = Some name; action = Some SetTrue }
+
 -- a command with one of them more
 abbrev pub with_word : App → Text → App
 with_word app name = with_rule app (positional name)
 
 abbrev pub with_option : App → Text → App
 with_option app name = with_rule app (long_option name)
+
+abbrev pub with_flag : App → Text → App
+with_flag app name = with_rule app (long_flag name)
 
 -- a command with each of some words more, and with each of some options more
 abbrev pub with_words : App → List Text → App

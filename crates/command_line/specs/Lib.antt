@@ -1,5 +1,6 @@
 pub mod Apps
 pub mod Asked
+pub mod Blame
 pub mod Caches
 pub mod Check
 pub mod Convert
@@ -16,4 +17,5 @@ pub mod Run
 pub mod Set
 pub mod Split
 pub mod Sweep
+pub mod TraceLayouts
 pub mod Words

@@ -25,8 +25,10 @@ use Rattle.command_line.specs.Caches.{asked_of_caches, caches_inputs, caches_mea
 use Rattle.command_line.specs.Caches.{CachesDemand, caches_outputs, caches_usage}
 use Rattle.command_line.specs.Place.{place_usage, PlaceDemand, asked_of_place, place_inputs}
 use Rattle.command_line.specs.Place.{place_meaning, place_outputs}
-use Rattle.command_line.specs.Misses.{misses_usage, MissesDemand, asked_of_misses, misses_inputs}
-use Rattle.command_line.specs.Misses.{misses_meaning, misses_outputs}
+use Rattle.command_line.specs.TraceLayouts.{LayoutDemand, layout_inputs, layout_meaning}
+use Rattle.command_line.specs.TraceLayouts.{layout_outputs}
+use Rattle.command_line.specs.Misses.{misses_usage, asked_of_misses}
+use Rattle.command_line.specs.Blame.{blame_usage, asked_of_blame}
 use Rattle.command_line.specs.Explain.{explain_usage, ExplainDemand, asked_of_explain}
 use Rattle.command_line.specs.Explain.{explain_inputs, explain_meaning, explain_outputs}
 use Rattle.command_line.specs.declared.demand.Demand as code
@@ -47,7 +49,8 @@ pub data Demand : Type 0 where
   sweep : SweepDemand → Demand
   caches : CachesDemand → Demand
   place : PlaceDemand → Demand
-  misses : MissesDemand → Demand
+  misses : LayoutDemand → Demand
+  blame : LayoutDemand → Demand
   explain : ExplainDemand → Demand
 
 abbrev pub meaning : code.Demand → Demand
@@ -60,7 +63,8 @@ meaning (code_demand.Convert options) = convert (convert_meaning options)
 meaning (code_demand.Sweep options) = sweep (sweep_meaning options)
 meaning (code_demand.Caches options) = caches (caches_meaning options)
 meaning (code_demand.Place options) = place (place_meaning options)
-meaning (code_demand.Misses options) = misses (misses_meaning options)
+meaning (code_demand.Misses options) = misses (layout_meaning options)
+meaning (code_demand.Blame options) = blame (layout_meaning options)
 meaning (code_demand.Explain options) = explain (explain_meaning options)
 
 -- a command as words name it: its name, its usage line, and what words ask of it
@@ -85,6 +89,7 @@ commands =
     ∷ named (codes "caches") caches_usage asked_of_caches caches
     ∷ named (codes "place") place_usage asked_of_place place
     ∷ named (codes "misses") misses_usage asked_of_misses misses
+    ∷ named (codes "blame") blame_usage asked_of_blame blame
     ∷ named (codes "explain") explain_usage asked_of_explain explain
     ∷ []
 
@@ -138,7 +143,8 @@ terms_of (place demand) =
     record (terms_again demand.trace (place_inputs demand) (place_outputs demand)) {
       IsWithin = IsTrue (is_line_size demand.size);
     }
-terms_of (misses demand) = terms_once demand.trace (misses_inputs demand) (misses_outputs demand)
+terms_of (misses demand) = terms_once demand.trace (layout_inputs demand) (layout_outputs demand)
+terms_of (blame demand) = terms_once demand.trace (layout_inputs demand) (layout_outputs demand)
 terms_of (explain demand) = terms (explain_inputs demand) (explain_outputs demand)
 
 -- ---- what follows from the rows

@@ -6,13 +6,13 @@ use crate::check::CheckOptions;
 use crate::convert::ConvertOptions;
 use crate::explain::ExplainOptions;
 use crate::generate::GenOptions;
-use crate::misses::MissesOptions;
 use crate::place::PlaceOptions;
 use crate::reason::Reason;
 use crate::replay::ReplayOptions;
 use crate::run::RunOptions;
 use crate::split::SplitOptions;
 use crate::sweep::SweepOptions;
+use crate::trace_layout::LayoutOptions;
 use std::alloc::AllocError;
 
 /// What the words ask for: a command, with its options.
@@ -40,7 +40,9 @@ pub enum Demand<'a> {
     /// Give the words of an object of a trace new places, and count again.
     Place(PlaceOptions<'a>),
     /// Tell what the sharing of each line costs in a trace.
-    Misses(MissesOptions<'a>),
+    Misses(LayoutOptions<'a>),
+    /// Print which instructions and which harts take the lines of a trace from each other.
+    Blame(LayoutOptions<'a>),
     /// Run a program, and tell which instructions take one line from each other.
     Explain(ExplainOptions<'a>),
 }

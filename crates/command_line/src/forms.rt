@@ -2,14 +2,15 @@
 ghost use Rattle.std.specs.Prelude.{◌≡◌, ◌≢◌, IfOk, IfErr, [], true};
 ghost use Rattle.clap.specs.Words.{app_of, fault_of, first_of, found_of, is_simple_and_free};
 ghost use Rattle.clap.specs.Words.{matches_of, rows_of};
-ghost use Rattle.command_line.specs.Apps.{form_app, plain_app, with_option, with_options};
+ghost use Rattle.command_line.specs.Apps.{form_app, plain_app, with_flag, with_option, with_options};
 ghost use Rattle.command_line.specs.Apps.{with_word, with_words};
+ghost use Rattle.command_line.specs.Asked.{is_flagged};
 ghost use Rattle.command_line.specs.Demands.{names_of, text_of, texts, UnlessMemory};
 
 use crate::demand::WordsFault;
 use crate::reason::Reason;
 use clap::error::ErrorKind;
-use clap::{Arg, ArgMatches, Command};
+use clap::{Arg, ArgAction, ArgMatches, Command};
 use std::alloc::{AllocError, Global};
 
 // A command without arguments. `--help` is a word like any other.
@@ -41,6 +42,18 @@ fn with_option<'a>(
         ≡ with_option (app_of command.entry) name.entry.now) }
 {
     command.arg(Arg::new(alloc, name).long(name))
+}
+
+// The command with the flag `--name` more.
+fn with_flag<'a>(
+    alloc: Global,
+    command: Command<'a>,
+    name: &'a str,
+) -> Result<Command<'a>, AllocError>
+    ensures { IfOk result (λ added. app_of added
+        ≡ with_flag (app_of command.entry) name.entry.now) }
+{
+    command.arg(Arg::new(alloc, name).long(name).action(ArgAction::SetTrue))
 }
 
 // The command with each of these positional words more.
@@ -138,9 +151,44 @@ pub fn matches_of<'a>(
     matches_by(command, words)
 }
 
+// The same of a command that has a flag more.
+pub fn matches_with_flag<'a>(
+    alloc: Global,
+    name: &'a str,
+    positional: &[&'a str],
+    options: &[&'a str],
+    flag: &'a str,
+    words: &'a [String],
+) -> Result<ArgMatches<'a>, WordsFault<'a>>
+    requires { is_simple_and_free (with_flag (form_app name.now (names_of positional.now)
+        (names_of options.now)) flag.now) ≡ true }
+    ensures taken { IfOk result (λ matches. fault_of (with_flag (form_app name.entry.now
+        (names_of positional.now) (names_of options.now)) flag.entry.now) (texts words.now) ≡ []) }
+    ensures rows { IfOk result (λ matches. rows_of (found_of matches)
+        ≡ matches_of (with_flag (form_app name.entry.now (names_of positional.now)
+        (names_of options.now)) flag.entry.now) (texts words.now)) }
+    ensures refused { IfErr result (λ fault. UnlessMemory fault (fault_of (with_flag
+        (form_app name.entry.now (names_of positional.now) (names_of options.now))
+        flag.entry.now) (texts words.now) ≢ [])) }
+{
+    let plain = form_command(alloc, name, positional, options)?;
+    let command = with_flag(alloc, plain, flag)?;
+    matches_by(command, words)
+}
+
 // The value that an argument got, if it got one.
 pub fn value_of<'a>(matches: &ArgMatches<'a>, name: &str) -> Option<&'a str>
     ensures { text_of result ≡ first_of name.now (rows_of (found_of matches.now)) }
 {
     matches.get_str(name)
+}
+
+// Whether a flag is among the words.
+pub fn is_set(matches: &ArgMatches<'_>, name: &str) -> bool
+    ensures { result ≡ is_flagged name.now (rows_of (found_of matches.now)) }
+{
+    match value_of(matches, name) {
+        Some(value) => value == "true",
+        None => false,
+    }
 }

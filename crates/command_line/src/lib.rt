@@ -6,10 +6,12 @@
 //! positional.
 //!
 //! A command is a file here and one in specs/, with its options and what they ask for, and a row in
-//! each table: `read_command`, [`USAGE`], [`Demand`], and those of specs/Words.antt.
+//! each table: `read_command`, [`USAGE`], [`Demand`], and those of specs/Words.antt. Commands that
+//! take the same options share them: a trace under a layout is [`LayoutOptions`].
 #![tactic(auto)]
 
 mod address;
+mod blame;
 mod bounds;
 mod caches;
 mod check;
@@ -28,6 +30,7 @@ mod run;
 mod set;
 mod split;
 mod sweep;
+mod trace_layout;
 mod words;
 
 pub use bounds::what_is_asked_is_bounded;
@@ -37,11 +40,11 @@ pub use convert::ConvertOptions;
 pub use demand::{Demand, WordsFault};
 pub use explain::ExplainOptions;
 pub use generate::GenOptions;
-pub use misses::MissesOptions;
 pub use place::PlaceOptions;
 pub use reason::{Reason, WrongChange};
 pub use replay::ReplayOptions;
 pub use run::RunOptions;
 pub use split::SplitOptions;
 pub use sweep::SweepOptions;
+pub use trace_layout::LayoutOptions;
 pub use words::{USAGE, read_words};

@@ -89,6 +89,8 @@ pub enum Reason<'a> {
     },
     /// The word for the place of a cut is no number.
     Place(Option<&'a str>),
+    /// The pcs of a trace are asked for, and no trace.
+    NoTrace,
     /// A file that is written has this name, and so has another one.
     SameName(&'a str),
 }
@@ -263,6 +265,9 @@ impl Reason<'_> {
             }
             Reason::Place(word) => {
                 number_text(alloc, "", word.unwrap_or(""), "is no place", PLACE)
+            }
+            Reason::NoTrace => {
+                String::from_str(alloc, "--pcs is for a trace, and --trace is missing")
             }
             Reason::SameName(name) => {
                 format!(in alloc;

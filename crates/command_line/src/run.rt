@@ -1,14 +1,14 @@
 // The command `run`.
 ghost use Rattle.std.specs.Prelude.{◌≡◌, IfOk, IfErr, Some, None, option_map};
 ghost use Rattle.clap.specs.Words.{found_of, rows_of};
-ghost use Rattle.command_line.specs.Run.{asked_of_run, run_inputs, run_meaning, run_of};
-ghost use Rattle.command_line.specs.Run.{run_outputs};
+ghost use Rattle.command_line.specs.Run.{asked_of_run, lacks_trace, run_in, run_inputs};
+ghost use Rattle.command_line.specs.Run.{run_meaning, run_of, run_outputs};
 ghost use Rattle.command_line.specs.Demands.{texts, UnlessMemory};
 ghost use Rattle.command_line.specs.Names.{are_apart, is_named};
 ghost use Rattle.command_line.specs.Words.{IsBounded, given_apart, meaning, run};
 
 use crate::demand::{Demand, WordsFault};
-use crate::forms::{matches_of, value_of};
+use crate::forms::{is_set, matches_with_flag, value_of};
 use crate::names::is_given;
 use crate::reason::Reason;
 use crate::set::{given_changes, wrong_changes};
@@ -27,6 +27,8 @@ pub struct RunOptions<'a> {
     pub schedule: Option<&'a str>,
     /// The name under which the trace is written, where one is given.
     pub trace: Option<&'a str>,
+    /// Whether the trace tells the pc of each access. Then there is a trace.
+    pub pcs: bool,
     /// The name under which what the guest writes is written, where one is given.
     pub output: Option<&'a str>,
     /// The numbers in the place of those of the settings.
@@ -71,7 +73,7 @@ fn repeated<'a>(options: &RunOptions<'a>) -> &'a str {
 
 // What the values of a `run` ask for.
 fn options_in<'a>(matches: &ArgMatches<'a>) -> Option<RunOptions<'a>>
-    ensures { option_map run_meaning result ≡ run_of (rows_of (found_of matches.now)) }
+    ensures { option_map run_meaning result ≡ run_in (rows_of (found_of matches.now)) }
 {
     let program = value_of(matches, "program")?;
     let set = given_changes(value_of(matches, "set"))?;
@@ -80,9 +82,17 @@ fn options_in<'a>(matches: &ArgMatches<'a>) -> Option<RunOptions<'a>>
         settings: value_of(matches, "settings"),
         schedule: value_of(matches, "schedule"),
         trace: value_of(matches, "trace"),
+        pcs: is_set(matches, "pcs"),
         output: value_of(matches, "output"),
         set,
     })
+}
+
+// Whether pcs are asked for, and no trace.
+fn lacks_trace(options: &RunOptions<'_>) -> bool
+    ensures { result ≡ lacks_trace (run_meaning options.now) }
+{
+    options.pcs && options.trace.is_none()
 }
 
 // Why they ask for nothing.
@@ -90,7 +100,7 @@ fn refusal<'a>(matches: &ArgMatches<'a>) -> Reason<'a> {
     wrong_changes(value_of(matches, "set")).unwrap_or(Reason::Missing("PROGRAM"))
 }
 
-// The same, with names apart.
+// The same, with names apart, and with a trace where pcs are asked for.
 fn demand_in<'a>(matches: &ArgMatches<'a>) -> Result<Demand<'a>, WordsFault<'a>>
     ensures accepted { IfOk result (λ demand.
         given_apart run (run_of (rows_of (found_of matches.now))) ≡ Some (meaning demand)) }
@@ -100,7 +110,9 @@ fn demand_in<'a>(matches: &ArgMatches<'a>) -> Result<Demand<'a>, WordsFault<'a>>
 {
     match options_in(matches) {
         Some(options) => {
-            if has_names_apart(&options) {
+            if lacks_trace(&options) {
+                Err(WordsFault::Usage(Reason::NoTrace))
+            } else if has_names_apart(&options) {
                 Ok(Demand::Run(options))
             } else {
                 Err(WordsFault::Usage(Reason::SameName(repeated(&options))))
@@ -118,11 +130,12 @@ pub fn read_run<'a>(alloc: Global, words: &'a [String]) -> Result<Demand<'a>, Wo
         (given_apart run (asked_of_run (texts words.now)) ≡ None)) }
     ensures bounded { IfOk result IsBounded }
 {
-    match matches_of(
+    match matches_with_flag(
         alloc,
         "run",
         &["program"],
         &["settings", "schedule", "trace", "output", "set"],
+        "pcs",
         words,
     ) {
         Ok(matches) => demand_in(&matches),

@@ -5,6 +5,7 @@ ghost use Rattle.command_line.specs.Demands.{texts, IsUsage, UnlessMemory};
 ghost use Rattle.command_line.specs.Words.{IsBounded, asked_of, demand_of, is_command, meaning};
 ghost use Rattle.command_line.specs.Words.{IsReadAs, with_names_apart};
 
+use crate::blame::read_blame;
 use crate::caches::read_caches;
 use crate::check::read_check;
 use crate::convert::read_convert;
@@ -22,7 +23,7 @@ use std::alloc::Global;
 
 /// A line for each command.
 pub const USAGE: &str = concat!(
-    "usage: predator run PROGRAM [--settings F] [--schedule F] [--trace F] [--output F]\n",
+    "usage: predator run PROGRAM [--settings F] [--schedule F] [--trace F] [--pcs] [--output F]\n",
     "usage: predator replay TRACE [--settings F] [--size N] [--shift N] [--save F] [--resume F]\n",
     "usage: predator check PROGRAM [--settings F]\n",
     "usage: predator split TRACE K A B\n",
@@ -32,6 +33,7 @@ pub const USAGE: &str = concat!(
     "usage: predator caches TRACE --size N --sets S --ways W\n",
     "usage: predator place TRACE NAME [--size N]\n",
     "usage: predator misses TRACE [--size N] [--shift N]\n",
+    "usage: predator blame TRACE [--size N] [--shift N]\n",
     "usage: predator explain PROGRAM BASE SIZE START [--settings F] [--schedule F]\n",
 );
 
@@ -59,6 +61,7 @@ fn read_command<'a>(
         "caches" => read_caches(alloc, words),
         "place" => read_place(alloc, words),
         "misses" => read_misses(alloc, words),
+        "blame" => read_blame(alloc, words),
         "explain" => read_explain(alloc, words),
         _ => Err(WordsFault::Usage(Reason::UnknownCommand(command))),
     }
@@ -69,8 +72,8 @@ fn read_command<'a>(
 /// Usage comes exactly where they name no command, the command refuses the words after it, a number
 /// is not decimal digits without leading zeros, below 2^64, the layout isn't allowed, a trace of
 /// more than 10^9 accesses is asked for, a size to sweep or of a line is none, `--set` names no key,
-/// one twice or no number, or the name of an output equals the name of another output or of an
-/// input. Want of memory may come before any of them but the first.
+/// one twice or no number, pcs are asked for without a trace, or the name of an output equals the
+/// name of another output or of an input. Want of memory may come before any of them but the first.
 pub fn read_words<'a>(alloc: Global, words: &'a [String]) -> Result<Demand<'a>, WordsFault<'a>>
     ensures accepted { IfOk result (λ demand. demand_of (texts words.now) ≡ Some (meaning demand)) }
     ensures refused { result ≢ Err WordsFault.NoMemory → (IsErrAnd result IsUsage)

@@ -32,7 +32,7 @@ const SHAPE_3: &str = "'--size 64 --sets 3 --ways 8' is no shape of caches: --si
     two from 4 to 1024, --sets one from 1 to 1024, --ways from 1 to 64, and sets times ways at \
     most 4096";
 
-const WRONG_WORDS: [(&str, &str); 41] = [
+const WRONG_WORDS: [(&str, &str); 42] = [
     ("", "the command is missing; see predator --help"),
     ("reply t", "'reply' is no command; see predator --help"),
     ("run p --fast=1", "unexpected argument '--fast' found"),
@@ -124,6 +124,13 @@ const WRONG_WORDS: [(&str, &str); 41] = [
             "--shift a multiple of 4 below the size",
         ),
     ),
+    (
+        "blame t --size 48 --shift 16",
+        concat!(
+            "'--size 48 --shift 16' is no layout: --size is a power of two from 4 to 1024, ",
+            "--shift a multiple of 4 below the size",
+        ),
+    ),
     ("run p --set quantum", "'quantum' in --set is no KEY=N"),
     (
         "run p --set quantum=1,turns=1",
@@ -174,7 +181,7 @@ fn the_wrong_word_is_named(rt: HostRuntime) -> Result<(), Fail> {
     Ok(())
 }
 
-const ADVICE: [(Status, &str); 10] = [
+const ADVICE: [(Status, &str); 11] = [
     (
         Status::Elf(ElfFault::BadFlags),
         "it has compressed instructions, floating-point registers or RV32E's registers: compile \
@@ -207,6 +214,11 @@ const ADVICE: [(Status, &str); 10] = [
         }),
         "its end tells of 3 accesses, and it has 0: the file is damaged or cut off; \
             docs/FORMATS.md says what stands where",
+    ),
+    (
+        Status::NoPcs,
+        "its accesses have no pcs: `predator run PROGRAM --pcs --trace F` writes them for a guest, \
+            `predator native --pcs --trace F -- PROGRAM` for a program of this machine",
     ),
     (
         Status::State(StateFault::WrongPosition {

@@ -9,7 +9,7 @@ use shelf::{Failing, MemoryShelf, ShelfError};
 use std::alloc::Global;
 use std::process::Abort;
 use std::test::Fail;
-use trace_format::TraceRecord;
+use trace_format::{TraceRecord, Version};
 use trace_passes::Observer;
 
 // A hart puts out its first instruction, and ends.
@@ -44,6 +44,7 @@ fn record(
     alloc: Global,
     shelf: &mut MemoryShelf,
     counter: &mut Counter,
+    version: Version,
     files: &[RunFile<'_>],
 ) -> Result<Result<bool, ShelfError>, Fail>
     requires { AreApart (names_of files.now) }
@@ -54,7 +55,7 @@ fn record(
         steps: 7,
         accesses: 0,
     };
-    match record_run(alloc, shelf, guest, counter, &[], files) {
+    match record_run(alloc, shelf, guest, counter, &[], version, files) {
         Ok(ending) => Ok(Ok(ending == wanted && counter.seen == 1)),
         Err(error) => Ok(Err(error)),
     }
@@ -72,15 +73,17 @@ fn file_for(content: Content) -> [RunFile<'static>; 1]
 #[derive(Clone, Copy)]
 struct Row {
     content: Content,
+    version: Version,
     failing: &'static [Failing],
     answer: Result<bool, ShelfError>,
     length: usize,
     front: &'static [u8],
 }
 
-const ROWS: [Row; 3] = [
+const ROWS: [Row; 4] = [
     Row {
         content: Content::Output,
+        version: Version::One,
         failing: &[],
         answer: Ok(true),
         length: 4,
@@ -88,14 +91,24 @@ const ROWS: [Row; 3] = [
     },
     Row {
         content: Content::Trace,
+        version: Version::One,
         failing: &[],
         answer: Ok(true),
         length: 45,
         front: b"PRDTRC01",
     },
+    Row {
+        content: Content::Trace,
+        version: Version::Three,
+        failing: &[],
+        answer: Ok(true),
+        length: 45,
+        front: b"PRDTRC03",
+    },
     // the calls are the begin, and an append of what waits at the end
     Row {
         content: Content::Trace,
+        version: Version::One,
         failing: &[Failing { call: 2, keep: 8 }],
         answer: Err(ShelfError::Failed),
         length: 8,
@@ -114,7 +127,7 @@ fn is_written(shelf: &MemoryShelf, row: &Row) -> bool {
 // Whether a recording ends as its row says.
 fn ends_as(alloc: Global, shelf: &mut MemoryShelf, row: &Row) -> Result<bool, Fail> {
     let files = file_for(row.content);
-    let answer = record(alloc, shelf, &mut Counter { seen: 0 }, &files)?;
+    let answer = record(alloc, shelf, &mut Counter { seen: 0 }, row.version, &files)?;
     Ok(answer == row.answer && is_written(shelf, row))
 }
 
@@ -146,7 +159,13 @@ fn recordings_end_as_their_rows_say(rt: HostRuntime) -> Result<(), Fail> {
 fn a_run_without_files_calls_no_shelf(rt: HostRuntime) -> Result<(), Fail> {
     let alloc = rt.alloc();
     let mut shelf = shelf_with(alloc, &[Failing { call: 1, keep: 0 }])?;
-    let answer = record(alloc, &mut shelf, &mut Counter { seen: 0 }, &[])?;
+    let answer = record(
+        alloc,
+        &mut shelf,
+        &mut Counter { seen: 0 },
+        Version::One,
+        &[],
+    )?;
     assert!(rt; answer == Ok(true));
     Ok(())
 }

@@ -5,6 +5,7 @@ use Rattle.command_line.specs.Words.{Demand}
 use Rattle.shelf.specs.Laws.Told.{told_map}
 use Rattle.shelf.specs.Shelf.{Files, Outside, content}
 use Rattle.trace_passes.specs.Passes.{Trace, trace_of}
+use Rattle.trace_passes.specs.declared.wanted.Wanted.{Wanted}
 use Rattle.command_files.specs.Readings.{IsAccepted, Reading}
 use Rattle.command_files.specs.Works.{Work, done_with}
 use Rattle.predator_cli.specs.Commands.{RepeatsReport, readings_of, work_of}
@@ -19,14 +20,14 @@ text_told says name files bytes text whole is =
     in
     ap (λ (b : List ℕ). work (trace_of b)) (sym whole) ∙ ap work is.is ∙ ap done_with is.same
 
-pub counted_answered : (d : Demand) (says : Trace → List ℕ) (name : List ℕ) (a b : Outside)
-    (text : List ℕ)
-    → readings_of d ≡ counted_readings name
+pub counted_answered : (d : Demand) (wanted : Wanted) (says : Trace → List ℕ) (name : List ℕ)
+    (a b : Outside) (text : List ℕ)
+    → readings_of d ≡ counted_readings wanted name
     → ((files : Files) → work_of d files ≡ counted_work says name files)
     → ((files : Files) → RepeatsReport d files)
-    → IsToTell says name a b text
+    → IsToTell wanted says name a b text
     → IsAnswered d a b text
-counted_answered d says name a b text readings works again ready = record {
+counted_answered d wanted says name a b text readings works again ready = record {
   accepted = subst (λ (rs : List Reading). IsAccepted rs a b) (sym readings) ready.accepted;
   work = told_map b.held (λ files whole. works files
       ∙ text_told says name files ready.read.bytes text whole ready.read.given) ready.read.whole;

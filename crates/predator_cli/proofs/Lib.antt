@@ -18,6 +18,7 @@ pub mod ReplayLaws
 pub mod Rows
 pub mod RunEnds
 pub mod RunLaws
+pub mod SitedRuns
 pub mod Sizes
 pub mod Sound
 pub mod SpelledAgain

@@ -44,37 +44,39 @@ use Rattle.takings.specs.Text.{table_lines}
 use Rattle.trace_format.specs.Rules.{touch_in, touches_in}
 use Rattle.trace_format.specs.declared.record.TraceRecord.{TraceRecord}
 use Rattle.trace_format.specs.declared.record.TraceRecord.TheVariants as records
+use Rattle.trace_format.specs.declared.record.Version.{Version}
 use Rattle.trace_passes.specs.Passes.{all_records}
 use Rattle.command_files.specs.SettingsFiles.{chosen_settings, levels_of, native_of}
 use Rattle.predator_cli.specs.Explain.{as_run, explain_work}
 use Rattle.predator_cli.specs.ListedCounts.{TellsCount, TellsListedCount}
-use Rattle.predator_cli.specs.Run.{run_for_demand, symbol_record, symbol_records}
+use Rattle.predator_cli.specs.Run.{run_for_demand, symbol_record, symbol_records, version_with}
 
 -- ---- the accesses of the sited list are those of the trace
 
-of_events : (events : List RunEvent)
-    → accesses_of (map sited (sited_among events)) ≡ touches_in (records_in events)
-of_events [] = refl
-of_events (quiet ∷ events) = of_events events
-of_events (touch a pc ∷ events) = ap (λ (xs : List Touch). a ∷ xs) (of_events events)
-of_events (alloc at size sites ∷ events) = of_events events
-of_events (free at ∷ events) = of_events events
-of_events (output at bytes ∷ events) = of_events events
+of_events : (v : Version) (events : List RunEvent)
+    → accesses_of (map sited (sited_among events)) ≡ touches_in (records_in v events)
+of_events v [] = refl
+of_events v (quiet ∷ events) = of_events v events
+of_events v (touch a pc ∷ events) = ap (λ (xs : List Touch). a ∷ xs) (of_events v events)
+of_events v (alloc at size sites ∷ events) = of_events v events
+of_events v (free at ∷ events) = of_events v events
+of_events v (output at bytes ∷ events) = of_events v events
 
-no_touch : (symbols : List Symbol) → touches_in (map symbol_record symbols) ≡ []
+pub no_touch : (symbols : List Symbol) → touches_in (map symbol_record symbols) ≡ []
 no_touch [] = refl
 no_touch (s ∷ symbols) = no_touch symbols
 
-of_trace : (harts : ℕ) (file : List ℕ) (r : Run)
-    → accesses_of (sited_run r) ≡ touches_in (all_records (trace_for harts (symbol_records file) r))
-of_trace harts file r =
+of_trace : (v : Version) (harts : ℕ) (file : List ℕ) (r : Run)
+    → accesses_of (sited_run r)
+    ≡ touches_in (all_records (trace_for v harts (symbol_records file) r))
+of_trace v harts file r =
     let symbols = symbol_records file in
     let last : List TraceRecord = records.End r.ending ∷ [] in
-    of_events r.events
-    ∙ sym (filter_map-append touch_in (symbols ++ records_in r.events) last
-    ∙ append-nil (touches_in (symbols ++ records_in r.events))
-    ∙ filter_map-append touch_in symbols (records_in r.events)
-    ∙ ap (λ (xs : List Touch). xs ++ touches_in (records_in r.events))
+    of_events v r.events
+    ∙ sym (filter_map-append touch_in (symbols ++ records_in v r.events) last
+    ∙ append-nil (touches_in (symbols ++ records_in v r.events))
+    ∙ filter_map-append touch_in symbols (records_in v r.events)
+    ∙ ap (λ (xs : List Touch). xs ++ touches_in (records_in v r.events))
     (no_touch (symbols_of file)))
 
 -- ---- a listed line begins within the first line of its layout
@@ -176,11 +178,12 @@ laid_by g is =
 pub tells_listed : (demand : ExplainDemand)
     → IsTrue (is_layout demand.layout.size demand.layout.offset) → (files : Files)
     → TellsListedCount demand files
-tells_listed demand allowed files = λ to_trace to_output f m same start.
+tells_listed demand allowed files = λ to_trace to_output pcs f m same start.
     let settings = chosen_settings demand.settings files in
     let r = run_for_demand (as_run demand) settings files in
     let symbols = symbol_records (content files demand.program) in
-    let t = touches_in (all_records (trace_for settings.harts symbols r)) in
+    let version = version_with pcs in
+    let t = touches_in (all_records (trace_for version settings.harts symbols r)) in
     let l = line_at demand.layout demand.base in
     let small = laid_by demand.layout allowed in
     let some_bytes : 0 < demand.layout.size = omega (arith, small) in
@@ -194,7 +197,7 @@ tells_listed demand allowed files = λ to_trace to_output f m same start.
     ∙ ap (λ (x : Line). line_count_since x f.start t) line
     ∙ ap (λ s. line_count_since l s t) start
     ∙ ap (λ (u : List Touch). line_count_since l demand.start u)
-    (sym (of_trace settings.harts (content files demand.program) r)) in
+    (sym (of_trace version settings.harts (content files demand.program) r)) in
     subst (λ n. TellsCount l demand.start n (explain_work demand files).text) (sym count) (
       r.ending,
       table_lines (kept_symbols (symbols_in symbols)) (kept_of l demand.start (sited_run r)),

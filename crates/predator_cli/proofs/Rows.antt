@@ -5,17 +5,18 @@ use Rattle.command_line.specs.Check.{CheckDemand}
 use Rattle.command_line.specs.Convert.{ConvertDemand}
 use Rattle.command_line.specs.Explain.{ExplainDemand}
 use Rattle.command_line.specs.Gen.{GenDemand}
-use Rattle.command_line.specs.Misses.{MissesDemand}
 use Rattle.command_line.specs.Place.{PlaceDemand}
 use Rattle.command_line.specs.Replay.{ReplayDemand}
 use Rattle.command_line.specs.Run.{RunDemand}
 use Rattle.command_line.specs.Split.{SplitDemand}
 use Rattle.command_line.specs.Sweep.{SweepDemand}
+use Rattle.command_line.specs.TraceLayouts.{LayoutDemand}
 use Rattle.command_line.specs.Words.{replay, check, run, split, gen, convert, sweep, caches}
-use Rattle.command_line.specs.Words.{place, misses, explain}
+use Rattle.command_line.specs.Words.{place, misses, blame, explain}
 use Rattle.shelf.specs.Shelf.{Files}
 use Rattle.predator_cli.specs.Again.{RunRepeats}
 use Rattle.predator_cli.specs.Apart.{PlaceKeepsApart}
+use Rattle.predator_cli.specs.Blame.{blame_readings, blame_work}
 use Rattle.predator_cli.specs.Caches.{caches_readings, caches_work}
 use Rattle.predator_cli.specs.Check.{check_readings, check_work}
 use Rattle.predator_cli.specs.Commands.{RepeatsReport, ReportIsRecounted, StaysWithinBudget}
@@ -70,9 +71,13 @@ module _ (files : Files) where
       × (work_of (place d) files ≡ place_work d files) × (is_copy (place d) ≡ false)
   place_row d = (refl, refl, refl)
 
-  pub misses_row : (d : MissesDemand) → (readings_of (misses d) ≡ misses_readings d)
+  pub misses_row : (d : LayoutDemand) → (readings_of (misses d) ≡ misses_readings d)
       × (work_of (misses d) files ≡ misses_work d files) × (is_copy (misses d) ≡ false)
   misses_row d = (refl, refl, refl)
+
+  pub blame_row : (d : LayoutDemand) → (readings_of (blame d) ≡ blame_readings d)
+      × (work_of (blame d) files ≡ blame_work d files) × (is_copy (blame d) ≡ false)
+  blame_row d = (refl, refl, refl)
 
   explain_row : (d : ExplainDemand) → (readings_of (explain d) ≡ explain_readings d)
       × (work_of (explain d) files ≡ explain_work d files) × (is_copy (explain d) ≡ false)

@@ -23,6 +23,7 @@ use Rattle.command_line.specs.Words.{inputs as inputs_of, outputs as outputs_of}
 use Rattle.settings.specs.declared.values.Settings.{Settings}
 use Rattle.guest.specs.Runs.{Run, output_of}
 use Rattle.trace_format.specs.declared.record.TraceRecord.{TraceRecord}
+use Rattle.trace_format.specs.declared.record.Version.{Version}
 use Rattle.trace_passes.specs.Passes.{Trace, refusal_of, spell_trace, trace_of}
 use Rattle.shelf.specs.Files.{AreCut, AreWritten, Output, bytes_for}
 use Rattle.shelf.specs.OnTheirWay.{AreApart, IsNew}
@@ -30,7 +31,8 @@ use Rattle.run_recorder.specs.Recorded.{IsKept, names_of, outputs_for, trace_for
 use Rattle.run_recorder.specs.declared.run_file.Content.TheVariants as Content
 use Rattle.run_recorder.specs.declared.run_file.RunFile.{RunFile}
 use Rattle.command_files.specs.Readings.{first_refusal}
-use Rattle.command_files.specs.SettingsFiles.{levels_of, native_of, settings_in, settings_readings}
+use Rattle.command_files.specs.SettingsFiles.{chosen_settings, levels_of, native_of, settings_in}
+use Rattle.command_files.specs.SettingsFiles.{settings_readings}
 use Rattle.command_files.specs.Statuses.{status_of_writing}
 use Rattle.command_files.specs.Works.{Work, done_with, output_for}
 use Rattle.command_files.specs.declared.status.Status.{Status}
@@ -38,7 +40,8 @@ use Rattle.command_files.specs.Laws.Settings.{settings_chosen, settings_pass}
 use Rattle.command_files.specs.Laws.Readings.{none_alone, passed}
 use Rattle.shelf.specs.Laws.Files.{AreCut-behind, AreWritten-behind}
 use Rattle.shelf.specs.Laws.Told.{told_both, told_still}
-use Rattle.predator_cli.specs.Again.{RunRepeats, whole_replay}
+use Rattle.predator_cli.specs.Again.{ReplayRepeatsRun, RunRepeats, RunTellsSites, TellsSites}
+use Rattle.predator_cli.specs.Again.{whole_replay}
 use Rattle.predator_cli.specs.Answer.{answer_of}
 use Rattle.predator_cli.specs.Commands.{RepeatsReport, work_of}
 use Rattle.predator_cli.specs.Meets.{IsFaulty, IsWorked}
@@ -51,6 +54,7 @@ use Rattle.predator_cli.specs.Run.{status_for}
 use Rattle.predator_cli.specs.Run.{trace_for_demand, work_of_run}
 use Rattle.predator_cli.specs.TraceFaults.{status_of_refusal}
 use Rattle.predator_cli.proofs.Ends.{accepted_answer}
+use Rattle.predator_cli.proofs.SitedRuns.{demand_sited, demand_text}
 use Rattle.predator_cli.proofs.SpelledAgain.{spelled_again, spelled_wanted}
 use Rattle.predator_cli.proofs.WriteEnds.{IsToWrite, names_in, or_false, still_to_write}
 use Rattle.predator_cli.proofs.WriteEnds.{writing_cut}
@@ -84,15 +88,15 @@ files_named options = named_so options.trace options.output
     named_so None (Some o) = refl
     named_so (Some t) (Some o) = refl
 
-files_left : (options : RunOptions) (harts : ℕ) (symbols : List TraceRecord) (r : Run)
-    → outputs_for harts symbols r (file_for options.trace Content.Trace ++ file_for options.output
+files_left : (options : RunOptions) (v : Version) (harts : ℕ) (symbols : List TraceRecord) (r : Run)
+    → outputs_for v harts symbols r (file_for options.trace Content.Trace ++ file_for options.output
     Content.Output) ≡ outputs_of_run
-    (run_meaning options) (trace_for harts symbols r) r
-files_left options harts symbols r = left_so options.trace options.output
+    (run_meaning options) (trace_for v harts symbols r) r
+files_left options v harts symbols r = left_so options.trace options.output
   where
-    left_so : (trace output : Option (Bor (List ℕ))) → outputs_for harts symbols r
+    left_so : (trace output : Option (Bor (List ℕ))) → outputs_for v harts symbols r
         (file_for trace Content.Trace ++ file_for output Content.Output)
-        ≡ output_for (text_of trace) (spell_trace (trace_for harts symbols r)) ++ output_for
+        ≡ output_for (text_of trace) (spell_trace (trace_for v harts symbols r)) ++ output_for
         (text_of output) (output_of r)
     left_so None None = refl
     left_so (Some t) None = refl
@@ -226,22 +230,49 @@ replay_answer d name later s t is none read =
     ∙ replay_work d name later s t is read
 
 -- of files that hold what was written
-repeats : (d : RunDemand) (s : Settings) (files : Files) (t : Trace) (r : Run) → IsKept t
-    → t.header.first ≡ 0
-    → settings_in d.settings files ≡ Ok s → answer_of (Some (run d)) files ≡ work_of_run d s t r
-    → RunRepeats d files
-repeats d s files t r good first is answer = λ name later named_so holds same.
-    let written : later name ≡ Some (spell_trace t) =
-    holds ∙ ap (λ (w : Work). bytes_for w.outputs name) answer
+written_trace : (d : RunDemand) (s : Settings) (files later : Files) (t : Trace) (r : Run)
+    (name : List ℕ) → answer_of (Some (run d)) files ≡ work_of_run d s t r → d.trace ≡ Some name
+    → later name ≡ bytes_for (answer_of (Some (run d)) files).outputs name
+    → content later name ≡ spell_trace t
+written_trace d s files later t r name answer named_so holds =
+    ap (λ o. unwrap_or o []) (holds ∙ ap (λ (w : Work). bytes_for w.outputs name) answer
     ∙ ap (λ x. bytes_for (output_for x (spell_trace t) ++ output_for d.output (output_of r)) name)
     named_so
-    ∙ found_bytes name (spell_trace t) (output_for d.output (output_of r)) in
-    let bytes : content later name ≡ spell_trace t = ap (λ o. unwrap_or o []) written in
+    ∙ found_bytes name (spell_trace t) (output_for d.output (output_of r)))
+
+replay_repeats : (d : RunDemand) (s : Settings) (files : Files) (t : Trace) (r : Run) → IsKept t
+    → t.header.first ≡ 0
+    → settings_in d.settings files ≡ Ok s → answer_of (Some (run d)) files ≡ work_of_run d s t r
+    → ReplayRepeatsRun d files
+replay_repeats d s files t r good first is answer = λ name later named_so holds same.
+    let bytes : content later name ≡ spell_trace t =
+    written_trace d s files later t r name answer named_so holds in
     let read : trace_of (content later name) ≡ Some t = ap trace_of bytes ∙ spelled_again t good in
     let none : refusal_of whole (content later name) ≡ None = ap (refusal_of whole) bytes
     ∙ spelled_wanted t good first in
     replay_answer d name later s t (same ∙ is) none read
     ∙ ap done_with (sym (ap (λ (w : Work). w.text) answer))
+
+tells_sites : (d : RunDemand) (s : Settings) (files : Files) (t : Trace) (r : Run) → IsKept t
+    → settings_in d.settings files ≡ Ok s → t ≡ trace_for_demand d s files
+    → answer_of (Some (run d)) files ≡ work_of_run d s t r → RunTellsSites d files
+tells_sites d s files t r good is traced answer = λ pcs name later named_so holds.
+    let read : trace_of (content later name) ≡ Some t =
+    ap trace_of (written_trace d s files later t r name answer named_so holds)
+    ∙ spelled_again t good in
+    (t, read, subst (λ (x : Settings). TellsSites d x files t)
+    (sym (settings_chosen d.settings files s is))
+    (subst (TellsSites d s files) (sym traced) (demand_sited d s files pcs)))
+
+repeats : (d : RunDemand) (s : Settings) (files : Files) (t : Trace) (r : Run) → IsKept t
+    → t.header.first ≡ 0
+    → settings_in d.settings files ≡ Ok s → t ≡ trace_for_demand d s files
+    → answer_of (Some (run d)) files ≡ work_of_run d s t r → RunRepeats d files
+repeats d s files t r good first is traced answer = record {
+  replay = replay_repeats d s files t r good first is answer;
+  sites = tells_sites d s files t r good is traced answer;
+  text = demand_text d (chosen_settings d.settings files) files;
+}
 
 run_repeats : (d : RunDemand) (s : Settings) (o : Option Files) (t : Trace) (r : Run) → IsKept t
     → t.header.first ≡ 0
@@ -250,9 +281,10 @@ run_repeats : (d : RunDemand) (s : Settings) (o : Option Files) (t : Trace) (r :
     → Told o (λ files. r ≡ run_for_demand d s files)
     → Told o (λ files. first_refusal (run_readings d) files ≡ None) → Told o (RepeatsReport (run d))
 run_repeats d s o t r good first read traced same accepts =
-    told_both o (λ files e answer. repeats d s files t r good first e answer) read
+    told_both o (λ files e f. f e) read
+    (told_both o (λ files told answer e. repeats d s files t r good first e told answer) traced
     (told_both o (λ files none w. accepted_answer (run d) files none ∙ w) accepts
-    (works d s o t r read traced same))
+    (works d s o t r read traced same)))
 
 -- what is to be written, before it is
 to_write : (d : RunDemand) (s : Settings) (t : Trace) (r : Run) (a m : Outside)
@@ -265,13 +297,13 @@ to_write d s t r a m ready = record {
 }
 
 -- the same where the files are those that the options name
-pub handed_on : (options : RunOptions) (harts : ℕ) (symbols : List TraceRecord) (r : Run)
+pub handed_on : (options : RunOptions) (v : Version) (harts : ℕ) (symbols : List TraceRecord) (r : Run)
     (files : List RunFile)
     → files ≡ file_for options.trace Content.Trace ++ file_for options.output Content.Output
-    → outputs_for harts symbols r files ≡ outputs_of_run (run_meaning options)
-    (trace_for harts symbols r) r
-handed_on options harts symbols r files is = ap (outputs_for harts symbols r) is
-    ∙ files_left options harts symbols r
+    → outputs_for v harts symbols r files ≡ outputs_of_run (run_meaning options)
+    (trace_for v harts symbols r) r
+handed_on options v harts symbols r files is = ap (outputs_for v harts symbols r) is
+    ∙ files_left options v harts symbols r
 
 pub shown_worked : (d : RunDemand) (s : Settings) (t : Trace) (old m b : Outside) (r : Run)
     (st : Status) (text : List ℕ)

@@ -10,6 +10,7 @@ use Rattle.base.specs.Lines.{is_line_size}
 use Rattle.clap.specs.Walk.{is_empty}
 use Rattle.clap.specs.Words.{Row, Text, fault_of, first_of, matches_of}
 use Rattle.command_line.specs.Asked.{asked}
+use Rattle.command_line.specs.Blame.{asked_of_blame}
 use Rattle.command_line.specs.Caches.{asked_of_caches}
 use Rattle.command_line.specs.Check.{asked_of_check}
 use Rattle.command_line.specs.Convert.{asked_of_convert}
@@ -24,9 +25,9 @@ use Rattle.command_line.specs.Replay.{asked_of_replay}
 use Rattle.command_line.specs.Run.{asked_of_run}
 use Rattle.command_line.specs.Split.{asked_of_split}
 use Rattle.command_line.specs.Sweep.{asked_of_sweep}
-use Rattle.command_line.specs.Words.{Demand, Named, asked_among, asked_of, caches, check, commands}
-use Rattle.command_line.specs.Words.{convert, demand_of, explain, gen, inputs, misses, outputs}
-use Rattle.command_line.specs.Words.{place, replay, run, split, sweep, with_names_apart}
+use Rattle.command_line.specs.Words.{Demand, Named, asked_among, asked_of, blame, caches, check}
+use Rattle.command_line.specs.Words.{commands, convert, demand_of, explain, gen, inputs, misses}
+use Rattle.command_line.specs.Words.{outputs, place, replay, run, split, sweep, with_names_apart}
 
 -- what a test lets through
 let_through : {A : Type 0} (b : Bool) (o : Option A) (x : A) → (if b then o else None) ≡ Some x
@@ -102,7 +103,8 @@ each_sized words =
     (also (mapped caches IsSized (asked_of_caches words) (λ d is. tt))
     (also (mapped place IsSized (asked_of_place words) (place_sized words))
     (also (mapped misses IsSized (asked_of_misses words) (λ d is. tt))
-    (also (mapped explain IsSized (asked_of_explain words) (λ d is. tt)) tt))))))))))
+    (also (mapped blame IsSized (asked_of_blame words) (λ d is. tt))
+    (also (mapped explain IsSized (asked_of_explain words) (λ d is. tt)) tt)))))))))))
 
 pub words_sized : (words : List Text) (d : Demand) → demand_of words ≡ Some d → IsSized d
 words_sized [] d is = absurd (none-some d is)

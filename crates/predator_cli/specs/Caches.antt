@@ -8,9 +8,10 @@ use Rattle.trace_passes.specs.Passes.{Trace, all_records}
 use Rattle.command_files.specs.Readings.{Reading}
 use Rattle.command_files.specs.Works.{Work}
 use Rattle.predator_cli.specs.Counting.{counted_readings, counted_work}
+use Rattle.predator_cli.specs.Replay.{whole}
 
 abbrev pub caches_readings : CachesDemand → List Reading
-caches_readings demand = counted_readings demand.trace
+caches_readings demand = counted_readings whole demand.trace
 
 -- what bounded caches count of each line of a trace, beside unbounded ones
 abbrev pub caches_text : CacheShape → Trace → List ℕ

@@ -2,12 +2,13 @@
 -- files that a command writes stand in the table of its words, in `command_line`.
 use Rattle.std.specs.Prelude.{Bool, true, false, List, Option, Some, None}
 use Rattle.command_line.specs.Words.{Demand, replay, check, run, split, gen, convert, sweep}
-use Rattle.command_line.specs.Words.{caches, place, misses, explain}
+use Rattle.command_line.specs.Words.{caches, place, misses, blame, explain}
 use Rattle.shelf.specs.Shelf.{Files}
 use Rattle.command_files.specs.Readings.{Reading}
 use Rattle.command_files.specs.Works.{Work}
 use Rattle.predator_cli.specs.Again.{RunRepeats}
 use Rattle.predator_cli.specs.Apart.{PlaceKeepsApart}
+use Rattle.predator_cli.specs.Blame.{blame_readings, blame_work}
 use Rattle.predator_cli.specs.Caches.{caches_readings, caches_work}
 use Rattle.predator_cli.specs.Check.{check_readings, check_work}
 use Rattle.predator_cli.specs.Convert.{convert_readings, convert_work}
@@ -75,6 +76,7 @@ command_of (place demand) =
       recounts = PlaceKeepsApart demand;
     }
 command_of (misses demand) = plain (misses_readings demand) (misses_work demand)
+command_of (blame demand) = plain (blame_readings demand) (blame_work demand)
 command_of (explain demand) =
     record (plain (explain_readings demand) (explain_work demand)) {
       repeats = TellsListedCount demand;

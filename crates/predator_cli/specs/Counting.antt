@@ -3,13 +3,14 @@ use Rattle.std.specs.Prelude.{◌≡◌, ℕ, List, [], ◌∷◌, Some}
 use Rattle.std.specs.Option.{option_map_or}
 use Rattle.shelf.specs.Shelf.{Files, Outside, content}
 use Rattle.trace_passes.specs.Passes.{Trace, trace_of}
+use Rattle.trace_passes.specs.declared.wanted.Wanted.{Wanted}
 use Rattle.command_files.specs.Readings.{IsAccepted, IsReadFrom, Reading}
 use Rattle.command_files.specs.Works.{Work, done_with}
-use Rattle.predator_cli.specs.Replay.{trace_reading, whole}
+use Rattle.predator_cli.specs.Replay.{trace_reading}
 
--- the one file that is read: a trace of any number of harts, from position 0 on
-abbrev pub counted_readings : List ℕ → List Reading
-counted_readings name = trace_reading (λ _. whole) name ∷ []
+-- the one file that is read: a trace as it is wanted
+abbrev pub counted_readings : Wanted → List ℕ → List Reading
+counted_readings wanted name = trace_reading (λ _. wanted) name ∷ []
 
 -- the text of the trace of a name
 abbrev pub counted_work : (Trace → List ℕ) → List ℕ → Files → Work
@@ -22,8 +23,8 @@ pub record IsTextOf (text : Trace → List ℕ) (bytes told : List ℕ) : Type 0
   pub is : trace_of bytes ≡ Some trace
   pub same : text trace ≡ told
 
--- the trace of a name was read, and nothing was changed; these bytes are its text
-pub record IsToTell (text : Trace → List ℕ) (name : List ℕ) (old now : Outside) (told : List ℕ)
-    : Type 0 where
-  pub accepted : IsAccepted (counted_readings name) old now
+-- the trace of a name was read as it is wanted, and nothing was changed; these bytes are its text
+pub record IsToTell (wanted : Wanted) (text : Trace → List ℕ) (name : List ℕ) (old now : Outside)
+    (told : List ℕ) : Type 0 where
+  pub accepted : IsAccepted (counted_readings wanted name) old now
   pub read : IsReadFrom now.held name (λ bytes. IsTextOf text bytes told)

@@ -1,5 +1,5 @@
 -- The command `explain`: what it reads, and what it tells of one line of a run.
-use Rattle.std.specs.Prelude.{◌≡◌, List, [], None}
+use Rattle.std.specs.Prelude.{◌≡◌, false, List, [], None}
 use Rattle.command_line.specs.Explain.{ExplainDemand}
 use Rattle.command_line.specs.Run.{RunDemand}
 use Rattle.guest.specs.Runs.{Run}
@@ -22,6 +22,7 @@ as_run demand = record {
   settings = demand.settings;
   schedule = demand.schedule;
   trace = None;
+  pcs = false;
   output = None;
 }
 

@@ -1,6 +1,7 @@
 pub mod Again
 pub mod Answer
 pub mod Apart
+pub mod Blame
 pub mod Caches
 pub mod Check
 pub mod Commands

@@ -1,6 +1,6 @@
 -- What is promised of `explain`: of a line that a run of the same files lists, it tells the count
 -- that is listed.
-use Rattle.std.specs.Prelude.{◌≡◌, ℕ, List, ◌∷◌, ◌++◌, Option, None}
+use Rattle.std.specs.Prelude.{◌≡◌, ℕ, Bool, List, ◌∷◌, ◌++◌, Option, None}
 use Rattle.base.specs.TextLines.{text_of}
 use Rattle.base.specs.declared.ending.Ending.{Ending}
 use Rattle.command_line.specs.Explain.{ExplainDemand}
@@ -26,8 +26,9 @@ listed_by_run demand files =
     (touches_in (all_records (trace_for_demand demand settings files)))
 
 -- the run of the same program under the same settings and schedule, whatever it writes
-abbrev pub run_beside : ExplainDemand → Option (List ℕ) → Option (List ℕ) → RunDemand
-run_beside demand trace output = record (as_run demand) { trace = trace; output = output }
+abbrev pub run_beside : ExplainDemand → Option (List ℕ) → Bool → Option (List ℕ) → RunDemand
+run_beside demand trace pcs output =
+    record (as_run demand) { trace = trace; pcs = pcs; output = output }
 
 -- the row of a line in a text of `explain`, behind the title and how the run ended, has this count
 abbrev pub TellsCount : Line → ℕ → ℕ → List ℕ → Type 0
@@ -39,7 +40,7 @@ TellsCount l start count text = (ending : Ending) × (rest : List TextLine) ×
 abbrev pub TellsListedCount : ExplainDemand → Files → Type 0
 TellsListedCount demand files =
     let l = line_at demand.layout demand.base in
-    (trace output : Option (List ℕ)) (f : Finding)
-    → Member f (listed_by_run (run_beside demand trace output) files)
+    (trace output : Option (List ℕ)) (pcs : Bool) (f : Finding)
+    → Member f (listed_by_run (run_beside demand trace pcs output) files)
     → range_of f.line ≡ range_of l → f.start ≡ demand.start
     → TellsCount l demand.start f.count (explain_work demand files).text

@@ -16,10 +16,11 @@ use Rattle.command_files.specs.Readings.{IsAccepted, Reading}
 use Rattle.command_files.specs.Works.{Work, done_or_refused}
 use Rattle.command_files.specs.declared.status.Status.TheVariants as status
 use Rattle.predator_cli.specs.Counting.{counted_readings}
+use Rattle.predator_cli.specs.Replay.{whole}
 
 -- each reading is of the same file, and is refused alike
 abbrev pub place_readings : PlaceDemand → List Reading
-place_readings demand = counted_readings demand.trace
+place_readings demand = counted_readings whole demand.trace
 
 -- all records of the trace that bytes are, none where they are no trace
 abbrev pub records_of : List ℕ → List TraceRecord

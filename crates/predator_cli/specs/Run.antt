@@ -1,6 +1,6 @@
 -- The command `run`: what it reads, and the report and the files that it gives of a run.
 use Rattle.std.specs.Prelude.{◌≡◌, ◌≢◌, ◌≤◌, ℕ, List, [], ◌∷◌, ◌++◌, ◌^◌, length, map, Option, Some}
-use Rattle.std.specs.Prelude.{None, Result, Ok, Err}
+use Rattle.std.specs.Prelude.{None, Result, Ok, Err, Bool, true, false}
 use Rattle.std.specs.List.{All}
 use Rattle.std.specs.Option.{option_map_or}
 use Rattle.command_line.specs.Run.{RunDemand}
@@ -24,6 +24,8 @@ use Rattle.objects.specs.Symbols.{Symbol}
 use Rattle.run_recorder.specs.Recorded.{IsSymbolRecord, trace_for}
 use Rattle.trace_format.specs.declared.record.TraceRecord.{TraceRecord}
 use Rattle.trace_format.specs.declared.record.TraceRecord.TheVariants as records
+use Rattle.trace_format.specs.declared.record.Version.{Version}
+use Rattle.trace_format.specs.declared.record.Version.TheVariants.{One, Three}
 use Rattle.trace_passes.specs.Passes.{Trace, spell_trace}
 use Rattle.run_recorder.specs.declared.run_file.Content.{Content}
 use Rattle.run_recorder.specs.declared.run_file.RunFile.{RunFile}
@@ -145,6 +147,11 @@ work_of_run demand settings t r = record {
   outputs = outputs_of_run demand t r;
 }
 
+-- the version of the trace of a run, with pcs and without
+abbrev pub version_with : Bool → Version
+version_with true = Three
+version_with false = One
+
 -- the run of the demand under settings, and its trace
 abbrev pub run_for_demand : RunDemand → Settings → Files → Run
 run_for_demand demand settings files =
@@ -152,7 +159,8 @@ run_for_demand demand settings files =
 
 abbrev pub trace_for_demand : RunDemand → Settings → Files → Trace
 trace_for_demand demand settings files =
-    trace_for settings.harts (symbol_records (content files demand.program))
+    trace_for (version_with demand.pcs) settings.harts
+    (symbol_records (content files demand.program))
     (run_for_demand demand settings files)
 
 abbrev pub run_work : RunDemand → Files → Work

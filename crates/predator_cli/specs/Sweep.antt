@@ -7,9 +7,10 @@ use Rattle.trace_passes.specs.Passes.{Trace, all_records}
 use Rattle.command_files.specs.Readings.{Reading}
 use Rattle.command_files.specs.Works.{Work}
 use Rattle.predator_cli.specs.Counting.{counted_readings, counted_work}
+use Rattle.predator_cli.specs.Replay.{whole}
 
 abbrev pub sweep_readings : SweepDemand → List Reading
-sweep_readings demand = counted_readings demand.trace
+sweep_readings demand = counted_readings whole demand.trace
 
 -- what every shift of a size counts in a trace
 abbrev pub sweep_text_of : ℕ → Trace → List ℕ

@@ -12,6 +12,7 @@ ghost use Rattle.predator_cli.specs.Commands.{StaysWithinBudget};
 ghost use Rattle.predator_cli.specs.Written.{OnlyAt, Writes};
 ghost use Rattle.shelf.specs.Shelf.{Files, Narrows, Told};
 
+use crate::blame::blame;
 use crate::check::check;
 use crate::convert::convert;
 use crate::endings::{refuse, refuse_words};
@@ -47,6 +48,7 @@ fn obey<S: Shelf>(alloc: Global, words: &[String], shelf: &mut S) -> Status
         Ok(Demand::Caches(options)) => tell_caches(alloc, &options, shelf),
         Ok(Demand::Place(options)) => place(alloc, &options, shelf),
         Ok(Demand::Misses(options)) => tell_misses(alloc, &options, shelf),
+        Ok(Demand::Blame(options)) => blame(alloc, &options, shelf),
         Ok(Demand::Explain(options)) => explain(alloc, &options, shelf),
         Err(WordsFault::Usage(_)) => refuse_words(shelf),
         Err(WordsFault::NoMemory) => refuse(alloc, shelf, Status::NoMemory),
@@ -75,16 +77,18 @@ fn obey<S: Shelf>(alloc: Global, words: &[String], shelf: &mut S) -> Status
 /// lines come to. `split` cuts a trace in two before one of its accesses, and prints how many
 /// accesses each half has; `convert` writes a trace in the other version, and prints which
 /// version that is and how many accesses there are. Both read a trace of at most 2^44 bytes to
-/// its end and judge it, and write under their names as they read it again. `sweep`, `caches`
-/// and `misses` pass over a whole trace: `sweep` prints what every shift of a line size counts,
-/// `caches` how many of each line's invalidations are left in private caches of a shape, and
-/// `misses` what the sharing of each of its lines costs. `place` reads such a trace three
-/// times: for the object that it is asked about, for who touches its words, and for what the
-/// accesses come to with each word at a new place. It prints these places; its status is
-/// `Place` where there is no such object, where it is too large, or where the addresses have no
-/// room for the new places. `explain` makes the run that `run` makes of the same files, with an
-/// eye on one line, and ends as it does; it writes no file and prints which instructions and
-/// which harts took the line from each other.
+/// its end and judge it, and write under their names as they read it again. `sweep`, `caches`,
+/// `misses` and `blame` pass over a whole trace: `sweep` prints what every shift of a line size
+/// counts, `caches` how many of each line's invalidations are left in private caches of a shape,
+/// `misses` what the sharing of each of its lines costs, and `blame` which instructions and which
+/// harts took each of its lines from each other. `blame` needs the pc of each access: its status
+/// is `NoPcs` exactly where the first 8 bytes are the magic of version 1 or 2, whatever is behind
+/// them. `place` reads a whole trace three times: for the object that it is asked about, for who
+/// touches its words, and for what the accesses come to with each word at a new place. It prints
+/// these places; its status is `Place` where there is no such object, where it is too large, or
+/// where the addresses have no room for the new places. `explain` makes the run that `run` makes
+/// of the same files, with an eye on one line, and ends as it does; it writes no file and prints
+/// which instructions and which harts took the line from each other.
 pub fn predator<S: Shelf>(alloc: Global, words: &[String], shelf: &mut S) -> Status
     // It ends as the words and the files ask, or by a fault of the outside before which nothing is
     // refused: for the files that are told still, so on a disk for all contents that agree with

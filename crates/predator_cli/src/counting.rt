@@ -1,15 +1,16 @@
 // How a command passes over a whole trace once, and ends with a text of it.
-ghost use Rattle.std.specs.Prelude.{◌≡◌, ◌∷◌, [], IfErr, IfOk, List, OnOk, Some, ℕ};
+ghost use Rattle.std.specs.Prelude.{◌≡◌, [], IfErr, IfOk, List, OnOk, Some, ℕ};
 ghost use Rattle.command_line.specs.Words.{Demand};
 ghost use Rattle.command_files.specs.Readings.{IsAccepted, IsStopped};
 ghost use Rattle.predator_cli.specs.Commands.{RepeatsReport, readings_of, work_of};
 ghost use Rattle.predator_cli.specs.Counting.{IsToTell, counted_readings, counted_work};
 ghost use Rattle.predator_cli.specs.Meets.{Meets};
-ghost use Rattle.predator_cli.specs.Replay.{trace_reading};
+ghost use Rattle.predator_cli.specs.Replay.{whole};
 ghost use Rattle.shelf.specs.Shelf.{Files, Outside};
 ghost use Rattle.trace_format.specs.Rules.{IsGoodHeader};
 ghost use Rattle.trace_format.specs.declared.record.Header.{Header as Head};
 ghost use Rattle.trace_passes.specs.Passes.{HasPassed, IsWanted, Trace};
+ghost use Rattle.trace_passes.specs.declared.wanted.Wanted.{Wanted as Wish};
 
 use crate::endings::answer;
 use crate::trace_faults::status_of_pass;
@@ -18,10 +19,11 @@ use shelf::Shelf;
 use std::alloc::Global;
 use trace_passes::{Observer, Passed, Wanted, pass};
 
-/// A whole trace: of any number of harts, from position 0 on.
+/// A whole trace: of any version and number of harts, from position 0 on.
 pub const WHOLE: Wanted = Wanted {
     harts: None,
     first: Some(0),
+    pcs: false,
 };
 
 /// Gives the records of the trace of a name to an observer, or says why the trace isn't taken.
@@ -37,9 +39,9 @@ pub fn see_trace<S: Shelf, O: Observer>(
     requires fresh { O.given observer.old observer.old [] }
     ensures passed { IfOk result (λ passed. HasPassed (S.outside shelf.new).held name.now passed
         (O.given observer.old observer.new)) }
-    ensures accepted { OnOk result (IsAccepted (trace_reading (λ _. wanted.now) name.now ∷ [])
+    ensures accepted { OnOk result (IsAccepted (counted_readings wanted.now name.now)
         (S.outside shelf.old) (S.outside shelf.new)) }
-    ensures stopped { IfErr result (IsStopped (trace_reading (λ _. wanted.now) name.now ∷ [])
+    ensures stopped { IfErr result (IsStopped (counted_readings wanted.now name.now)
         (S.outside shelf.old) (S.outside shelf.new)) }
 {
     match pass(alloc, shelf, name, wanted, observer) {
@@ -59,9 +61,9 @@ pub fn see_whole<S: Shelf, O: Observer>(
     requires fresh { O.given observer.old observer.old [] }
     ensures passed { IfOk result (λ passed. HasPassed (S.outside shelf.new).held name.now passed
         (O.given observer.old observer.new)) }
-    ensures accepted { OnOk result (IsAccepted (counted_readings name.now)
+    ensures accepted { OnOk result (IsAccepted (counted_readings whole name.now)
         (S.outside shelf.old) (S.outside shelf.new)) }
-    ensures stopped { IfErr result (IsStopped (counted_readings name.now)
+    ensures stopped { IfErr result (IsStopped (counted_readings whole name.now)
         (S.outside shelf.old) (S.outside shelf.new)) }
 {
     see_trace(alloc, shelf, name, &WHOLE, observer)
@@ -69,11 +71,12 @@ pub fn see_whole<S: Shelf, O: Observer>(
 
 /// Prints the text of a trace that was passed over, and ends.
 pub fn tell<S: Shelf>(shelf: &mut S, text: &[u8]) -> Status
-    ensures { (demand : Demand) (says : Trace → List ℕ) (name : List ℕ) (old : Outside)
-        → readings_of demand ≡ counted_readings name
+    ensures { (demand : Demand) (wanted : Wish) (says : Trace → List ℕ) (name : List ℕ)
+        (old : Outside)
+        → readings_of demand ≡ counted_readings wanted name
         → ((files : Files) → work_of demand files ≡ counted_work says name files)
         → ((files : Files) → RepeatsReport demand files)
-        → IsToTell says name old (S.outside shelf.old) text.now
+        → IsToTell wanted says name old (S.outside shelf.old) text.now
         → Meets (Some demand) old (S.outside shelf.new) result }
 {
     answer(shelf, text)

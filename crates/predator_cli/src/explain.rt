@@ -70,6 +70,7 @@ fn run_of<'a>(options: &ExplainOptions<'a>) -> RunOptions<'a>
         settings: options.settings,
         schedule: options.schedule,
         trace: None,
+        pcs: false,
         output: None,
         set: options.set,
     }

@@ -3,15 +3,16 @@
 //! `check` tells of a program file, `gen` makes a trace, `split` cuts one in two, `convert`
 //! writes one in the other version, `sweep` counts one under every shift of a line size,
 //! `caches` tells what is left of its invalidations in caches of a shape, `misses` what the
-//! sharing of each line costs, and `place` where each word of an object should stand so that no
-//! two harts share a line for its sake; `explain` runs a program and tells which instructions
-//! and which harts take one line from each other.
+//! sharing of each line costs, `blame` which instructions and which harts take each line from
+//! each other, and `place` where each word of an object should stand so that no two harts share
+//! a line for its sake; `explain` runs a program and tells of one line what `blame` tells of all.
 //!
 //! The call says what it answers by `answer_of` (specs/Answer.antt), over the definitions of
 //! `sharing_rules` and of `guest`; what it prints, writes and excuses at each end is `Meets`
 //! (specs/Meets.antt).
 #![tactic(auto)]
 
+mod blame;
 mod check;
 mod command;
 mod convert;

@@ -25,7 +25,7 @@ ghost use Rattle.predator_cli.specs.Meets.{Meets};
 ghost use Rattle.predator_cli.specs.Replay.{report_of};
 ghost use Rattle.predator_cli.specs.Run.{IsReady, file_for, outputs_of_run, run_for_demand};
 ghost use Rattle.predator_cli.specs.Run.{run_readings, schedule_in, schedule_readings, status_for};
-ghost use Rattle.predator_cli.specs.Run.{symbol_records, whole_run};
+ghost use Rattle.predator_cli.specs.Run.{symbol_records, version_with, whole_run};
 
 use crate::endings::{finish, refuse, stop};
 use crate::symbols::records_of;
@@ -43,7 +43,7 @@ use settings::Settings;
 use shelf::{Shelf, ShelfError};
 use sightings::Sightings;
 use std::alloc::Global;
-use trace_format::TraceRecord;
+use trace_format::{TraceRecord, Version};
 
 /// How the program ends after a run with this outcome.
 pub fn status_of(outcome: Outcome) -> Status
@@ -291,6 +291,13 @@ fn files_of<'a>(options: &RunOptions<'a>) -> ([RunFile<'a>; 2], usize)
     }
 }
 
+// The version of the trace, with pcs and without.
+fn version_with(pcs: bool) -> Version
+    ensures { result ≡ version_with pcs }
+{
+    if pcs { Version::Three } else { Version::One }
+}
+
 // What a run shows: how the program is to end, and its report.
 #[derive(Drop)]
 struct Shown {
@@ -304,6 +311,7 @@ fn show_run<S: Shelf>(
     shelf: &mut S,
     guest: Guest,
     symbols: &[TraceRecord],
+    version: Version,
     files: &[RunFile<'_>],
     sightings: &mut Sightings,
 ) -> Result<Shown, ShelfError>
@@ -321,17 +329,17 @@ fn show_run<S: Shelf>(
     ensures done { IfOk result (λ shown. kind_of shown.status ≡ done) }
     ensures text { (g : Grid) (v : Levels) → sightings.old ≡ nothing_sighted g v
         → IfOk result (λ shown. shown.text.items
-        ≡ report_of v g (trace_for guest.setup.harts symbols.now (rest_of guest))) }
+        ≡ report_of v g (trace_for version guest.setup.harts symbols.now (rest_of guest))) }
     ensures good { OnOk result (IsKept
-        (trace_for guest.setup.harts symbols.now (rest_of guest))) }
+        (trace_for version guest.setup.harts symbols.now (rest_of guest))) }
     ensures written { OnOk result (AreWritten
-        (outputs_for guest.setup.harts symbols.now (rest_of guest) files.now)
+        (outputs_for version guest.setup.harts symbols.now (rest_of guest) files.now)
         (S.outside shelf.old) (S.outside shelf.new)) }
     ensures cut { IfErr result (AreCut
-        (outputs_for guest.setup.harts symbols.now (rest_of guest) files.now)
+        (outputs_for version guest.setup.harts symbols.now (rest_of guest) files.now)
         (S.outside shelf.old) (S.outside shelf.new)) }
 {
-    match record_run(alloc, shelf, guest, sightings, symbols, files) {
+    match record_run(alloc, shelf, guest, sightings, symbols, version, files) {
         Ok(ending) => match sightings.report(alloc, &ending) {
             Ok(text) => Ok(Shown {
                 status: status_of(ending.outcome),
@@ -362,14 +370,14 @@ fn run_guest<S: Shelf>(
     ensures done { IfOk result (λ shown. kind_of shown.status ≡ done) }
     ensures text { IfOk result (λ shown. shown.text.items
         ≡ report_of (levels_of None loaded.settings) (native_of loaded.settings)
-        (trace_for loaded.settings.harts loaded.symbols.items (rest_of loaded.guest))) }
+        (trace_for (version_with options.now.pcs) loaded.settings.harts loaded.symbols.items (rest_of loaded.guest))) }
     ensures good { OnOk result (IsKept
-        (trace_for loaded.settings.harts loaded.symbols.items (rest_of loaded.guest))) }
+        (trace_for (version_with options.now.pcs) loaded.settings.harts loaded.symbols.items (rest_of loaded.guest))) }
     ensures written { OnOk result (AreWritten (outputs_of_run (run_meaning options.now)
-        (trace_for loaded.settings.harts loaded.symbols.items (rest_of loaded.guest))
+        (trace_for (version_with options.now.pcs) loaded.settings.harts loaded.symbols.items (rest_of loaded.guest))
         (rest_of loaded.guest)) (S.outside shelf.old) (S.outside shelf.new)) }
     ensures cut { IfErr result (AreCut (outputs_of_run (run_meaning options.now)
-        (trace_for loaded.settings.harts loaded.symbols.items (rest_of loaded.guest))
+        (trace_for (version_with options.now.pcs) loaded.settings.harts loaded.symbols.items (rest_of loaded.guest))
         (rest_of loaded.guest)) (S.outside shelf.old) (S.outside shelf.new)) }
 {
     let (files, count) = files_of(options);
@@ -385,6 +393,7 @@ fn run_guest<S: Shelf>(
         shelf,
         guest,
         &symbols,
+        version_with(options.pcs),
         &files[..count],
         &mut sightings,
     )
@@ -406,7 +415,7 @@ fn run_loaded<S: Shelf>(
     requires budget { loaded.guest.setup.budget ≡ loaded.settings.budget }
     ensures { (old : Outside)
         → IsReady (run_meaning options.now) loaded.settings
-        (trace_for loaded.settings.harts loaded.symbols.items (rest_of loaded.guest))
+        (trace_for (version_with options.now.pcs) loaded.settings.harts loaded.symbols.items (rest_of loaded.guest))
         (rest_of loaded.guest) old (S.outside shelf.old)
         → Meets (Some (asks (run_meaning options.now))) old (S.outside shelf.new) result }
 {

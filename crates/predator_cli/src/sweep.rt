@@ -29,7 +29,7 @@ fn see_shifts<S: Shelf>(
     requires stands { StandsFor [] sweep }
     requires begins { begins_at sweep 0 }
     requires fresh { HasSwept sweep sweep [] }
-    ensures counted { IfOk result (λ text. IsToTell (sweep_text_of options.now.size)
+    ensures counted { IfOk result (λ text. IsToTell whole (sweep_text_of options.now.size)
         options.now.trace.now (S.outside shelf.old) (S.outside shelf.new) text.items) }
     ensures stopped { IfErr result (IsStopped (sweep_readings (sweep_meaning options.now))
         (S.outside shelf.old) (S.outside shelf.new)) }
@@ -50,7 +50,7 @@ fn count_shifts<S: Shelf>(
     shelf: &mut S,
 ) -> Result<Vec<u8>, Status>
     requires { IsTrue (is_swept_size options.now.size) }
-    ensures counted { IfOk result (λ text. IsToTell (sweep_text_of options.now.size)
+    ensures counted { IfOk result (λ text. IsToTell whole (sweep_text_of options.now.size)
         options.now.trace.now (S.outside shelf.old) (S.outside shelf.new) text.items) }
     ensures stopped { IfErr result (IsStopped (sweep_readings (sweep_meaning options.now))
         (S.outside shelf.old) (S.outside shelf.new)) }

@@ -22,7 +22,7 @@ fn count_caches<S: Shelf>(
     options: &CachesOptions<'_>,
     shelf: &mut S,
 ) -> Result<Vec<u8>, Status>
-    ensures counted { IfOk result (λ text. IsToTell (caches_text options.now.shape)
+    ensures counted { IfOk result (λ text. IsToTell whole (caches_text options.now.shape)
         options.now.trace.now (S.outside shelf.old) (S.outside shelf.new) text.items) }
     ensures stopped { IfErr result (IsStopped (caches_readings (caches_meaning options.now))
         (S.outside shelf.old) (S.outside shelf.new)) }

@@ -1,6 +1,6 @@
 // The command `misses`.
 ghost use Rattle.std.specs.Prelude.{IfErr, IfOk, Some};
-ghost use Rattle.command_line.specs.Misses.{misses_meaning};
+ghost use Rattle.command_line.specs.TraceLayouts.{layout_meaning};
 ghost use Rattle.command_line.specs.Words.{misses as asks};
 ghost use Rattle.command_files.specs.Readings.{IsStopped};
 ghost use Rattle.predator_cli.specs.Counting.{IsToTell};
@@ -11,7 +11,7 @@ use crate::counting::{see_whole, tell};
 use crate::endings::stop;
 use base::NoMemory;
 use command_files::Status;
-use command_line::MissesOptions;
+use command_line::LayoutOptions;
 use misses::MissSightings;
 use shelf::Shelf;
 use std::alloc::Global;
@@ -19,12 +19,12 @@ use std::alloc::Global;
 // The misses of the trace of a name, or why there is no text of them.
 fn count_misses<S: Shelf>(
     alloc: Global,
-    options: &MissesOptions<'_>,
+    options: &LayoutOptions<'_>,
     shelf: &mut S,
 ) -> Result<Vec<u8>, Status>
-    ensures counted { IfOk result (λ text. IsToTell (misses_text options.now.layout)
+    ensures counted { IfOk result (λ text. IsToTell whole (misses_text options.now.layout)
         options.now.trace.now (S.outside shelf.old) (S.outside shelf.new) text.items) }
-    ensures stopped { IfErr result (IsStopped (misses_readings (misses_meaning options.now))
+    ensures stopped { IfErr result (IsStopped (misses_readings (layout_meaning options.now))
         (S.outside shelf.old) (S.outside shelf.new)) }
 {
     let mut sightings = MissSightings::new(alloc, options.layout);
@@ -39,8 +39,8 @@ fn count_misses<S: Shelf>(
 
 /// Tells what the sharing of each line costs in the trace of a name: its cold misses, those that
 /// bring what a hart needs, and those for nothing.
-pub fn tell_misses<S: Shelf>(alloc: Global, options: &MissesOptions<'_>, shelf: &mut S) -> Status
-    ensures { Meets (Some (asks (misses_meaning options.now)))
+pub fn tell_misses<S: Shelf>(alloc: Global, options: &LayoutOptions<'_>, shelf: &mut S) -> Status
+    ensures { Meets (Some (asks (layout_meaning options.now)))
         (S.outside shelf.old) (S.outside shelf.new) result }
 {
     match count_misses(alloc, options, shelf) {

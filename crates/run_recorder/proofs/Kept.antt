@@ -1,9 +1,10 @@
 -- The trace of a run keeps the rules of the format.
 use Rattle.std.proofs.Common.{◌≡◌, ℕ, suc, ◌+◌, ◌*◌, ◌^◌, ◌≤◌, List, [], ◌∷◌, ◌++◌, length, refl}
-use Rattle.std.proofs.Common.{None, sym, ap, ◌∙◌, arith}
+use Rattle.std.proofs.Common.{Option, None, Some, sym, ap, ◌∙◌, arith}
 use Rattle.std.specs.Int.{w32, to_le_bytes}
 use Rattle.std.specs.List.{All, flat_map}
 use Rattle.std.proofs.Math.Nat.{mul-suc}
+use Rattle.std.proofs.lemmas.Bool.Decides.{nat_tests}
 use Rattle.std.proofs.lemmas.List.{length-append}
 use Rattle.std.proofs.lemmas.List.Elements.{All-append, All-cons, All-head, All-nil, All-tail}
 use Rattle.std.proofs.lemmas.List.Elements.{All-weaker}
@@ -14,32 +15,34 @@ use Rattle.base.specs.declared.ending.Outcome.{Outcome}
 use Rattle.base.specs.declared.ending.Outcome.TheVariants.{Exit, Budget, Deadlock, Trap, Part}
 use Rattle.trace_format.specs.declared.record.TraceRecord.{TraceRecord}
 use Rattle.trace_format.specs.declared.record.TraceRecord.TheVariants as records
-use Rattle.trace_format.specs.declared.record.Version.TheVariants.{One}
+use Rattle.trace_format.specs.declared.before.Before.{Before}
+use Rattle.trace_format.specs.declared.record.Version.{Version}
+use Rattle.trace_format.specs.declared.record.Version.TheVariants.{One, Two, Three}
+use Rattle.trace_format.specs.Numbers.{distance, groups}
 use Rattle.trace_format.specs.Rules.{FitsFields, IsAllowedEnd, IsGoodRecord, IsInner, IsWritable}
 use Rattle.trace_format.specs.Rules.{longest_trace}
 use Rattle.trace_format.specs.Rules.{touches_in as touches_among}
 use Rattle.trace_format.specs.Spelling.{spell, spell_alloc, spell_ending, spell_free, spell_header}
-use Rattle.trace_format.specs.Spelling.{nothing_before, spell_record, spell_symbol}
-use Rattle.trace_format.specs.Spelling.{spell_touch}
+use Rattle.trace_format.specs.Spelling.{before_after, nothing_before, pc_before, pc_or_zero}
+use Rattle.trace_format.specs.Spelling.{spell_record, spell_records, spell_symbol, spell_touch}
+use Rattle.trace_format.specs.Writing.{before_behind}
 use Rattle.guest.specs.GuestCalls.{RunEvent, quiet, touch, alloc, free, output}
 use Rattle.guest.specs.SeenTurns.{IsEndOf}
 use Rattle.guest.specs.Runs.{IsShort, Run, touch_in, touches_in}
 use Rattle.guest.specs.declared.setup.Setup.{Setup}
-use Rattle.run_recorder.specs.Recorded.{IsKept, IsSymbolRecord, record_in, records_in, records_of}
-use Rattle.run_recorder.specs.Recorded.{trace_for}
-use Rattle.trace_format.specs.Laws.Writing.{spelled_each}
-use Rattle.run_recorder.proofs.Records.{touches-among, touches-in, traced, traced-append}
-use Rattle.run_recorder.proofs.Records.{traced-one}
+use Rattle.run_recorder.specs.Recorded.{IsKept, IsSymbolRecord, pc_for, record_in, records_in}
+use Rattle.run_recorder.specs.Recorded.{records_of, trace_for}
+use Rattle.run_recorder.proofs.Records.{spell-append, touches-among, touches-in}
 
 -- ---- symbols
 
-pub symbol_good : (harts : ℕ) (item : TraceRecord) → IsSymbolRecord item
-    → IsGoodRecord One harts item
-symbol_good harts (records.Touch a pc) is = absurd is
-symbol_good harts (records.Alloc addr size sites) is = absurd is
-symbol_good harts (records.Free addr) is = absurd is
-symbol_good harts (records.Symbol kind addr size name) is = is
-symbol_good harts (records.End e) is = absurd is
+pub symbol_good : (v : Version) (harts : ℕ) (item : TraceRecord) → IsSymbolRecord item
+    → IsGoodRecord v harts item
+symbol_good v harts (records.Touch a pc) is = absurd is
+symbol_good v harts (records.Alloc addr size sites) is = absurd is
+symbol_good v harts (records.Free addr) is = absurd is
+symbol_good v harts (records.Symbol kind addr size name) is = is
+symbol_good v harts (records.End e) is = absurd is
 
 pub symbol_writable : (item : TraceRecord) → IsSymbolRecord item → IsWritable item
 symbol_writable (records.Touch a pc) is = absurd is
@@ -84,48 +87,47 @@ symbol_long : (kind : SymbolKind) (addr size : ℕ) (name : List ℕ)
 unfolding spell_symbol
 symbol_long kind addr size name = twelve_more (length name)
 
-symbol_short : (item : TraceRecord) → IsSymbolRecord item
-    → length (spell_record One nothing_before item) ≤ 1036
-symbol_short (records.Touch a pc) is = absurd is
-symbol_short (records.Alloc addr size sites) is = absurd is
-symbol_short (records.Free addr) is = absurd is
-symbol_short (records.Symbol kind addr size name) is = omega
+symbol_short : (v : Version) (before : Before) (item : TraceRecord) → IsSymbolRecord item
+    → length (spell_record v before item) ≤ 1036
+symbol_short v before (records.Touch a pc) is = absurd is
+symbol_short v before (records.Alloc addr size sites) is = absurd is
+symbol_short v before (records.Free addr) is = absurd is
+symbol_short v before (records.Symbol kind addr size name) is = omega
     (arith, symbol_long kind addr size name, is.short)
-symbol_short (records.End e) is = absurd is
+symbol_short v before (records.End e) is = absurd is
 
 -- a sum with one term more
 at_most : (all one rest most n : ℕ) → all ≡ one + rest → one ≤ most → rest ≤ most * n
     → all ≤ most * suc n
 at_most all one rest most n is first later = omega (arith, is, first, later, mul-suc most n)
 
-symbols_short : (symbols : List TraceRecord) → All IsSymbolRecord symbols
-    → length (traced symbols) ≤ 1036 * length symbols
-symbols_short [] all = omega arith
-symbols_short (item ∷ symbols) all =
-    let one = symbol_short item (All-head IsSymbolRecord item symbols all) in
-    let rest = symbols_short symbols (All-tail IsSymbolRecord item symbols all) in
-    let all : length (traced (item ∷ symbols)) ≡ length (spell_record One nothing_before item)
-    + length
-    (traced symbols) =
-    length-append (spell_record One nothing_before item) (traced symbols) in
-    at_most (length (traced (item ∷ symbols))) (length (spell_record One nothing_before item))
-    (length (traced symbols)) 1036 (length symbols) all one
-    rest
+symbols_short : (v : Version) (before : Before) (symbols : List TraceRecord)
+    → All IsSymbolRecord symbols
+    → length (spell_records v before symbols) ≤ 1036 * length symbols
+symbols_short v before [] all = omega arith
+symbols_short v before (item ∷ symbols) all =
+    let later = spell_records v (before_after before item) symbols in
+    let one = symbol_short v before item (All-head IsSymbolRecord item symbols all) in
+    let rest = symbols_short v (before_after before item) symbols
+    (All-tail IsSymbolRecord item symbols all) in
+    at_most (length (spell_record v before item ++ later)) (length (spell_record v before item))
+    (length later) 1036 (length symbols) (length-append (spell_record v before item) later) one rest
 
 -- ---- events
 
-event_inner : (e : RunEvent) → All IsInner (record_in e)
-event_inner quiet = All-nil IsInner
-event_inner (touch a pc) = All-cons IsInner (records.Touch a None) [] tt (All-nil IsInner)
-event_inner (alloc at size sites) = All-cons IsInner (records.Alloc at size sites) [] tt
+event_inner : (v : Version) (e : RunEvent) → All IsInner (record_in v e)
+event_inner v quiet = All-nil IsInner
+event_inner v (touch a pc) =
+    All-cons IsInner (records.Touch a (pc_for v pc)) [] tt (All-nil IsInner)
+event_inner v (alloc at size sites) = All-cons IsInner (records.Alloc at size sites) [] tt
     (All-nil IsInner)
-event_inner (free at) = All-cons IsInner (records.Free at) [] tt (All-nil IsInner)
-event_inner (output at bytes) = All-nil IsInner
+event_inner v (free at) = All-cons IsInner (records.Free at) [] tt (All-nil IsInner)
+event_inner v (output at bytes) = All-nil IsInner
 
-events_inner : (events : List RunEvent) → All IsInner (records_in events)
-events_inner [] = All-nil IsInner
-events_inner (e ∷ events) = All-append IsInner (record_in e) (records_in events) (event_inner e)
-    (events_inner events)
+events_inner : (v : Version) (events : List RunEvent) → All IsInner (records_in v events)
+events_inner v [] = All-nil IsInner
+events_inner v (e ∷ events) = All-append IsInner (record_in v e) (records_in v events)
+    (event_inner v e) (events_inner v events)
 
 four_more : (n : ℕ) → 4 + 4 * n ≡ 4 * suc n
 four_more n = omega arith
@@ -144,9 +146,28 @@ sites_long (s ∷ sites) =
     ∙ ap (λ (n : ℕ). 4 + n) (sites_long sites) in
     sum ∙ four_more (length sites)
 
-touch_long : (a : ATouch) → length (spell_touch One nothing_before a None) ≡ 8
+five_groups : (z : ℕ) → length (groups z) ≤ 5
+five_groups z = grind (arith, nat_tests)
+
+two_groups : (y z : ℕ) → length (groups y ++ groups z) ≤ 10
+two_groups y z =
+    omega (arith, length-append (groups y) (groups z), five_groups y, five_groups z)
+
+two_more : (n : ℕ) → n ≤ 10 → suc (suc n) ≤ 25
+two_more n small = omega (arith, small)
+
+touch_short : (v : Version) (before : Before) (a : ATouch) (pc : Option ℕ)
+    → length (spell_touch v before a pc) ≤ 25
 unfolding spell_touch
-touch_long a = refl
+touch_short One before a pc = omega arith
+touch_short Two before a pc =
+    let five = five_groups (distance before.last a.addr) in
+    two_more (length (groups (distance before.last a.addr))) (omega (arith, five))
+touch_short Three before a pc =
+    two_more (length (groups (distance before.last a.addr)
+    ++ groups (distance (pc_before before a.hart) (pc_or_zero pc))))
+    (two_groups (distance before.last a.addr)
+    (distance (pc_before before a.hart) (pc_or_zero pc)))
 
 alloc_long : (at size : ℕ) (sites : List ℕ) → length (spell_alloc at size sites)
     ≡ length (flat_map (to_le_bytes w32) sites) + 9
@@ -157,67 +178,57 @@ free_long : (at : ℕ) → length (spell_free at) ≡ 5
 unfolding spell_free
 free_long at = refl
 
-item_alone : (item : TraceRecord)
-    → length (traced (item ∷ [])) ≡ length (spell_record One nothing_before item)
-item_alone item = ap length (traced-one item)
+-- a record alone
+alone_short : (bytes : List ℕ) → length bytes ≤ 25 → length (bytes ++ []) ≤ 25
+alone_short bytes small = omega (arith, length-append bytes [], small)
 
-event_short : (harts : ℕ) (e : RunEvent) → All (IsGoodRecord One harts) (record_in e)
-    → length (traced (record_in e)) ≤ 25
-event_short harts quiet good = omega arith
-event_short harts (touch a pc) good = omega (arith, item_alone (records.Touch a None), touch_long a)
-event_short harts (alloc at size sites) good =
-    let is = All-head (IsGoodRecord One harts) (records.Alloc at size sites) [] good in
-    omega (
-      arith,
-      item_alone (records.Alloc at size sites),
-      alloc_long at size sites,
-      sites_long sites,
-      is.2,
-    )
-event_short harts (free at) good = omega (arith, item_alone (records.Free at), free_long at)
-event_short harts (output at bytes) good = omega arith
+good_first : (v : Version) (harts : ℕ) (item : TraceRecord) (items : List TraceRecord)
+    → All (IsGoodRecord v harts) (item ∷ items)
+    → All (IsGoodRecord v harts) (item ∷ []) × All (IsGoodRecord v harts) items
+good_first v harts item items good =
+    let P : TraceRecord → Type 0 = IsGoodRecord v harts in
+    (All-cons P item [] (All-head P item items good) (All-nil P), All-tail P item items good)
 
-good_front : (harts : ℕ) (e : RunEvent) (events : List RunEvent)
-    → All (IsGoodRecord One harts) (record_in e ++ records_in events)
-    → All (IsGoodRecord One harts) (record_in e) × All (IsGoodRecord One harts) (records_in events)
-good_front harts quiet events good = (All-nil (IsGoodRecord One harts), good)
-good_front harts (touch a pc) events good =
-    let h = All-head (IsGoodRecord One harts) (records.Touch a None) (records_in events) good in (
-      All-cons (IsGoodRecord One harts) (records.Touch a None) [] h
-          (All-nil (IsGoodRecord One harts)),
-      All-tail (IsGoodRecord One harts) (records.Touch a None)
-          (records_in events) good,
-    )
-good_front harts (alloc at size sites) events good =
-    let item : TraceRecord = records.Alloc at size sites in
-    let h = All-head (IsGoodRecord One harts) item (records_in events) good in (
-      All-cons (IsGoodRecord One harts) (records.Alloc at size sites) [] h
-          (All-nil (IsGoodRecord One harts)),
-      All-tail (IsGoodRecord One harts)
-          (records.Alloc at size sites) (records_in events) good,
-    )
-good_front harts (free at) events good =
-    let h = All-head (IsGoodRecord One harts) (records.Free at) (records_in events) good in (
-      All-cons (IsGoodRecord One harts) (records.Free at) [] h (All-nil (IsGoodRecord One harts)),
-      All-tail (IsGoodRecord One harts) (records.Free at)
-          (records_in events) good,
-    )
-good_front harts (output at bytes) events good = (All-nil (IsGoodRecord One harts), good)
+event_short : (v : Version) (harts : ℕ) (before : Before) (e : RunEvent)
+    → All (IsGoodRecord v harts) (record_in v e)
+    → length (spell_records v before (record_in v e)) ≤ 25
+event_short v harts before quiet good = omega arith
+event_short v harts before (touch a pc) good =
+    alone_short (spell_touch v before a (pc_for v pc)) (touch_short v before a (pc_for v pc))
+event_short v harts before (alloc at size sites) good =
+    let is = All-head (IsGoodRecord v harts) (records.Alloc at size sites) [] good in
+    alone_short (spell_alloc at size sites)
+    (omega (arith, alloc_long at size sites, sites_long sites, is.2))
+event_short v harts before (free at) good =
+    alone_short (spell_free at) (omega (arith, free_long at))
+event_short v harts before (output at bytes) good = omega arith
 
-events_short : (harts : ℕ) (events : List RunEvent)
-    → All (IsGoodRecord One harts) (records_in events)
-    → length (traced (records_in events)) ≤ 25 * length events
-events_short harts [] good = omega arith
-events_short harts (e ∷ events) good =
-    let parts = good_front harts e events good in
-    let all : length (traced (record_in e ++ records_in events))
-    ≡ length (traced (record_in e)) + length (traced (records_in events)) =
-    ap length (traced-append (record_in e) (records_in events))
-    ∙ length-append (traced (record_in e)) (traced (records_in events)) in
-    at_most (length (traced (record_in e ++ records_in events))) (length (traced (record_in e)))
-    (length (traced (records_in events))) 25
-    (length events) all
-    (event_short harts e parts.0) (events_short harts events parts.1)
+good_front : (v : Version) (harts : ℕ) (e : RunEvent) (events : List RunEvent)
+    → All (IsGoodRecord v harts) (record_in v e ++ records_in v events)
+    → All (IsGoodRecord v harts) (record_in v e) × All (IsGoodRecord v harts) (records_in v events)
+good_front v harts quiet events good = (All-nil (IsGoodRecord v harts), good)
+good_front v harts (touch a pc) events good =
+    good_first v harts (records.Touch a (pc_for v pc)) (records_in v events) good
+good_front v harts (alloc at size sites) events good =
+    good_first v harts (records.Alloc at size sites) (records_in v events) good
+good_front v harts (free at) events good =
+    good_first v harts (records.Free at) (records_in v events) good
+good_front v harts (output at bytes) events good = (All-nil (IsGoodRecord v harts), good)
+
+events_short : (v : Version) (harts : ℕ) (before : Before) (events : List RunEvent)
+    → All (IsGoodRecord v harts) (records_in v events)
+    → length (spell_records v before (records_in v events)) ≤ 25 * length events
+events_short v harts before [] good = omega arith
+events_short v harts before (e ∷ events) good =
+    let parts = good_front v harts e events good in
+    let front = spell_records v before (record_in v e) in
+    let later = spell_records v (before_behind before (record_in v e)) (records_in v events) in
+    at_most (length (spell_records v before (record_in v e ++ records_in v events))) (length front)
+    (length later) 25 (length events)
+    (ap length (spell-append v before (record_in v e) (records_in v events))
+    ∙ length-append front later)
+    (event_short v harts before e parts.0)
+    (events_short v harts (before_behind before (record_in v e)) events parts.1)
 
 few_touch : (e : RunEvent) → length (touch_in e) ≤ 1
 few_touch quiet = omega arith
@@ -270,27 +281,31 @@ ending_long e = outcome_long e.outcome
     outcome_long (Trap hart pc cause) = refl
     outcome_long Part = refl
 
-header_long : (harts : ℕ) → length (spell_header One (record { first = 0; harts = harts })) ≡ 20
+header_long : (v : Version) (harts : ℕ)
+    → length (spell_header v (record { first = 0; harts = harts })) ≡ 20
 unfolding spell_header
-header_long harts = refl
+header_long One harts = refl
+header_long Two harts = refl
+header_long Three harts = refl
 
-whole_long : (harts : ℕ) (symbols : List TraceRecord) (r : Run)
-    → length (spell One (record { first = 0; harts = harts }) (records_of symbols r) r.ending)
-    ≡ length (spell_header One (record { first = 0; harts = harts }))
-    + ((length (traced symbols) + length (traced (records_in r.events))) + length
-    (spell_ending r.ending))
+whole_long : (v : Version) (harts : ℕ) (symbols : List TraceRecord) (r : Run)
+    → length (spell v (record { first = 0; harts = harts }) (records_of v symbols r) r.ending)
+    ≡ length (spell_header v (record { first = 0; harts = harts }))
+    + ((length (spell_records v nothing_before symbols)
+    + length (spell_records v (before_behind nothing_before symbols) (records_in v r.events)))
+    + length (spell_ending r.ending))
 unfolding spell
-whole_long harts symbols r =
-    let head : List ℕ = spell_header One (record { first = 0; harts = harts }) in
+whole_long v harts symbols r =
+    let head : List ℕ = spell_header v (record { first = 0; harts = harts }) in
+    let front = spell_records v nothing_before symbols in
+    let later =
+    spell_records v (before_behind nothing_before symbols) (records_in v r.events) in
     let end : List ℕ = spell_ending r.ending in
     ap (λ (l : List ℕ). length (head ++ (l ++ end)))
-    (spelled_each nothing_before (records_of symbols r)
-    ∙ traced-append symbols (records_in r.events))
-    ∙ length-append head ((traced symbols ++ traced (records_in r.events)) ++ end)
-    ∙ ap (λ (n : ℕ). length head + n) (length-append
-    (traced symbols ++ traced (records_in r.events)) end
-    ∙ ap (λ (n : ℕ). n + length end) (length-append (traced symbols)
-    (traced (records_in r.events))))
+    (spell-append v nothing_before symbols (records_in v r.events))
+    ∙ length-append head ((front ++ later) ++ end)
+    ∙ ap (λ (n : ℕ). length head + n) (length-append (front ++ later) end
+    ∙ ap (λ (n : ℕ). n + length end) (length-append front later))
 
 -- the lengths of a trace's parts, summed
 sum_short : (all head symbols events end n m : ℕ) → all ≡ head + ((symbols + events) + end) → head
@@ -299,40 +314,42 @@ sum_short : (all head symbols events end n m : ℕ) → all ≡ head + ((symbols
 sum_short all head symbols events end n m is h e s few v short = omega
     (arith, is, h, e, s, few, v, short)
 
-run_short : (harts : ℕ) (symbols : List TraceRecord) (r : Run) → All IsSymbolRecord symbols
-    → length symbols ≤ 2 ^ 20
-    → All (IsGoodRecord One harts) (records_in r.events) → length r.events ≤ 2 ^ 36
-    → length (spell One (record { first = 0; harts = harts }) (records_of symbols r) r.ending) ≤
+run_short : (v : Version) (harts : ℕ) (symbols : List TraceRecord) (r : Run)
+    → All IsSymbolRecord symbols → length symbols ≤ 2 ^ 20
+    → All (IsGoodRecord v harts) (records_in v r.events) → length r.events ≤ 2 ^ 36
+    → length (spell v (record { first = 0; harts = harts }) (records_of v symbols r) r.ending) ≤
     longest_trace
-run_short harts symbols r told few good short =
-    sum_short (length (spell One (record { first = 0; harts = harts })
-    (records_of symbols r) r.ending))
-    (length (spell_header One (record { first = 0; harts = harts }))) (length (traced symbols))
-    (length (traced (records_in r.events)))
-    (length (spell_ending r.ending)) (length symbols) (length r.events) (whole_long harts symbols r)
-    (header_long harts)
-    (ending_long r.ending) (symbols_short symbols told) few (events_short harts r.events good) short
+run_short v harts symbols r told few good short =
+    sum_short (length (spell v (record { first = 0; harts = harts })
+    (records_of v symbols r) r.ending))
+    (length (spell_header v (record { first = 0; harts = harts })))
+    (length (spell_records v nothing_before symbols))
+    (length (spell_records v (before_behind nothing_before symbols) (records_in v r.events)))
+    (length (spell_ending r.ending)) (length symbols) (length r.events)
+    (whole_long v harts symbols r) (header_long v harts)
+    (ending_long r.ending) (symbols_short v nothing_before symbols told) few
+    (events_short v harts (before_behind nothing_before symbols) r.events good) short
 
-pub kept_rules : (harts : ℕ) (symbols : List TraceRecord) (s : Setup) (r : Run) → 1 ≤ harts
+pub kept_rules : (v : Version) (harts : ℕ) (symbols : List TraceRecord) (s : Setup) (r : Run) → 1 ≤ harts
     → harts ≤ 256
     → All IsSymbolRecord symbols → length symbols ≤ 2 ^ 20 → IsShort s r → s.budget ≤ 2 ^ 36
-    → All (IsGoodRecord One harts) (records_in r.events) → IsEndOf harts r.ending.outcome
-    → IsKept (trace_for harts symbols r)
-kept_rules harts symbols s r some most told few short budget good end =
-    let touched : touches_among (records_of symbols r) ≡ touches_in r.events =
-    touches-among symbols (records_in r.events)
-    ∙ ap (λ (l : List ATouch). l ++ touches_among (records_in r.events)) (untouched symbols told)
-    ∙ touches-in r.events in
-    let count : r.ending.accesses ≡ length (touches_among (records_of symbols r)) = short.accesses
+    → All (IsGoodRecord v harts) (records_in v r.events) → IsEndOf harts r.ending.outcome
+    → IsKept (trace_for v harts symbols r)
+kept_rules v harts symbols s r some most told few short budget good end =
+    let touched : touches_among (records_of v symbols r) ≡ touches_in r.events =
+    touches-among symbols (records_in v r.events)
+    ∙ ap (λ (l : List ATouch). l ++ touches_among (records_in v r.events)) (untouched symbols told)
+    ∙ touches-in v r.events in
+    let count : r.ending.accesses ≡ length (touches_among (records_of v symbols r)) = short.accesses
     ∙ ap length (sym touched) in
     let fewer = few_touches r.events in
     record {
       header = record { position = omega arith; some = some; few = most };
-      records = All-append (IsGoodRecord One harts) symbols (records_in r.events)
-          (All-weaker IsSymbolRecord (IsGoodRecord One harts) (symbol_good harts) symbols told)
+      records = All-append (IsGoodRecord v harts) symbols (records_in v r.events)
+          (All-weaker IsSymbolRecord (IsGoodRecord v harts) (symbol_good v harts) symbols told)
           good;
-      inner = All-append IsInner symbols (records_in r.events)
-          (All-weaker IsSymbolRecord IsInner symbol_inner symbols told) (events_inner r.events);
+      inner = All-append IsInner symbols (records_in v r.events)
+          (All-weaker IsSymbolRecord IsInner symbol_inner symbols told) (events_inner v r.events);
       ending = record {
         allowed = allowed_end harts r.ending.steps r.ending.outcome end;
         outcome = fitting_end harts r.ending.outcome end;
@@ -341,5 +358,5 @@ kept_rules harts symbols s r some most told few short budget good end =
       };
       positions = omega (arith, count, short.accesses, fewer, short.events, budget);
       counted = count;
-      short = run_short harts symbols r told few good (omega (arith, short.events, budget));
+      short = run_short v harts symbols r told few good (omega (arith, short.events, budget));
     }

@@ -6,3 +6,4 @@ pub mod Putting
 pub mod Records
 pub mod Symbols
 pub mod Touching
+pub mod Traced

@@ -4,11 +4,12 @@ use Rattle.std.proofs.Common.{refl, sym, ap, ◌∙◌, subst, arith}
 use Rattle.std.proofs.lemmas.List.{append-nil}
 use Rattle.shelf.specs.Shelf.{Outside}
 use Rattle.shelf.specs.declared.shelf.ShelfError.{ShelfError}
+use Rattle.shelf.specs.declared.shelf.ShelfError.TheVariants.{NoMemory}
 use Rattle.shelf.specs.Files.{Output as AnOutput, AreCut, GoOn}
 use Rattle.shelf.specs.OneFile.{Waiting}
 use Rattle.shelf.specs.OnTheirWay.{AreBegun, AreSunk, IsOutputs, outputs_with}
 use Rattle.shelf.specs.OnTheirWay.{names_of as waiting_names}
-use Rattle.shelf.specs.Laws.Files.{AreCut-longer}
+use Rattle.shelf.specs.Laws.Files.{AreCut-longer, IsOutputs-cut}
 use Rattle.run_recorder.specs.declared.run_file.Content.{Content}
 use Rattle.run_recorder.specs.declared.run_file.RunFile.{RunFile}
 use Rattle.run_recorder.specs.Recorded.{outputs_of}
@@ -142,3 +143,12 @@ put_all files more first now i old new above below to bytes before on =
     subst (λ (l : List AnOutput). IsOutputs now l before new)
     (ap (λ (n : ℕ). partly n files bytes more) same ∙ partly_all files bytes
     more) (to.outputs bytes before on)
+
+-- where memory is refused before any of it is put, what was put stands but for what waits
+pub put_none : (files : List RunFile) (bytes more : Content → List ℕ) (waiting : List Waiting)
+    (before now : Outside) → IsOutputs waiting (outputs_of files bytes) before now
+    → AreCut (outputs_of files (longer bytes more)) before now NoMemory
+put_none files bytes more waiting before now on =
+    AreCut-longer (outputs_of files bytes) (outputs_of files (longer bytes more)) before now NoMemory
+    (more_on files bytes (longer bytes more) (λ c. (more c, refl)))
+    (IsOutputs-cut waiting (outputs_of files bytes) before now NoMemory (λ e. cc) on)

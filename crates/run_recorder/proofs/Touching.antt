@@ -1,6 +1,6 @@
 -- Accesses that were put by, and noted one after another.
 use Rattle.std.proofs.Common.{◌≡◌, ◌∙◌, ℕ, suc, ◌+◌, ◌<◌, ◌≤◌, List, [], ◌∷◌, ◌++◌, length, take, drop}
-use Rattle.std.proofs.Common.{None, get_or, map, ap, append_assoc, arith, refl, subst, sym}
+use Rattle.std.proofs.Common.{get_or, map, ap, append_assoc, arith, refl, subst, sym}
 use Rattle.std.specs.List.{All}
 use Rattle.std.proofs.lemmas.List.{append-nil, length-append, map-append, take-append-drop}
 use Rattle.std.proofs.lemmas.List.{take_all, take_more}
@@ -12,8 +12,10 @@ use Rattle.shelf.specs.OneFile.{Waiting}
 use Rattle.shelf.specs.OnTheirWay.{AreBegun, names_of as waiting_names}
 use Rattle.trace_format.specs.declared.record.TraceRecord.{TraceRecord}
 use Rattle.trace_format.specs.declared.record.TraceRecord.TheVariants as records
+use Rattle.trace_format.specs.declared.record.Version.{Version}
 use Rattle.trace_format.specs.declared.record.Version.TheVariants.{One}
 use Rattle.trace_format.specs.Rules.{IsGoodRecord, last_position, touches_in as touches_among}
+use Rattle.trace_format.specs.Writing.{Writing}
 use Rattle.trace_passes.specs.Rooms.{HasRoom}
 use Rattle.guest.specs.GuestCalls.{RunEvent, quiet, touch, alloc, free, output}
 use Rattle.guest.specs.Runs.{Progress, Run, bytes_in, led_by, led_with, output_in, rest_of}
@@ -21,37 +23,39 @@ use Rattle.guest.specs.Runs.{touch_in, touches_in}
 use Rattle.guest.specs.SeenTurns.{AreOfHarts, AreTouches, IsLedTo, event_of, seen_among}
 use Rattle.guest.specs.declared.turn.Touched.{Touched}
 use Rattle.run_recorder.specs.declared.run_file.RunFile.{RunFile}
-use Rattle.run_recorder.specs.Recorded.{outputs_for, record_in, records_in}
+use Rattle.run_recorder.specs.Recorded.{outputs_for, pc_for, record_in, records_in}
 use Rattle.run_recorder.specs.Recording.{AreCutAfter, AreNoted, touch_records}
 use Rattle.run_recorder.proofs.Events.{cut_on, cut_records}
 use Rattle.run_recorder.proofs.Following.{Follows, IsGivenOn, cut_seen, follows_more, given_more}
 use Rattle.run_recorder.proofs.Records.{output-append, output-more, records-append, records-more}
 use Rattle.run_recorder.proofs.Records.{touches-among, touches-append, touches-in}
 
-abbrev pub touch_record : Touched → TraceRecord
-touch_record t = records.Touch t.access None
+abbrev pub touch_record : Version → Touched → TraceRecord
+touch_record v t = records.Touch t.access (pc_for v t.pc)
 
 -- ---- what such steps leave
 
-records-seen : (events : List RunEvent) → records_in events ≡ records_in (seen_among events)
-records-seen [] = refl
-records-seen (quiet ∷ events) = records-seen events
-records-seen (touch a pc ∷ events) =
-    ap (λ (l : List TraceRecord). records.Touch a None ∷ l) (records-seen events)
-records-seen (alloc at size sites ∷ events) =
-    ap (λ (l : List TraceRecord). records.Alloc at size sites ∷ l) (records-seen events)
-records-seen (free at ∷ events) =
-    ap (λ (l : List TraceRecord). records.Free at ∷ l) (records-seen events)
-records-seen (output at bytes ∷ events) = records-seen events
+records-seen : (v : Version) (events : List RunEvent)
+    → records_in v events ≡ records_in v (seen_among events)
+records-seen v [] = refl
+records-seen v (quiet ∷ events) = records-seen v events
+records-seen v (touch a pc ∷ events) =
+    ap (λ (l : List TraceRecord). records.Touch a (pc_for v pc) ∷ l) (records-seen v events)
+records-seen v (alloc at size sites ∷ events) =
+    ap (λ (l : List TraceRecord). records.Alloc at size sites ∷ l) (records-seen v events)
+records-seen v (free at ∷ events) =
+    ap (λ (l : List TraceRecord). records.Free at ∷ l) (records-seen v events)
+records-seen v (output at bytes ∷ events) = records-seen v events
 
-records-put : (ts : List Touched) → records_in (map event_of ts) ≡ touch_records ts
-records-put [] = refl
-records-put (t ∷ ts) = ap (λ (l : List TraceRecord). touch_record t ∷ l) (records-put ts)
+records-put : (v : Version) (ts : List Touched)
+    → records_in v (map event_of ts) ≡ touch_records v ts
+records-put v [] = refl
+records-put v (t ∷ ts) = ap (λ (l : List TraceRecord). touch_record v t ∷ l) (records-put v ts)
 
-pub touched_records : (events : List RunEvent) (ts : List Touched) → AreTouches events ts
-    → records_in events ≡ touch_records ts
-touched_records events ts touched =
-    records-seen events ∙ ap records_in touched ∙ records-put ts
+pub touched_records : (v : Version) (events : List RunEvent) (ts : List Touched) → AreTouches events ts
+    → records_in v events ≡ touch_records v ts
+touched_records v events ts touched =
+    records-seen v events ∙ ap (records_in v) touched ∙ records-put v ts
 
 output-seen : (events : List RunEvent) → output_in events ≡ output_in (seen_among events)
 output-seen [] = refl
@@ -69,17 +73,17 @@ pub touched_output : (events : List RunEvent) (ts : List Touched) → AreTouches
     → output_in events ≡ []
 touched_output events ts touched = output-seen events ∙ ap output_in touched ∙ output-put ts
 
-pub touches_put : (ts : List Touched) → length (touches_among (touch_records ts)) ≡ length ts
-touches_put [] = refl
-touches_put (t ∷ ts) = ap (λ (n : ℕ). suc n) (touches_put ts)
+pub touches_put : (v : Version) (ts : List Touched) → length (touches_among (touch_records v ts)) ≡ length ts
+touches_put v [] = refl
+touches_put v (t ∷ ts) = ap (λ (n : ℕ). suc n) (touches_put v ts)
 
 -- and with one event more, its records, its bytes and how many accesses there are
 
-pub turn_records : (events : List RunEvent) (ts : List Touched) (e : RunEvent)
-    → AreTouches events ts → records_in (events ++ e ∷ []) ≡ touch_records ts ++ record_in e
-turn_records events ts e touched =
-    records-more events e
-    ∙ ap (λ (l : List TraceRecord). l ++ record_in e) (touched_records events ts touched)
+pub turn_records : (v : Version) (events : List RunEvent) (ts : List Touched) (e : RunEvent)
+    → AreTouches events ts → records_in v (events ++ e ∷ []) ≡ touch_records v ts ++ record_in v e
+turn_records v events ts e touched =
+    records-more v events e
+    ∙ ap (λ (l : List TraceRecord). l ++ record_in v e) (touched_records v events ts touched)
 
 pub turn_output : (events : List RunEvent) (ts : List Touched) (e : RunEvent)
     → AreTouches events ts → output_in (events ++ e ∷ []) ≡ bytes_in e
@@ -89,25 +93,25 @@ turn_output events ts e touched =
 pub touched_count : (events : List RunEvent) (ts : List Touched) → AreTouches events ts
     → length (touches_in events) ≡ length ts
 touched_count events ts touched =
-    ap length (sym (touches-in events))
-    ∙ ap (λ (l : List TraceRecord). length (touches_among l)) (touched_records events ts touched)
-    ∙ touches_put ts
+    ap length (sym (touches-in One events))
+    ∙ ap (λ (l : List TraceRecord). length (touches_among l)) (touched_records One events ts touched)
+    ∙ touches_put One ts
 
-touch-among : (e : RunEvent) → length (touches_among (record_in e)) ≡ length (touch_in e)
-touch-among quiet = refl
-touch-among (touch a pc) = refl
-touch-among (alloc at size sites) = refl
-touch-among (free at) = refl
-touch-among (output at bytes) = refl
+touch-among : (v : Version) (e : RunEvent) → length (touches_among (record_in v e)) ≡ length (touch_in e)
+touch-among v quiet = refl
+touch-among v (touch a pc) = refl
+touch-among v (alloc at size sites) = refl
+touch-among v (free at) = refl
+touch-among v (output at bytes) = refl
 
-pub turn_count : (ts : List Touched) (e : RunEvent)
-    → length (touches_among (touch_records ts ++ record_in e)) ≡ length ts + length (touch_in e)
-turn_count ts e =
-    let all : length (touches_among (touch_records ts ++ record_in e))
-    ≡ length (touches_among (touch_records ts)) + length (touches_among (record_in e)) =
-    ap length (touches-among (touch_records ts) (record_in e))
-    ∙ length-append (touches_among (touch_records ts)) (touches_among (record_in e)) in
-    omega (arith, all, touches_put ts, touch-among e)
+pub turn_count : (v : Version) (ts : List Touched) (e : RunEvent)
+    → length (touches_among (touch_records v ts ++ record_in v e)) ≡ length ts + length (touch_in e)
+turn_count v ts e =
+    let all : length (touches_among (touch_records v ts ++ record_in v e))
+    ≡ length (touches_among (touch_records v ts)) + length (touches_among (record_in v e)) =
+    ap length (touches-among (touch_records v ts) (record_in v e))
+    ∙ length-append (touches_among (touch_records v ts)) (touches_among (record_in v e)) in
+    omega (arith, all, touches_put v ts, touch-among v e)
 
 -- a run that begins so, with the event behind
 pub turn_led : (events : List RunEvent) (e : RunEvent) (rest : Run)
@@ -153,72 +157,74 @@ room_rest begins given now later xs ys r on = record {
 
 -- ---- the first so many are noted
 
-pub record TouchesNoted {A : Type 0} (given : A → A → List TraceRecord → Type 0)
+pub record TouchesNoted {A : Type 0} (given : A → A → List TraceRecord → Type 0) (v : Version)
     (touches : List Touched) (place : ℕ) (first now : A) (files : List RunFile)
-    (one two : List Waiting) (old new : Outside) : Type 0 where
-  pub given_on : IsGivenOn given first now (touch_records (take place touches))
+    (one two : List Waiting) (w later : Writing) (old new : Outside) : Type 0 where
+  pub given_on : IsGivenOn given first now (touch_records v (take place touches))
   pub good : (harts : ℕ) → AreOfHarts harts touches
-      → All (IsGoodRecord One harts) (touch_records (take place touches))
+      → All (IsGoodRecord v harts) (touch_records v (take place touches))
   pub noted : (harts : ℕ) (items : List TraceRecord) (put : List ℕ) (before : Outside)
-      → AreNoted harts items put files one before old
-      → AreNoted harts (items ++ touch_records (take place touches)) put files two before new
+      → AreNoted v harts items put files one w before old
+      → AreNoted v harts (items ++ touch_records v (take place touches)) put files two later before
+      new
   pub count : length two ≡ length one
   pub begun : AreBegun (waiting_names two) new
 
-pub no_touches : {A : Type 0} (given : A → A → List TraceRecord → Type 0) (touches : List Touched)
-    (first : A) (files : List RunFile) (one : List Waiting) (old : Outside)
-    → AreBegun (waiting_names one) old
-    → TouchesNoted given touches 0 first first files one one old old
-no_touches given touches first files one old begun = record {
+pub no_touches : {A : Type 0} (given : A → A → List TraceRecord → Type 0) (v : Version)
+    (touches : List Touched) (first : A) (files : List RunFile) (one : List Waiting) (w : Writing)
+    (old : Outside) → AreBegun (waiting_names one) old
+    → TouchesNoted given v touches 0 first first files one one w w old old
+no_touches given v touches first files one w old begun = record {
   given_on = λ b earlier so. subst (given b first) (sym (append-nil earlier)) so;
-  good = λ harts theirs. All-nil (IsGoodRecord One harts);
+  good = λ harts theirs. All-nil (IsGoodRecord v harts);
   noted = λ harts items put before on.
-      subst (λ (l : List TraceRecord). AreNoted harts l put files one before old)
+      subst (λ (l : List TraceRecord). AreNoted v harts l put files one w before old)
       (sym (append-nil items)) on;
   count = refl;
   begun = begun;
 }
 
-one_more : (touches : List Touched) (i : ℕ) (t : Touched) (item : TraceRecord)
-    → i < length touches → t ≡ get_or touches i t → item ≡ touch_record t
-    → touch_records (take i touches) ++ item ∷ [] ≡ touch_records (take (i + 1) touches)
-one_more touches i t item below is told =
-    ap (λ (x : TraceRecord). touch_records (take i touches) ++ x ∷ []) told
-    ∙ sym (map-append touch_record (take i touches) (t ∷ []))
-    ∙ ap (λ (x : Touched). touch_records (take i touches ++ x ∷ [])) is
-    ∙ ap touch_records (sym (take_more touches i t below))
+one_more : (v : Version) (touches : List Touched) (i : ℕ) (t : Touched) (item : TraceRecord)
+    → i < length touches → t ≡ get_or touches i t → item ≡ touch_record v t
+    → touch_records v (take i touches) ++ item ∷ [] ≡ touch_records v (take (i + 1) touches)
+one_more v touches i t item below is told =
+    ap (λ (x : TraceRecord). touch_records v (take i touches) ++ x ∷ []) told
+    ∙ sym (map-append (touch_record v) (take i touches) (t ∷ []))
+    ∙ ap (λ (x : Touched). touch_records v (take i touches ++ x ∷ [])) is
+    ∙ ap (touch_records v) (sym (take_more touches i t below))
 
-pub touches_more : {A : Type 0} (given : A → A → List TraceRecord → Type 0)
+pub touches_more : {A : Type 0} (given : A → A → List TraceRecord → Type 0) (v : Version)
     (touches : List Touched) (i : ℕ) (t : Touched) (item : TraceRecord) (first now later : A)
-    (files : List RunFile) (one two three : List Waiting) (old mid new : Outside)
-    → i < length touches → t ≡ get_or touches i t → item ≡ touch_record t
-    → ((harts : ℕ) → t.access.hart < harts → IsGoodRecord One harts item)
-    → TouchesNoted given touches i first now files one two old mid
+    (files : List RunFile) (one two three : List Waiting) (w1 w2 w3 : Writing)
+    (old mid new : Outside)
+    → i < length touches → t ≡ get_or touches i t → item ≡ touch_record v t
+    → ((harts : ℕ) → t.access.hart < harts → IsGoodRecord v harts item)
+    → TouchesNoted given v touches i first now files one two w1 w2 old mid
     → IsGivenOn given now later (item ∷ [])
-    → ((harts : ℕ) (items : List TraceRecord) (put : List ℕ) (before : Outside)
-    → AreNoted harts items put files two before mid
-    → AreNoted harts (items ++ item ∷ []) put files three before new)
+    → ((x : Version) (harts : ℕ) (items : List TraceRecord) (put : List ℕ) (before : Outside)
+    → AreNoted x harts items put files two w2 before mid
+    → AreNoted x harts (items ++ item ∷ []) put files three w3 before new)
     → length three ≡ length two → AreBegun (waiting_names three) new
-    → TouchesNoted given touches (i + 1) first later files one three old new
-touches_more given touches i t item first now later files one two three old mid new below is told
-    its so given_on noted_on count begun =
-    let more = one_more touches i t item below is told in
+    → TouchesNoted given v touches (i + 1) first later files one three w1 w3 old new
+touches_more given v touches i t item first now later files one two three w1 w2 w3 old mid new
+    below is told its so given_on noted_on count begun =
+    let more = one_more v touches i t item below is told in
     record {
       given_on = subst (IsGivenOn given first later) more
-          (given_more given first now later (touch_records (take i touches)) (item ∷ []) so.given_on
-          given_on);
+          (given_more given first now later (touch_records v (take i touches)) (item ∷ [])
+          so.given_on given_on);
       good = λ harts theirs.
-          let P : TraceRecord → Type 0 = IsGoodRecord One harts in
+          let P : TraceRecord → Type 0 = IsGoodRecord v harts in
           let Q : Touched → Type 0 = λ x. x.access.hart < harts in
           let at : Q (get_or touches i t) = All-get_or Q touches i t below theirs in
           subst (All P) more
-          (All-append P (touch_records (take i touches)) (item ∷ []) (so.good harts theirs)
+          (All-append P (touch_records v (take i touches)) (item ∷ []) (so.good harts theirs)
           (All-cons P item [] (its harts (subst Q (sym is) at)) (All-nil P)));
       noted = λ harts items put before on.
-          subst (λ (l : List TraceRecord). AreNoted harts l put files three before new)
-          (append_assoc items (touch_records (take i touches)) (item ∷ [])
+          subst (λ (l : List TraceRecord). AreNoted v harts l put files three w3 before new)
+          (append_assoc items (touch_records v (take i touches)) (item ∷ [])
           ∙ ap (λ (l : List TraceRecord). items ++ l) more)
-          (noted_on harts (items ++ touch_records (take i touches)) put before
+          (noted_on v harts (items ++ touch_records v (take i touches)) put before
           (so.noted harts items put before on));
       count = count ∙ so.count;
       begun = begun;
@@ -226,100 +232,102 @@ touches_more given touches i t item first now later files one two three old mid 
 
 -- there is room for one more
 pub touch_room : {A : Type 0} (begins : A → ℕ → Type 0)
-    (given : A → A → List TraceRecord → Type 0) (touches : List Touched) (i : ℕ) (t : Touched)
-    (item : TraceRecord) (first now : A) → i < length touches → t ≡ get_or touches i t
-    → item ≡ touch_record t → HasRoom begins given first (touch_records touches)
-    → IsGivenOn given first now (touch_records (take i touches))
+    (given : A → A → List TraceRecord → Type 0) (v : Version) (touches : List Touched) (i : ℕ)
+    (t : Touched) (item : TraceRecord) (first now : A) → i < length touches → t ≡ get_or touches i t
+    → item ≡ touch_record v t → HasRoom begins given first (touch_records v touches)
+    → IsGivenOn given first now (touch_records v (take i touches))
     → HasRoom begins given now (item ∷ [])
-touch_room begins given touches i t item first now below is told r on =
-    let front = touch_records (take i touches) in
-    let more = one_more touches i t item below is told in
-    let whole : (front ++ item ∷ []) ++ touch_records (drop (i + 1) touches)
-    ≡ touch_records touches =
-    ap (λ (l : List TraceRecord). l ++ touch_records (drop (i + 1) touches)) more
-    ∙ sym (map-append touch_record (take (i + 1) touches) (drop (i + 1) touches))
-    ∙ ap touch_records (take-append-drop (i + 1) touches) in
+touch_room begins given v touches i t item first now below is told r on =
+    let front = touch_records v (take i touches) in
+    let more = one_more v touches i t item below is told in
+    let whole : (front ++ item ∷ []) ++ touch_records v (drop (i + 1) touches)
+    ≡ touch_records v touches =
+    ap (λ (l : List TraceRecord). l ++ touch_records v (drop (i + 1) touches)) more
+    ∙ sym (map-append (touch_record v) (take (i + 1) touches) (drop (i + 1) touches))
+    ∙ ap (touch_records v) (take-append-drop (i + 1) touches) in
     let all : HasRoom begins given first ((front ++ item ∷ [])
-    ++ touch_records (drop (i + 1) touches)) = subst (HasRoom begins given first) (sym whole) r in
+    ++ touch_records v (drop (i + 1) touches)) = subst (HasRoom begins given first) (sym whole) r in
     room_rest begins given first now front (item ∷ [])
-    (room_front begins given first (front ++ item ∷ []) (touch_records (drop (i + 1) touches)) all)
+    (room_front begins given first (front ++ item ∷ []) (touch_records v (drop (i + 1) touches)) all)
     on
 
 -- what is cut at one is cut of them all
-pub touches_cut : (harts : ℕ) (touches : List Touched) (i : ℕ) (t : Touched) (item : TraceRecord)
-    (files : List RunFile) (items : List TraceRecord) (put : List ℕ) (before now : Outside)
-    (e : ShelfError) → i < length touches → t ≡ get_or touches i t → item ≡ touch_record t
-    → AreCutAfter harts ((items ++ touch_records (take i touches)) ++ item ∷ []) put files before now
-    e
-    → AreCutAfter harts (items ++ touch_records touches) put files before now e
-touches_cut harts touches i t item files items put before now e below is told cut =
-    let front = touch_records (take i touches) in
-    let back = touch_records (drop (i + 1) touches) in
-    let more = one_more touches i t item below is told in
-    subst (λ (l : List TraceRecord). AreCutAfter harts l put files before now e)
-    (append_assoc items (touch_records (take (i + 1) touches)) back
+pub touches_cut : (v : Version) (harts : ℕ) (touches : List Touched) (i : ℕ) (t : Touched)
+    (item : TraceRecord) (files : List RunFile) (items : List TraceRecord) (put : List ℕ)
+    (before now : Outside) (e : ShelfError) → i < length touches → t ≡ get_or touches i t
+    → item ≡ touch_record v t
+    → AreCutAfter v harts ((items ++ touch_records v (take i touches)) ++ item ∷ []) put files
+    before now e
+    → AreCutAfter v harts (items ++ touch_records v touches) put files before now e
+touches_cut v harts touches i t item files items put before now e below is told cut =
+    let front = touch_records v (take i touches) in
+    let back = touch_records v (drop (i + 1) touches) in
+    let more = one_more v touches i t item below is told in
+    subst (λ (l : List TraceRecord). AreCutAfter v harts l put files before now e)
+    (append_assoc items (touch_records v (take (i + 1) touches)) back
     ∙ ap (λ (l : List TraceRecord). items ++ l)
-    (sym (map-append touch_record (take (i + 1) touches) (drop (i + 1) touches))
-    ∙ ap touch_records (take-append-drop (i + 1) touches)))
-    (cut_records harts files (items ++ touch_records (take (i + 1) touches)) back put before now e
-    (subst (λ (l : List TraceRecord). AreCutAfter harts l put files before now e)
+    (sym (map-append (touch_record v) (take (i + 1) touches) (drop (i + 1) touches))
+    ∙ ap (touch_records v) (take-append-drop (i + 1) touches)))
+    (cut_records v harts files (items ++ touch_records v (take (i + 1) touches)) back put before
+    now e
+    (subst (λ (l : List TraceRecord). AreCutAfter v harts l put files before now e)
     (append_assoc items front (item ∷ []) ∙ ap (λ (l : List TraceRecord). items ++ l) more) cut))
 
 -- all of them are noted
-pub record AllNoted {A : Type 0} (given : A → A → List TraceRecord → Type 0)
+pub record AllNoted {A : Type 0} (given : A → A → List TraceRecord → Type 0) (v : Version)
     (touches : List Touched) (first now : A) (files : List RunFile)
-    (one two : List Waiting) (old new : Outside) : Type 0 where
-  pub given_on : IsGivenOn given first now (touch_records touches)
+    (one two : List Waiting) (w later : Writing) (old new : Outside) : Type 0 where
+  pub given_on : IsGivenOn given first now (touch_records v touches)
   pub good : (harts : ℕ) → AreOfHarts harts touches
-      → All (IsGoodRecord One harts) (touch_records touches)
+      → All (IsGoodRecord v harts) (touch_records v touches)
   pub noted : (harts : ℕ) (items : List TraceRecord) (put : List ℕ) (before : Outside)
-      → AreNoted harts items put files one before old
-      → AreNoted harts (items ++ touch_records touches) put files two before new
+      → AreNoted v harts items put files one w before old
+      → AreNoted v harts (items ++ touch_records v touches) put files two later before new
 
-pub touches_noted : {A : Type 0} (given : A → A → List TraceRecord → Type 0)
+pub touches_noted : {A : Type 0} (given : A → A → List TraceRecord → Type 0) (v : Version)
     (touches : List Touched) (place : ℕ) (first now : A) (files : List RunFile)
-    (one two : List Waiting) (old new : Outside) → length touches ≤ place
-    → TouchesNoted given touches place first now files one two old new
-    → AllNoted given touches first now files one two old new
-touches_noted given touches place first now files one two old new all so =
+    (one two : List Waiting) (w later : Writing) (old new : Outside) → length touches ≤ place
+    → TouchesNoted given v touches place first now files one two w later old new
+    → AllNoted given v touches first now files one two w later old new
+touches_noted given v touches place first now files one two w later old new all so =
     let whole = take_all place touches all in
     record {
-      given_on = subst (λ (ts : List Touched). IsGivenOn given first now (touch_records ts)) whole
-          so.given_on;
+      given_on = subst (λ (ts : List Touched). IsGivenOn given first now (touch_records v ts))
+          whole so.given_on;
       good = λ harts theirs.
-          subst (λ (ts : List Touched). All (IsGoodRecord One harts) (touch_records ts)) whole
+          subst (λ (ts : List Touched). All (IsGoodRecord v harts) (touch_records v ts)) whole
           (so.good harts theirs);
       noted = λ harts items put before on.
-          subst (λ (ts : List Touched). AreNoted harts (items ++ touch_records ts) put files two
-          before new) whole
+          subst (λ (ts : List Touched). AreNoted v harts (items ++ touch_records v ts) put files
+          two later before new) whole
           (so.noted harts items put before on);
     }
 
 -- and what is noted behind them
 
-pub noted_behind : (harts : ℕ) (files : List RunFile) (waiting : List Waiting)
-    (items xs ys : List TraceRecord) (put : List ℕ) (before now : Outside)
-    → AreNoted harts ((items ++ xs) ++ ys) put files waiting before now
-    → AreNoted harts (items ++ (xs ++ ys)) put files waiting before now
-noted_behind harts files waiting items xs ys put before now on =
-    subst (λ (l : List TraceRecord). AreNoted harts l put files waiting before now)
+pub noted_behind : (v : Version) (harts : ℕ) (files : List RunFile) (waiting : List Waiting)
+    (w : Writing) (items xs ys : List TraceRecord) (put : List ℕ) (before now : Outside)
+    → AreNoted v harts ((items ++ xs) ++ ys) put files waiting w before now
+    → AreNoted v harts (items ++ (xs ++ ys)) put files waiting w before now
+noted_behind v harts files waiting w items xs ys put before now on =
+    subst (λ (l : List TraceRecord). AreNoted v harts l put files waiting w before now)
     (append_assoc items xs ys) on
 
-pub cut_behind : (harts : ℕ) (files : List RunFile) (items xs ys : List TraceRecord) (put : List ℕ)
-    (before now : Outside) (e : ShelfError)
-    → AreCutAfter harts ((items ++ xs) ++ ys) put files before now e
-    → AreCutAfter harts (items ++ (xs ++ ys)) put files before now e
-cut_behind harts files items xs ys put before now e cut =
-    subst (λ (l : List TraceRecord). AreCutAfter harts l put files before now e)
+pub cut_behind : (v : Version) (harts : ℕ) (files : List RunFile) (items xs ys : List TraceRecord)
+    (put : List ℕ) (before now : Outside) (e : ShelfError)
+    → AreCutAfter v harts ((items ++ xs) ++ ys) put files before now e
+    → AreCutAfter v harts (items ++ (xs ++ ys)) put files before now e
+cut_behind v harts files items xs ys put before now e cut =
+    subst (λ (l : List TraceRecord). AreCutAfter v harts l put files before now e)
     (append_assoc items xs ys) cut
 
-pub cut_in_front : (harts : ℕ) (files : List RunFile) (items xs ys : List TraceRecord)
+pub cut_in_front : (v : Version) (harts : ℕ) (files : List RunFile) (items xs ys : List TraceRecord)
     (put out : List ℕ) (before now : Outside) (e : ShelfError)
-    → AreCutAfter harts (items ++ xs) put files before now e
-    → AreCutAfter harts (items ++ (xs ++ ys)) (put ++ out) files before now e
-cut_in_front harts files items xs ys put out before now e cut =
-    cut_behind harts files items xs ys (put ++ out) before now e
-    (cut_on harts files (items ++ xs) ys put out before now e cut)
+    → AreCutAfter v harts (items ++ xs) put files before now e
+    → AreCutAfter v harts (items ++ (xs ++ ys)) (put ++ out) files before now e
+cut_in_front v harts files items xs ys put out before now e cut =
+    cut_behind v harts files items xs ys (put ++ out) before now e
+    (cut_on v harts files (items ++ xs) ys put out before now e cut)
 
 -- ---- a run that is followed so far
 
@@ -336,113 +344,116 @@ turn_touches events ts e touched =
     omega (arith, all, one, touched_count events ts touched)
 
 -- the accesses and an event behind them
-pub follows_turn : {A : Type 0} (given : A → A → List TraceRecord → Type 0)
+pub follows_turn : {A : Type 0} (given : A → A → List TraceRecord → Type 0) (v : Version)
     (start guest after : Progress) (first now later : A) (files : List RunFile)
-    (one two three : List Waiting) (old mid new : Outside) (ts : List Touched) (e : RunEvent)
-    (n : ℕ) → Follows given start guest (rest_of guest) first now files one two old mid
+    (one two three : List Waiting) (w1 w2 w3 : Writing) (old mid new : Outside)
+    (ts : List Touched) (e : RunEvent) (n : ℕ)
+    → Follows given v start guest (rest_of guest) first now files one two w1 w2 old mid
     → IsLedTo (rest_of guest) ts (led_by e (rest_of after))
-    → IsGivenOn given now later (touch_records ts ++ record_in e)
-    → All (IsGoodRecord One start.setup.harts) (touch_records ts ++ record_in e)
+    → IsGivenOn given now later (touch_records v ts ++ record_in v e)
+    → All (IsGoodRecord v start.setup.harts) (touch_records v ts ++ record_in v e)
     → ((items : List TraceRecord) (put : List ℕ) (before : Outside)
-    → AreNoted start.setup.harts items put files two before mid
-    → AreNoted start.setup.harts (items ++ (touch_records ts ++ record_in e)) (put ++ bytes_in e)
-    files three before new)
+    → AreNoted v start.setup.harts items put files two w2 before mid
+    → AreNoted v start.setup.harts (items ++ (touch_records v ts ++ record_in v e))
+    (put ++ bytes_in e) files three w3 before new)
     → after.setup ≡ guest.setup → length (touch_in e) ≡ n
     → after.config.accesses ≡ guest.config.accesses + length ts + n
     → length three ≡ length two → AreBegun (waiting_names three) new
-    → Follows given start after (rest_of after) first later files one three old new
-follows_turn given start guest after first now later files one two three old mid new ts e n x led
-    on good noted_on same is accesses count begun =
+    → Follows given v start after (rest_of after) first later files one three w1 w3 old new
+follows_turn given v start guest after first now later files one two three w1 w2 w3 old mid new ts
+    e n x led on good noted_on same is accesses count begun =
     let harts = start.setup.harts in
     let events : List RunEvent = led.events ++ e ∷ [] in
-    let told = turn_records led.events ts e led.touched in
+    let told = turn_records v led.events ts e led.touched in
     let out = turn_output led.events ts e led.touched in
-    follows_more given start guest after (rest_of guest) (rest_of after) first now later files one
-    two three old mid new events x (led.led ∙ turn_led led.events e (rest_of after))
+    follows_more given v start guest after (rest_of guest) (rest_of after) first now later files
+    one two three w1 w2 w3 old mid new events x
+    (led.led ∙ turn_led led.events e (rest_of after))
     (subst (IsGivenOn given now later) (sym told) on)
-    (subst (All (IsGoodRecord One harts)) (sym told) good)
+    (subst (All (IsGoodRecord v harts)) (sym told) good)
     (λ items put before is_so.
-    subst (λ (l : List TraceRecord). AreNoted harts (items ++ l) (put ++ output_in events) files
-    three before new) (sym told)
-    (subst (λ (l : List ℕ). AreNoted harts (items ++ (touch_records ts ++ record_in e)) (put ++ l)
-    files three before new) (sym out) (noted_on items put before is_so)))
+    subst (λ (l : List TraceRecord). AreNoted v harts (items ++ l) (put ++ output_in events) files
+    three w3 before new) (sym told)
+    (subst (λ (l : List ℕ). AreNoted v harts (items ++ (touch_records v ts ++ record_in v e))
+    (put ++ l) files three w3 before new) (sym out) (noted_on items put before is_so)))
     same (omega (arith, turn_touches led.events ts e led.touched, is, accesses)) count begun
 
 -- the accesses alone
-pub follows_touches : {A : Type 0} (given : A → A → List TraceRecord → Type 0)
+pub follows_touches : {A : Type 0} (given : A → A → List TraceRecord → Type 0) (v : Version)
     (start guest after : Progress) (rest : Run) (first now later : A) (files : List RunFile)
-    (one two three : List Waiting) (old mid new : Outside) (ts : List Touched)
-    → Follows given start guest (rest_of guest) first now files one two old mid
-    → IsLedTo (rest_of guest) ts rest → IsGivenOn given now later (touch_records ts)
-    → All (IsGoodRecord One start.setup.harts) (touch_records ts)
+    (one two three : List Waiting) (w1 w2 w3 : Writing) (old mid new : Outside)
+    (ts : List Touched)
+    → Follows given v start guest (rest_of guest) first now files one two w1 w2 old mid
+    → IsLedTo (rest_of guest) ts rest → IsGivenOn given now later (touch_records v ts)
+    → All (IsGoodRecord v start.setup.harts) (touch_records v ts)
     → ((items : List TraceRecord) (put : List ℕ) (before : Outside)
-    → AreNoted start.setup.harts items put files two before mid
-    → AreNoted start.setup.harts (items ++ touch_records ts) put files three before new)
+    → AreNoted v start.setup.harts items put files two w2 before mid
+    → AreNoted v start.setup.harts (items ++ touch_records v ts) put files three w3 before new)
     → after.setup ≡ guest.setup
     → after.config.accesses ≡ guest.config.accesses + length ts
     → length three ≡ length two → AreBegun (waiting_names three) new
-    → Follows given start after rest first later files one three old new
-follows_touches given start guest after rest first now later files one two three old mid new ts x
-    led on good noted_on same accesses count begun =
+    → Follows given v start after rest first later files one three w1 w3 old new
+follows_touches given v start guest after rest first now later files one two three w1 w2 w3 old
+    mid new ts x led on good noted_on same accesses count begun =
     let harts = start.setup.harts in
-    let told = touched_records led.events ts led.touched in
+    let told = touched_records v led.events ts led.touched in
     let out = touched_output led.events ts led.touched in
-    follows_more given start guest after (rest_of guest) rest first now later files one
-    two three old mid new led.events x led.led
+    follows_more given v start guest after (rest_of guest) rest first now later files one
+    two three w1 w2 w3 old mid new led.events x led.led
     (subst (IsGivenOn given now later) (sym told) on)
-    (subst (All (IsGoodRecord One harts)) (sym told) good)
+    (subst (All (IsGoodRecord v harts)) (sym told) good)
     (λ items put before is_so.
-    subst (λ (l : List TraceRecord). AreNoted harts (items ++ l) (put ++ output_in led.events) files
-    three before new) (sym told)
-    (subst (λ (l : List ℕ). AreNoted harts (items ++ touch_records ts) l
-    files three before new) (sym (ap (λ (l : List ℕ). put ++ l) out ∙ append-nil put))
+    subst (λ (l : List TraceRecord). AreNoted v harts (items ++ l) (put ++ output_in led.events)
+    files three w3 before new) (sym told)
+    (subst (λ (l : List ℕ). AreNoted v harts (items ++ touch_records v ts) l
+    files three w3 before new) (sym (ap (λ (l : List ℕ). put ++ l) out ∙ append-nil put))
     (noted_on items put before is_so)))
     same (omega (arith, touched_count led.events ts led.touched, accesses)) count begun
 
 -- what is cut in the middle of them is cut of the whole run
-pub cut_more : (harts : ℕ) (earlier : List TraceRecord) (files : List RunFile)
+pub cut_more : (v : Version) (harts : ℕ) (earlier : List TraceRecord) (files : List RunFile)
     (xs ys : List RunEvent) (told : List TraceRecord) (out : List ℕ) (whole rest later : Run)
     (before now : Outside) (e : ShelfError) → whole ≡ led_with xs rest → rest ≡ led_with ys later
-    → records_in ys ≡ told → output_in ys ≡ out
-    → AreCutAfter harts ((earlier ++ records_in xs) ++ told) (output_in xs ++ out) files before now
+    → records_in v ys ≡ told → output_in ys ≡ out
+    → AreCutAfter v harts ((earlier ++ records_in v xs) ++ told) (output_in xs ++ out) files before now
     e
-    → AreCut (outputs_for harts earlier whole files) before now e
-cut_more harts earlier files xs ys told out whole rest later before now e goes led is put cut =
-    cut_seen harts earlier files (xs ++ ys) whole later before now e
+    → AreCut (outputs_for v harts earlier whole files) before now e
+cut_more v harts earlier files xs ys told out whole rest later before now e goes led is put cut =
+    cut_seen v harts earlier files (xs ++ ys) whole later before now e
     (goes ∙ ap (led_with xs) led
     ∙ ap (λ (l : List RunEvent). let r : Run = record { events = l; ending = later.ending } in r)
     (sym (append_assoc xs ys later.events)))
-    (subst (λ (l : List TraceRecord). AreCutAfter harts l (output_in (xs ++ ys)) files before now
+    (subst (λ (l : List TraceRecord). AreCutAfter v harts l (output_in (xs ++ ys)) files before now
     e)
-    (append_assoc earlier (records_in xs) told
-    ∙ ap (λ (l : List TraceRecord). earlier ++ (records_in xs ++ l)) (sym is)
-    ∙ ap (λ (l : List TraceRecord). earlier ++ l) (sym (records-append xs ys)))
-    (subst (λ (l : List ℕ). AreCutAfter harts ((earlier ++ records_in xs) ++ told) l files before
+    (append_assoc earlier (records_in v xs) told
+    ∙ ap (λ (l : List TraceRecord). earlier ++ (records_in v xs ++ l)) (sym is)
+    ∙ ap (λ (l : List TraceRecord). earlier ++ l) (sym (records-append v xs ys)))
+    (subst (λ (l : List ℕ). AreCutAfter v harts ((earlier ++ records_in v xs) ++ told) l files before
     now e)
     (ap (λ (l : List ℕ). output_in xs ++ l) (sym put) ∙ sym (output-append xs ys)) cut))
 
-pub cut_turn : (harts : ℕ) (earlier : List TraceRecord) (files : List RunFile)
+pub cut_turn : (v : Version) (harts : ℕ) (earlier : List TraceRecord) (files : List RunFile)
     (xs : List RunEvent) (ts : List Touched) (event : RunEvent) (whole rest later : Run)
     (before now : Outside) (e : ShelfError) → whole ≡ led_with xs rest
     → IsLedTo rest ts (led_by event later)
-    → AreCutAfter harts ((earlier ++ records_in xs) ++ (touch_records ts ++ record_in event))
+    → AreCutAfter v harts ((earlier ++ records_in v xs) ++ (touch_records v ts ++ record_in v event))
     (output_in xs ++ bytes_in event) files before now e
-    → AreCut (outputs_for harts earlier whole files) before now e
-cut_turn harts earlier files xs ts event whole rest later before now e goes led cut =
-    cut_more harts earlier files xs (led.events ++ event ∷ [])
-    (touch_records ts ++ record_in event) (bytes_in event) whole rest later before now e goes
-    (led.led ∙ turn_led led.events event later) (turn_records led.events ts event led.touched)
+    → AreCut (outputs_for v harts earlier whole files) before now e
+cut_turn v harts earlier files xs ts event whole rest later before now e goes led cut =
+    cut_more v harts earlier files xs (led.events ++ event ∷ [])
+    (touch_records v ts ++ record_in v event) (bytes_in event) whole rest later before now e goes
+    (led.led ∙ turn_led led.events event later) (turn_records v led.events ts event led.touched)
     (turn_output led.events ts event led.touched) cut
 
-pub cut_touches : (harts : ℕ) (earlier : List TraceRecord) (files : List RunFile)
+pub cut_touches : (v : Version) (harts : ℕ) (earlier : List TraceRecord) (files : List RunFile)
     (xs : List RunEvent) (ts : List Touched) (whole rest later : Run)
     (before now : Outside) (e : ShelfError) → whole ≡ led_with xs rest → IsLedTo rest ts later
-    → AreCutAfter harts ((earlier ++ records_in xs) ++ touch_records ts) (output_in xs) files
+    → AreCutAfter v harts ((earlier ++ records_in v xs) ++ touch_records v ts) (output_in xs) files
     before now e
-    → AreCut (outputs_for harts earlier whole files) before now e
-cut_touches harts earlier files xs ts whole rest later before now e goes led cut =
-    cut_more harts earlier files xs led.events (touch_records ts) [] whole rest later before now e
-    goes led.led (touched_records led.events ts led.touched)
+    → AreCut (outputs_for v harts earlier whole files) before now e
+cut_touches v harts earlier files xs ts whole rest later before now e goes led cut =
+    cut_more v harts earlier files xs led.events (touch_records v ts) [] whole rest later before now e
+    goes led.led (touched_records v led.events ts led.touched)
     (touched_output led.events ts led.touched)
-    (subst (λ (l : List ℕ). AreCutAfter harts ((earlier ++ records_in xs) ++ touch_records ts) l
+    (subst (λ (l : List ℕ). AreCutAfter v harts ((earlier ++ records_in v xs) ++ touch_records v ts) l
     files before now e) (sym (append-nil (output_in xs))) cut)

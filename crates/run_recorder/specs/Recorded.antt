@@ -1,13 +1,17 @@
 -- What a run leaves: its trace, and what it puts out, in files.
-use Rattle.std.specs.Prelude.{ℕ, List, [], ◌∷◌, ◌++◌, None, map}
+use Rattle.std.specs.Prelude.{◌≡◌, ℕ, List, [], ◌∷◌, ◌++◌, Option, None, Some, map}
+use Rattle.std.specs.List.{filter_map}
+use Rattle.base.specs.Touch.{Touch}
 use Rattle.shelf.specs.Files.{Output as AnOutput}
 use Rattle.trace_format.specs.declared.record.TraceRecord.{TraceRecord}
 use Rattle.trace_format.specs.declared.record.TraceRecord.TheVariants as records
-use Rattle.trace_format.specs.declared.record.Version.TheVariants.{One}
-use Rattle.trace_format.specs.Rules.{IsGoodSymbol, IsGoodTrace}
+use Rattle.trace_format.specs.declared.record.Version.{Version}
+use Rattle.trace_format.specs.declared.record.Version.TheVariants.{One, Three}
+use Rattle.trace_format.specs.Pcs.{without_pcs}
+use Rattle.trace_format.specs.Rules.{IsGoodSymbol, IsGoodTrace, touches_in}
 use Rattle.trace_passes.specs.Passes.{Trace as ATrace, spell_trace}
 use Rattle.guest.specs.GuestCalls.{RunEvent, quiet, touch, alloc, free, output}
-use Rattle.guest.specs.Runs.{Run, output_of}
+use Rattle.guest.specs.Runs.{Run, output_of, sited_of}
 use Rattle.run_recorder.specs.declared.run_file.Content.{Content}
 use Rattle.run_recorder.specs.declared.run_file.Content.TheVariants.{Trace, Output}
 use Rattle.run_recorder.specs.declared.run_file.RunFile.{RunFile}
@@ -19,28 +23,33 @@ abbrev pub IsSymbolRecord : TraceRecord → Type 0
 IsSymbolRecord (records.Symbol kind addr size name) = IsGoodSymbol addr size name
 IsSymbolRecord _ = ⊥
 
--- what the trace tells of an event
-abbrev pub record_in : RunEvent → List TraceRecord
-record_in quiet = []
-record_in (touch a pc) = records.Touch a None ∷ []
-record_in (alloc at size sites) = records.Alloc at size sites ∷ []
-record_in (free at) = records.Free at ∷ []
-record_in (output at bytes) = []
+-- version 3 alone tells the pc of an access
+abbrev pub pc_for : Version → ℕ → Option ℕ
+pc_for Three pc = Some pc
+pc_for _ pc = None
 
-abbrev pub records_in : List RunEvent → List TraceRecord
-records_in [] = []
-records_in (e ∷ events) = record_in e ++ records_in events
+-- what a trace of a version tells of an event
+abbrev pub record_in : Version → RunEvent → List TraceRecord
+record_in v quiet = []
+record_in v (touch a pc) = records.Touch a (pc_for v pc) ∷ []
+record_in v (alloc at size sites) = records.Alloc at size sites ∷ []
+record_in v (free at) = records.Free at ∷ []
+record_in v (output at bytes) = []
+
+abbrev pub records_in : Version → List RunEvent → List TraceRecord
+records_in v [] = []
+records_in v (e ∷ events) = record_in v e ++ records_in v events
 
 -- the symbols of the program, and then what the events tell
-abbrev pub records_of : List TraceRecord → Run → List TraceRecord
-records_of symbols r = symbols ++ records_in r.events
+abbrev pub records_of : Version → List TraceRecord → Run → List TraceRecord
+records_of v symbols r = symbols ++ records_in v r.events
 
--- the trace of a run of so many harts, of a program with these symbols
-abbrev pub trace_for : ℕ → List TraceRecord → Run → ATrace
-trace_for harts symbols r = record {
-  version = One;
+-- the trace of a version of a run of so many harts, of a program with these symbols
+abbrev pub trace_for : Version → ℕ → List TraceRecord → Run → ATrace
+trace_for v harts symbols r = record {
+  version = v;
   header = record { first = 0; harts = harts };
-  items = records_of symbols r;
+  items = records_of v symbols r;
   ending = r.ending;
 }
 
@@ -51,9 +60,9 @@ IsKept t = IsGoodTrace t.version t.header t.items t.ending
 -- ---- its files
 
 -- all bytes of a file with this content
-abbrev pub bytes_of : ℕ → List TraceRecord → Run → Content → List ℕ
-bytes_of harts symbols r Trace = spell_trace (trace_for harts symbols r)
-bytes_of harts symbols r Output = output_of r
+abbrev pub bytes_of : Version → ℕ → List TraceRecord → Run → Content → List ℕ
+bytes_of v harts symbols r Trace = spell_trace (trace_for v harts symbols r)
+bytes_of v harts symbols r Output = output_of r
 
 -- the names of the files
 abbrev pub names_of : List RunFile → List (List ℕ)
@@ -63,6 +72,30 @@ names_of files = map (λ f. f.name.now) files
 abbrev pub outputs_of : List RunFile → (Content → List ℕ) → List AnOutput
 outputs_of files bytes = map (λ f. record { name = f.name.now; bytes = bytes f.content }) files
 
--- the files that a run leaves
-abbrev pub outputs_for : ℕ → List TraceRecord → Run → List RunFile → List AnOutput
-outputs_for harts symbols r files = outputs_of files (bytes_of harts symbols r)
+-- the files that a run leaves, each trace among them of this version
+abbrev pub outputs_for : Version → ℕ → List TraceRecord → Run → List RunFile → List AnOutput
+outputs_for v harts symbols r files = outputs_of files (bytes_of v harts symbols r)
+
+-- ---- the accesses with their pcs
+
+-- an access and the pc that is told of it, where one is
+abbrev pub sited_with : Touch → Option ℕ → Option (Touch × ℕ)
+sited_with a None = None
+sited_with a (Some pc) = Some (a, pc)
+
+abbrev pub sited_record : TraceRecord → Option (Touch × ℕ)
+sited_record (records.Touch a pc) = sited_with a pc
+sited_record _ = None
+
+-- the accesses of which records tell the pc, each with its pc, in order
+abbrev pub sited_records : List TraceRecord → List (Touch × ℕ)
+sited_records items = filter_map sited_record items
+
+-- A trace tells a run with the pc of each access: it is the trace of version 1 but for the pcs, and
+-- its accesses with their pcs are those of the run, in order.
+pub record TellsRun (harts : ℕ) (symbols : List TraceRecord) (r : Run) (t : ATrace) : Type 0 where
+  pub header : t.header ≡ (trace_for One harts symbols r).header
+  pub records : without_pcs t.items ≡ (trace_for One harts symbols r).items
+  pub accesses : touches_in t.items ≡ touches_in (trace_for One harts symbols r).items
+  pub ending : t.ending ≡ (trace_for One harts symbols r).ending
+  pub sites : sited_records t.items ≡ sited_of r

@@ -1,25 +1,61 @@
-// The files of a run, on their way.
-ghost use Rattle.std.specs.Prelude.{◌≡◌, ◌<◌, ◌≤◌, ◌++◌, ◌∷◌, List, ℕ, [], length, IfErr, OnOk};
+// The files of a run, on their way, and how the records of a trace are spelled.
+ghost use Rattle.std.specs.Prelude.{◌≡◌, ◌<◌, ◌≤◌, ◌++◌, ◌∷◌, List, ℕ, [], length, IfErr, OnOk, true};
 ghost use Rattle.shelf.specs.Shelf.{Outside};
 ghost use Rattle.shelf.specs.Files.{Output, AreCut};
 ghost use Rattle.shelf.specs.OnTheirWay.{AreApart, AreBegun, IsNew, IsOutputs, outputs_with};
 ghost use Rattle.shelf.specs.OnTheirWay.{names_of as waiting_names};
 ghost use Rattle.trace_format.specs.Rules.{IsWritable};
+ghost use Rattle.trace_format.specs.Spelling.{before_after, spell_record as spelled};
+ghost use Rattle.trace_format.specs.Writing.{begin_writing};
 ghost use Rattle.run_recorder.specs.declared.run_file.Content.{Content as AContent};
 ghost use Rattle.run_recorder.specs.Recorded.{names_of, outputs_of};
-ghost use Rattle.run_recorder.specs.Recording.{AreCutAfter, AreNoted, bytes_so_far};
-ghost use Rattle.run_recorder.specs.Recording.{output_part, record_part};
+ghost use Rattle.run_recorder.specs.Recording.{AreCutAfter, bytes_so_far, has_trace};
+ghost use Rattle.run_recorder.specs.Recording.{output_part, record_part, trace_part};
 
 use crate::run_file::{Content, RunFile};
+use base::NoMemory;
 use shelf::{Shelf, ShelfError};
 use std::alloc::Global;
 use trace_files::TraceOutputs;
 use trace_format::{Header, TraceRecord, TraceWriter, Version};
 
+// Spells the records of a run's trace, one after the other.
+#[derive(Drop)]
+pub(crate) struct Speller {
+    pub(crate) writer: TraceWriter,
+    // the bytes of one record
+    bytes: Vec<u8>,
+}
+
+impl Speller {
+    // Before the first record of a trace of a version.
+    pub(crate) fn new(alloc: Global, version: Version) -> Speller
+        ensures { result.writer ≡ begin_writing version }
+    {
+        Speller {
+            writer: TraceWriter::new(version),
+            bytes: Vec::new(alloc),
+        }
+    }
+
+    // Spells the next record.
+    fn spell(&mut self, item: &TraceRecord) -> Result<(), NoMemory>
+        requires { IsWritable item.now }
+        ensures bytes { OnOk result (self.new.bytes.items
+            ≡ spelled self.old.writer.version self.old.writer.before item.now) }
+        ensures next { OnOk result (self.new.writer
+            ≡ record self.old.writer { before = before_after self.old.writer.before item.now }) }
+    {
+        self.bytes.clear();
+        self.writer.item(item, &mut self.bytes)
+    }
+}
+
 // Begins a file behind the others, as its content begins.
 fn begin_one<'a, S: Shelf>(
     alloc: Global,
     shelf: &mut S,
+    version: Version,
     harts: u16,
     place: usize,
     name: &'a str,
@@ -34,18 +70,18 @@ fn begin_one<'a, S: Shelf>(
     ensures outputs { OnOk result ((all : List Output) (before : Outside)
         → IsOutputs outputs.old all before (S.outside shelf.old)
         → IsOutputs outputs.new (all ++ record
-        { name = name.now; bytes = bytes_so_far harts [] [] content } ∷ []) before
+        { name = name.now; bytes = bytes_so_far version harts [] [] content } ∷ []) before
         (S.outside shelf.new)) }
     ensures cut { IfErr result (λ error. (all : List Output) (before : Outside)
         → IsOutputs outputs.old all before (S.outside shelf.old)
         → AreCut (all ++ record
-        { name = name.now; bytes = bytes_so_far harts [] [] content } ∷ []) before
+        { name = name.now; bytes = bytes_so_far version harts [] [] content } ∷ []) before
         (S.outside shelf.new) error) }
 {
     match content {
         Content::Trace => {
             let header = Header { first: 0, harts };
-            match outputs.begin_trace(alloc, shelf, place, name, Version::One, header) {
+            match outputs.begin_trace(alloc, shelf, place, name, version, header) {
                 Ok(_) => Ok(()),
                 Err(error) => Err(error),
             }
@@ -58,6 +94,7 @@ fn begin_one<'a, S: Shelf>(
 pub(crate) fn begin<'a, S: Shelf>(
     alloc: Global,
     shelf: &mut S,
+    version: Version,
     harts: u16,
     files: &[RunFile<'a>],
     outputs: &mut TraceOutputs<'a>,
@@ -66,16 +103,17 @@ pub(crate) fn begin<'a, S: Shelf>(
     requires apart { AreApart (names_of files.now) }
     requires some { 1 ≤ harts }
     requires most { harts ≤ 256 }
-    ensures noted { OnOk result (AreNoted harts [] [] files.now outputs.new
-        (S.outside shelf.old) (S.outside shelf.new)) }
+    ensures outputs { OnOk result (IsOutputs outputs.new
+        (outputs_of files.now (bytes_so_far version harts [] [])) (S.outside shelf.old)
+        (S.outside shelf.new)) }
     ensures begun { OnOk result (AreBegun (waiting_names outputs.new) (S.outside shelf.new)) }
     ensures count { OnOk result (length outputs.new ≡ length files.now) }
-    ensures cut { IfErr result (λ error. AreCutAfter harts [] [] files.now
+    ensures cut { IfErr result (λ error. AreCutAfter version harts [] [] files.now
         (S.outside shelf.old) (S.outside shelf.new) error) }
 {
     for place in 0..files.len() {
         let RunFile { name, content } = files[place];
-        match begin_one(alloc, shelf, harts, place, name, content, outputs) {
+        match begin_one(alloc, shelf, version, harts, place, name, content, outputs) {
             Ok(()) => {}
             Err(error) => return Err(error),
         }
@@ -83,45 +121,85 @@ pub(crate) fn begin<'a, S: Shelf>(
     Ok(())
 }
 
-// Puts a record into the file at a place, if that is a trace. The writer knows of no access before:
-// version 1 spells each access alone.
-#[inline(never)]
-fn put_record_into<S: Shelf>(
+// Whether one of the files is a trace.
+#[inline]
+fn has_trace(files: &[RunFile<'_>]) -> bool
+    ensures { result ≡ has_trace files.now }
+{
+    for place in 0..files.len() {
+        match files[place].content {
+            Content::Trace => return true,
+            Content::Output => {}
+        }
+    }
+    false
+}
+
+// Puts the bytes of a record into the file at a place, if that is a trace.
+fn put_spelled_into<S: Shelf>(
     shelf: &mut S,
     place: usize,
     content: Content,
     outputs: &mut TraceOutputs<'_>,
-    item: &TraceRecord,
+    bytes: &[u8],
 ) -> Result<(), ShelfError>
     requires place { place < length outputs.old }
     requires begun { AreBegun (waiting_names outputs.old) (S.outside shelf.old) }
-    requires writable { IsWritable item.now }
     ensures count { length outputs.new ≡ length outputs.old }
     ensures begun { AreBegun (waiting_names outputs.new) (S.outside shelf.new) }
     ensures outputs { OnOk result ((all : List Output) (before : Outside)
         → IsOutputs outputs.old all before (S.outside shelf.old)
-        → IsOutputs outputs.new (outputs_with all place (record_part item.now content)) before
+        → IsOutputs outputs.new (outputs_with all place (trace_part bytes.now content)) before
         (S.outside shelf.new)) }
     ensures cut { IfErr result (λ error. (all : List Output) (before : Outside)
         → IsOutputs outputs.old all before (S.outside shelf.old)
-        → AreCut (outputs_with all place (record_part item.now content)) before
+        → AreCut (outputs_with all place (trace_part bytes.now content)) before
         (S.outside shelf.new) error) }
 {
     match content {
-        Content::Trace => {
-            let mut writer = TraceWriter::new(Version::One);
-            outputs.put_record(shelf, place, &mut writer, item)
-        }
+        Content::Trace => outputs.put_bytes(shelf, place, bytes),
         Content::Output => Ok(()),
     }
 }
 
-// Puts a record into each trace: nothing is called where a run writes no file.
-#[inline(always)]
-pub(crate) fn put_record<S: Shelf>(
+// Puts the bytes of a record into each trace.
+fn put_spelled<S: Shelf>(
     shelf: &mut S,
     files: &[RunFile<'_>],
     outputs: &mut TraceOutputs<'_>,
+    bytes: &[u8],
+) -> Result<(), ShelfError>
+    requires paired { length outputs.old ≡ length files.now }
+    requires begun { AreBegun (waiting_names outputs.old) (S.outside shelf.old) }
+    ensures count { length outputs.new ≡ length outputs.old }
+    ensures begun { OnOk result (AreBegun (waiting_names outputs.new) (S.outside shelf.new)) }
+    ensures outputs { OnOk result ((so_far : AContent → List ℕ) (before : Outside)
+        → IsOutputs outputs.old (outputs_of files.now so_far) before (S.outside shelf.old)
+        → IsOutputs outputs.new
+        (outputs_of files.now (λ content. so_far content ++ trace_part bytes.now content))
+        before (S.outside shelf.new)) }
+    ensures cut { IfErr result (λ error. (so_far : AContent → List ℕ) (before : Outside)
+        → IsOutputs outputs.old (outputs_of files.now so_far) before (S.outside shelf.old)
+        → AreCut
+        (outputs_of files.now (λ content. so_far content ++ trace_part bytes.now content))
+        before (S.outside shelf.new) error) }
+{
+    for place in 0..files.len() {
+        match put_spelled_into(shelf, place, files[place].content, outputs, bytes) {
+            Ok(()) => {}
+            Err(error) => return Err(error),
+        }
+    }
+    Ok(())
+}
+
+// Spells a record, and puts it into each trace.
+#[inline(never)]
+fn spell_record<S: Shelf>(
+    shelf: &mut S,
+    files: &[RunFile<'_>],
+    outputs: &mut TraceOutputs<'_>,
+    speller: &mut Speller,
     item: &TraceRecord,
 ) -> Result<(), ShelfError>
     requires paired { length outputs.old ≡ length files.now }
@@ -129,23 +207,58 @@ pub(crate) fn put_record<S: Shelf>(
     requires writable { IsWritable item.now }
     ensures count { length outputs.new ≡ length outputs.old }
     ensures begun { OnOk result (AreBegun (waiting_names outputs.new) (S.outside shelf.new)) }
+    ensures writer { OnOk result (speller.new.writer ≡ record speller.old.writer
+        { before = before_after speller.old.writer.before item.now }) }
     ensures outputs { OnOk result ((bytes : AContent → List ℕ) (before : Outside)
         → IsOutputs outputs.old (outputs_of files.now bytes) before (S.outside shelf.old)
-        → IsOutputs outputs.new
-        (outputs_of files.now (λ content. bytes content ++ record_part item.now content))
+        → IsOutputs outputs.new (outputs_of files.now
+        (λ content. bytes content ++ record_part speller.old.writer item.now content))
         before (S.outside shelf.new)) }
     ensures cut { IfErr result (λ error. (bytes : AContent → List ℕ) (before : Outside)
         → IsOutputs outputs.old (outputs_of files.now bytes) before (S.outside shelf.old)
-        → AreCut (outputs_of files.now (λ content. bytes content ++ record_part item.now content))
+        → AreCut (outputs_of files.now
+        (λ content. bytes content ++ record_part speller.old.writer item.now content))
         before (S.outside shelf.new) error) }
 {
-    for place in 0..files.len() {
-        match put_record_into(shelf, place, files[place].content, outputs, item) {
-            Ok(()) => {}
-            Err(error) => return Err(error),
-        }
+    match speller.spell(item) {
+        Ok(()) => put_spelled(shelf, files, outputs, &speller.bytes),
+        Err(_) => Err(ShelfError::NoMemory),
     }
-    Ok(())
+}
+
+// Puts a record into each trace: nothing is spelled where there is none.
+#[inline(always)]
+pub(crate) fn put_record<S: Shelf>(
+    shelf: &mut S,
+    files: &[RunFile<'_>],
+    outputs: &mut TraceOutputs<'_>,
+    speller: &mut Speller,
+    item: &TraceRecord,
+) -> Result<(), ShelfError>
+    requires paired { length outputs.old ≡ length files.now }
+    requires begun { AreBegun (waiting_names outputs.old) (S.outside shelf.old) }
+    requires writable { IsWritable item.now }
+    ensures count { length outputs.new ≡ length outputs.old }
+    ensures begun { OnOk result (AreBegun (waiting_names outputs.new) (S.outside shelf.new)) }
+    ensures writer { OnOk result (has_trace files.now ≡ true
+        → speller.new.writer ≡ record speller.old.writer
+        { before = before_after speller.old.writer.before item.now }) }
+    ensures outputs { OnOk result ((bytes : AContent → List ℕ) (before : Outside)
+        → IsOutputs outputs.old (outputs_of files.now bytes) before (S.outside shelf.old)
+        → IsOutputs outputs.new (outputs_of files.now
+        (λ content. bytes content ++ record_part speller.old.writer item.now content))
+        before (S.outside shelf.new)) }
+    ensures cut { IfErr result (λ error. (bytes : AContent → List ℕ) (before : Outside)
+        → IsOutputs outputs.old (outputs_of files.now bytes) before (S.outside shelf.old)
+        → AreCut (outputs_of files.now
+        (λ content. bytes content ++ record_part speller.old.writer item.now content))
+        before (S.outside shelf.new) error) }
+{
+    if has_trace(files) {
+        spell_record(shelf, files, outputs, speller, item)
+    } else {
+        Ok(())
+    }
 }
 
 // Puts bytes that the guest put out into the file at a place, if that holds them.

@@ -7,10 +7,12 @@
 #![tactic(auto)]
 
 mod files;
+mod laws;
 mod notes;
 mod run_file;
 mod touches;
 mod whole_run;
 
+pub use laws::a_trace_with_pcs_tells_the_run;
 pub use run_file::{Content, RunFile};
 pub use whole_run::record_run;

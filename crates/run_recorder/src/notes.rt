@@ -1,24 +1,26 @@
 // What is noted while a run goes on: an observer sees each record, and each file gets what its
 // content says.
-ghost use Rattle.std.specs.Prelude.{◌≡◌, ◌<◌, ◌++◌, ◌∷◌, [], List, None, ℕ, IfErr, OnOk, length};
+ghost use Rattle.std.specs.Prelude.{◌≡◌, ◌<◌, ◌++◌, ◌∷◌, [], List, ℕ, IfErr, OnOk, length};
 ghost use Rattle.std.specs.List.{All};
 ghost use Rattle.shelf.specs.Shelf.{Outside};
 ghost use Rattle.shelf.specs.OnTheirWay.{AreBegun, names_of as waiting_names};
-ghost use Rattle.trace_format.specs.declared.record.Version.TheVariants.{One};
+ghost use Rattle.trace_format.specs.declared.record.Version.{Version as AVersion};
 ghost use Rattle.trace_format.specs.Rules.{IsGoodRecord, IsWritable};
 ghost use Rattle.trace_format.specs.declared.record.TraceRecord.{TraceRecord as ARecord};
 ghost use Rattle.trace_format.specs.declared.record.TraceRecord.TheVariants as records;
+ghost use Rattle.trace_format.specs.Writing.{Writing};
 ghost use Rattle.trace_passes.specs.Rooms.{HasRoom};
+ghost use Rattle.run_recorder.specs.Recorded.{pc_for};
 ghost use Rattle.run_recorder.specs.Recording.{AreCutAfter, AreNoted, IsTold, bytes_told};
 ghost use Rattle.run_recorder.specs.Recording.{records_told};
 
-use crate::files::{put_output, put_record};
+use crate::files::{Speller, put_output, put_record};
 use crate::run_file::{Content, RunFile};
 use base::Access;
 use guest::{Event, Guest};
 use shelf::{RunShown, Shelf, ShelfError};
 use trace_files::TraceOutputs;
-use trace_format::TraceRecord;
+use trace_format::{TraceRecord, Version};
 use trace_passes::Observer;
 
 // A record: the observer sees it, and the files get it.
@@ -27,6 +29,7 @@ pub(crate) fn note_record<S: Shelf, O: Observer>(
     shelf: &mut S,
     files: &[RunFile<'_>],
     outputs: &mut TraceOutputs<'_>,
+    speller: &mut Speller,
     observer: &mut O,
     item: &TraceRecord,
 ) -> Result<(), ShelfError>
@@ -38,45 +41,59 @@ pub(crate) fn note_record<S: Shelf, O: Observer>(
         → O.given begun observer.old earlier → O.given begun observer.new
         (earlier ++ item.now ∷ [])) }
     ensures noted { OnOk result
-        ((harts : ℕ) (items : List ARecord) (put : List ℕ) (before : Outside)
-        → AreNoted harts items put files.now outputs.old before (S.outside shelf.old)
-        → AreNoted harts (items ++ item.now ∷ []) put files.now outputs.new before
-        (S.outside shelf.new)) }
-    ensures cut { IfErr result (λ error. (harts : ℕ) (items : List ARecord) (put : List ℕ)
-        (before : Outside)
-        → AreNoted harts items put files.now outputs.old before (S.outside shelf.old)
-        → AreCutAfter harts (items ++ item.now ∷ []) put files.now before (S.outside shelf.new)
+        ((v : AVersion) (harts : ℕ) (items : List ARecord) (put : List ℕ) (before : Outside)
+        → AreNoted v harts items put files.now outputs.old speller.old.writer before
+        (S.outside shelf.old)
+        → AreNoted v harts (items ++ item.now ∷ []) put files.now outputs.new
+        speller.new.writer before (S.outside shelf.new)) }
+    ensures cut { IfErr result (λ error. (v : AVersion) (harts : ℕ) (items : List ARecord)
+        (put : List ℕ) (before : Outside)
+        → AreNoted v harts items put files.now outputs.old speller.old.writer before
+        (S.outside shelf.old)
+        → AreCutAfter v harts (items ++ item.now ∷ []) put files.now before (S.outside shelf.new)
         error) }
     ensures begun { OnOk result (AreBegun (waiting_names outputs.new) (S.outside shelf.new)) }
     ensures count { length outputs.new ≡ length outputs.old }
 {
     match observer.note(item) {
-        Ok(()) => put_record(shelf, files, outputs, item),
+        Ok(()) => put_record(shelf, files, outputs, speller, item),
         Err(_) => Err(ShelfError::NoMemory),
     }
 }
 
-// The record of an access, which is of an allowed size and place, as its hart says.
+// The pc that a record of a version has of an access.
 #[inline(always)]
-pub(crate) fn touch_record(access: Access) -> TraceRecord
-    ensures value { result ≡ records.Touch access None }
-    ensures good { (harts : ℕ) → access.hart < harts → IsGoodRecord One harts result }
+fn pc_for(version: Version, pc: u32) -> Option<u32>
+    ensures { result ≡ pc_for version pc }
+{
+    match version {
+        Version::Three => Some(pc),
+        Version::One | Version::Two => None,
+    }
+}
+
+// The record of an access by the instruction at `pc`. The access is of an allowed size and place,
+// as its hart says.
+#[inline(always)]
+pub(crate) fn touch_record(version: Version, access: Access, pc: u32) -> TraceRecord
+    ensures value { result ≡ records.Touch access (pc_for version pc) }
+    ensures good { (harts : ℕ) → access.hart < harts → IsGoodRecord version harts result }
 {
     let _hart = access.hart();
-    TraceRecord::Touch(access, None)
+    TraceRecord::Touch(access, pc_for(version, pc))
 }
 
 // The record of a block.
 fn alloc_record(addr: u32, size: u32, sites: [u32; 4]) -> TraceRecord
     ensures value { result ≡ records.Alloc addr size sites }
-    ensures good { (harts : ℕ) → IsGoodRecord One harts result }
+    ensures good { (v : AVersion) (harts : ℕ) → IsGoodRecord v harts result }
 {
     TraceRecord::Alloc { addr, size, sites }
 }
 
 fn free_record(addr: u32) -> TraceRecord
     ensures value { result ≡ records.Free addr }
-    ensures good { (harts : ℕ) → IsGoodRecord One harts result }
+    ensures good { (v : AVersion) (harts : ℕ) → IsGoodRecord v harts result }
 {
     TraceRecord::Free { addr }
 }
@@ -101,14 +118,15 @@ fn note_output<S: Shelf>(
     requires paired { length outputs.old ≡ length files.now }
     requires begun { AreBegun (waiting_names outputs.old) (S.outside shelf.old) }
     ensures noted { OnOk result
-        ((harts : ℕ) (items : List ARecord) (put : List ℕ) (before : Outside)
-        → AreNoted harts items put files.now outputs.old before (S.outside shelf.old)
-        → AreNoted harts items (put ++ bytes.now) files.now outputs.new before
-        (S.outside shelf.new)) }
-    ensures cut { IfErr result (λ error. (harts : ℕ) (items : List ARecord) (put : List ℕ)
+        ((v : AVersion) (harts : ℕ) (items : List ARecord) (put : List ℕ) (w : Writing)
         (before : Outside)
-        → AreNoted harts items put files.now outputs.old before (S.outside shelf.old)
-        → AreCutAfter harts items (put ++ bytes.now) files.now before (S.outside shelf.new) error) }
+        → AreNoted v harts items put files.now outputs.old w before (S.outside shelf.old)
+        → AreNoted v harts items (put ++ bytes.now) files.now outputs.new w before
+        (S.outside shelf.new)) }
+    ensures cut { IfErr result (λ error. (v : AVersion) (harts : ℕ) (items : List ARecord)
+        (put : List ℕ) (w : Writing) (before : Outside)
+        → AreNoted v harts items put files.now outputs.old w before (S.outside shelf.old)
+        → AreCutAfter v harts items (put ++ bytes.now) files.now before (S.outside shelf.new) error) }
     ensures begun { OnOk result (AreBegun (waiting_names outputs.new) (S.outside shelf.new)) }
     ensures count { length outputs.new ≡ length outputs.old }
 {
@@ -123,30 +141,34 @@ pub(crate) fn note_event<S: Shelf, O: Observer>(
     shelf: &mut S,
     files: &[RunFile<'_>],
     outputs: &mut TraceOutputs<'_>,
+    speller: &mut Speller,
     observer: &mut O,
     guest: &Guest,
+    version: Version,
     event: Event,
 ) -> Result<(), ShelfError>
     requires paired { length outputs.old ≡ length files.now }
     requires begun { AreBegun (waiting_names outputs.old) (S.outside shelf.old) }
     requires seen { IsTold guest.now.setup.harts event guest.now.config }
     requires room { HasRoom O.begins O.given observer.old
-        (records_told guest.now.config event) }
+        (records_told version guest.now.config event) }
     ensures given { OnOk result ((begun : O) (earlier : List ARecord)
         → O.given begun observer.old earlier
-        → O.given begun observer.new (earlier ++ records_told guest.now.config event)) }
-    ensures good { All (IsGoodRecord One guest.now.setup.harts)
-        (records_told guest.now.config event) }
+        → O.given begun observer.new (earlier ++ records_told version guest.now.config event)) }
+    ensures good { All (IsGoodRecord version guest.now.setup.harts)
+        (records_told version guest.now.config event) }
     ensures noted { OnOk result
         ((harts : ℕ) (items : List ARecord) (put : List ℕ) (before : Outside)
-        → AreNoted harts items put files.now outputs.old before (S.outside shelf.old)
-        → AreNoted harts (items ++ records_told guest.now.config event)
-        (put ++ bytes_told guest.now.config event) files.now outputs.new before
-        (S.outside shelf.new)) }
+        → AreNoted version harts items put files.now outputs.old speller.old.writer before
+        (S.outside shelf.old)
+        → AreNoted version harts (items ++ records_told version guest.now.config event)
+        (put ++ bytes_told guest.now.config event) files.now outputs.new
+        speller.new.writer before (S.outside shelf.new)) }
     ensures cut { IfErr result (λ error. (harts : ℕ) (items : List ARecord) (put : List ℕ)
         (before : Outside)
-        → AreNoted harts items put files.now outputs.old before (S.outside shelf.old)
-        → AreCutAfter harts (items ++ records_told guest.now.config event)
+        → AreNoted version harts items put files.now outputs.old speller.old.writer before
+        (S.outside shelf.old)
+        → AreCutAfter version harts (items ++ records_told version guest.now.config event)
         (put ++ bytes_told guest.now.config event) files.now before
         (S.outside shelf.new) error) }
     ensures begun { OnOk result (AreBegun (waiting_names outputs.new) (S.outside shelf.new)) }
@@ -154,19 +176,29 @@ pub(crate) fn note_event<S: Shelf, O: Observer>(
 {
     match event {
         Event::Quiet => Ok(()),
-        Event::Touch { access, .. } => {
-            note_record(shelf, files, outputs, observer, &touch_record(access))
+        Event::Touch { access, pc } => {
+            note_record(
+                shelf,
+                files,
+                outputs,
+                speller,
+                observer,
+                &touch_record(version, access, pc),
+            )
         }
         Event::Alloc { addr, size, sites } => {
             note_record(
                 shelf,
                 files,
                 outputs,
+                speller,
                 observer,
                 &alloc_record(addr, size, sites),
             )
         }
-        Event::Free { addr } => { note_record(shelf, files, outputs, observer, &free_record(addr)) }
+        Event::Free { addr } => {
+            note_record(shelf, files, outputs, speller, observer, &free_record(addr))
+        }
         Event::Output { addr, len } => match guest.bytes(addr, len) {
             Some(bytes) => note_output(shelf, files, outputs, bytes),
             None => unreachable!(),

@@ -4,7 +4,6 @@ ghost use Rattle.std.specs.Prelude.{◌≡◌, ◌++◌, List, ℕ, IfErr, OnOk,
 ghost use Rattle.std.specs.List.{All};
 ghost use Rattle.shelf.specs.Shelf.{Outside};
 ghost use Rattle.shelf.specs.OnTheirWay.{AreBegun, names_of as waiting_names};
-ghost use Rattle.trace_format.specs.declared.record.Version.TheVariants.{One};
 ghost use Rattle.trace_format.specs.Rules.{IsGoodRecord};
 ghost use Rattle.trace_format.specs.declared.record.TraceRecord.{TraceRecord as ARecord};
 ghost use Rattle.trace_passes.specs.Rooms.{HasRoom};
@@ -12,11 +11,13 @@ ghost use Rattle.guest.specs.SeenTurns.{AreOfHarts};
 ghost use Rattle.run_recorder.specs.Recording.{AreCutAfter, AreNoted, IsTold, bytes_told};
 ghost use Rattle.run_recorder.specs.Recording.{records_told, touch_records};
 
+use crate::files::Speller;
 use crate::notes::{note_event, note_record, touch_record};
 use crate::run_file::RunFile;
 use guest::{Event, Guest, Touched};
 use shelf::{Shelf, ShelfError};
 use trace_files::TraceOutputs;
+use trace_format::Version;
 use trace_passes::Observer;
 
 // The accesses: the observer sees each, and the files get it.
@@ -25,33 +26,38 @@ pub(crate) fn note_touches<S: Shelf, O: Observer>(
     shelf: &mut S,
     files: &[RunFile<'_>],
     outputs: &mut TraceOutputs<'_>,
+    speller: &mut Speller,
     observer: &mut O,
+    version: Version,
     touches: &[Touched],
 ) -> Result<(), ShelfError>
     requires paired { length outputs.old ≡ length files.now }
     requires begun { AreBegun (waiting_names outputs.old) (S.outside shelf.old) }
-    requires room { HasRoom O.begins O.given observer.old (touch_records touches.now) }
+    requires room { HasRoom O.begins O.given observer.old (touch_records version touches.now) }
     ensures given { OnOk result ((begun : O) (earlier : List ARecord)
         → O.given begun observer.old earlier → O.given begun observer.new
-        (earlier ++ touch_records touches.now)) }
+        (earlier ++ touch_records version touches.now)) }
     ensures good { OnOk result ((harts : ℕ) → AreOfHarts harts touches.now
-        → All (IsGoodRecord One harts) (touch_records touches.now)) }
+        → All (IsGoodRecord version harts) (touch_records version touches.now)) }
     ensures noted { OnOk result
         ((harts : ℕ) (items : List ARecord) (put : List ℕ) (before : Outside)
-        → AreNoted harts items put files.now outputs.old before (S.outside shelf.old)
-        → AreNoted harts (items ++ touch_records touches.now) put files.now outputs.new before
-        (S.outside shelf.new)) }
+        → AreNoted version harts items put files.now outputs.old speller.old.writer before
+        (S.outside shelf.old)
+        → AreNoted version harts (items ++ touch_records version touches.now) put files.now outputs.new
+        speller.new.writer before (S.outside shelf.new)) }
     ensures cut { IfErr result (λ error. (harts : ℕ) (items : List ARecord) (put : List ℕ)
         (before : Outside)
-        → AreNoted harts items put files.now outputs.old before (S.outside shelf.old)
-        → AreCutAfter harts (items ++ touch_records touches.now) put files.now before
+        → AreNoted version harts items put files.now outputs.old speller.old.writer before
+        (S.outside shelf.old)
+        → AreCutAfter version harts (items ++ touch_records version touches.now) put files.now before
         (S.outside shelf.new) error) }
     ensures begun { OnOk result (AreBegun (waiting_names outputs.new) (S.outside shelf.new)) }
     ensures count { length outputs.new ≡ length outputs.old }
 {
     for place in 0..touches.len() {
-        let item = touch_record(touches[place].access);
-        match note_record(shelf, files, outputs, observer, &item) {
+        let touched = touches[place];
+        let item = touch_record(version, touched.access, touched.pc);
+        match note_record(shelf, files, outputs, speller, observer, &item) {
             Ok(()) => {}
             Err(error) => return Err(error),
         }
@@ -65,8 +71,10 @@ pub(crate) fn note_turn<S: Shelf, O: Observer>(
     shelf: &mut S,
     files: &[RunFile<'_>],
     outputs: &mut TraceOutputs<'_>,
+    speller: &mut Speller,
     observer: &mut O,
     guest: &Guest,
+    version: Version,
     touches: &[Touched],
     event: Event,
 ) -> Result<(), ShelfError>
@@ -75,31 +83,33 @@ pub(crate) fn note_turn<S: Shelf, O: Observer>(
     requires seen { IsTold guest.now.setup.harts event guest.now.config }
     requires theirs { AreOfHarts guest.now.setup.harts touches.now }
     requires room { HasRoom O.begins O.given observer.old
-        (touch_records touches.now ++ records_told guest.now.config event) }
+        (touch_records version touches.now ++ records_told version guest.now.config event) }
     ensures given { OnOk result ((begun : O) (earlier : List ARecord)
         → O.given begun observer.old earlier
         → O.given begun observer.new
-        (earlier ++ (touch_records touches.now ++ records_told guest.now.config event))) }
-    ensures good { OnOk result (All (IsGoodRecord One guest.now.setup.harts)
-        (touch_records touches.now ++ records_told guest.now.config event)) }
+        (earlier ++ (touch_records version touches.now ++ records_told version guest.now.config event))) }
+    ensures good { OnOk result (All (IsGoodRecord version guest.now.setup.harts)
+        (touch_records version touches.now ++ records_told version guest.now.config event)) }
     ensures noted { OnOk result
         ((harts : ℕ) (items : List ARecord) (put : List ℕ) (before : Outside)
-        → AreNoted harts items put files.now outputs.old before (S.outside shelf.old)
-        → AreNoted harts
-        (items ++ (touch_records touches.now ++ records_told guest.now.config event))
-        (put ++ bytes_told guest.now.config event) files.now outputs.new before
-        (S.outside shelf.new)) }
+        → AreNoted version harts items put files.now outputs.old speller.old.writer before
+        (S.outside shelf.old)
+        → AreNoted version harts
+        (items ++ (touch_records version touches.now ++ records_told version guest.now.config event))
+        (put ++ bytes_told guest.now.config event) files.now outputs.new
+        speller.new.writer before (S.outside shelf.new)) }
     ensures cut { IfErr result (λ error. (harts : ℕ) (items : List ARecord) (put : List ℕ)
         (before : Outside)
-        → AreNoted harts items put files.now outputs.old before (S.outside shelf.old)
-        → AreCutAfter harts
-        (items ++ (touch_records touches.now ++ records_told guest.now.config event))
+        → AreNoted version harts items put files.now outputs.old speller.old.writer before
+        (S.outside shelf.old)
+        → AreCutAfter version harts
+        (items ++ (touch_records version touches.now ++ records_told version guest.now.config event))
         (put ++ bytes_told guest.now.config event) files.now before (S.outside shelf.new) error) }
     ensures begun { OnOk result (AreBegun (waiting_names outputs.new) (S.outside shelf.new)) }
     ensures count { length outputs.new ≡ length outputs.old }
 {
-    match note_touches(shelf, files, outputs, observer, touches) {
-        Ok(()) => note_event(shelf, files, outputs, observer, guest, event),
+    match note_touches(shelf, files, outputs, speller, observer, version, touches) {
+        Ok(()) => note_event(shelf, files, outputs, speller, observer, guest, version, event),
         Err(error) => Err(error),
     }
 }

@@ -6,7 +6,8 @@ ghost use Rattle.shelf.specs.Shelf.{Outside};
 ghost use Rattle.shelf.specs.Files.{AreCut, AreWritten};
 ghost use Rattle.shelf.specs.OnTheirWay.{AreApart, AreBegun, IsOutputs};
 ghost use Rattle.shelf.specs.OnTheirWay.{names_of as waiting_names};
-ghost use Rattle.trace_format.specs.declared.record.Version.TheVariants.{One};
+ghost use Rattle.trace_format.specs.Writing.{begin_writing};
+ghost use Rattle.trace_format.specs.declared.record.Version.{Version as AVersion};
 ghost use Rattle.trace_format.specs.Rules.{IsAllowedEnd, IsGoodRecord};
 ghost use Rattle.trace_format.specs.declared.record.TraceRecord.{TraceRecord as ARecord};
 ghost use Rattle.trace_format.specs.declared.record.TraceRecord.TheVariants as records;
@@ -18,7 +19,7 @@ ghost use Rattle.run_recorder.specs.Recorded.{IsKept, IsSymbolRecord, names_of, 
 ghost use Rattle.run_recorder.specs.Recorded.{outputs_of, records_in, trace_for};
 ghost use Rattle.run_recorder.specs.Recording.{AreCutAfter, AreNoted, HasStarted, bytes_so_far};
 
-use crate::files::begin;
+use crate::files::{Speller, begin};
 use crate::notes::note_record;
 use crate::run_file::RunFile;
 use crate::touches::{note_touches, note_turn};
@@ -27,7 +28,7 @@ use guest::{Guest, Touches, Turn};
 use shelf::{RunShown, Shelf, ShelfError};
 use std::alloc::Global;
 use trace_files::TraceOutputs;
-use trace_format::TraceRecord;
+use trace_format::{TraceRecord, Version};
 use trace_passes::Observer;
 
 // Notes the symbols of the program, in their order.
@@ -35,6 +36,7 @@ fn note_symbols<S: Shelf, O: Observer>(
     shelf: &mut S,
     files: &[RunFile<'_>],
     outputs: &mut TraceOutputs<'_>,
+    speller: &mut Speller,
     observer: &mut O,
     symbols: &[TraceRecord],
 ) -> Result<(), ShelfError>
@@ -44,17 +46,20 @@ fn note_symbols<S: Shelf, O: Observer>(
     requires begins { O.begins observer.old 0 }
     requires fresh { O.given observer.old observer.old [] }
     ensures given { OnOk result (O.given observer.old observer.new symbols.now) }
-    ensures noted { OnOk result ((harts : ℕ) (before : Outside)
-        → AreNoted harts [] [] files.now outputs.old before (S.outside shelf.old)
-        → AreNoted harts symbols.now [] files.now outputs.new before (S.outside shelf.new)) }
-    ensures cut { IfErr result (λ error. (harts : ℕ) (before : Outside)
-        → AreNoted harts [] [] files.now outputs.old before (S.outside shelf.old)
-        → AreCutAfter harts symbols.now [] files.now before (S.outside shelf.new) error) }
+    ensures noted { OnOk result ((v : AVersion) (harts : ℕ) (before : Outside)
+        → AreNoted v harts [] [] files.now outputs.old speller.old.writer before
+        (S.outside shelf.old)
+        → AreNoted v harts symbols.now [] files.now outputs.new speller.new.writer before
+        (S.outside shelf.new)) }
+    ensures cut { IfErr result (λ error. (v : AVersion) (harts : ℕ) (before : Outside)
+        → AreNoted v harts [] [] files.now outputs.old speller.old.writer before
+        (S.outside shelf.old)
+        → AreCutAfter v harts symbols.now [] files.now before (S.outside shelf.new) error) }
     ensures begun { OnOk result (AreBegun (waiting_names outputs.new) (S.outside shelf.new)) }
     ensures count { length outputs.new ≡ length outputs.old }
 {
     for place in 0..symbols.len() {
-        match note_record(shelf, files, outputs, observer, &symbols[place]) {
+        match note_record(shelf, files, outputs, speller, observer, &symbols[place]) {
             Ok(()) => {}
             Err(error) => return Err(error),
         }
@@ -108,7 +113,9 @@ fn follow<S: Shelf, O: Observer>(
     files: &[RunFile<'_>],
     guest: &mut Guest,
     outputs: &mut TraceOutputs<'_>,
+    speller: &mut Speller,
     observer: &mut O,
+    version: Version,
     touches: &mut Touches,
 ) -> Result<Ending, ShelfError>
     requires paired { length outputs.old ≡ length files.now }
@@ -121,18 +128,20 @@ fn follow<S: Shelf, O: Observer>(
     ensures steps { IfOk result (λ ending. ending.steps ≤ 2 ^ 36) }
     ensures given { OnOk result ((begun : O) (earlier : List ARecord)
         → O.given begun observer.old earlier
-        → O.given begun observer.new (earlier ++ records_in (rest_of guest.old).events)) }
+        → O.given begun observer.new (earlier ++ records_in version (rest_of guest.old).events)) }
     ensures good { OnOk result
-        (All (IsGoodRecord One guest.old.setup.harts) (records_in (rest_of guest.old).events)) }
+        (All (IsGoodRecord version guest.old.setup.harts) (records_in version (rest_of guest.old).events)) }
     ensures noted { OnOk result ((earlier : List ARecord) (before : Outside)
-        → AreNoted guest.old.setup.harts earlier [] files.now outputs.old before
-        (S.outside shelf.old)
-        → AreNoted guest.old.setup.harts (earlier ++ records_in (rest_of guest.old).events)
-        (output_of (rest_of guest.old)) files.now outputs.new before (S.outside shelf.new)) }
+        → AreNoted version guest.old.setup.harts earlier [] files.now outputs.old
+        speller.old.writer before (S.outside shelf.old)
+        → AreNoted version guest.old.setup.harts
+        (earlier ++ records_in version (rest_of guest.old).events)
+        (output_of (rest_of guest.old)) files.now outputs.new speller.new.writer before
+        (S.outside shelf.new)) }
     ensures cut { IfErr result (λ error. (earlier : List ARecord) (before : Outside)
-        → AreNoted guest.old.setup.harts earlier [] files.now outputs.old before
-        (S.outside shelf.old)
-        → AreCut (outputs_for guest.old.setup.harts earlier (rest_of guest.old) files.now)
+        → AreNoted version guest.old.setup.harts earlier [] files.now outputs.old
+        speller.old.writer before (S.outside shelf.old)
+        → AreCut (outputs_for version guest.old.setup.harts earlier (rest_of guest.old) files.now)
         before (S.outside shelf.new) error) }
     ensures begun { OnOk result (AreBegun (waiting_names outputs.new) (S.outside shelf.new)) }
     ensures count { length outputs.new ≡ length outputs.old }
@@ -144,8 +153,10 @@ fn follow<S: Shelf, O: Observer>(
                 shelf,
                 files,
                 outputs,
+                speller,
                 observer,
                 guest,
+                version,
                 touches.all(),
                 event,
             ) {
@@ -159,7 +170,15 @@ fn follow<S: Shelf, O: Observer>(
                     steps: guest.steps(),
                     accesses: guest.accesses(),
                 };
-                return match note_touches(shelf, files, outputs, observer, touches.all()) {
+                return match note_touches(
+                    shelf,
+                    files,
+                    outputs,
+                    speller,
+                    observer,
+                    version,
+                    touches.all(),
+                ) {
                     Ok(()) => Ok(ending),
                     Err(error) => Err(error),
                 };
@@ -174,6 +193,7 @@ fn end<S: Shelf, O: Observer>(
     shelf: &mut S,
     files: &[RunFile<'_>],
     outputs: &mut TraceOutputs<'_>,
+    speller: &mut Speller,
     observer: &mut O,
     ending: &Ending,
 ) -> Result<(), ShelfError>
@@ -185,18 +205,27 @@ fn end<S: Shelf, O: Observer>(
         → O.given begun observer.old earlier
         → O.given begun observer.new (earlier ++ records.End ending.now ∷ [])) }
     ensures written { OnOk result
-        ((harts : ℕ) (items : List ARecord) (put : List ℕ) (before : Outside)
-        → AreNoted harts items put files.now outputs.old before (S.outside shelf.old)
+        ((v : AVersion) (harts : ℕ) (items : List ARecord) (put : List ℕ) (before : Outside)
+        → AreNoted v harts items put files.now outputs.old speller.old.writer before
+        (S.outside shelf.old)
         → AreWritten
-        (outputs_of files.now (bytes_so_far harts (items ++ records.End ending.now ∷ []) put))
+        (outputs_of files.now (bytes_so_far v harts (items ++ records.End ending.now ∷ []) put))
         before (S.outside shelf.new)) }
-    ensures cut { IfErr result (λ error. (harts : ℕ) (items : List ARecord) (put : List ℕ)
-        (before : Outside)
-        → AreNoted harts items put files.now outputs.old before (S.outside shelf.old)
-        → AreCutAfter harts (items ++ records.End ending.now ∷ []) put files.now before
+    ensures cut { IfErr result (λ error. (v : AVersion) (harts : ℕ) (items : List ARecord)
+        (put : List ℕ) (before : Outside)
+        → AreNoted v harts items put files.now outputs.old speller.old.writer before
+        (S.outside shelf.old)
+        → AreCutAfter v harts (items ++ records.End ending.now ∷ []) put files.now before
         (S.outside shelf.new) error) }
 {
-    match note_record(shelf, files, outputs, observer, &TraceRecord::End(*ending)) {
+    match note_record(
+        shelf,
+        files,
+        outputs,
+        speller,
+        observer,
+        &TraceRecord::End(*ending),
+    ) {
         Ok(()) => outputs.finish(shelf),
         Err(error) => Err(error),
     }
@@ -209,11 +238,14 @@ fn note_run<'a, S: Shelf, O: Observer>(
     files: &[RunFile<'a>],
     guest: &mut Guest,
     outputs: &mut TraceOutputs<'a>,
+    speller: &mut Speller,
     observer: &mut O,
     symbols: &[TraceRecord],
+    version: Version,
     touches: &mut Touches,
 ) -> Result<Ending, ShelfError>
     requires none { (outside : Outside) → IsOutputs outputs.old [] outside outside }
+    requires writer { speller.old.writer ≡ begin_writing version }
     requires apart { AreApart (names_of files.now) }
     requires begins { O.begins observer.old 0 }
     requires fresh { O.given observer.old observer.old [] }
@@ -225,36 +257,36 @@ fn note_run<'a, S: Shelf, O: Observer>(
     requires most { guest.old.setup.harts ≤ 256 }
     ensures ending { IfOk result (λ ending. ending ≡ (rest_of guest.old).ending) }
     ensures given { OnOk result (O.given observer.old observer.new
-        (all_records (trace_for guest.old.setup.harts symbols.now (rest_of guest.old)))) }
+        (all_records (trace_for version guest.old.setup.harts symbols.now (rest_of guest.old)))) }
     ensures good { OnOk result
-        (IsKept (trace_for guest.old.setup.harts symbols.now (rest_of guest.old))) }
+        (IsKept (trace_for version guest.old.setup.harts symbols.now (rest_of guest.old))) }
     ensures written { OnOk result
-        (AreWritten (outputs_for guest.old.setup.harts symbols.now (rest_of guest.old) files.now)
+        (AreWritten (outputs_for version guest.old.setup.harts symbols.now (rest_of guest.old) files.now)
         (S.outside shelf.old) (S.outside shelf.new)) }
     ensures cut { IfErr result (λ error.
-        AreCut (outputs_for guest.old.setup.harts symbols.now (rest_of guest.old) files.now)
+        AreCut (outputs_for version guest.old.setup.harts symbols.now (rest_of guest.old) files.now)
         (S.outside shelf.old) (S.outside shelf.new) error) }
 {
-    match begin(alloc, shelf, guest.harts(), files, outputs) {
+    match begin(alloc, shelf, version, guest.harts(), files, outputs) {
         Ok(()) => {}
         Err(error) => return Err(error),
     }
-    match note_symbols(shelf, files, outputs, observer, symbols) {
+    match note_symbols(shelf, files, outputs, speller, observer, symbols) {
         Ok(()) => {}
         Err(error) => return Err(error),
     }
-    let ending = match follow(shelf, files, guest, outputs, observer, touches) {
+    let ending = match follow(shelf, files, guest, outputs, speller, observer, version, touches) {
         Ok(ending) => ending,
         Err(error) => return Err(error),
     };
-    match end(shelf, files, outputs, observer, &ending) {
+    match end(shelf, files, outputs, speller, observer, &ending) {
         Ok(()) => Ok(ending),
         Err(error) => Err(error),
     }
 }
 
-/// Runs a guest to its end. The observer sees each record of the run's trace, the end last: the
-/// symbols, and then what each step tells. The files are written while the run goes on, each with
+/// Runs a guest to its end. The observer sees each record of the run's trace in this version, the
+/// end last: the symbols, and then what each step tells, an access of version 3 with its pc. The files are written while the run goes on, each with
 /// what its content says. Output that no file gets is shown to the shelf as it comes, and once the
 /// files are written how the guest ended, where its exit code isn't 0 or it lacks a hart.
 ///
@@ -271,6 +303,7 @@ pub fn record_run<S: Shelf, O: Observer>(
     mut guest: Guest,
     observer: &mut O,
     symbols: &[TraceRecord],
+    version: Version,
     files: &[RunFile<'_>],
 ) -> Result<Ending, ShelfError>
     requires apart { AreApart (names_of files.now) }
@@ -285,18 +318,19 @@ pub fn record_run<S: Shelf, O: Observer>(
     // the end is that of the run, and the observer has seen each record of its trace
     ensures ending { IfOk result (λ ending. ending ≡ (rest_of guest).ending) }
     ensures given { OnOk result (O.given observer.old observer.new
-        (all_records (trace_for guest.setup.harts symbols.now (rest_of guest)))) }
+        (all_records (trace_for version guest.setup.harts symbols.now (rest_of guest)))) }
     // the trace keeps the rules of the format
-    ensures good { OnOk result (IsKept (trace_for guest.setup.harts symbols.now (rest_of guest))) }
+    ensures good { OnOk result (IsKept (trace_for version guest.setup.harts symbols.now (rest_of guest))) }
     // what is written, at an error too
     ensures written { OnOk result
-        (AreWritten (outputs_for guest.setup.harts symbols.now (rest_of guest) files.now)
+        (AreWritten (outputs_for version guest.setup.harts symbols.now (rest_of guest) files.now)
         (S.outside shelf.old) (S.outside shelf.new)) }
     ensures cut { IfErr result
-        (λ error. AreCut (outputs_for guest.setup.harts symbols.now (rest_of guest) files.now)
+        (λ error. AreCut (outputs_for version guest.setup.harts symbols.now (rest_of guest) files.now)
         (S.outside shelf.old) (S.outside shelf.new) error) }
 {
     let mut outputs = TraceOutputs::new(alloc);
+    let mut speller = Speller::new(alloc, version);
     let mut touches = match Touches::new(alloc) {
         Ok(touches) => touches,
         Err(_) => return Err(ShelfError::NoMemory),
@@ -307,8 +341,10 @@ pub fn record_run<S: Shelf, O: Observer>(
         files,
         &mut guest,
         &mut outputs,
+        &mut speller,
         observer,
         symbols,
+        version,
         &mut touches,
     );
     show_end(shelf, &guest);

@@ -5,6 +5,7 @@ pub mod BlameCounts
 pub mod BlameFits
 pub mod BlameKept
 pub mod BlameLines
+pub mod BlameRecords
 pub mod BlameTables
 pub mod BlameText
 pub mod Bounds

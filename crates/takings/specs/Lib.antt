@@ -2,6 +2,7 @@ pub mod Blame
 pub mod BlameFits
 pub mod BlameInside
 pub mod BlameKept
+pub mod BlameRecords
 pub mod BlameRows
 pub mod BlameText
 pub mod Groups

@@ -3,6 +3,7 @@ ghost use Rattle.std.specs.Prelude.{◌≡◌, ◌<◌, ◌^◌, ◌++◌, ◌�
 ghost use Rattle.std.specs.Prelude.{length};
 ghost use Rattle.takings.specs.Blame.{all_takings};
 ghost use Rattle.takings.specs.BlameKept.{StandsFor, note_access, nothing_blamed, wants_memory};
+ghost use Rattle.takings.specs.BlameRecords.{HasBlamed};
 ghost use Rattle.takings.specs.declared.sited.Sited.{Sited as ASited};
 
 use crate::blame_tables::{BlameTables, InLine, LineTaken};
@@ -42,6 +43,7 @@ impl Blame {
     pub fn new(alloc: Global, layout: Layout) -> Blame
         ensures kept { result ≡ nothing_blamed layout }
         ensures stands { StandsFor [] result }
+        ensures begun { HasBlamed result result [] }
     {
         Blame {
             layout,

@@ -2,15 +2,18 @@
 ghost use Rattle.std.specs.Prelude.{◌≡◌, ◌++◌, IfOk, List, OnOk, codes, flat_map};
 ghost use Rattle.std.specs.Prelude.{map};
 ghost use Rattle.std.specs.Fmt.{decimal};
+ghost use Rattle.base.specs.Lines.{Grid};
 ghost use Rattle.base.specs.TextLines.{text_of};
 ghost use Rattle.report.specs.Added.{AddsLine, AddsLines, AddsText};
-ghost use Rattle.takings.specs.BlameKept.{StandsFor};
+ghost use Rattle.takings.specs.BlameKept.{StandsFor, nothing_blamed};
+ghost use Rattle.takings.specs.BlameRecords.{HasBlamed, blame_of_records};
 ghost use Rattle.takings.specs.BlameRows.{gathered_at, gathered_lines, kept_text, numbers};
 ghost use Rattle.takings.specs.BlameRows.{with_rows};
 ghost use Rattle.takings.specs.BlameText.{blame_ends, blame_heads, blame_text, count_lines};
 ghost use Rattle.takings.specs.BlameText.{lines_of_line};
 ghost use Rattle.takings.specs.Text.{hart_line, hart_lines, pair_line, pair_lines};
 ghost use Rattle.takings.specs.declared.sited.Sited.{Sited as ASited};
+ghost use Rattle.trace_format.specs.declared.record.TraceRecord.{TraceRecord as Record};
 
 use crate::blame::Blame;
 use crate::blame_rows::{
@@ -217,6 +220,9 @@ pub fn write_blame(alloc: Global, blame: &Blame) -> Result<Vec<u8>, NoMemory>
     // where it stands for a list, it is the text of the list
     ensures stands { (u : List ASited) → StandsFor u blame.now
         → IfOk result (λ text. text.items ≡ blame_text blame.now.grid u) }
+    // where it has seen these records from the beginning, it is that of the records
+    ensures records { (g : Grid) (items : List Record) → HasBlamed (nothing_blamed g) blame.now items
+        → IfOk result (λ text. text.items ≡ blame_of_records g items) }
 {
     let heads = sorted_heads(alloc, blame.layout(), blame.lines())?;
     let pairs = gather(alloc, blame.pairs())?;

@@ -12,6 +12,7 @@ ghost use Rattle.sharing_rules.specs.Verdicts.{verdict_of};
 ghost use Rattle.sharing_rules.specs.Words.{words_since};
 ghost use Rattle.sharing_rules.specs.declared.line_kind.Verdict.TheVariants.{FalseSharing};
 ghost use Rattle.takings.specs.Blame.{all_takings, taken_line};
+ghost use Rattle.takings.specs.BlameRecords.{sited_in};
 ghost use Rattle.takings.specs.Kept.{holds_line, is_held_by, kept_of, two_of, victim_by};
 ghost use Rattle.takings.specs.Latest.{accesses_of, latest};
 ghost use Rattle.takings.specs.Laws.Another.{held_by_another};
@@ -21,6 +22,8 @@ ghost use Rattle.takings.specs.Takings.{hart_pairs, is_in_by_another, is_of_one_
 ghost use Rattle.takings.specs.Takings.{is_taking, pairs, taking_count, takings, victim};
 ghost use Rattle.takings.specs.Takings.{victim_place};
 ghost use Rattle.takings.specs.declared.sited.Sited.{Sited};
+ghost use Rattle.trace_format.specs.Rules.{touches_in};
+ghost use Rattle.trace_format.specs.declared.record.TraceRecord.{TraceRecord};
 
 /// Each taking has a victim, and the victim's hart holds the line before it.
 pub fn victims_hold_the_line()
@@ -106,4 +109,10 @@ pub fn lines_are_told_as_alone()
         → (taken_line u l).pairs ≡ (kept_of l 0 u).pairs }
     ensures harts { (l : Line) (u : List Sited)
         → (taken_line u l).harts ≡ (kept_of l 0 u).harts }
+{}
+
+/// Without its pcs the sited list of a trace, its accesses with their pcs, is its access list. So
+/// the other laws, which speak of the accesses of a sited list, speak of those of the trace.
+pub fn sited_lists_are_access_lists()
+    ensures { (items : List TraceRecord) → accesses_of (sited_in items) ≡ touches_in items }
 {}

@@ -1,4 +1,4 @@
-//! What the command `explain` tells: which instructions take a line from each other.
+//! What the commands `explain` and `blame` print: which instructions take lines from each other.
 //!
 //! A taking is an invalidation of one line at a position above a start. Its victim is the latest
 //! access in the line by another hart than its own, so a taking has two instructions, that of its
@@ -14,6 +14,7 @@
 //! [`Blame`] does so for all lines of a layout at once, from the first access on; what it tells is
 //! defined in `specs/Blame.antt`. Of each line it keeps these two accesses and a number, and it has
 //! one table of instructions and one of harts for all lines, since most lines have few rows.
+//! It sees the records of a trace, whose accesses come with their pcs: `specs/BlameRecords.antt`.
 //! [`write_blame`] prints the lines that are taken, the most taken first.
 #![tactic(auto)]
 
@@ -21,6 +22,7 @@ mod blame;
 mod blame_rows;
 mod blame_tables;
 mod blame_text;
+mod blamed_records;
 mod explainer;
 mod latest;
 mod laws;
@@ -35,8 +37,8 @@ pub use blame_text::write_blame;
 pub use explainer::Explainer;
 pub use laws::{
     false_sharing_takes_no_word, lines_are_told_as_alone, listed_counts_are_told,
-    taken_lines_add_up, takings_add_up, takings_beside_later_counts, two_accesses_are_enough,
-    victims_hold_the_line,
+    sited_lists_are_access_lists, taken_lines_add_up, takings_add_up, takings_beside_later_counts,
+    two_accesses_are_enough, victims_hold_the_line,
 };
 pub use sited::{Sides, Sited, Taking};
 pub use tables::Taken;

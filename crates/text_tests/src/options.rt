@@ -1,8 +1,8 @@
 // Command lines as users write them, each against what it asks for.
 use base::Layout;
 use command_line::{
-    CheckOptions, ConvertOptions, Demand, GenOptions, PlaceOptions, ReplayOptions, RunOptions,
-    SplitOptions, WordsFault, read_words,
+    CheckOptions, ConvertOptions, Demand, GenOptions, LayoutOptions, PlaceOptions, ReplayOptions,
+    RunOptions, SplitOptions, WordsFault, read_words,
 };
 use settings::Changes;
 use std::alloc::{AllocError, Global};
@@ -305,7 +305,46 @@ fn reads_layouts(rt: HostRuntime) -> Result<(), Fail> {
     Ok(())
 }
 
-const REFUSED: [&str; 70] = [
+// Lines that ask for the misses of `t` or for who takes its lines, each with the size and the offset
+// of the layout.
+const MISSED: [(&str, u32, u32); 3] = [
+    ("misses t", 64, 0),
+    ("misses --size=1024 -- t", 1024, 0),
+    ("misses --shift 4 t --size 8", 8, 4),
+];
+
+const BLAMED: [(&str, u32, u32); 3] = [
+    ("blame t", 64, 0),
+    ("blame t --size 4", 4, 0),
+    ("blame t --shift=60", 64, 60),
+];
+
+fn under(size: u32, shift: u32) -> Option<LayoutOptions<'static>> {
+    let layout = Layout::new(size, shift)?;
+    Some(LayoutOptions { trace: "t", layout })
+}
+
+fn misses(size: u32, shift: u32) -> Answer<'static> {
+    Some(Demand::Misses(under(size, shift)?))
+}
+
+fn blame(size: u32, shift: u32) -> Answer<'static> {
+    Some(Demand::Blame(under(size, shift)?))
+}
+
+#[test]
+fn reads_traces_under_layouts(rt: HostRuntime) -> Result<(), Fail> {
+    let alloc = rt.alloc();
+    for (line, size, shift) in &MISSED {
+        answers(&rt, alloc, line, &misses(*size, *shift))?;
+    }
+    for (line, size, shift) in &BLAMED {
+        answers(&rt, alloc, line, &blame(*size, *shift))?;
+    }
+    Ok(())
+}
+
+const REFUSED: [&str; 77] = [
     // other words
     "replay",
     "replay a b",
@@ -333,6 +372,10 @@ const REFUSED: [&str; 70] = [
     "place t",
     "place t x y",
     "place t x --shift 4",
+    "misses",
+    "blame",
+    "blame t u",
+    "blame t --settings s",
     // other numbers
     "replay a --size 48",
     "replay a --size 064",
@@ -349,6 +392,9 @@ const REFUSED: [&str; 70] = [
     "place t x --size 3",
     "place t x --size 2048",
     "place t x --size=",
+    "misses t --size 2",
+    "blame t --size 48",
+    "blame t --size 8 --shift 8",
     // other changes of settings
     "run p --set",
     "run p --set=",

@@ -1,23 +1,13 @@
-use Rattle.clap.specs.Words.{found_of, rows_of}
+use Rattle.std.proofs.Common.{ap}
 use Rattle.command_line.specs.Demands.{texts}
-use Rattle.command_line.specs.Misses.{misses_app, misses_of}
-use Rattle.command_line.specs.Words.{misses}
-use Rattle.command_line.proofs.AskedLemmas.{asked_refused, taken_accepted, taken_refused}
+use Rattle.command_line.specs.Misses.{asked_of_misses}
+use Rattle.command_line.specs.Words.{given_apart, misses}
+use Rattle.command_line.proofs.AskedLemmas.{said_refused}
 use Rattle.command_line.proofs.misses.read_misses.Goals as goal
 
 pub returns-in-Ok-clause-accepted : goal.returns-in-Ok-clause-accepted
-returns-in-Ok-clause-accepted c =
-    taken_accepted misses misses_app misses_of (texts c.args.words.now)
-    (rows_of (found_of c.in-Ok.matches)) c.in-Ok.ensures.taken c.in-Ok.ensures.rows
-    c.demand_in.result c.demand_in.ensures.accepted
-
-pub returns-in-Ok-clause-refused : goal.returns-in-Ok-clause-refused
-returns-in-Ok-clause-refused c =
-    taken_refused misses misses_app misses_of (texts c.args.words.now)
-    (rows_of (found_of c.in-Ok.matches)) c.in-Ok.ensures.taken c.in-Ok.ensures.rows
-    c.demand_in.result c.demand_in.ensures.refused
+returns-in-Ok-clause-accepted c = ap (given_apart misses) c.in-Ok.ensures.accepted
 
 pub returns-in-Err-clause-refused : goal.returns-in-Err-clause-refused
 returns-in-Err-clause-refused c =
-    asked_refused misses misses_app misses_of (texts c.args.words.now) c.in-Err.fault
-    c.in-Err.ensures.refused
+    said_refused misses (asked_of_misses (texts c.args.words.now)) c.in-Err.fault c.in-Err.ensures.refused

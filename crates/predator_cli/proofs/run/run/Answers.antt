@@ -5,7 +5,7 @@ use Rattle.guest.specs.Runs.{rest_of}
 use Rattle.run_recorder.specs.Recorded.{trace_for}
 use Rattle.shelf.specs.Laws.Told.{told_both}
 use Rattle.shelf.specs.Shelf.{Told, content}
-use Rattle.predator_cli.specs.Run.{symbol_records, trace_for_demand}
+use Rattle.predator_cli.specs.Run.{symbol_records, trace_for_demand, version_with}
 use Rattle.predator_cli.proofs.run.run.Goals as goal
 
 pub returns-in-Err : goal.returns-in-Err
@@ -20,9 +20,10 @@ returns-in-Ok g c =
     let s = c.in-Ok.loaded.settings in
     let r = rest_of c.in-Ok.loaded.guest in
     let symbols = c.in-Ok.loaded.symbols.items in
-    let traced : Told m.held (λ files. trace_for s.harts symbols r ≡ trace_for_demand d s files) =
-    told_both m.held (λ files runs named. ap (λ x. trace_for s.harts x r) named
-    ∙ ap (trace_for s.harts (symbol_records (content files d.program))) runs)
+    let v = version_with d.pcs in
+    let traced : Told m.held (λ files. trace_for v s.harts symbols r ≡ trace_for_demand d s files) =
+    told_both m.held (λ files runs named. ap (λ x. trace_for v s.harts x r) named
+    ∙ ap (trace_for v s.harts (symbol_records (content files d.program))) runs)
     c.in-Ok.ensures.run c.in-Ok.ensures.symbols in
     c.run_loaded.ensures a (record {
       read = c.in-Ok.ensures.settings;

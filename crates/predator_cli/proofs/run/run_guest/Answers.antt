@@ -6,6 +6,7 @@ use Rattle.sightings.specs.Sights.{nothing_sighted}
 use Rattle.trace_format.specs.declared.record.TraceRecord.{TraceRecord}
 use Rattle.command_files.specs.SettingsFiles.{levels_of, native_of}
 use Rattle.predator_cli.specs.Replay.{report_of}
+use Rattle.predator_cli.specs.Run.{version_with}
 use Rattle.predator_cli.proofs.RunEnds.{handed_apart, handed_on}
 use Rattle.predator_cli.proofs.run.run_guest.Goals as goal
 
@@ -25,7 +26,7 @@ pub returns-clause-text : goal.returns-clause-text
 returns-clause-text g c =
     let s = c.args.loaded.settings in
     as_loaded (λ harts l. IfOk c.show_run.result (λ shown. shown.text.items
-    ≡ report_of (levels_of None s) (native_of s) (trace_for harts l (rest_of c.args.loaded.guest))))
+    ≡ report_of (levels_of None s) (native_of s) (trace_for (version_with c.args.options.now.pcs) harts l (rest_of c.args.loaded.guest))))
     c.args.loaded.guest.setup.harts s.harts c.deref.result.now c.args.loaded.symbols.items
     c.requires.harts c.deref.ensures.value
     (c.show_run.ensures.text (native_of s) (levels_of None s) (c.new-sightings.ensures.blank
@@ -41,8 +42,8 @@ returns-clause-written g c =
     let b = g.S.Shelf.outside c.show_run.new.shelf in
     let files = take c.files_of-count.result.1 c.files_of-count.result.0 in
     subst (λ (o : List Output). OnOk c.show_run.result (AreWritten o a b))
-    (handed_on c.args.options.now s.harts symbols r files c.files_of-count.ensures.files)
-    (as_loaded (λ harts l. OnOk c.show_run.result (AreWritten (outputs_for harts l r files) a b))
+    (handed_on c.args.options.now (version_with c.args.options.now.pcs) s.harts symbols r files c.files_of-count.ensures.files)
+    (as_loaded (λ harts l. OnOk c.show_run.result (AreWritten (outputs_for (version_with c.args.options.now.pcs) harts l r files) a b))
     c.args.loaded.guest.setup.harts s.harts c.deref.result.now symbols c.requires.harts
     c.deref.ensures.value
     c.show_run.ensures.written)
@@ -56,8 +57,8 @@ returns-clause-cut g c =
     let b = g.S.Shelf.outside c.show_run.new.shelf in
     let files = take c.files_of-count.result.1 c.files_of-count.result.0 in
     subst (λ (o : List Output). IfErr c.show_run.result (AreCut o a b))
-    (handed_on c.args.options.now s.harts symbols r files c.files_of-count.ensures.files)
-    (as_loaded (λ harts l. IfErr c.show_run.result (AreCut (outputs_for harts l r files) a b))
+    (handed_on c.args.options.now (version_with c.args.options.now.pcs) s.harts symbols r files c.files_of-count.ensures.files)
+    (as_loaded (λ harts l. IfErr c.show_run.result (AreCut (outputs_for (version_with c.args.options.now.pcs) harts l r files) a b))
     c.args.loaded.guest.setup.harts s.harts c.deref.result.now symbols c.requires.harts
     c.deref.ensures.value
     c.show_run.ensures.cut)

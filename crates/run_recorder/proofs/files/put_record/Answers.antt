@@ -1,30 +1,12 @@
-use Rattle.std.proofs.Common.{add-one, arith}
-use Rattle.run_recorder.specs.Recording.{record_part}
-use Rattle.run_recorder.proofs.Beginning.{at_place, file_at}
-use Rattle.run_recorder.proofs.Putting.{put_all, put_cut, put_more}
+use Rattle.std.proofs.Common.{◌∙◌, List, subst, sym}
+use Rattle.shelf.specs.Files.{Output}
+use Rattle.shelf.specs.OnTheirWay.{IsOutputs}
+use Rattle.run_recorder.proofs.Events.{untraced}
 use Rattle.run_recorder.proofs.files.put_record.Goals as goal
 
-pub returns-in-Err-clause-cut : goal.returns-in-Err-clause-cut
-returns-in-Err-clause-cut g c =
-    put_cut c.args.files.now (record_part c.args.item.now) c.args.outputs.now c.loop-place.outputs
-    c.loop-place.place (file_at c.args.files.now c.loop-place.place)
-    (g.S.Shelf.outside c.args.shelf.now) (g.S.Shelf.outside c.loop-place.shelf)
-    (g.S.Shelf.outside c.put_record_into.new.shelf) c.in-Err.error c.loop-place-test.true
-    (at_place c.args.files.now c.loop-place.place c.loop-place-test.true) c.loop-place.invariant
-    c.in-Err.ensures.cut
-
-pub loop-place-preserved : goal.loop-place-preserved
-loop-place-preserved g c =
-    rw add-one
-    (put_more c.args.files.now (record_part c.args.item.now) c.args.outputs.now c.loop-place.outputs
-    c.put_record_into.new.outputs c.loop-place.place (file_at c.args.files.now c.loop-place.place)
-    (g.S.Shelf.outside c.args.shelf.now) (g.S.Shelf.outside c.loop-place.shelf)
-    (g.S.Shelf.outside c.put_record_into.new.shelf) c.loop-place-test.true
-    (at_place c.args.files.now c.loop-place.place c.loop-place-test.true) c.loop-place.invariant
-    c.put_record_into.ensures.count c.put_record_into.ensures.begun c.in-Ok.ensures.outputs)
-
-pub returns-clause-outputs : goal.returns-clause-outputs
-returns-clause-outputs g c =
-    put_all c.args.files.now (record_part c.args.item.now) c.args.outputs.now c.loop-place.outputs
-    c.loop-place.place (g.S.Shelf.outside c.args.shelf.now) (g.S.Shelf.outside c.loop-place.shelf)
-    (omega arith) (omega arith) c.loop-place.invariant
+pub returns-else-has_trace-clause-outputs : goal.returns-else-has_trace-clause-outputs
+returns-else-has_trace-clause-outputs g c = λ bytes before on.
+    subst (λ (l : List Output). IsOutputs c.args.outputs.now l before
+    (g.S.Shelf.outside c.args.shelf.now))
+    (untraced c.args.files.now bytes c.args.speller.now.writer c.args.item.now
+    (sym c.has_trace.ensures ∙ c.if-has_trace.false)) on

@@ -5,6 +5,7 @@ use Rattle.shelf.specs.Files.{Output as AnOutput, AreCut}
 use Rattle.shelf.specs.OnTheirWay.{IsOutputs}
 use Rattle.trace_format.specs.declared.record.TraceRecord.{TraceRecord}
 use Rattle.trace_format.specs.declared.record.TraceRecord.TheVariants as records
+use Rattle.trace_format.specs.declared.record.Version.{Version}
 use Rattle.run_recorder.specs.Recorded.{outputs_of}
 use Rattle.run_recorder.specs.Recording.{AreCutAfter, AreNoted, bytes_so_far}
 use Rattle.run_recorder.proofs.whole_run.end.Goals as goal
@@ -13,9 +14,9 @@ pub returns-in-Ok-clause-written : goal.returns-in-Ok-clause-written
 returns-in-Ok-clause-written g c =
     let e : TraceRecord = records.End c.args.ending.now in
     on_ok_weaker c.finish.result
-    (λ written harts items put before on. written
-    (outputs_of c.args.files.now (bytes_so_far harts (items ++ e ∷ []) put)) before
-    (c.in-Ok.ensures.noted harts items put before on))
+    (λ written v harts items put before on. written
+    (outputs_of c.args.files.now (bytes_so_far v harts (items ++ e ∷ []) put)) before
+    (c.in-Ok.ensures.noted v harts items put before on).outputs)
     c.finish.ensures.written
 
 pub returns-in-Ok-clause-cut : goal.returns-in-Ok-clause-cut
@@ -28,10 +29,10 @@ returns-in-Ok-clause-cut g c =
     IfErr-weaker c.finish.result (λ e. (outputs : List AnOutput) (before : Outside)
     → IsOutputs c.note_record.new.outputs outputs before mid
     → AreCut outputs before new e)
-    (λ e. (harts : ℕ) (items : List TraceRecord) (put : List ℕ) (before : Outside)
-    → AreNoted harts items put files c.args.outputs.now before old
-    → AreCutAfter harts (items ++ end ∷ []) put files before new e)
-    (λ e cut harts items put before on. cut
-    (outputs_of files (bytes_so_far harts (items ++ end ∷ []) put)) before
-    (c.in-Ok.ensures.noted harts items put before on))
+    (λ e. (v : Version) (harts : ℕ) (items : List TraceRecord) (put : List ℕ) (before : Outside)
+    → AreNoted v harts items put files c.args.outputs.now c.args.speller.now.writer before old
+    → AreCutAfter v harts (items ++ end ∷ []) put files before new e)
+    (λ e cut v harts items put before on. cut
+    (outputs_of files (bytes_so_far v harts (items ++ end ∷ []) put)) before
+    (c.in-Ok.ensures.noted v harts items put before on).outputs)
     c.finish.ensures.cut

@@ -8,7 +8,6 @@ use Rattle.guest.specs.Runs.{ended_run, ending_with, output_in, rest_of}
 use Rattle.guest.specs.declared.setup.Setup.{Setup}
 use Rattle.shelf.specs.declared.shelf.ShelfError.TheVariants.{NoMemory}
 use Rattle.shelf.specs.Laws.Files.{IsOutputs-cut}
-use Rattle.trace_format.specs.declared.record.Version.TheVariants.{One}
 use Rattle.trace_format.specs.Rules.{IsGoodRecord}
 use Rattle.run_recorder.specs.Recorded.{outputs_of, record_in, records_in}
 use Rattle.run_recorder.specs.Recording.{AreNoted, bytes_so_far, bytes_told, records_told}
@@ -21,8 +20,8 @@ use Rattle.run_recorder.proofs.whole_run.follow.Goals as goal
 
 pub turns-init : goal.turns-init
 turns-init g c =
-    follows_start g.O.Observer.given c.args.guest.now c.args.observer.now c.args.files.now
-    c.args.outputs.now
+    follows_start g.O.Observer.given c.args.version c.args.guest.now c.args.observer.now c.args.files.now
+    c.args.outputs.now c.args.speller.now.writer
     (g.S.Shelf.outside c.show_steps.new.shelf) (rw c.show_steps.ensures c.requires.begun)
 
 pub note_turn-requires-clause-room : goal.note_turn-requires-clause-room
@@ -41,10 +40,10 @@ note_turn-requires-clause-room g c =
     (c.in-Ok-Ran.ensures.setup ∙ x.setup) in
     rw c.all.ensures
     (room_more g.O.Observer.begins g.O.Observer.given c.args.observer.now c.turns.observer
-    x.events (touch_records ts ++ record_in e) c.requires.started x.given_on
+    c.args.version x.events (touch_records c.args.version ts ++ record_in c.args.version e) c.requires.started x.given_on
     (omega (
       arith,
-      turn_count ts e,
+      turn_count c.args.version ts e,
       touches-seen after.config event,
       x.early,
       counts,
@@ -66,13 +65,14 @@ turns-preserved g c =
     let harts : after.setup.harts ≡ c.args.guest.now.setup.harts =
     ap (λ (s : Setup). s.harts) setup in
     shown
-    (follows_turn g.O.Observer.given c.args.guest.now c.turns.guest after c.args.observer.now
+    (follows_turn g.O.Observer.given c.args.version c.args.guest.now c.turns.guest after c.args.observer.now
     c.turns.observer c.note_turn.new.observer c.args.files.now c.args.outputs.now c.turns.outputs
-    c.note_turn.new.outputs (g.S.Shelf.outside c.show_steps.new.shelf)
+    c.note_turn.new.outputs c.args.speller.now.writer c.turns.speller.writer
+    c.note_turn.new.speller.writer (g.S.Shelf.outside c.show_steps.new.shelf)
     (g.S.Shelf.outside c.turns.shelf) (g.S.Shelf.outside c.note_turn.new.shelf) ts e
     (accesses_in event) x (rw c.in-Ok-Ran.field-0-is at c.in-Ok-Ran.ensures.run)
     (rw c.all.ensures at c.in-Ok.ensures.given)
-    (subst (λ (n : ℕ). All (IsGoodRecord One n) (touch_records ts ++ record_in e)) harts
+    (subst (λ (n : ℕ). All (IsGoodRecord c.args.version n) (touch_records c.args.version ts ++ record_in c.args.version e)) harts
     (rw c.all.ensures at c.in-Ok.ensures.good))
     (λ items put before on. rw c.all.ensures at (c.in-Ok.ensures.noted
     c.args.guest.now.setup.harts items put before on))
@@ -89,10 +89,10 @@ returns-in-Err-note_turn-clause-cut g c = λ earlier before on.
     let harts = c.args.guest.now.setup.harts in
     let x = c.turns.invariant in
     let e : RunEvent = seen after.config.memory c.in-Ok-Ran.event in
-    cut_turn harts earlier c.args.files.now x.events ts e (rest_of c.args.guest.now)
+    cut_turn c.args.version harts earlier c.args.files.now x.events ts e (rest_of c.args.guest.now)
     (rest_of c.turns.guest) (rest_of after) before (g.S.Shelf.outside c.note_turn.new.shelf)
     c.in-Err-note_turn.error x.goes (rw c.in-Ok-Ran.field-0-is at c.in-Ok-Ran.ensures.run)
-    (rw c.all.ensures at (c.in-Err-note_turn.ensures.cut harts (earlier ++ records_in x.events)
+    (rw c.all.ensures at (c.in-Err-note_turn.ensures.cut harts (earlier ++ records_in c.args.version x.events)
     (output_in x.events) before
     (x.noted earlier before (rw c.show_steps.ensures on))))
 
@@ -103,11 +103,11 @@ returns-in-Err-clause-cut g c = λ earlier before on.
     let harts = c.args.guest.now.setup.harts in
     let files = c.args.files.now in
     let now = g.S.Shelf.outside c.turns.shelf in
-    cut_seen harts earlier files x.events (rest_of c.args.guest.now) (rest_of c.turns.guest) before
+    cut_seen c.args.version harts earlier files x.events (rest_of c.args.guest.now) (rest_of c.turns.guest) before
     now NoMemory x.goes
     (IsOutputs-cut c.turns.outputs (outputs_of files
-    (bytes_so_far harts (earlier ++ records_in x.events) (output_in x.events))) before
-    now NoMemory (λ same. cc) (x.noted earlier before (rw c.show_steps.ensures on)))
+    (bytes_so_far c.args.version harts (earlier ++ records_in c.args.version x.events) (output_in x.events))) before
+    now NoMemory (λ same. cc) (x.noted earlier before (rw c.show_steps.ensures on)).outputs)
 
 pub note_touches-requires-clause-room : goal.note_touches-requires-clause-room
 note_touches-requires-clause-room g c =
@@ -121,10 +121,10 @@ note_touches-requires-clause-room g c =
     (c.in-Ok-Ended.ensures.setup ∙ x.setup) in
     rw c.all-in-Ok-Ended.ensures
     (room_more g.O.Observer.begins g.O.Observer.given c.args.observer.now c.turns.observer
-    x.events (touch_records ts) c.requires.started x.given_on
+    c.args.version x.events (touch_records c.args.version ts) c.requires.started x.given_on
     (omega (
       arith,
-      touches_put ts,
+      touches_put c.args.version ts,
       x.early,
       counts,
       within.accesses,
@@ -140,17 +140,18 @@ returns-in-Ok-note_touches-clause-given g c =
     let end : Ending = ending_with c.in-Ok-Ended.outcome after.config in
     let harts : after.setup.harts ≡ c.args.guest.now.setup.harts =
     ap (λ (s : Setup). s.harts) (c.in-Ok-Ended.ensures.setup ∙ c.turns.invariant.setup) in
-    let good : All (IsGoodRecord One after.setup.harts) (touch_records ts) =
+    let good : All (IsGoodRecord c.args.version after.setup.harts) (touch_records c.args.version ts) =
     rw c.all-in-Ok-Ended.ensures at (c.in-Ok-note_touches.ensures.good after.setup.harts
     (rw c.all-in-Ok-Ended.ensures c.run_on.ensures.theirs)) in
-    let x = follows_touches g.O.Observer.given c.args.guest.now c.turns.guest after (ended_run end)
+    let x = follows_touches g.O.Observer.given c.args.version c.args.guest.now c.turns.guest after (ended_run end)
     c.args.observer.now c.turns.observer c.note_touches.new.observer c.args.files.now
-    c.args.outputs.now c.turns.outputs c.note_touches.new.outputs
+    c.args.outputs.now c.turns.outputs c.note_touches.new.outputs c.args.speller.now.writer
+    c.turns.speller.writer c.note_touches.new.speller.writer
     (g.S.Shelf.outside c.show_steps.new.shelf) (g.S.Shelf.outside c.turns.shelf)
     (g.S.Shelf.outside c.note_touches.new.shelf) ts c.turns.invariant
     (rw c.in-Ok-Ended.field-0-is at c.in-Ok-Ended.ensures.run)
     (rw c.all-in-Ok-Ended.ensures at c.in-Ok-note_touches.ensures.given)
-    (subst (λ (n : ℕ). All (IsGoodRecord One n) (touch_records ts)) harts good)
+    (subst (λ (n : ℕ). All (IsGoodRecord c.args.version n) (touch_records c.args.version ts)) harts good)
     (λ items put before on. rw c.all-in-Ok-Ended.ensures at (c.in-Ok-note_touches.ensures.noted
     c.args.guest.now.setup.harts items put before on))
     c.in-Ok-Ended.ensures.setup
@@ -159,7 +160,7 @@ returns-in-Ok-note_touches-clause-given g c =
     let same : (rest_of c.args.guest.now).events ≡ x.events = all_seen x.events
     (rest_of c.args.guest.now) (ended_run end) end x.goes refl in
     subst (λ (l : List RunEvent). IsGivenOn g.O.Observer.given c.args.observer.now
-    c.note_touches.new.observer (records_in l)) (sym same) x.given_on
+    c.note_touches.new.observer (records_in c.args.version l)) (sym same) x.given_on
 
 pub returns-in-Ok-note_touches-clause-good : goal.returns-in-Ok-note_touches-clause-good
 returns-in-Ok-note_touches-clause-good g c =
@@ -168,17 +169,18 @@ returns-in-Ok-note_touches-clause-good g c =
     let end : Ending = ending_with c.in-Ok-Ended.outcome after.config in
     let harts : after.setup.harts ≡ c.args.guest.now.setup.harts =
     ap (λ (s : Setup). s.harts) (c.in-Ok-Ended.ensures.setup ∙ c.turns.invariant.setup) in
-    let good : All (IsGoodRecord One after.setup.harts) (touch_records ts) =
+    let good : All (IsGoodRecord c.args.version after.setup.harts) (touch_records c.args.version ts) =
     rw c.all-in-Ok-Ended.ensures at (c.in-Ok-note_touches.ensures.good after.setup.harts
     (rw c.all-in-Ok-Ended.ensures c.run_on.ensures.theirs)) in
-    let x = follows_touches g.O.Observer.given c.args.guest.now c.turns.guest after (ended_run end)
+    let x = follows_touches g.O.Observer.given c.args.version c.args.guest.now c.turns.guest after (ended_run end)
     c.args.observer.now c.turns.observer c.note_touches.new.observer c.args.files.now
-    c.args.outputs.now c.turns.outputs c.note_touches.new.outputs
+    c.args.outputs.now c.turns.outputs c.note_touches.new.outputs c.args.speller.now.writer
+    c.turns.speller.writer c.note_touches.new.speller.writer
     (g.S.Shelf.outside c.show_steps.new.shelf) (g.S.Shelf.outside c.turns.shelf)
     (g.S.Shelf.outside c.note_touches.new.shelf) ts c.turns.invariant
     (rw c.in-Ok-Ended.field-0-is at c.in-Ok-Ended.ensures.run)
     (rw c.all-in-Ok-Ended.ensures at c.in-Ok-note_touches.ensures.given)
-    (subst (λ (n : ℕ). All (IsGoodRecord One n) (touch_records ts)) harts good)
+    (subst (λ (n : ℕ). All (IsGoodRecord c.args.version n) (touch_records c.args.version ts)) harts good)
     (λ items put before on. rw c.all-in-Ok-Ended.ensures at (c.in-Ok-note_touches.ensures.noted
     c.args.guest.now.setup.harts items put before on))
     c.in-Ok-Ended.ensures.setup
@@ -186,8 +188,8 @@ returns-in-Ok-note_touches-clause-good g c =
     c.in-Ok-note_touches.ensures.begun in
     let same : (rest_of c.args.guest.now).events ≡ x.events = all_seen x.events
     (rest_of c.args.guest.now) (ended_run end) end x.goes refl in
-    subst (λ (l : List RunEvent). All (IsGoodRecord One c.args.guest.now.setup.harts)
-    (records_in l))
+    subst (λ (l : List RunEvent). All (IsGoodRecord c.args.version c.args.guest.now.setup.harts)
+    (records_in c.args.version l))
     (sym same) x.good
 
 pub returns-in-Ok-note_touches-clause-noted : goal.returns-in-Ok-note_touches-clause-noted
@@ -197,17 +199,18 @@ returns-in-Ok-note_touches-clause-noted g c = λ earlier before on.
     let end : Ending = ending_with c.in-Ok-Ended.outcome after.config in
     let harts : after.setup.harts ≡ c.args.guest.now.setup.harts =
     ap (λ (s : Setup). s.harts) (c.in-Ok-Ended.ensures.setup ∙ c.turns.invariant.setup) in
-    let good : All (IsGoodRecord One after.setup.harts) (touch_records ts) =
+    let good : All (IsGoodRecord c.args.version after.setup.harts) (touch_records c.args.version ts) =
     rw c.all-in-Ok-Ended.ensures at (c.in-Ok-note_touches.ensures.good after.setup.harts
     (rw c.all-in-Ok-Ended.ensures c.run_on.ensures.theirs)) in
-    let x = follows_touches g.O.Observer.given c.args.guest.now c.turns.guest after (ended_run end)
+    let x = follows_touches g.O.Observer.given c.args.version c.args.guest.now c.turns.guest after (ended_run end)
     c.args.observer.now c.turns.observer c.note_touches.new.observer c.args.files.now
-    c.args.outputs.now c.turns.outputs c.note_touches.new.outputs
+    c.args.outputs.now c.turns.outputs c.note_touches.new.outputs c.args.speller.now.writer
+    c.turns.speller.writer c.note_touches.new.speller.writer
     (g.S.Shelf.outside c.show_steps.new.shelf) (g.S.Shelf.outside c.turns.shelf)
     (g.S.Shelf.outside c.note_touches.new.shelf) ts c.turns.invariant
     (rw c.in-Ok-Ended.field-0-is at c.in-Ok-Ended.ensures.run)
     (rw c.all-in-Ok-Ended.ensures at c.in-Ok-note_touches.ensures.given)
-    (subst (λ (n : ℕ). All (IsGoodRecord One n) (touch_records ts)) harts good)
+    (subst (λ (n : ℕ). All (IsGoodRecord c.args.version n) (touch_records c.args.version ts)) harts good)
     (λ items put before on. rw c.all-in-Ok-Ended.ensures at (c.in-Ok-note_touches.ensures.noted
     c.args.guest.now.setup.harts items put before on))
     c.in-Ok-Ended.ensures.setup
@@ -215,8 +218,9 @@ returns-in-Ok-note_touches-clause-noted g c = λ earlier before on.
     c.in-Ok-note_touches.ensures.begun in
     let same : (rest_of c.args.guest.now).events ≡ x.events = all_seen x.events
     (rest_of c.args.guest.now) (ended_run end) end x.goes refl in
-    subst (λ (l : List RunEvent). AreNoted c.args.guest.now.setup.harts (earlier ++ records_in l)
-    (output_in l) c.args.files.now c.note_touches.new.outputs before
+    subst (λ (l : List RunEvent). AreNoted c.args.version c.args.guest.now.setup.harts (earlier ++ records_in c.args.version l)
+    (output_in l) c.args.files.now c.note_touches.new.outputs
+    c.note_touches.new.speller.writer before
     (g.S.Shelf.outside c.note_touches.new.shelf)) (sym same)
     (x.noted earlier before (rw c.show_steps.ensures on))
 
@@ -227,9 +231,9 @@ returns-in-Err-note_touches-clause-cut g c = λ earlier before on.
     let end : Ending = ending_with c.in-Ok-Ended.outcome after.config in
     let harts = c.args.guest.now.setup.harts in
     let x = c.turns.invariant in
-    cut_touches harts earlier c.args.files.now x.events ts (rest_of c.args.guest.now)
+    cut_touches c.args.version harts earlier c.args.files.now x.events ts (rest_of c.args.guest.now)
     (rest_of c.turns.guest) (ended_run end) before (g.S.Shelf.outside c.note_touches.new.shelf)
     c.in-Err-note_touches.error x.goes (rw c.in-Ok-Ended.field-0-is at c.in-Ok-Ended.ensures.run)
     (rw c.all-in-Ok-Ended.ensures at (c.in-Err-note_touches.ensures.cut harts
-    (earlier ++ records_in x.events) (output_in x.events) before
+    (earlier ++ records_in c.args.version x.events) (output_in x.events) before
     (x.noted earlier before (rw c.show_steps.ensures on))))

@@ -5,8 +5,9 @@ use Rattle.run_recorder.proofs.whole_run.follow.Given as goal
 
 abbrev pub invariant-turns : goal.invariant-turns
 invariant-turns g l =
-    Follows g.O.Observer.given l.initial.guest l.guest (rest_of l.guest) l.initial.observer
-    l.observer l.files l.initial.outputs l.outputs
+    Follows g.O.Observer.given l.version l.initial.guest l.guest (rest_of l.guest)
+    l.initial.observer l.observer l.files l.initial.outputs l.outputs l.initial.speller.writer
+    l.speller.writer
     (g.S.Shelf.outside l.initial.shelf) (g.S.Shelf.outside l.shelf)
 
 abbrev pub decreases-turns : goal.decreases-turns

@@ -1,7 +1,9 @@
 use Rattle.std.proofs.Common.{◌≡◌, ◌∙◌, ℕ, IfOk, List, ap, subst}
 use Rattle.base.specs.Lines.{Grid}
 use Rattle.takings.specs.BlameKept.{rows_in}
+use Rattle.takings.specs.BlameRecords.{sited_in}
 use Rattle.takings.specs.BlameRows.{heads_in_order}
+use Rattle.takings.specs.Laws.BlameRecords.{stands-seen, text-seen}
 use Rattle.takings.specs.Laws.BlameText.{text-gathered, text-stands}
 use Rattle.takings.proofs.blame_text.write_blame.Goals as goal
 
@@ -21,3 +23,9 @@ pub returns-clause-stands : goal.returns-clause-stands
 returns-clause-stands c = λ u stands.
     subst (λ (x : List ℕ). IfOk c.text_of_rows.result (λ text. text.items ≡ x))
     (text-stands c.args.blame.now u stands) (returns-clause-kept c)
+
+pub returns-clause-records : goal.returns-clause-records
+returns-clause-records c = λ g items seen.
+    subst (λ (x : List ℕ). IfOk c.text_of_rows.result (λ text. text.items ≡ x))
+    (text-seen g c.args.blame.now items seen)
+    (returns-clause-stands c (sited_in items) (stands-seen g c.args.blame.now items seen))

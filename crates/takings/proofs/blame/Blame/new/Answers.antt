@@ -1,5 +1,7 @@
 use Rattle.std.proofs.Common.{[]}
+use Rattle.takings.specs.BlameKept.{nothing_blamed}
 use Rattle.takings.specs.Laws.BlameKept.{stands-empty}
+use Rattle.takings.specs.Laws.BlameRecords.{nothing-seen}
 use Rattle.takings.proofs.blame.Blame.new.Goals as goal
 
 pub invariant_of-result : goal.invariant_of-result
@@ -13,3 +15,8 @@ pub returns-clause-stands : goal.returns-clause-stands
 returns-clause-stands c =
     rw (c.new.ensures.empty, c.new-2.ensures.empty, c.new-3.ensures.empty)
     (stands-empty c.args.layout)
+
+pub returns-clause-begun : goal.returns-clause-begun
+returns-clause-begun c =
+    rw (c.new.ensures.empty, c.new-2.ensures.empty, c.new-3.ensures.empty)
+    (nothing-seen (nothing_blamed c.args.layout))

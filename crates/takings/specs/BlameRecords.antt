@@ -1,0 +1,47 @@
+-- What the records of a trace show of the takings of all lines.
+use Rattle.std.specs.Prelude.{◌≡◌, ℕ, ◌+◌, List, [], ◌∷◌, ◌++◌, length, Option, Some, None}
+use Rattle.std.specs.List.{filter_map}
+use Rattle.std.specs.Option.{unwrap_or}
+use Rattle.base.specs.Lines.{Grid}
+use Rattle.base.specs.Touch.{Touch}
+use Rattle.trace_format.specs.Rules.{touches_in}
+use Rattle.trace_format.specs.declared.record.TraceRecord.{TraceRecord}
+use Rattle.trace_format.specs.declared.record.TraceRecord.TheVariants as records
+use Rattle.takings.specs.declared.sited.Sited.{Sited}
+use Rattle.takings.specs.BlameKept.{Blamed, StandsFor}
+use Rattle.takings.specs.BlameText.{blame_text}
+
+-- an access with its pc, which is 0 where it has none: each access of a trace of version 3 has one
+abbrev pub sited_by : Touch → Option ℕ → Sited
+sited_by a pc = record { access = a; pc = unwrap_or pc 0 }
+
+-- the accesses among records, in order, each with its pc
+abbrev pub sited_item : TraceRecord → Option Sited
+sited_item (records.Touch a pc) = Some (sited_by a pc)
+sited_item _ = None
+
+abbrev pub sited_in : List TraceRecord → List Sited
+sited_in items = filter_map sited_item items
+
+-- from what was kept first, what is kept now came by these records
+pub record HasBlamed (begun now : Blamed) (items : List TraceRecord) : Type 0 where
+  -- for each list that it stood for, it stands for the list with their accesses
+  pub stands : (u : List Sited) → StandsFor u begun → StandsFor (u ++ sited_in items) now
+  -- each access moved it on by one
+  pub position : now.position ≡ begun.position + length (touches_in items)
+  -- the layout is the same
+  pub grid : now.grid ≡ begun.grid
+
+-- its first access has this position
+abbrev pub blame_begins_at : Blamed → ℕ → Type 0
+blame_begins_at begun first = begun.position ≡ first
+
+-- whatever records came before, this one came after them
+abbrev pub BlamesNext : Blamed → Blamed → TraceRecord → Type 0
+BlamesNext old new item =
+    (begun : Blamed) (items : List TraceRecord)
+    → HasBlamed begun old items → HasBlamed begun new (items ++ item ∷ [])
+
+-- the text of a list of records, under a layout
+unfoldable pub blame_of_records : Grid → List TraceRecord → List ℕ
+blame_of_records g items = blame_text g (sited_in items)

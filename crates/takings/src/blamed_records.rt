@@ -1,0 +1,35 @@
+// The takings of all lines, as the records of a trace show them one after the other.
+ghost use Rattle.std.specs.Prelude.{◌≤◌, OnOk};
+ghost use Rattle.takings.specs.BlameRecords.{BlamesNext};
+ghost use Rattle.trace_format.specs.Reading.{counted_after};
+ghost use Rattle.trace_format.specs.Rules.{last_position};
+
+use crate::blame::Blame;
+use base::NoMemory;
+use trace_format::TraceRecord;
+use trace_passes::Observer;
+
+// A record, where it is an access, at the position that is next.
+#[inline]
+fn see(blame: &mut Blame, item: &TraceRecord) -> Result<(), NoMemory>
+    requires { counted_after blame.old.position item.now ≤ last_position }
+    ensures { OnOk result (BlamesNext blame.old blame.new item.now) }
+{
+    match item {
+        TraceRecord::Touch(access, pc) => blame.on_access(access, pc.unwrap_or(0)),
+        _ => Ok(()),
+    }
+}
+
+impl Observer for Blame {
+    ghost use Rattle.takings.specs.BlameRecords.{HasBlamed, blame_begins_at};
+
+    ghost given = { HasBlamed };
+
+    ghost begins = { blame_begins_at };
+
+    #[inline]
+    fn note(&mut self, item: &TraceRecord) -> Result<(), NoMemory> {
+        see(self, item)
+    }
+}
