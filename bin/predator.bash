@@ -38,13 +38,8 @@ _predator() {
         'view') options="--top --object --words --library --predicted --no-predicted --explain --type --sources --html --json --sarif --against --fail-above --by --program --back" ;;
         'campaign') options="--to --profile --cores --html --check" ;;
         'native') options="--built --quantum --all --marked --pcs --most --trace --table --report --settings --size --shift --mend --build" ;;
-<<<<<<< HEAD
-        'view run') options="--top --object --words --library --predicted --no-predicted --explain --type --sources --html --json --sarif --against --fail-above --by --settings --set --schedule --trace --output" ;;
+        'view run') options="--top --object --words --library --predicted --no-predicted --explain --type --sources --html --json --sarif --against --fail-above --by --settings --set --schedule --trace --pcs --output" ;;
         'view replay') options="--top --object --words --library --predicted --no-predicted --explain --type --sources --html --json --sarif --against --fail-above --by --program --back --settings --set --size --shift --save --resume" ;;
-=======
-        'view run') options="--top --object --words --library --predicted --explain --type --sources --html --json --sarif --against --fail-above --by --settings --set --schedule --trace --pcs --output" ;;
-        'view replay') options="--top --object --words --library --predicted --explain --type --sources --html --json --sarif --against --fail-above --by --program --back --settings --set --size --shift --save --resume" ;;
->>>>>>> b0562aaa20f5f643cbb8ce985b7a51ea8cd98f3f
         'view sweep') options="--size --html" ;;
         'view native') options="--top --object --words --library --predicted --no-predicted --explain --type --sources --html --json --sarif --against --fail-above --by --built --quantum --all --marked --most --settings --set --size --shift" ;;
     # (so far)
