@@ -54,8 +54,6 @@ FLAGS = ("words", "predicted", "no-predicted", "library", "help")
 # Options of `predator native` that have no value, and those that have one.
 MARKS = ("all", "marked", "built", "pcs")
 RECORDS = ("--quantum", "--most")
-# With it a trace has each access's instruction; it has no value.
-PCS = "--pcs"
 # What view writes.
 OUTPUTS = ("html", "json", "sarif")
 # How many objects the first screen shows, and how many of their lines are explained, where the call doesn't say.
@@ -133,9 +131,7 @@ class Call:
                         raise Fault(f"a value is required for '{word}'")
                     value, at = words[at], at + 1
                 self.put("help" if word == "-h" else name[2:], value)
-            elif word == PCS and self.how == "run":
-                rest.append(word)
-            elif word[2:] in MARKS and word[:2] == "--":
+            elif word[2:] in MARKS and word[:2] == "--" and not (self.how == "run" and word in BARE):
                 self.marks.append(word)
             elif word.startswith("-") and word != "-":
                 self.given.append(word)
@@ -220,6 +216,11 @@ class Call:
         """Whether the trace comes from a pipe or a terminal, and can be read once."""
         is_pipe = self.subject == "-" or os.path.exists(self.subject) and not os.path.isfile(self.subject)
         return self.how in ("replay", "sweep") and is_pipe
+
+    def trace(self) -> str | None:
+        """The trace's file, where it is one that is there and can be read again and again."""
+        path = self.subject if self.how == "replay" else self.value_of("--trace")
+        return path if path and os.path.isfile(path) and not self.reads_once() else None
 
     def words_of_pipe(self) -> list[str]:
         """The words of a replay of standard input, in the place of a trace."""

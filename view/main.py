@@ -14,6 +14,7 @@ from calls import HELP, OUTPUTS, TOP, Call, nearest  # noqa: E402
 from faults import Fault, plain  # noqa: E402
 from model import View, memory_of  # noqa: E402
 from naming import Naming  # noqa: E402
+from passes import Passes, begun  # noqa: E402
 from pipes import fed, kept  # noqa: E402
 from program import Predator  # noqa: E402
 from recording import recorded  # noqa: E402
@@ -130,14 +131,19 @@ def check_seen(view: View) -> None:
 
 def look(call: Call) -> View:
     """All that is found."""
-    program, sources = program_of(call)
-    if call.how == "run":
-        check_name(call.options.get("object"), Naming(None, program))
     if "html" in call.options:
         from drawing import templates
 
         templates()
     predator = Predator() if call.how != "file" else None
+    with begun(call, predator) as passes:
+        return found(call, predator, passes)
+
+
+def found(call: Call, predator: Predator | None, passes: Passes | None) -> View:
+    program, sources = program_of(call)
+    if call.how == "run":
+        check_name(call.options.get("object"), Naming(None, program))
     report = report_of(call, predator)
     strange = stranger(program, report) if program and call.how != "run" else None
     if strange:
@@ -146,7 +152,7 @@ def look(call: Call) -> View:
         call.program = program = sources = None
     memory = memory_of(call, predator, native_of(program))
     view = View(call, report, Naming(report, program, sources, call.options["type"], memory))
-    view.count(predator)
+    view.count(predator, passes)
     view.look_for_overflow(predator)
     view.arrange()
     check_seen(view)

@@ -5,7 +5,6 @@ import contextlib
 import functools
 import os
 import re
-import tempfile
 from collections import Counter
 from typing import TYPE_CHECKING, Iterable, Sequence, cast
 
@@ -17,15 +16,15 @@ from library import is_foreign
 from naming import Memory, Naming, shown
 from objects import Spot, Thing, Told, field_at, things_of, words_of, worst_word
 from overflow import Overflow, last_of_file, last_of_run, overflow
-from predicted import Foretold, Layout, judged, worth_counting
-from program import Predator, Refused, blame_under, each_line, misses_under, setting, stacks
+from passes import Layout, Passes, first_readers, is_blamed
+from predicted import Foretold, judged, worth_counting
+from program import Predator, Refused, misses_under, setting, stacks
 from reports import Blame, Block, Explained, Misses, Pair, Placed, Report, Symbol, Takings
 from unnamed import name_by_instructions
 
 if TYPE_CHECKING:
     from native import NativeProgram
 
-WORD = (4, 0)
 # The file and the line where something is declared or made.
 Declared = tuple[str, int]
 
@@ -71,7 +70,7 @@ class View:
         self.label_counts: Counter[str] | None = None
         self.overflow: Overflow | None = None
 
-    def count(self, predator: Predator | None) -> None:
+    def count(self, predator: Predator | None, passes: Passes | None) -> None:
         """Has the misses counted, under the report's layout, for each word, and under the layouts of predicted lines."""
         if predator is None:
             self.notes.append("a report alone doesn't tell misses: `view run` or `view replay` does; objects stand by the report's count")
@@ -79,41 +78,28 @@ class View:
         if not predator.has("misses"):
             self.notes.append("this program has no command `misses`, so misses are unknown; objects stand by the report's count")
             return
-        own = self.report.size, self.report.offset
-        wanted = list(dict.fromkeys([WORD, own, *self.foreseen_layouts()]))
-        trace = self.trace()
         if self.call.reads_once():
             self.notes.append(
                 "a trace from a pipe can be read once, so its misses, and places for its objects, are unknown: write it to a file for these"
             )
             return
-        with tempfile.TemporaryDirectory(prefix="predator-view-") as folder:
-            settings = os.path.join(folder, "settings")
-            with open(settings, "w", encoding="ascii") as file:
-                file.write("tracking = 1\nreport = 1\n")
-            readers = [*map(misses_under, wanted), each_line(own, settings), *([blame_under(own)] if self.is_blamed(predator) else [])]
-            try:
-                counted = (
-                    predator.counted_of_file(trace, readers)
-                    if trace
-                    else predator.counted_of_run([*self.call.words_to_run(), *self.call.own], readers)
-                )
-            except Refused as refused:
-                self.notes.append(f"misses are unknown: {refused}")
-                return
+        own, foreseen, blamed = (self.report.size, self.report.offset), self.foreseen_layouts(), is_blamed(self.call, predator)
+        readers = [*first_readers(own, blamed), *map(misses_under, foreseen)]
+        try:
+            if passes is not None and self.call.trace():
+                counted = passes.told(readers)
+            else:
+                counted = predator.counted_of_run([*self.call.words_to_run(), *self.call.own], readers)
+        except Refused as refused:
+            self.notes.append(f"misses are unknown: {refused}")
+            return
         if any(it.accesses != self.report.accesses for it in counted):
             self.notes.append("the trace is a part of what the report counts, so its misses are unknown")
             return
         self.note_lacked(predator)
-        # (the readers of `wanted` tell misses; behind them come a report, and who takes which lines)
-        self.by_layout, behind = dict(zip(wanted, cast(list[Misses], counted))), counted[len(wanted) :]
-        self.misses, self.by_word = self.by_layout[own], self.by_layout[WORD]
-        self.each, self.blame = cast(Report, behind[0]), cast(Blame, behind[1]) if len(behind) > 1 else None
-
-    def is_blamed(self, predator: Predator) -> bool:
-        """Whether the trace says itself which instructions fight, and the program reads that."""
-        trace = self.trace()
-        return bool(trace and has_pcs(trace) and self.call.number("explain", EXPLAIN) and predator.has("blame"))
+        self.by_word, self.misses, self.each = cast(Misses, counted[0]), cast(Misses, counted[1]), cast(Report, counted[2])
+        self.blame = cast(Blame, counted[3]) if blamed else None
+        self.by_layout = dict(zip(foreseen, cast(list[Misses], counted[len(readers) - len(foreseen) :])))
 
     def foreseen_layouts(self) -> list[Layout]:
         """The layouts of the predicted lines whose misses are counted."""
@@ -132,22 +118,18 @@ class View:
         """Looks, where the run didn't end well, whether a hart ran out of its stack."""
         if predator is None or self.report.ended_well() or not self.naming.memory.each or self.call.reads_once():
             return
-        trace = self.trace()
+        trace = self.call.trace()
         with contextlib.suppress(Refused, OSError):
             last = last_of_file(trace) if trace else last_of_run(predator, [*self.call.words_to_run(), *self.call.own])
             self.overflow = overflow(last, self.naming.memory)
 
-    def trace(self) -> str | None:
-        """The trace's file, where it is one that can be read again and again."""
-        path = self.call.subject if self.call.how == "replay" else self.call.value_of("--trace")
-        return path if path and os.path.isfile(path) and not self.call.reads_once() else None
-
     def place(self, predator: Predator | None, things: Sequence[Thing]) -> None:
         """Has a placement of the first objects counted, where the trace is a file that can be read again and again."""
-        trace, most = self.trace(), self.call.number("explain", EXPLAIN)
+        trace, most = self.call.trace(), self.call.number("explain", EXPLAIN)
         if predator is None or trace is None or not predator.has("place"):
             return
-        named = [(it, name) for it in things[:most] if (name := it.name_to_place()) is not None]
+        # (what is to be left as it is has no use of it)
+        named = [(it, name) for it in things[:most] if not self.is_little(it) and (name := it.name_to_place()) is not None]
         placed_at = functools.partial(predator.placed, trace, size=self.report.size)
         with concurrent.futures.ThreadPoolExecutor(max_workers=min(4, os.cpu_count() or 1)) as pool:
             for (it, _), placed in zip(named, pool.map(placed_at, [name for _, name in named])):
@@ -244,7 +226,7 @@ class View:
     def explain(self, predator: Predator | None, things: Sequence[Thing]) -> None:
         """Tells what takes the worst lines of the first objects: by the trace, or by as many runs side by side."""
         most = self.call.number("explain", EXPLAIN)
-        program, trace = self.call.program, self.trace()
+        program, trace = self.call.program, self.call.trace()
         if self.blame is not None:
             found = (self.blame.takings(it.worst().base) for it in things)
             self.explained = {it.base: it for it in found if it}
@@ -302,12 +284,19 @@ class View:
             self.cached[thing.key] = Seen(thing, words, explained, todo, self.declared(thing))
         return self.cached[thing.key]
 
+    def total(self) -> int:
+        """The misses that aren't cold."""
+        return self.misses.total["useless"] + self.misses.total["useful"] if self.misses else 0
+
+    def is_little(self, thing: Thing) -> bool:
+        """Whether an object has so few of the misses that it is to be left as it is."""
+        is_first = self.things[0] is thing or "object" in self.call.options
+        return not is_first and 0 < (thing.useless + thing.useful) * advice.LITTLE < self.total()
+
     def advised(self, thing: Thing, words: list[Told]) -> str:
         """What to do about an object."""
-        total = self.misses.total["useless"] + self.misses.total["useful"] if self.misses else 0
-        is_first = self.things[0] is thing or "object" in self.call.options
-        if not is_first and 0 < (thing.useless + thing.useful) * advice.LITTLE < total:
-            return advice.little(thing, total)
+        if self.is_little(thing):
+            return advice.little(thing, self.total())
         names = {key: self.label(self.all[key]) for key in thing.beside}
         todo = advice.sentence(thing, words, names, self.align_to(thing), self.misses is not None, self.element(thing), self.turns())
         return todo + advice.placing(self.placed.get(thing.key), lambda addr: field_at(addr, thing.example, self.naming))

@@ -5,10 +5,8 @@ from typing import Iterable, NamedTuple, Protocol
 from keys import Key
 from naming import Naming
 from objects import key_of
+from passes import Layout
 from reports import Block, Line, Misses, Report, Symbol
-
-# The size of a layout's lines, and its offset.
-Layout = tuple[int, int]
 
 # Of so many layouts the misses are counted for a first screen; each takes a pass over the trace.
 LAYOUTS = 4

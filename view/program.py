@@ -2,6 +2,7 @@
 
 import concurrent.futures
 import contextlib
+import functools
 import os
 import re
 import subprocess
@@ -79,24 +80,20 @@ class Predator:
             return None
         return Placed(text)
 
-    def counted_of_file(self, trace: str, readers: "Sequence[Reader]") -> list[Counted]:
-        """What readers tell of a trace, side by side."""
-
-        def one(reader: Reader) -> Counted:
-            return reader.told(self.text([*reader.words, "--", trace], reader.good, stderr=subprocess.DEVNULL))
-
-        with concurrent.futures.ThreadPoolExecutor(max_workers=min(4, os.cpu_count() or 1)) as pool:
-            return list(pool.map(one, readers))
+    def counted_of_file(self, trace: str, reader: "Reader") -> Counted:
+        """What a reader tells of a trace."""
+        return reader.told(self.text([*reader.words, "--", trace], reader.good, stderr=subprocess.DEVNULL))
 
     def counted_of_run(self, words: list[str], readers: "Sequence[Reader]") -> list[Counted]:
-        """The same of a run's trace, which goes through pipes where the program can have it so, and else through a file that is lost."""
+        """What readers tell of the trace of a run, which goes through pipes where the program can have it so, and else through a file."""
         with contextlib.suppress(Refused, BrokenPipeError):
             return self.counted_by_pipes(words, readers)
         with tempfile.TemporaryDirectory(prefix="predator-view-") as folder:
             trace = os.path.join(folder, "trace")
             # (what the program puts out was shown with its report)
             self.text(with_trace([words[0], "--output", os.devnull, *words[1:]], trace), REPORTED, stderr=subprocess.PIPE)
-            return self.counted_of_file(trace, readers)
+            with concurrent.futures.ThreadPoolExecutor(max_workers=min(4, os.cpu_count() or 1)) as pool:
+                return list(pool.map(functools.partial(self.counted_of_file, trace), readers))
 
     def counted_by_pipes(self, words: list[str], readers: "Sequence[Reader]") -> list[Counted]:
         with concurrent.futures.ThreadPoolExecutor(max_workers=len(readers) + 1) as pool, contextlib.ExitStack() as open_ends:
@@ -138,9 +135,9 @@ def blame_under(layout: tuple[int, int]) -> Reader:
     return Reader(["blame", *layout_words(layout)], (0,), Blame)
 
 
-def each_line(layout: tuple[int, int], settings: str) -> Reader:
-    """A report of every line that was ever taken; `settings` is a file that says so."""
-    return Reader(["replay", "--settings", settings, *layout_words(layout)], REPORTED, Report)
+def each_line(layout: tuple[int, int]) -> Reader:
+    """A report of every line that was ever taken."""
+    return Reader(["replay", "--set", "tracking=1,report=1", *layout_words(layout)], REPORTED, Report)
 
 
 def layout_words(layout: tuple[int, int]) -> list[str]:

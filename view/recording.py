@@ -8,7 +8,7 @@ import subprocess
 import tempfile
 from typing import Iterator
 
-from calls import EXPLAIN, PCS, RECORDS, Call
+from calls import EXPLAIN, RECORDS, Call
 from faults import Fault
 from program import Predator, launcher
 
@@ -47,7 +47,7 @@ def marks_of(call: Call) -> list[str]:
     if is_built(call.subject):
         marks["--built"] = None
     if call.number("explain", EXPLAIN) and Predator().has("blame"):
-        marks[PCS] = None
+        marks["--pcs"] = None
     return list(marks)
 
 

@@ -135,6 +135,17 @@ class Advised(unittest.TestCase):
         self.assertNotIn("times more", self.todo(*words[:2], useful=90))
         self.assertIn("a line for each of its words would miss 90 times more", self.todo(words[0], used("lock.other", 8, 90), useful=90))
 
+    def test_an_object_that_no_access_touches_is_not_named(self):
+        head, near = "line observed 0x00002000 64 start 0 count 300 verdict false", "object symbol near 0x00001ff0 24"
+        for at, names in ((0x2008, ["memory at 0x00002000"]), (0x2004, ["near"]), (0x2000, ["near"])):
+            self.assertEqual([it.name for it in view_of([head, near, word(at, 5, 50, "hart 1")]).things], names)
+        # (it is on the line before too, and there it is touched)
+        other = "line observed 0x00001fc0 64 start 0 count 900 verdict false"
+        rows = [other, near, word(0x1FF0, 5, 50, "hart 1"), head, near, word(0x2008, 5, 50, "hart 1")]
+        self.assertEqual([it.name for it in view_of(rows).things], ["near", "memory at 0x00002000"])
+        # (a line whose words aren't told is what it lies on)
+        self.assertEqual([it.name for it in view_of([head, near]).things], ["near"])
+
     def test_words_of_a_stack(self):
         rows = ["line observed 0x0100ffc0 64 start 0 count 300 verdict true", word(0x100FFC0, 5, 50, "many")]
         view = view_of(rows, memory=Memory((0xF90000, 0x1010000), 8))
