@@ -11,7 +11,7 @@ use Rattle.predator_cli.specs.Apart.{PlaceKeepsApart}
 use Rattle.predator_cli.specs.Caches.{caches_readings, caches_work}
 use Rattle.predator_cli.specs.Check.{check_readings, check_work}
 use Rattle.predator_cli.specs.Convert.{convert_readings, convert_work}
-use Rattle.predator_cli.specs.Explain.{explain_readings, explain_work}
+use Rattle.predator_cli.specs.Explain.{as_run, explain_readings, explain_work}
 use Rattle.predator_cli.specs.Gen.{gen_readings, gen_work}
 use Rattle.predator_cli.specs.ListedCounts.{TellsListedCount}
 use Rattle.predator_cli.specs.Misses.{misses_readings, misses_work}
@@ -78,6 +78,7 @@ command_of (misses demand) = plain (misses_readings demand) (misses_work demand)
 command_of (explain demand) =
     record (plain (explain_readings demand) (explain_work demand)) {
       repeats = TellsListedCount demand;
+      within = RunStaysWithin (as_run demand);
     }
 
 -- ---- what follows from the rows
