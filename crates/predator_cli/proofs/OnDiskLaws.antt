@@ -65,3 +65,13 @@ module _ (asked : Option Demand) (files : Files) (seen : Seen) (s : Status) wher
         done = answered meets;
         refused = refused meets;
       }
+
+-- what comes before a call and behind it, and does nothing to the files
+pub meets_between : (asked : Option Demand) (files : Files) (a b c d : Seen) (s : Status) → b ≡ a
+    → d ≡ c
+    → Meets asked (disk_outside files b) (disk_outside files c) s
+    → Meets asked (disk_outside files a) (disk_outside files d) s
+meets_between asked files a b c d s first last meets =
+    subst (λ (x : Seen). Meets asked (disk_outside files x) (disk_outside files d) s) first
+    (subst (λ (x : Seen). Meets asked (disk_outside files b) (disk_outside files x) s) (sym last)
+    meets)

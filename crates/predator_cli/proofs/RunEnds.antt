@@ -1,8 +1,8 @@
 -- What a run leaves in its files, and how the command ends after it.
-use Rattle.std.proofs.Common.{◌≡◌, ℕ, List, [], ◌∷◌, ◌++◌, Option, Some, None, Bool, true}
-use Rattle.std.proofs.Common.{Result, Ok, Err}
+use Rattle.std.proofs.Common.{◌≡◌, ℕ, List, [], ◌∷◌, ◌++◌, Option, Some, None, Ok, Bool, true}
 use Rattle.std.proofs.Common.{false, refl, sym, ap, subst, ◌∙◌, inl, inr}
-use Rattle.std.proofs.Common.{not, ◌&&◌, unwrap_or}
+use Rattle.std.proofs.Common.{not, ◌&&◌, unwrap_or, Result, Err}
+use Rattle.std.specs.Prelude.{IfOk}
 use Rattle.std.proofs.lemmas.Bool.{cases_Bool}
 use Rattle.std.proofs.lemmas.Option.{none-some, same_Some}
 use Rattle.std.proofs.lemmas.Slice.Eq.{bytes_eq-Decides}
@@ -153,10 +153,14 @@ demanded [] d is = absurd (none-some d is)
 demanded (command ∷ rest) d is = asked_apart (asked_of command (command ∷ rest)) d is
 
 -- what words that were read ask for has its names apart
-pub read_apart : (words : List (List ℕ)) (r : Result code.Demand WordsFault)
-    → IsReadAs (demand_of words) r → HasNamesApart r
-read_apart words (Ok d) is = demanded words (meaning d) is
-read_apart words (Err fault) is = tt
+pub read_apart : (words : List (List ℕ)) (d : code.Demand) → demand_of words ≡ Some (meaning d)
+    → HasNamesApart d
+read_apart words d is = demanded words (meaning d) is
+
+pub all_apart : (words : List (List ℕ)) (r : Result code.Demand WordsFault)
+    → IsReadAs (demand_of words) r → IfOk r HasNamesApart
+all_apart words (Ok d) is = read_apart words d is
+all_apart words (Err fault) is = tt
 
 -- and so the outputs of a run have two names
 pub run_apart : (d : RunDemand) → are_apart (outputs_of (run d)) (inputs_of (run d)) ≡ true

@@ -1,7 +1,7 @@
 // The top call.
-ghost use Rattle.std.specs.Prelude.{◌≡◌, ◌⊎◌, Option, false, None};
+ghost use Rattle.std.specs.Prelude.{◌≡◌, ◌⊎◌, false, None, Some};
 ghost use Rattle.command_line.specs.Demands.{texts};
-ghost use Rattle.command_line.specs.Words.{Demand, IsReadAs, demand_of};
+ghost use Rattle.command_line.specs.Words.{IsBounded, demand_of, meaning};
 ghost use Rattle.command_files.specs.Statuses.{hides_no_memory, kind_of};
 ghost use Rattle.predator_cli.specs.Meets.{EndsAs, IsCaused, IsComplete, Meets, Prints};
 ghost use Rattle.predator_cli.specs.Meets.{ReadsInPeace};
@@ -31,28 +31,35 @@ use shelf::Shelf;
 use std::alloc::Global;
 use trace_passes::a_trace_is_its_spelling;
 
-/// Does what is asked for by words that were read.
-pub fn obey<'w, S: Shelf>(
-    alloc: Global,
-    asked: &Result<Demand<'w>, WordsFault<'w>>,
-    shelf: &mut S,
-) -> Status
-    requires { HasNamesApart asked.now }
-    ensures { (wanted : Option Demand) → IsReadAs wanted asked.now
-        → Meets wanted (S.outside shelf.old) (S.outside shelf.new) result }
+/// Does what is asked for.
+pub fn obey<S: Shelf>(alloc: Global, demand: &Demand<'_>, shelf: &mut S) -> Status
+    requires apart { HasNamesApart demand.now }
+    requires bounded { IsBounded demand.now }
+    ensures { Meets (Some (meaning demand.now))
+        (S.outside shelf.old) (S.outside shelf.new) result }
 {
-    match asked {
-        Ok(Demand::Replay(options)) => replay(alloc, options, shelf),
-        Ok(Demand::Check(options)) => check(alloc, options, shelf),
-        Ok(Demand::Run(options)) => run(alloc, options, shelf),
-        Ok(Demand::Split(options)) => split(alloc, options, shelf),
-        Ok(Demand::Gen(options)) => generate(alloc, options, shelf),
-        Ok(Demand::Convert(options)) => convert(alloc, options, shelf),
-        Ok(Demand::Sweep(options)) => sweep(alloc, options, shelf),
-        Ok(Demand::Caches(options)) => tell_caches(alloc, options, shelf),
-        Ok(Demand::Place(options)) => place(alloc, options, shelf),
-        Ok(Demand::Misses(options)) => tell_misses(alloc, options, shelf),
-        Ok(Demand::Explain(options)) => explain(alloc, options, shelf),
+    match demand {
+        Demand::Replay(options) => replay(alloc, options, shelf),
+        Demand::Check(options) => check(alloc, options, shelf),
+        Demand::Run(options) => run(alloc, options, shelf),
+        Demand::Split(options) => split(alloc, options, shelf),
+        Demand::Gen(options) => generate(alloc, options, shelf),
+        Demand::Convert(options) => convert(alloc, options, shelf),
+        Demand::Sweep(options) => sweep(alloc, options, shelf),
+        Demand::Caches(options) => tell_caches(alloc, options, shelf),
+        Demand::Place(options) => place(alloc, options, shelf),
+        Demand::Misses(options) => tell_misses(alloc, options, shelf),
+        Demand::Explain(options) => explain(alloc, options, shelf),
+    }
+}
+
+// Does what words ask for.
+fn obey_words<S: Shelf>(alloc: Global, words: &[String], shelf: &mut S) -> Status
+    ensures { Meets (demand_of (texts words.now))
+        (S.outside shelf.old) (S.outside shelf.new) result }
+{
+    match read_words(alloc, words) {
+        Ok(demand) => obey(alloc, &demand, shelf),
         Err(WordsFault::Usage(_)) => refuse_words(shelf),
         Err(WordsFault::NoMemory) => refuse(alloc, shelf, Status::NoMemory),
     }
@@ -158,5 +165,5 @@ pub fn predator<S: Shelf>(alloc: Global, words: &[String], shelf: &mut S) -> Sta
 {
     runs_are_short();
     a_trace_is_its_spelling();
-    obey(alloc, &read_words(alloc, words), shelf)
+    obey_words(alloc, words, shelf)
 }

@@ -1,19 +1,21 @@
 // The whole program over the system's files, from the arguments of its process to its exit status.
-ghost use Rattle.std.specs.Prelude.{◌≡◌};
+ghost use Rattle.std.specs.Prelude.{◌≡◌, IfOk, Option};
 ghost use Rattle.std.specs.Process.{exit_status};
 ghost use Rattle.command_files.specs.Arguments.{words_in};
 ghost use Rattle.command_line.specs.Demands.{texts};
-ghost use Rattle.command_line.specs.Words.{demand_of};
+ghost use Rattle.command_line.specs.Words.{Demand as Wanted, IsBounded, IsReadAs, demand_of};
 ghost use Rattle.disk_shelf.specs.Disk.{disk_outside, fresh_outside};
+ghost use Rattle.predator_cli.specs.Answer.{HasNamesApart};
 ghost use Rattle.predator_cli.specs.Meets.{Meets};
 ghost use Rattle.predator_cli.specs.OnDisk.{EndsWith};
 
 use crate::command::obey;
-use crate::endings::refuse;
+use crate::endings::{refuse, refuse_words};
 use base::NoMemory;
 use command_files::{Status, advise, exit_code, file_to_look_at, trace_to_read, words_of};
 use command_line::{Demand, WordsFault, read_words};
 use disk_shelf::{Contents, DiskShelf};
+use std::alloc::Global;
 use std::env::Args;
 use std::io::{self, IsTerminal, Print, Stderr};
 use std::process::ExitCode;
@@ -78,24 +80,53 @@ fn say_end<
     advise(runtime, asked, status, &front);
 }
 
+// Does what is asked for, or refuses the words.
+fn answer_words<'w, R: Files + Print + Eprint + Clock + AllocGlobal, K: Contents>(
+    alloc: Global,
+    asked: &Result<Demand<'w>, WordsFault<'w>>,
+    shelf: &mut DiskShelf<'_, R, K>,
+) -> Status
+    requires apart { IfOk asked.now HasNamesApart }
+    requires bounded { IfOk asked.now IsBounded }
+    ensures { (wanted : Option Wanted) → IsReadAs wanted asked.now
+        → Meets wanted (disk_outside K.files shelf.old) (disk_outside K.files shelf.new) result }
+{
+    match asked {
+        Ok(demand) => obey(alloc, demand, shelf),
+        Err(WordsFault::Usage(_)) => refuse_words(shelf),
+        Err(WordsFault::NoMemory) => refuse(alloc, shelf, Status::NoMemory),
+    }
+}
+
 // Does what words ask for. They are read once.
 fn obey_words<
     E: Eprint + Env + AllocGlobal,
     R: Files + Print + Eprint + Clock + AllocGlobal,
     K: Contents,
->(
-    runtime: &E,
-    words: &[String],
-    shelf: &mut DiskShelf<'_, R, K>,
-) -> Status
+>(runtime: &E, words: &[String], shelf: &mut DiskShelf<'_, R, K>) -> Status
     ensures { Meets (demand_of (texts words.now)) (disk_outside K.files shelf.old)
         (disk_outside K.files shelf.new) result }
 {
     let asked = read_words(runtime.alloc(), words);
     expect_trace(&asked, shelf);
-    let status = obey(runtime.alloc(), &asked, shelf);
+    let status = answer_words(runtime.alloc(), &asked, shelf);
     say_end(runtime, &asked, &status, shelf);
     status
+}
+
+// Does what the words among the arguments ask for.
+fn obey_arguments<
+    E: Eprint + Env + AllocGlobal,
+    R: Files + Print + Eprint + Clock + AllocGlobal,
+    K: Contents,
+>(runtime: &E, arguments: io::Result<Args>, shelf: &mut DiskShelf<'_, R, K>) -> Status
+    ensures { Meets (demand_of (texts (words_in arguments))) (disk_outside K.files shelf.old)
+        (disk_outside K.files shelf.new) result }
+{
+    match words_of(runtime.alloc(), arguments) {
+        Ok(words) => obey_words(runtime, &words, shelf),
+        Err(NoMemory) => refuse(runtime.alloc(), shelf, Status::NoMemory),
+    }
 }
 
 /// The program: does what the arguments of its process ask for, and gives its exit status.
@@ -107,20 +138,13 @@ pub fn predator_on_disk<
     E: Eprint + Env + AllocGlobal,
     R: Files + Print + Eprint + Clock + AllocGlobal,
     K: Contents,
->(
-    runtime: &E,
-    arguments: io::Result<Args>,
-    shelf: &mut DiskShelf<'_, R, K>,
-) -> ExitCode
+>(runtime: &E, arguments: io::Result<Args>, shelf: &mut DiskShelf<'_, R, K>) -> ExitCode
     requires fresh { disk_outside K.files shelf.old ≡ fresh_outside K.files }
     // The exit status is the number of the status with which the words and the files are answered,
     // and nothing is printed or written beside that answer. K stands for any contents of the files.
     ensures ends { EndsWith (demand_of (texts (words_in arguments))) K.files shelf.new
         (exit_status result) }
 {
-    let status = match words_of(runtime.alloc(), arguments) {
-        Ok(words) => obey_words(runtime, &words, shelf),
-        Err(NoMemory) => refuse(runtime.alloc(), shelf, Status::NoMemory),
-    };
+    let status = obey_arguments(runtime, arguments, shelf);
     exit_code(&status)
 }

@@ -1,11 +1,6 @@
 use Rattle.command_line.specs.Demands.{texts}
-use Rattle.predator_cli.proofs.RunEnds.{read_apart}
 use Rattle.predator_cli.proofs.Sound.{report_is_recounted, stays_within}
 use Rattle.predator_cli.proofs.command.predator.Goals as goal
-
-pub obey-requires : goal.obey-requires
-obey-requires g c =
-    read_apart (texts c.args.words.now) c.read_words.result c.read_words.ensures.read
 
 pub returns-clause-within : goal.returns-clause-within
 returns-clause-within g c = stays_within c.runs_are_short.ensures
