@@ -94,6 +94,21 @@ def of_key(row: Row, usual: dict[str, int]) -> Iterator[Try]:
         yield Try(["check", "p", "--settings", settings_file(other, 1), changed], status, printed, range_of(row))
         yield Try(["check", "p", "--settings", settings_file(key, allowed), changed], status, printed, range_of(row))
         yield Try(["check", "p", "--settings", file, f"--set={other}=1"], status, printed, f"{file}: {range_of(row)}")
+        # The file is judged by itself first, so it is to blame also where its number is replaced, by a right one or by a wrong one.
+        yield Try(["check", "p", "--settings", file, f"--set={key}={allowed}"], status, printed, f"{file}: {range_of(row)}")
+        yield Try(["check", "p", "--settings", file, changed], status, printed, f"{file}: {range_of(row)}")
+
+
+def of_both(row: Row) -> Iterator[Try]:
+    """A prediction below its tracking: in a file, which a change would mend, and by a change alone."""
+    low = {"low": "tracking = 100\nprediction = 50\n", "well": "prediction = 50\n"}
+    for name, text in low.items():
+        with open(name, "w", encoding="utf-8") as file:
+            file.write(text)
+    printed = "settings OutOfRange prediction"
+    yield Try(["check", "p", "--settings", "low", "--set=tracking=10"], 4, printed, f"low: {range_of(row)}")
+    yield Try(["check", "p", "--settings", "low", "--set=prediction=200"], 4, printed, f"low: {range_of(row)}")
+    yield Try(["check", "p", "--settings", "well", "--set=tracking=60"], 4, printed, range_of(row))
 
 
 def settings() -> Iterator[Try]:
@@ -101,6 +116,7 @@ def settings() -> Iterator[Try]:
     keys = ", ".join(it["key"] for it in TABLE["setting"])
     for row in TABLE["setting"]:
         yield from of_key(row, usual)
+    yield from of_both(next(it for it in TABLE["setting"] if it["key"] == "prediction"))
     for name in (it for it, options in SPACE.items() if "--settings" in options):
         for file, printed, said in (
             ("harts.0", "OutOfRange harts", "`harts` is a whole number from 1 to 256"),

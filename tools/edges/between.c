@@ -9,6 +9,7 @@
 //     EDGES_LASTS=1      each later call fails too, with the same errno, but for those that close or are about standard error
 //     EDGES_INODES=WORD  files have other numbers: `long` ones, that differ above 2^32 alone, or one number on many `devices`
 //     EDGES_ROOM=N       files that are written have room for N bytes together; a write takes what has room, and ENOSPC is answered then
+//     EDGES_BEHIND=FILE  the file EDGES_NAME becomes this one when it was read to its end
 //     EDGES_PLANT=WORD   a mistake, one of those that `plant` below names. EDGES_NAME=FILE is the file that it is about
 #define _GNU_SOURCE
 #include <ctype.h>
@@ -26,9 +27,9 @@
 
 enum { MOST_PRINTED = 65536, MOST_WORDS = 12, LEAST_LOG = 500 };
 
-static int log_file = -1;
+static int log_file = -1, changing = -1;
 static long made, at, error, lasts, room = -1, printed;
-static const char *share = "", *planted = "", *named = "", *inodes = "";
+static const char *share = "", *planted = "", *named = "", *behind = "", *inodes = "";
 
 static long number_of(const char *name, long usual)
 {
@@ -58,6 +59,7 @@ __attribute__((constructor)) static void begin(void)
     share = word_of("EDGES_SHARE");
     planted = word_of("EDGES_PLANT");
     named = word_of("EDGES_NAME");
+    behind = word_of("EDGES_BEHIND");
     inodes = word_of("EDGES_INODES");
     if (name) {
         // It goes where no number is missed: the program's files have those that they would have without it.
@@ -154,6 +156,8 @@ int open(const char *name, int flags, ...)
         return (int)told("open", -1, flags, -1, name);
     mistake_name(&name, &flags, room_for);
     int fd = (int)syscall(SYS_openat, AT_FDCWD, name, flags, mode);
+    if (*behind && strcmp(name, named) == 0)
+        changing = fd;
     return (int)told("open", fd, flags, fd, name);
 }
 
@@ -170,11 +174,28 @@ int close(int fd)
     return (int)told("close", fd, 0, answer, "");
 }
 
+// Puts what another file has into the file that was read.
+static void change(void)
+{
+    char bytes[4096];
+    long count;
+    int from = (int)syscall(SYS_openat, AT_FDCWD, behind, O_RDONLY | O_CLOEXEC);
+    int to = (int)syscall(SYS_openat, AT_FDCWD, named, O_WRONLY | O_TRUNC | O_CLOEXEC);
+    while ((count = syscall(SYS_read, from, bytes, sizeof bytes)) > 0)
+        syscall(SYS_write, to, bytes, (size_t)count);
+    syscall(SYS_close, from);
+    syscall(SYS_close, to);
+    changing = -1;
+}
+
 ssize_t read(int fd, void *into, size_t count)
 {
     if (is_failing(fd))
         return told("read", fd, (long)count, -1, "");
-    return told("read", fd, (long)count, syscall(SYS_read, fd, into, share_of(count)), "");
+    long answer = syscall(SYS_read, fd, into, share_of(count));
+    if (answer == 0 && count > 0 && fd == changing)
+        change();
+    return told("read", fd, (long)count, answer, "");
 }
 
 static int is_file(int fd)

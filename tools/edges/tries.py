@@ -530,6 +530,37 @@ def try_full_disk(bench: Bench) -> bool:
     return may
 
 
+# ---- A trace that changes between two readings.
+
+def changes() -> Iterator[tuple[bytes, int, str]]:
+    """What `made` may be when it is read again, and how that is refused: as no trace, or for the first field in which it differs."""
+    touches = files.made(files.MADE)
+    whole, count = files.trace(touches), files.MADE
+    behind_header = whole[len(files.header()):]
+    yield whole[:-1], 5, f"trace Truncated {len(whole) - 1}"
+    yield whole + b"\0", 5, f"trace AfterEnd {len(whole)}"
+    yield b"PRDTRC09" + whole[8:], 5, "trace BadMagic"
+    yield files.converted(touches), 5, "trace BadMagic"
+    yield files.header(harts=16, first=5) + behind_header, 6, "state WrongSettings 32"
+    yield files.header(first=5) + behind_header, 6, "state WrongPosition 0 5"
+    yield files.trace(touches[:-1]), 5, f"trace CountMismatch {count} {count - 1}"
+
+
+def try_changed_traces(bench: Bench) -> None:
+    """A trace that is another one when it is read again is refused for what was read then."""
+    first = content("made") or b""
+    for words in (f"split made {files.CUT} a b", "convert made c"):
+        for other, status, line in changes():
+            put("other", other)
+            how = {"EDGES_NAME": "made", "EDGES_BEHIND": "other"}
+            ended = Ended(bench, words.split(), env=bench.environment(how))
+            found = ended.faults(status, f"predator: {line}\n".encode(), None)
+            bench.count("main", "a trace that changes", words.split(), found)
+            put("made", first)
+            remove("other", "a", "b", "c")
+    bench.kept = bench.inputs()
+
+
 # ---- What one would expect, and the program doesn't do.
 
 def try_open(bench: Bench) -> None:
@@ -557,7 +588,7 @@ def try_open(bench: Bench) -> None:
 
 TRIES = (try_calls, try_commands, try_statuses, try_words, try_dash, try_files_of_that_name, try_names_by_case, try_same_names,
          try_links, try_inodes, try_outputs_by_link, try_modes, try_closed_streams, try_terminals, try_full_output, try_output_as_file,
-         try_text_into_file, try_full_pipes, try_fifos)
+         try_text_into_file, try_full_pipes, try_fifos, try_changed_traces)
 
 
 def try_all(bench: Bench) -> None:

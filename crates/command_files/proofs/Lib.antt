@@ -1,4 +1,3 @@
-mod FrontLaws
 pub mod SaveLaws
 pub mod Refusals
 pub mod Usual

@@ -2,12 +2,12 @@
 use Rattle.std.proofs.Common.{◌≡◌, Option, Some, None, Result, Ok, Err, refl, sym, ap, ◌∙◌, subst}
 use Rattle.std.specs.Option.{option_map_or}
 use Rattle.toml.specs.Data.{Members, no_members}
-use Rattle.settings.specs.Answers.{usual_under}
+use Rattle.settings.specs.Answers.{usual_under, with_fault}
 use Rattle.settings.specs.Changed.{changed_table, no_changes}
 use Rattle.settings.specs.Tables.{first_out_of_range, number_of, values_of}
 use Rattle.settings.specs.declared.changes.Changes.{Changes}
 use Rattle.settings.specs.declared.fault.SettingsFault.{SettingsFault}
-use Rattle.settings.specs.declared.fault.SettingsFault.TheVariants.{OutOfRange}
+use Rattle.settings.specs.declared.fault.SettingsFault.TheVariants.{ChangedOutOfRange}
 use Rattle.settings.specs.declared.key.Key.{Key}
 use Rattle.settings.specs.declared.values.Settings.{Settings}
 use Rattle.command_files.specs.Readings.{IsRefusal}
@@ -21,17 +21,17 @@ abbrev IsRefused : SettingsFault → Type 0
 IsRefused fault = (status_of_settings fault ≡ status.Settings fault)
     × IsRefusal (status_of_settings fault)
 
-out_of_range : (key : Key) → IsRefused (OutOfRange key)
+out_of_range : (key : Key) → IsRefused (ChangedOutOfRange key)
 out_of_range key = (refl, record { kind = refl; words = λ e. cc; memory = refl })
 
 -- only a key that is out of range is refused there
 values_refused : (table : Members) (o : Option Key) (fault : SettingsFault)
-    → (let r : Result Settings SettingsFault = option_map_or (λ key. Err (OutOfRange key)) o
-    (Ok (values_of table)) in r ≡ Err fault)
+    → with_fault (λ key. ChangedOutOfRange key)
+    (option_map_or (λ key. Err key) o (Ok (values_of table))) ≡ Err fault
     → IsRefused fault
 values_refused table None fault is = absurd cc
 values_refused table (Some key) fault is =
-    let same : OutOfRange key ≡ fault = cc in subst IsRefused same (out_of_range key)
+    let same : ChangedOutOfRange key ≡ fault = cc in subst IsRefused same (out_of_range key)
 
 pub usual_refused : (c : Changes) (fault : SettingsFault) (s : Status)
     → usual_under c ≡ Err fault → s ≡ status_of_settings fault

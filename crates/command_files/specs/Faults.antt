@@ -55,6 +55,7 @@ settings_text settings.TooLong = codes "TooLong"
 settings_text settings.BadToml = codes "BadToml"
 settings_text (settings.UnknownKey name) = codes "UnknownKey " ++ name_text name
 settings_text (settings.OutOfRange key) = codes "OutOfRange " ++ key_name key
+settings_text (settings.ChangedOutOfRange key) = codes "OutOfRange " ++ key_name key
 settings_text settings.NoMemory = codes "NoMemory"
 
 -- a fault of a trace has its place, or its numbers

@@ -1,4 +1,6 @@
+pub mod Arguments
 pub mod Faults
+pub mod FilesRead
 pub mod Laws
 pub mod Numbers
 pub mod ProgramFiles

@@ -62,6 +62,7 @@ status_of_settings settings.TooLong = status.Settings settings.TooLong
 status_of_settings settings.BadToml = status.Settings settings.BadToml
 status_of_settings (settings.UnknownKey name) = status.Settings (settings.UnknownKey name)
 status_of_settings (settings.OutOfRange key) = status.Settings (settings.OutOfRange key)
+status_of_settings (settings.ChangedOutOfRange key) = status.Settings (settings.ChangedOutOfRange key)
 status_of_settings settings.NoMemory = status.NoMemory
 
 abbrev pub status_of_resume : ResumeFault → Status

@@ -9,7 +9,7 @@ use crate::settings_faults::settings_advice;
 use crate::state_faults::state_advice;
 use crate::status::Status;
 use crate::trace_faults::{NO_PCS_ADVICE, trace_advice};
-use command_line::{Reason, WordsFault, read_words};
+use command_line::{Demand, Reason, WordsFault};
 use std::alloc::{AllocError, Global};
 use std::env;
 use std::io::ErrorKind;
@@ -73,19 +73,20 @@ fn has_no_text<R: Env + AllocGlobal>(runtime: &R) -> bool {
 // What is wrong with words that are refused, as the place says that refuses them.
 fn said_of_words<R: Env + AllocGlobal>(
     runtime: &R,
-    words: &[String],
     reason: &Reason<'_>,
 ) -> Result<String, AllocError> {
-    if words.is_empty() && has_no_text(runtime) {
-        return String::from_str(runtime.alloc(), NOT_TEXT);
+    match reason {
+        Reason::NoCommand if has_no_text(runtime) => {
+            String::from_str(runtime.alloc(), NOT_TEXT)
+        }
+        reason => reason.text(runtime.alloc()),
     }
-    reason.text(runtime.alloc())
 }
 
-// What is said of the end of a call with these words, where there is something to say.
+// What is said of the end of a call that was asked for this, where there is something to say.
 fn said<R: Env + AllocGlobal>(
     runtime: &R,
-    words: &[String],
+    asked: &Result<Demand<'_>, WordsFault<'_>>,
     status: &Status,
     front: &[u8],
 ) -> Result<Option<String>, AllocError> {
@@ -93,10 +94,10 @@ fn said<R: Env + AllocGlobal>(
         return Ok(None);
     }
     let alloc = runtime.alloc();
-    match read_words(alloc, words) {
-        Ok(demand) => said_of_work(alloc, file_refused(&demand, status), status, front),
-        Err(WordsFault::Usage(reason)) => Ok(Some(said_of_words(runtime, words, &reason)?)),
-        Err(WordsFault::NoMemory) => Err(AllocError),
+    match asked {
+        Ok(demand) => said_of_work(alloc, file_refused(demand, status), status, front),
+        Err(WordsFault::Usage(reason)) => Ok(Some(said_of_words(runtime, reason)?)),
+        Err(WordsFault::NoMemory) => Ok(None),
     }
 }
 
@@ -114,16 +115,17 @@ fn shown(alloc: Global, text: &str) -> Result<String, AllocError> {
     Ok(shown)
 }
 
-/// Says on standard error what is wrong at such an end of a call with these words, and what to do
-/// next, where there is something to say. A file that is refused is named; `front` is its beginning,
-/// as far as it is known, of the file that [`file_to_look_at`](crate::file_to_look_at) names.
+/// Says on standard error what is wrong at such an end of a call that was asked for this, and what
+/// to do next, where there is something to say. A file that is refused is named; `front` is its
+/// beginning, as far as it is known, of the file that [`file_to_look_at`](crate::file_to_look_at)
+/// names.
 pub fn advise<R: Eprint + Env + AllocGlobal>(
     runtime: &R,
-    words: &[String],
+    asked: &Result<Demand<'_>, WordsFault<'_>>,
     status: &Status,
     front: &[u8],
 ) {
-    if let Ok(Some(text)) = said(runtime, words, status, front) {
+    if let Ok(Some(text)) = said(runtime, asked, status, front) {
         if let Ok(text) = shown(runtime.alloc(), text.as_str()) {
             let _ = eprintln!(runtime; "predator: {text}");
         }

@@ -1,12 +1,14 @@
-// Which files a command reads, by their names in the words, and which of them a refusal is of.
+// Which files a command reads, by what is asked for, and which of them a refusal is of.
+ghost use Rattle.std.specs.Prelude.{◌≡◌, None, Some, option_map};
+ghost use Rattle.command_line.specs.Words.{meaning, trace_of};
+ghost use Rattle.command_files.specs.FilesRead.{is_own, read_as, trace_read};
 
 use crate::state_faults::HARTS;
 use crate::status::{StateFault, Status};
-use command_line::{Demand, WordsFault, read_words};
-use settings::{Changes, Key, SettingsFault};
-use std::alloc::Global;
+use command_line::Demand;
+use settings::SettingsFault;
 
-/// A trace that words have read.
+/// A trace that a command reads.
 #[derive(Clone, Copy, PartialEq, Eq, Debug)]
 pub struct TraceToRead<'a> {
     /// Its name, as it stands in the words.
@@ -15,21 +17,21 @@ pub struct TraceToRead<'a> {
     pub again: bool,
 }
 
-// The files that a command reads, where it reads such ones, and what is changed of its settings.
+// The files that a command reads, where it reads such ones.
 #[derive(Clone, Copy)]
 struct FilesRead<'a> {
     settings: Option<&'a str>,
-    set: Changes,
     state: Option<&'a str>,
     trace: Option<TraceToRead<'a>>,
     program: Option<&'a str>,
     schedule: Option<&'a str>,
 }
 
-fn no_files<'a>() -> FilesRead<'a> {
+fn no_files<'a>() -> FilesRead<'a>
+    ensures { result.trace ≡ None }
+{
     FilesRead {
         settings: None,
-        set: Changes::none(),
         state: None,
         trace: None,
         program: None,
@@ -37,51 +39,50 @@ fn no_files<'a>() -> FilesRead<'a> {
     }
 }
 
-fn of_trace(name: &str, again: bool) -> FilesRead<'_> {
+// A trace that is read so, and nothing else.
+fn of_trace(name: &str, again: bool) -> FilesRead<'_>
+    ensures { option_map trace_read result.trace ≡ Some (read_as name.now again) }
+{
     FilesRead {
-        trace: Some(read_so(name, again)),
+        trace: Some(TraceToRead { name, again }),
         ..no_files()
     }
 }
 
+// What a run of a program reads.
 fn of_program<'a>(
     program: &'a str,
     settings: Option<&'a str>,
-    set: Changes,
     schedule: Option<&'a str>,
-) -> FilesRead<'a> {
+) -> FilesRead<'a>
+    ensures { result.trace ≡ None }
+{
     FilesRead {
         settings,
-        set,
         program: Some(program),
         schedule,
         ..no_files()
     }
 }
 
-fn files_of<'a>(demand: &Demand<'a>) -> FilesRead<'a> {
+fn files_of<'a>(demand: &Demand<'a>) -> FilesRead<'a>
+    ensures { option_map trace_read result.trace ≡ trace_of (meaning demand.now) }
+{
     match demand {
         Demand::Replay(options) => FilesRead {
             settings: options.settings,
-            set: options.set,
             state: options.resume,
             ..of_trace(options.trace, false)
         },
         Demand::Check(options) => {
-            of_program(options.program, options.settings, options.set, None)
+            of_program(options.program, options.settings, None)
         }
-        Demand::Run(options) => of_program(
-            options.program,
-            options.settings,
-            options.set,
-            options.schedule,
-        ),
-        Demand::Explain(options) => of_program(
-            options.program,
-            options.settings,
-            options.set,
-            options.schedule,
-        ),
+        Demand::Run(options) => {
+            of_program(options.program, options.settings, options.schedule)
+        }
+        Demand::Explain(options) => {
+            of_program(options.program, options.settings, options.schedule)
+        }
         Demand::Split(options) => of_trace(options.trace, true),
         Demand::Convert(options) => of_trace(options.trace, true),
         Demand::Sweep(options) => of_trace(options.trace, false),
@@ -93,28 +94,12 @@ fn files_of<'a>(demand: &Demand<'a>) -> FilesRead<'a> {
     }
 }
 
-fn read_so(name: &str, again: bool) -> TraceToRead<'_> {
-    TraceToRead { name, again }
-}
-
-/// The trace that words have read, where they have one read.
-pub fn trace_to_read<'a>(alloc: Global, words: &'a [String]) -> Option<TraceToRead<'a>> {
-    match read_words(alloc, words) {
-        Ok(Demand::Replay(options)) => Some(read_so(options.trace, false)),
-        Ok(Demand::Split(options)) => Some(read_so(options.trace, true)),
-        Ok(Demand::Convert(options)) => Some(read_so(options.trace, true)),
-        Ok(Demand::Sweep(options)) => Some(read_so(options.trace, false)),
-        Ok(Demand::Caches(options)) => Some(read_so(options.trace, false)),
-        Ok(Demand::Place(options)) => Some(read_so(options.trace, true)),
-        Ok(Demand::Misses(options)) => Some(read_so(options.trace, false)),
-        Ok(Demand::Blame(options)) => Some(read_so(options.trace, false)),
-        Ok(Demand::Run(_)) => None,
-        Ok(Demand::Check(_)) => None,
-        Ok(Demand::Gen(_)) => None,
-        Ok(Demand::Explain(_)) => None,
-        Err(WordsFault::Usage(_)) => None,
-        Err(WordsFault::NoMemory) => None,
-    }
+/// The trace that is read for what is asked for, where one is, and whether it is read again. One
+/// that is read once may be standard input, by the name `-`.
+pub fn trace_to_read<'a>(demand: &Demand<'a>) -> Option<TraceToRead<'a>>
+    ensures { option_map trace_read result ≡ trace_of (meaning demand.now) }
+{
+    files_of(demand).trace
 }
 
 // What a trace is called in a message.
@@ -126,15 +111,11 @@ fn called(trace: TraceToRead<'_>) -> &str {
     }
 }
 
-// Whether a fault of the settings is of their file alone, and not of what is changed.
-fn is_of_file(fault: &SettingsFault, set: &Changes) -> bool {
-    match fault {
-        SettingsFault::OutOfRange(Key::Prediction) => {
-            set.prediction.is_none() && set.tracking.is_none()
-        }
-        SettingsFault::OutOfRange(key) => set.of(*key).is_none(),
-        _ => true,
-    }
+// Whether a fault of the settings is of their file by itself, and not of what is changed.
+fn is_of_file(fault: &SettingsFault) -> bool
+    ensures { result ≡ is_own fault.now }
+{
+    !matches!(fault, SettingsFault::ChangedOutOfRange(_))
 }
 
 /// The name of the file that such a refusal is of, where a file is refused.
@@ -145,7 +126,7 @@ pub fn file_refused<'a>(demand: &Demand<'a>, status: &Status) -> Option<&'a str>
         Status::Elf(_) => files.program,
         Status::Schedule(_) => files.schedule,
         Status::Settings(fault) => {
-            if is_of_file(fault, &files.set) {
+            if is_of_file(fault) {
                 files.settings
             } else {
                 None
@@ -161,37 +142,12 @@ pub fn file_refused<'a>(demand: &Demand<'a>, status: &Status) -> Option<&'a str>
     }
 }
 
-// Of a program and settings, the file that is refused.
-fn refused_of<'a>(
-    program: Option<&'a str>,
-    settings: Option<&'a str>,
-    status: &Status,
-) -> Option<&'a str> {
-    match status {
-        Status::Elf(_) => program,
-        Status::Settings(_) => settings,
-        _ => None,
-    }
-}
-
 /// The name of a file that is refused whose beginning says more of why: a program or settings.
-pub fn file_to_look_at<'a>(alloc: Global, words: &'a [String], status: &Status) -> Option<&'a str> {
-    match read_words(alloc, words) {
-        Ok(Demand::Replay(options)) => refused_of(None, options.settings, status),
-        Ok(Demand::Check(options)) => refused_of(Some(options.program), options.settings, status),
-        Ok(Demand::Run(options)) => refused_of(Some(options.program), options.settings, status),
-        Ok(Demand::Explain(options)) => {
-            refused_of(Some(options.program), options.settings, status)
-        }
-        Ok(Demand::Split(_)) => None,
-        Ok(Demand::Gen(_)) => None,
-        Ok(Demand::Convert(_)) => None,
-        Ok(Demand::Sweep(_)) => None,
-        Ok(Demand::Caches(_)) => None,
-        Ok(Demand::Place(_)) => None,
-        Ok(Demand::Misses(_)) => None,
-        Ok(Demand::Blame(_)) => None,
-        Err(WordsFault::Usage(_)) => None,
-        Err(WordsFault::NoMemory) => None,
+pub fn file_to_look_at<'a>(demand: &Demand<'a>, status: &Status) -> Option<&'a str> {
+    let files = files_of(demand);
+    match status {
+        Status::Elf(_) => files.program,
+        Status::Settings(_) => files.settings,
+        _ => None,
     }
 }

@@ -37,5 +37,5 @@ pub use files_read::{TraceToRead, file_to_look_at, trace_to_read};
 pub use program_file::{PROGRAM_LIMIT, Program, judge_program};
 pub use saving::save;
 pub use settings_file::{native_layout, read_settings, thresholds_of};
-pub use start::{exit_code, give_up, words_of};
+pub use start::{exit_code, words_of};
 pub use status::{StateFault, Status};

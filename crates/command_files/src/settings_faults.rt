@@ -24,7 +24,7 @@ pub fn settings_name(alloc: Global, fault: &SettingsFault) -> Result<String, All
             let name = printed_name(alloc, name.bytes())?;
             format!(in alloc; "UnknownKey {name}")
         }
-        SettingsFault::OutOfRange(key) => {
+        SettingsFault::OutOfRange(key) | SettingsFault::ChangedOutOfRange(key) => {
             let name = key.name();
             format!(in alloc; "OutOfRange {name}")
         }
@@ -86,7 +86,9 @@ pub fn settings_advice(
             let name = printed_name(alloc, name.bytes())?;
             format!(in alloc; "`{name}` isn't a key: {KEYS}")
         }
-        SettingsFault::OutOfRange(key) => String::from_str(alloc, range_of(*key)),
+        SettingsFault::OutOfRange(key) | SettingsFault::ChangedOutOfRange(key) => {
+            String::from_str(alloc, range_of(*key))
+        }
         SettingsFault::NoMemory => Err(AllocError),
     }
 }

@@ -1,16 +1,12 @@
 // How the program starts and ends: its words, and its exit status.
-ghost use Rattle.std.specs.Prelude.{◌≡◌, [], drop, IfOk, MatchResult};
+ghost use Rattle.std.specs.Prelude.{◌≡◌, IfOk};
 ghost use Rattle.std.specs.Process.{exit_status};
 ghost use Rattle.std.specs.Vec.Iter.{into_iter_items};
-ghost use Rattle.shelf.specs.Shelf.{AddsFront, OnlyPrints};
-ghost use Rattle.command_files.specs.Faults.{fault_text};
-ghost use Rattle.command_files.specs.declared.status.Status.TheVariants as status;
+ghost use Rattle.command_files.specs.Arguments.{words_in};
 ghost use Rattle.command_files.specs.Numbers.{number_of};
 
 use crate::Status;
-use crate::faults::NO_MEMORY_LINE;
 use base::NoMemory;
-use shelf::Shelf;
 use std::alloc::Global;
 use std::env::Args;
 use std::io::{self, ErrorKind};
@@ -30,8 +26,7 @@ fn rest_of(alloc: Global, arguments: Args<Global>) -> Result<Vec<String>, NoMemo
 /// The words after the program's name, of the arguments of the process. Arguments that are no text
 /// are no words, and so ask for nothing that the program does.
 pub fn words_of(alloc: Global, arguments: io::Result<Args<Global>>) -> Result<Vec<String>, NoMemory>
-    ensures { IfOk result (λ words. MatchResult arguments
-        (λ given. words.items ≡ drop 1 (into_iter_items given)) (λ _. words.items ≡ [])) }
+    ensures { IfOk result (λ words. words.items ≡ words_in arguments) }
 {
     match arguments {
         Ok(mut arguments) => {
@@ -40,19 +35,6 @@ pub fn words_of(alloc: Global, arguments: io::Result<Args<Global>>) -> Result<Ve
         }
         Err(error) if error.kind() == ErrorKind::OutOfMemory => Err(NoMemory),
         Err(_) => Ok(Vec::new(alloc)),
-    }
-}
-
-/// Ends where memory ran out before there were words: prints the line of want of memory, which
-/// takes none.
-pub fn give_up<S: Shelf>(shelf: &mut S) -> Status
-    ensures status { result ≡ Status.NoMemory }
-    ensures prints { AddsFront (S.outside shelf.old).printed (S.outside shelf.new).printed
-        (fault_text status.NoMemory) }
-    ensures only { OnlyPrints (S.outside shelf.old) (S.outside shelf.new) }
-{
-    match shelf.print(NO_MEMORY_LINE.as_bytes()) {
-        Ok(()) | Err(_) => Status::NoMemory,
     }
 }
 

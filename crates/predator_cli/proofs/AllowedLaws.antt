@@ -12,15 +12,17 @@ use Rattle.command_files.specs.SettingsFiles.{layout_of, levels_of, settings_in,
 use Rattle.command_files.specs.SettingsFiles.{settings_refusal}
 use Rattle.command_line.specs.Set.{AskedSettings, asked_under}
 use Rattle.toml.specs.Data.{Data, Members, as_integer, get_member, no_members}
-use Rattle.settings.specs.Answers.{behind_own, judged_table, judged_under, judged_values}
+use Rattle.settings.specs.Answers.{behind_own, changed_values, judged_table, judged_under}
 use Rattle.settings.specs.Answers.{longest_content, settings_under, table_of, usual_under}
+use Rattle.settings.specs.Answers.{with_fault}
 use Rattle.settings.specs.Changed.{changed_table}
 use Rattle.settings.specs.Keys.{form_of, has_form, is_native_line, key_name, keys_in_order, rule_of}
 use Rattle.settings.specs.Tables.{first_out_of_range, number_of}
 use Rattle.settings.specs.Tables.{number_of_form, tracking_of, value_of, values_of, whole_of_form}
 use Rattle.settings.specs.declared.changes.Changes.{Changes}
 use Rattle.settings.specs.declared.fault.SettingsFault.{SettingsFault}
-use Rattle.settings.specs.declared.fault.SettingsFault.TheVariants.{TooLong, BadToml, OutOfRange}
+use Rattle.settings.specs.declared.fault.SettingsFault.TheVariants.{TooLong, BadToml}
+use Rattle.settings.specs.declared.fault.SettingsFault.TheVariants.{ChangedOutOfRange}
 use Rattle.settings.specs.declared.key.Key.{Key}
 use Rattle.settings.specs.declared.key.Key.TheVariants.{Tracking, Prediction, Report}
 use Rattle.settings.specs.declared.key.Key.TheVariants.{Line}
@@ -108,8 +110,8 @@ table_in_range table none =
     }
 
 values_then : (table : Members) (s : Settings) (o : Option Key) → first_out_of_range table ≡ o
-    → (let r : Result Settings SettingsFault = option_map_or (λ key. Err (OutOfRange key)) o
-    (Ok (values_of table)) in r ≡ Ok s)
+    → with_fault (λ key. ChangedOutOfRange key)
+    (option_map_or (λ key. Err key) o (Ok (values_of table))) ≡ Ok s
     → IsInRange s
 values_then table s None none is =
     let same : values_of table ≡ s = cc in subst IsInRange same (table_in_range table none)
@@ -117,7 +119,7 @@ values_then table s (Some key) none is = absurd cc
 
 -- what a table gives under changes, behind what it gives alone
 own_then : (table : Members) (s : Settings) (own : Result Settings SettingsFault)
-    → behind_own own (judged_values table) ≡ Ok s → IsInRange s
+    → behind_own own (changed_values table) ≡ Ok s → IsInRange s
 own_then table s (Ok before) is = values_then table s (first_out_of_range table) refl is
 own_then table s (Err fault) is = absurd cc
 

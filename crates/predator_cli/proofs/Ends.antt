@@ -178,8 +178,8 @@ finish_failed demand a b d s text worked only rose printed =
       memory = refl;
       caused = inr (quiet, rose_a);
       peace = quiet.reads;
-      prints = told_map d.held (λ files is. inr (rose_a, rw is part))
-          (printed_texts demand a b d s text worked only);
+      prints = inr (told_map d.held (λ files is. (rose_a, rw is part))
+          (printed_texts demand a b d s text worked only));
       writes = inr (
         rose_a,
         quiet.writes,

@@ -102,7 +102,7 @@ prints_fault : (asked : Option Demand) (a d : Outside) (k : Kind) (s : Status) �
 prints_fault asked a d done s n p printed = absurd (n refl)
 prints_fault asked a d refusal s n p printed = printed
 prints_fault asked a d read_fault s n p printed = printed
-prints_fault asked a d write_fault s n p printed = told d.held (λ files. inl printed)
+prints_fault asked a d write_fault s n p printed = inl printed
 prints_fault asked a d no_memory s n p printed = told_map d.held
     (λ files is. (fault_text s, is, printed_prefix a d (fault_text s) printed))
     p

@@ -10,12 +10,12 @@ pub mod GoOnAnswers
 pub mod GoOnLaws
 pub mod GoodLaws
 pub mod ListedCounts
+pub mod OnDiskLaws
 pub mod PartLaws
 pub mod PlaceApart
 pub mod PlaceEnds
 pub mod ReplayEnds
 pub mod ReplayLaws
-pub mod Rows
 pub mod RunEnds
 pub mod RunLaws
 pub mod SitedRuns

@@ -1,7 +1,8 @@
 -- What a run leaves in its files, and how the command ends after it.
 use Rattle.std.proofs.Common.{◌≡◌, ℕ, List, [], ◌∷◌, ◌++◌, Option, Some, None, Ok, Bool, true}
 use Rattle.std.proofs.Common.{false, refl, sym, ap, subst, ◌∙◌, inl, inr}
-use Rattle.std.proofs.Common.{not, ◌&&◌, unwrap_or}
+use Rattle.std.proofs.Common.{not, ◌&&◌, unwrap_or, Result, Err}
+use Rattle.std.specs.Prelude.{IfOk}
 use Rattle.std.proofs.lemmas.Bool.{cases_Bool}
 use Rattle.std.proofs.lemmas.Option.{none-some, same_Some}
 use Rattle.std.proofs.lemmas.Slice.Eq.{bytes_eq-Decides}
@@ -14,11 +15,12 @@ use Rattle.command_line.specs.Demands.{text_of}
 use Rattle.command_line.specs.Replay.{ReplayDemand}
 use Rattle.command_line.specs.Run.{RunDemand, run_meaning, run_outputs}
 use Rattle.command_line.specs.Set.{AskedSettings}
-use Rattle.command_line.specs.Split.{SplitDemand, split_outputs}
 use Rattle.command_line.specs.declared.run.RunOptions.{RunOptions}
 use Rattle.std.specs.Borrow.{Bor}
-use Rattle.command_line.specs.Words.{Demand, asked_of, demand_of, replay, run, split}
+use Rattle.command_line.specs.Words.{Demand, IsReadAs, asked_of, demand_of, meaning, replay, run}
 use Rattle.command_line.specs.Words.{with_names_apart}
+use Rattle.command_line.specs.declared.demand.Demand as code
+use Rattle.command_line.specs.declared.demand.WordsFault.{WordsFault}
 use Rattle.command_line.specs.Words.{inputs as inputs_of, outputs as outputs_of}
 use Rattle.settings.specs.declared.values.Settings.{Settings}
 use Rattle.guest.specs.Runs.{Run, output_of}
@@ -42,7 +44,7 @@ use Rattle.shelf.specs.Laws.Files.{AreCut-behind, AreWritten-behind}
 use Rattle.shelf.specs.Laws.Told.{told_both, told_still}
 use Rattle.predator_cli.specs.Again.{ReplayRepeatsRun, RunRepeats, RunTellsSites, TellsSites}
 use Rattle.predator_cli.specs.Again.{whole_replay}
-use Rattle.predator_cli.specs.Answer.{answer_of}
+use Rattle.predator_cli.specs.Answer.{HasNamesApart, answer_of}
 use Rattle.predator_cli.specs.Commands.{RepeatsReport, work_of}
 use Rattle.predator_cli.specs.Meets.{IsFaulty, IsWorked}
 use Rattle.predator_cli.specs.Replay.{begun_in, grid_in, levels_in, refuses_trace, replay_readings}
@@ -149,19 +151,25 @@ asked_apart : (o : Option Demand) (d : Demand) → option_and_then with_names_ap
 asked_apart None d is = absurd (none-some d is)
 asked_apart (Some x) d is = kept_apart x d is
 
-demanded : (words : List (List ℕ)) (d : Demand) → demand_of words ≡ Some d → AreApart (outputs_of d)
+demanded : (words : List (List ℕ)) (d : Demand) → demand_of words ≡ Some d
+    → are_apart (outputs_of d) (inputs_of d) ≡ true
 demanded [] d is = absurd (none-some d is)
-demanded (command ∷ rest) d is = names_apart (outputs_of d) (inputs_of d)
-    (asked_apart (asked_of command (command ∷ rest)) d is)
+demanded (command ∷ rest) d is = asked_apart (asked_of command (command ∷ rest)) d is
 
--- the outputs of a run that the words ask for have two names, and so have the halves of a trace
-pub demanded_apart : (words : List (List ℕ)) (d : RunDemand) → demand_of words ≡ Some (run d)
+-- what words that were read ask for has its names apart
+pub read_apart : (words : List (List ℕ)) (d : code.Demand) → demand_of words ≡ Some (meaning d)
+    → HasNamesApart d
+read_apart words d is = demanded words (meaning d) is
+
+pub all_apart : (words : List (List ℕ)) (r : Result code.Demand WordsFault)
+    → IsReadAs (demand_of words) r → IfOk r HasNamesApart
+all_apart words (Ok d) is = read_apart words d is
+all_apart words (Err fault) is = tt
+
+-- and so the outputs of a run have two names
+pub run_apart : (d : RunDemand) → are_apart (outputs_of (run d)) (inputs_of (run d)) ≡ true
     → AreApart (run_outputs d)
-demanded_apart words d is = demanded words (run d) is
-
-pub halves_apart : (words : List (List ℕ)) (d : SplitDemand) → demand_of words ≡ Some (split d)
-    → AreApart (split_outputs d)
-halves_apart words d is = demanded words (split d) is
+run_apart d apart = names_apart (run_outputs d) (inputs_of (run d)) apart
 
 -- ---- how the command ends
 

@@ -5,6 +5,7 @@ use Rattle.command_line.specs.Words.{Demand, replay, check, run, split, gen, con
 use Rattle.command_line.specs.Words.{blame, caches, demand_of, place, misses, explain}
 use Rattle.shelf.specs.Shelf.{Files}
 use Rattle.predator_cli.specs.Commands.{Command, ReportIsRecounted, StaysWithinBudget, command_of}
+use Rattle.predator_cli.specs.Explain.{as_run}
 use Rattle.predator_cli.proofs.PlaceApart.{TracesAreSpelled, place_apart}
 use Rattle.predator_cli.proofs.ReplayLaws.{replay_recounted}
 use Rattle.predator_cli.proofs.RunLaws.{RunsAreShort, run_recounted, run_within}
@@ -30,7 +31,8 @@ module _ (short : RunsAreShort) (spelled : TracesAreSpelled) where
       record { within = λ files. tt; recounts = place_apart spelled d sized }
   commands_are_sound (misses d) sized = record { within = λ files. tt; recounts = λ files. tt }
   commands_are_sound (blame d) sized = record { within = λ files. tt; recounts = λ files. tt }
-  commands_are_sound (explain d) sized = record { within = λ files. tt; recounts = λ files. tt }
+  commands_are_sound (explain d) sized =
+      record { within = run_within short (as_run d); recounts = λ files. tt }
 
   within_asked : (asked : Option Demand) (files : Files)
       → ((d : Demand) → asked ≡ Some d → IsSized d) → StaysWithinBudget asked files

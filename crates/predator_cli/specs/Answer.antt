@@ -1,9 +1,11 @@
 -- What the words ask for, and what the program answers, for the contents of the names: a status,
 -- the text that it prints, and the bytes of the files that it writes.
-use Rattle.std.specs.Prelude.{Bool, false, List, [], ℕ, Option, Some, None}
+use Rattle.std.specs.Prelude.{Bool, false, IsTrue, List, [], ℕ, Option, Some, None}
 use Rattle.std.specs.Option.{option_map_or}
 use Rattle.shelf.specs.Shelf.{Files}
-use Rattle.command_line.specs.Words.{Demand, outputs as outputs_of}
+use Rattle.command_line.specs.Names.{are_apart}
+use Rattle.command_line.specs.Words.{Demand, inputs as inputs_of, meaning, outputs as outputs_of}
+use Rattle.command_line.specs.declared.demand.Demand as code
 use Rattle.command_files.specs.Readings.{Reading, names_of}
 use Rattle.command_files.specs.Works.{Work, refused_with}
 use Rattle.command_files.specs.declared.status.Status.TheVariants as status
@@ -23,6 +25,11 @@ outputs asked = option_map_or outputs_of asked []
 
 abbrev pub are_copies : Option Demand → Bool
 are_copies asked = option_map_or is_copy asked false
+
+-- no output of what is asked for has the name of another output or of an input
+abbrev pub HasNamesApart : code.Demand → Type 0
+HasNamesApart demand =
+    IsTrue (are_apart (outputs_of (meaning demand)) (inputs_of (meaning demand)))
 
 abbrev pub answer_of : Option Demand → Files → Work
 answer_of None files = refused_with status.Usage

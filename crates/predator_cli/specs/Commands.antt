@@ -12,7 +12,7 @@ use Rattle.predator_cli.specs.Blame.{blame_readings, blame_work}
 use Rattle.predator_cli.specs.Caches.{caches_readings, caches_work}
 use Rattle.predator_cli.specs.Check.{check_readings, check_work}
 use Rattle.predator_cli.specs.Convert.{convert_readings, convert_work}
-use Rattle.predator_cli.specs.Explain.{explain_readings, explain_work}
+use Rattle.predator_cli.specs.Explain.{as_run, explain_readings, explain_work}
 use Rattle.predator_cli.specs.Gen.{gen_readings, gen_work}
 use Rattle.predator_cli.specs.ListedCounts.{TellsListedCount}
 use Rattle.predator_cli.specs.Misses.{misses_readings, misses_work}
@@ -80,6 +80,7 @@ command_of (blame demand) = plain (blame_readings demand) (blame_work demand)
 command_of (explain demand) =
     record (plain (explain_readings demand) (explain_work demand)) {
       repeats = TellsListedCount demand;
+      within = RunStaysWithin (as_run demand);
     }
 
 -- ---- what follows from the rows

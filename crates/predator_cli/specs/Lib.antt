@@ -15,6 +15,7 @@ pub mod Judged
 pub mod ListedCounts
 pub mod Meets
 pub mod Misses
+pub mod OnDisk
 pub mod Parts
 pub mod Place
 pub mod Recounts

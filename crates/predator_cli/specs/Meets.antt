@@ -102,8 +102,9 @@ Prints asked old new done s =
     Told new.held (λ files. Adds old.printed new.printed (answer_of asked files).text)
 Prints asked old new refusal s = Printed old new (fault_text s)
 Prints asked old new read_fault s = Printed old new (fault_text s)
-Prints asked old new write_fault s = Told new.held (λ files.
-    Printed old new (fault_text s) ⊎ PrintingFailed old new (answer_of asked files).text)
+Prints asked old new write_fault s =
+    Printed old new (fault_text s)
+    ⊎ Told new.held (λ files. PrintingFailed old new (answer_of asked files).text)
 Prints asked old new no_memory s = Told new.held (λ files.
     (text : List ℕ) × IsPrintable asked files old new text × AddsFront old.printed new.printed text)
 

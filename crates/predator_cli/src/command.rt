@@ -1,12 +1,12 @@
 // The top call.
-ghost use Rattle.std.specs.Prelude.{◌≡◌, ◌⊎◌, false, None};
+ghost use Rattle.std.specs.Prelude.{◌≡◌, ◌⊎◌, false, None, Some};
 ghost use Rattle.command_line.specs.Demands.{texts};
-ghost use Rattle.command_line.specs.Words.{demand_of};
+ghost use Rattle.command_line.specs.Words.{IsBounded, demand_of, meaning};
 ghost use Rattle.command_files.specs.Statuses.{hides_no_memory, kind_of};
 ghost use Rattle.predator_cli.specs.Meets.{EndsAs, IsCaused, IsComplete, Meets, Prints};
 ghost use Rattle.predator_cli.specs.Meets.{ReadsInPeace};
 ghost use Rattle.predator_cli.specs.Again.{WhereDone};
-ghost use Rattle.predator_cli.specs.Answer.{outputs};
+ghost use Rattle.predator_cli.specs.Answer.{HasNamesApart, outputs};
 ghost use Rattle.predator_cli.specs.Commands.{RepeatsReport, ReportIsRecounted};
 ghost use Rattle.predator_cli.specs.Commands.{StaysWithinBudget};
 ghost use Rattle.predator_cli.specs.Written.{OnlyAt, Writes};
@@ -32,24 +32,36 @@ use shelf::Shelf;
 use std::alloc::Global;
 use trace_passes::a_trace_is_its_spelling;
 
-// Does what the words ask for.
-fn obey<S: Shelf>(alloc: Global, words: &[String], shelf: &mut S) -> Status
+/// Does what is asked for.
+pub fn obey<S: Shelf>(alloc: Global, demand: &Demand<'_>, shelf: &mut S) -> Status
+    requires apart { HasNamesApart demand.now }
+    requires bounded { IsBounded demand.now }
+    ensures { Meets (Some (meaning demand.now))
+        (S.outside shelf.old) (S.outside shelf.new) result }
+{
+    match demand {
+        Demand::Replay(options) => replay(alloc, options, shelf),
+        Demand::Check(options) => check(alloc, options, shelf),
+        Demand::Run(options) => run(alloc, options, shelf),
+        Demand::Split(options) => split(alloc, options, shelf),
+        Demand::Gen(options) => generate(alloc, options, shelf),
+        Demand::Convert(options) => convert(alloc, options, shelf),
+        Demand::Sweep(options) => sweep(alloc, options, shelf),
+        Demand::Caches(options) => tell_caches(alloc, options, shelf),
+        Demand::Place(options) => place(alloc, options, shelf),
+        Demand::Misses(options) => tell_misses(alloc, options, shelf),
+        Demand::Blame(options) => blame(alloc, options, shelf),
+        Demand::Explain(options) => explain(alloc, options, shelf),
+    }
+}
+
+// Does what words ask for.
+fn obey_words<S: Shelf>(alloc: Global, words: &[String], shelf: &mut S) -> Status
     ensures { Meets (demand_of (texts words.now))
         (S.outside shelf.old) (S.outside shelf.new) result }
 {
     match read_words(alloc, words) {
-        Ok(Demand::Replay(options)) => replay(alloc, &options, shelf),
-        Ok(Demand::Check(options)) => check(alloc, &options, shelf),
-        Ok(Demand::Run(options)) => run(alloc, &options, shelf),
-        Ok(Demand::Split(options)) => split(alloc, &options, shelf),
-        Ok(Demand::Gen(options)) => generate(alloc, &options, shelf),
-        Ok(Demand::Convert(options)) => convert(alloc, &options, shelf),
-        Ok(Demand::Sweep(options)) => sweep(alloc, &options, shelf),
-        Ok(Demand::Caches(options)) => tell_caches(alloc, &options, shelf),
-        Ok(Demand::Place(options)) => place(alloc, &options, shelf),
-        Ok(Demand::Misses(options)) => tell_misses(alloc, &options, shelf),
-        Ok(Demand::Blame(options)) => blame(alloc, &options, shelf),
-        Ok(Demand::Explain(options)) => explain(alloc, &options, shelf),
+        Ok(demand) => obey(alloc, &demand, shelf),
         Err(WordsFault::Usage(_)) => refuse_words(shelf),
         Err(WordsFault::NoMemory) => refuse(alloc, shelf, Status::NoMemory),
     }
@@ -135,7 +147,8 @@ pub fn predator<S: Shelf>(alloc: Global, words: &[String], shelf: &mut S) -> Sta
     // was asked about, the count that it prints is the one that is listed.
     ensures again { Told (S.outside shelf.new).held
         (λ files. WhereDone RepeatsReport (demand_of (texts words.now)) files (kind_of result)) }
-    // The run that is asked for makes at most as many steps as its budget has.
+    // The run that is asked for, by `run` or by `explain`, makes at most as many steps as its budget
+    // has.
     ensures within { (files : Files) → StaysWithinBudget (demand_of (texts words.now)) files }
     // Each count that a report of a run or of a whole trace lists is at most a plain recount of the
     // same line over the same accesses, under the line's own layout with tracking threshold 1, and
@@ -156,5 +169,5 @@ pub fn predator<S: Shelf>(alloc: Global, words: &[String], shelf: &mut S) -> Sta
 {
     runs_are_short();
     a_trace_is_its_spelling();
-    obey(alloc, words, shelf)
+    obey_words(alloc, words, shelf)
 }

@@ -7,6 +7,9 @@
 //! each other, and `place` where each word of an object should stand so that no two harts share
 //! a line for its sake; `explain` runs a program and tells of one line what `blame` tells of all.
 //!
+//! [`predator`] is one call over any shelf of files, and [`predator_on_disk`] is all that the process
+//! does with its arguments, over the system's files.
+//!
 //! The call says what it answers by `answer_of` (specs/Answer.antt), over the definitions of
 //! `sharing_rules` and of `guest`; what it prints, writes and excuses at each end is `Meets`
 //! (specs/Meets.antt).
@@ -22,6 +25,7 @@ mod endings;
 mod explain;
 mod generate;
 mod laws;
+mod on_disk;
 mod place;
 mod replay;
 mod run;
@@ -35,9 +39,7 @@ mod tell_misses;
 mod trace_faults;
 
 pub use command::predator;
-pub use command_files::{
-    StateFault, Status, advice_on, advise, exit_code, file_to_look_at, give_up, trace_to_read,
-    words_of,
-};
+pub use command_files::{StateFault, Status, advice_on};
 pub use laws::{a_replay_goes_on_from_a_list, a_trace_counts_in_parts};
+pub use on_disk::{predator_on_disk, system_shelf};
 pub use steady::predator_steady;

@@ -1,3 +1,4 @@
+pub mod Blame
 pub mod ChangedLemmas
 pub mod Contents
 pub mod Numbers

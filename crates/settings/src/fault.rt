@@ -14,6 +14,8 @@ pub enum SettingsFault {
     UnknownKey(Name),
     /// The first key, in the order of `Key`, whose value is no whole number that it may have.
     OutOfRange(Key),
+    /// The same once the changes are made, of a file that has no fault by itself.
+    ChangedOutOfRange(Key),
     /// Memory ran out.
     NoMemory,
 }

@@ -9,7 +9,8 @@ ghost use Rattle.settings.specs.Keys.{key_name, form_of, HasForm};
 ghost use Rattle.settings.specs.Changed.{changed_table};
 ghost use Rattle.settings.specs.Tables.{number_of_form, number_beside, number_of, least_unknown};
 ghost use Rattle.settings.specs.Tables.{is_unknown, values_of, whole_of_form};
-ghost use Rattle.settings.specs.Answers.{longest_content, judged_under, judged_values};
+ghost use Rattle.settings.specs.Answers.{longest_content, changed_values, checked_values};
+ghost use Rattle.settings.specs.Answers.{judged_under, judged_values, settings_of, IsFaultOf};
 ghost use Rattle.settings.specs.Answers.{judged_table, settings_under, usual_under, UnlessMemory};
 ghost use Rattle.settings.specs.Allowed.{IsAllowed};
 
@@ -105,39 +106,39 @@ fn prediction_beside(table: &Table, changes: &Changes, tracking: u64) -> Option<
 }
 
 // The values of a table under changes, or the first key whose value is out of range.
-fn judge_values(table: &Table, changes: &Changes) -> Result<Settings, SettingsFault>
-    ensures value { result ≡ judged_values (changed_table changes.now (table_view table.now)) }
+fn judge_values(table: &Table, changes: &Changes) -> Result<Settings, Key>
+    ensures value { result ≡ checked_values (changed_table changes.now (table_view table.now)) }
     ensures allowed { IfOk result IsAllowed }
 {
     let Some(harts) = number_alone(table, changes, Key::Harts) else {
-        return Err(SettingsFault::OutOfRange(Key::Harts));
+        return Err(Key::Harts);
     };
     let Some(memory) = number_alone(table, changes, Key::Memory) else {
-        return Err(SettingsFault::OutOfRange(Key::Memory));
+        return Err(Key::Memory);
     };
     let Some(stack) = number_alone(table, changes, Key::Stack) else {
-        return Err(SettingsFault::OutOfRange(Key::Stack));
+        return Err(Key::Stack);
     };
     let Some(tracking) = number_alone(table, changes, Key::Tracking) else {
-        return Err(SettingsFault::OutOfRange(Key::Tracking));
+        return Err(Key::Tracking);
     };
     let Some(prediction) = prediction_beside(table, changes, tracking) else {
-        return Err(SettingsFault::OutOfRange(Key::Prediction));
+        return Err(Key::Prediction);
     };
     let Some(report) = number_alone(table, changes, Key::Report) else {
-        return Err(SettingsFault::OutOfRange(Key::Report));
+        return Err(Key::Report);
     };
     let Some(quantum) = number_alone(table, changes, Key::Quantum) else {
-        return Err(SettingsFault::OutOfRange(Key::Quantum));
+        return Err(Key::Quantum);
     };
     let Some(budget) = number_alone(table, changes, Key::Budget) else {
-        return Err(SettingsFault::OutOfRange(Key::Budget));
+        return Err(Key::Budget);
     };
     let Some(line) = number_alone(table, changes, Key::Line) else {
-        return Err(SettingsFault::OutOfRange(Key::Line));
+        return Err(Key::Line);
     };
     let Some(seed) = number_alone(table, changes, Key::Seed) else {
-        return Err(SettingsFault::OutOfRange(Key::Seed));
+        return Err(Key::Seed);
     };
     Ok(Settings {
         harts: harts as u16,
@@ -176,11 +177,33 @@ fn first_unknown(table: &Table) -> Option<&String>
 }
 
 // The values of a table alone, or the first key whose value is out of range.
+fn own_values(table: &Table) -> Result<Settings, Key>
+    ensures value { result ≡ checked_values (table_view table.now) }
+    ensures allowed { IfOk result IsAllowed }
+{
+    judge_values(table, &Changes::none())
+}
+
+// The values of a table alone, unless one is out of range.
 fn judge_own(table: &Table) -> Result<Settings, SettingsFault>
     ensures value { result ≡ judged_values (table_view table.now) }
     ensures allowed { IfOk result IsAllowed }
 {
-    judge_values(table, &Changes::none())
+    match own_values(table) {
+        Ok(settings) => Ok(settings),
+        Err(key) => Err(SettingsFault::OutOfRange(key)),
+    }
+}
+
+// The values of a table under changes, or the first key whose value these put out of range.
+fn judge_changed(table: &Table, changes: &Changes) -> Result<Settings, SettingsFault>
+    ensures value { result ≡ changed_values (changed_table changes.now (table_view table.now)) }
+    ensures allowed { IfOk result IsAllowed }
+{
+    match judge_values(table, changes) {
+        Ok(settings) => Ok(settings),
+        Err(key) => Err(SettingsFault::ChangedOutOfRange(key)),
+    }
 }
 
 // The values of a table, or its first fault.
@@ -213,7 +236,7 @@ fn judge_under(alloc: Global, table: &Table, changes: &Changes) -> Result<Settin
         → result ≢ Err SettingsFault.NoMemory }
 {
     match judge_table(alloc, table) {
-        Ok(_) => judge_values(table, changes),
+        Ok(_) => judge_changed(table, changes),
         Err(fault) => Err(fault),
     }
 }
@@ -244,7 +267,7 @@ impl Settings {
         ensures value { result ≡ usual_under changes.now }
         ensures allowed { IfOk result IsAllowed }
     {
-        judge_values(&Table::new(alloc), changes)
+        judge_changed(&Table::new(alloc), changes)
     }
 
     /// The settings that the content of a file gives under changes, or the first fault: those of the
@@ -258,6 +281,8 @@ impl Settings {
         ensures too_long { (result ≡ Err SettingsFault.TooLong)
             ↔ (longest_content < length content.now) }
         ensures allowed { IfOk result IsAllowed }
+        // The content alone has each fault but one that only the changes bring.
+        ensures blamed { IfErr result (IsFaultOf (settings_of content.now)) }
         // White space and comments alone take no memory.
         ensures blank { IsBlank content.now → result ≢ Err SettingsFault.NoMemory }
     {

@@ -62,12 +62,22 @@ fn gives_under(alloc: Global, text: &[u8], changes: &Changes, wanted: &Settings)
     }
 }
 
-// Whether it is refused for the value of this key.
-fn is_refused_under(alloc: Global, text: &[u8], changes: &Changes, key: Key) -> bool {
+// Whether it is refused with this fault.
+fn is_refused_under(alloc: Global, text: &[u8], changes: &Changes, wanted: &SettingsFault) -> bool {
     match Settings::read(alloc, text, changes) {
-        Err(SettingsFault::OutOfRange(found)) => found == key,
-        _ => false,
+        Err(fault) => fault == *wanted,
+        Ok(_) => false,
     }
+}
+
+// Whether it is refused for the value of this key, which the text has by itself.
+fn is_wrong_itself(alloc: Global, text: &[u8], changes: &Changes, key: Key) -> bool {
+    is_refused_under(alloc, text, changes, &SettingsFault::OutOfRange(key))
+}
+
+// Whether it is refused for the value of this key, which the changes alone bring.
+fn is_changed_wrongly(alloc: Global, text: &[u8], changes: &Changes, key: Key) -> bool {
+    is_refused_under(alloc, text, changes, &SettingsFault::ChangedOutOfRange(key))
 }
 
 #[test]
@@ -76,11 +86,11 @@ fn changes_stand_in_the_place_of_a_file(rt: HostRuntime) {
     let none = Changes::none().with(Key::Harts, 0);
     assert!(rt; gives_under(rt.alloc(), b"", &raised, &RAISED));
     assert!(rt; gives_under(rt.alloc(), b"tracking = 100", &raised, &RAISED));
-    assert!(rt; is_refused_under(rt.alloc(), b"prediction = 69", &raised, Key::Prediction));
+    assert!(rt; is_changed_wrongly(rt.alloc(), b"prediction = 69", &raised, Key::Prediction));
     // what the file has out of range comes first, and stays so where it is changed
-    assert!(rt; is_refused_under(rt.alloc(), b"seed = -1", &none, Key::Seed));
-    assert!(rt; is_refused_under(rt.alloc(), b"tracking = 0", &raised, Key::Tracking));
-    assert!(rt; is_refused_under(rt.alloc(), b"", &none, Key::Harts));
+    assert!(rt; is_wrong_itself(rt.alloc(), b"seed = -1", &none, Key::Seed));
+    assert!(rt; is_wrong_itself(rt.alloc(), b"tracking = 0", &raised, Key::Tracking));
+    assert!(rt; is_changed_wrongly(rt.alloc(), b"", &none, Key::Harts));
     assert!(rt; Settings::usual_under(rt.alloc(), &raised) == Ok(RAISED));
 }
 

@@ -1,13 +1,12 @@
 use Rattle.command_line.specs.Demands.{texts}
-use Rattle.command_line.specs.Run.{run_meaning}
 use Rattle.command_line.specs.Words.{demand_of}
 use Rattle.predator_cli.proofs.Ends.{words_unread}
-use Rattle.predator_cli.proofs.RunEnds.{demanded_apart}
-use Rattle.predator_cli.proofs.command.obey.Goals as goal
+use Rattle.predator_cli.proofs.RunEnds.{read_apart}
+use Rattle.predator_cli.proofs.command.obey_words.Goals as goal
 
-pub run-requires : goal.run-requires
-run-requires g c = demanded_apart (texts c.args.words.now) (run_meaning c.in-Ok-Run.options)
-    (rw (c.in-Ok-Run.field-0-is) at c.in-Ok-Run.ensures.accepted)
+pub obey-requires-clause-apart : goal.obey-requires-clause-apart
+obey-requires-clause-apart g c =
+    read_apart (texts c.args.words.now) c.in-Ok.demand c.in-Ok.ensures.accepted
 
 pub returns : goal.returns
 returns g c =

@@ -1,0 +1,77 @@
+-- What is said of a call says of contents that agree with all that was read.
+use Rattle.std.proofs.Common.{◌≡◌, ℕ, Bool, Option, Some, None, if◌then◌else◌, subst, sym}
+use Rattle.command_files.specs.Numbers.{number_of}
+use Rattle.command_files.specs.Statuses.{Kind, done, kind_of, refusal}
+use Rattle.command_files.specs.declared.status.Status.{Status}
+use Rattle.command_line.specs.Words.{Demand}
+use Rattle.disk_shelf.specs.Disk.{Seen, disk_outside, fresh_outside, held_by}
+use Rattle.predator_cli.specs.Answer.{answer_of}
+use Rattle.predator_cli.specs.Meets.{EndsAs, Meets, Prints}
+use Rattle.predator_cli.specs.OnDisk.{AgreesWith, EndsWith, IsAnswered}
+use Rattle.predator_cli.specs.Written.{StandsWhole, Writes}
+use Rattle.shelf.specs.Files.{AreWhole}
+use Rattle.shelf.specs.Shelf.{Adds, Files, Goes, Outside, Told}
+
+-- what is told holds of these contents
+told_of : (P : Files → Type 0) (files : Files) (seen : Seen) → AgreesWith files seen
+    → Told (held_by files seen.done) P
+    → P files
+told_of P files seen agree told =
+    let so : Told (Some files) P =
+    subst (λ (b : Bool). Told (if b then Some files else None) P) agree told in
+    so
+
+module _ (asked : Option Demand) (files : Files) (seen : Seen) (s : Status) where
+  abbrev now : Outside
+  now = disk_outside files seen
+
+  abbrev fresh : Outside
+  fresh = fresh_outside files
+
+  answered : Meets asked fresh now s → AgreesWith files seen → kind_of s ≡ done
+      → IsAnswered asked files seen s
+  answered meets agree kind =
+      let at_done : Told now.held (λ fs. EndsAs asked fs fresh now done s) =
+      subst (λ (k : Kind). Told now.held (λ fs. EndsAs asked fs fresh now k s)) kind meets.ends in
+      let printed : Prints asked fresh now done s =
+      subst (λ (k : Kind). Prints asked fresh now k s) kind meets.prints in
+      let whole : StandsWhole asked now.held fresh.written now.written =
+      subst (λ (k : Kind). Writes asked fresh now k) kind meets.writes in
+      record {
+        status = told_of (λ fs. (answer_of asked fs).status ≡ s) files seen agree at_done;
+        text = told_of (λ fs. Adds fresh.printed now.printed (answer_of asked fs).text) files seen
+            agree printed;
+        outputs = told_of (λ fs. Goes fresh.written now.written
+            (AreWhole (answer_of asked fs).outputs)) files seen agree whole;
+      }
+
+  refused : Meets asked fresh now s → AgreesWith files seen → kind_of s ≡ refusal
+      → (answer_of asked files).status ≡ s
+  refused meets agree kind =
+      let at_refusal : Told now.held (λ fs. EndsAs asked fs fresh now refusal s) =
+      subst (λ (k : Kind). Told now.held (λ fs. EndsAs asked fs fresh now k s)) kind meets.ends in
+      told_of (λ fs. (answer_of asked fs).status ≡ s) files seen agree at_refusal
+
+  -- how a call ends that began with nothing done
+  pub ends_with : (old : Outside) (code : ℕ) → old ≡ fresh → code ≡ number_of s
+      → Meets asked old now s → EndsWith asked files seen code
+  ends_with old code is number call =
+      let meets : Meets asked fresh now s =
+      subst (λ (o : Outside). Meets asked o now s) is call in
+      record {
+        status = s;
+        number = number;
+        meets = meets;
+        done = answered meets;
+        refused = refused meets;
+      }
+
+-- what comes before a call and behind it, and does nothing to the files
+pub meets_between : (asked : Option Demand) (files : Files) (a b c d : Seen) (s : Status) → b ≡ a
+    → d ≡ c
+    → Meets asked (disk_outside files b) (disk_outside files c) s
+    → Meets asked (disk_outside files a) (disk_outside files d) s
+meets_between asked files a b c d s first last meets =
+    subst (λ (x : Seen). Meets asked (disk_outside files x) (disk_outside files d) s) first
+    (subst (λ (x : Seen). Meets asked (disk_outside files b) (disk_outside files x) s) (sym last)
+    meets)
