@@ -1,12 +1,14 @@
 -- A run with pcs beside the same run without them.
 use Rattle.std.proofs.Common.{◌≡◌, ◌∙◌, ◌==◌, if◌then◌else◌, ℕ, Bool, true, false, List, [], ◌∷◌}
 use Rattle.std.proofs.Common.{◌++◌, Option, None, Some, is_none, map, refl, sym, ap, subst}
-use Rattle.std.proofs.lemmas.List.{map-append}
+use Rattle.std.proofs.lemmas.List.{append-nil, map-append}
+use Rattle.std.proofs.lemmas.List.Elements.{filter_map-append}
 use Rattle.base.specs.Levels.{Levels}
 use Rattle.base.specs.Lines.{Grid}
 use Rattle.base.specs.declared.ending.Ending.{Ending}
 use Rattle.command_line.specs.Run.{RunDemand}
-use Rattle.guest.specs.Runs.{Run}
+use Rattle.guest.specs.GuestCalls.{RunEvent, quiet, touch, alloc, free, output}
+use Rattle.guest.specs.Runs.{Run, sited_among}
 use Rattle.objects.specs.Blocks.{newborn}
 use Rattle.objects.specs.declared.block.Block.{Block}
 use Rattle.objects.specs.Objects.{Objects}
@@ -14,11 +16,13 @@ use Rattle.objects.specs.Symbols.{Symbol, kept_symbol, symbols_of as kept_symbol
 use Rattle.program_files.specs.Symbols.{symbols_of}
 use Rattle.report.specs.OfLists.{report_of as report_of_list}
 use Rattle.run_recorder.specs.Laws.{run-plain, run-told, touches-without}
-use Rattle.run_recorder.specs.Recorded.{records_of, trace_for}
+use Rattle.run_recorder.specs.Recorded.{records_in, records_of, trace_for}
 use Rattle.settings.specs.declared.values.Settings.{Settings}
 use Rattle.shelf.specs.Shelf.{Files, content}
 use Rattle.sightings.specs.Seen.{report_of_records}
-use Rattle.takings.specs.Watched.{sited}
+use Rattle.takings.specs.BlameRecords.{sited_in, sited_item}
+use Rattle.takings.specs.Watched.{sited, sited_run}
+use Rattle.takings.specs.declared.sited.Sited.{Sited}
 use Rattle.trace_format.specs.Pcs.{without_pc, without_pcs}
 use Rattle.trace_format.specs.Reading.{counted_after}
 use Rattle.trace_format.specs.Rules.{touches_in}
@@ -115,6 +119,35 @@ run_text true v g harts symbols r none =
     sym (report_plain r.ending g v (all_records (trace_for Three harts symbols r)))
     ∙ ap (report_of_records r.ending g v) (all_plain harts symbols r none)
 
+-- ---- the accesses of its trace, as `blame` reads them
+
+no_blame : (items : List TraceRecord) → touches_in items ≡ [] → sited_in items ≡ []
+no_blame [] none = refl
+no_blame (records.Touch a pc ∷ items) none = cc
+no_blame (records.Alloc addr size sites ∷ items) none = no_blame items none
+no_blame (records.Free addr ∷ items) none = no_blame items none
+no_blame (records.Symbol kind addr size name ∷ items) none = no_blame items none
+no_blame (records.End e ∷ items) none = no_blame items none
+
+events_blamed : (events : List RunEvent)
+    → sited_in (records_in Three events) ≡ map sited (sited_among events)
+events_blamed [] = refl
+events_blamed (quiet ∷ events) = events_blamed events
+events_blamed (touch a pc ∷ events) =
+    ap (λ (l : List Sited). sited (a, pc) ∷ l) (events_blamed events)
+events_blamed (alloc at size sites ∷ events) = events_blamed events
+events_blamed (free at ∷ events) = events_blamed events
+events_blamed (output at bytes ∷ events) = events_blamed events
+
+run_blamed : (harts : ℕ) (symbols : List TraceRecord) (r : Run) → touches_in symbols ≡ []
+    → sited_in (all_records (trace_for Three harts symbols r)) ≡ sited_run r
+run_blamed harts symbols r none =
+    filter_map-append sited_item (records_of Three symbols r) (records.End r.ending ∷ [])
+    ∙ append-nil (sited_in (records_of Three symbols r))
+    ∙ filter_map-append sited_item symbols (records_in Three r.events)
+    ∙ ap (λ (l : List Sited). l ++ sited_in (records_in Three r.events)) (no_blame symbols none)
+    ∙ events_blamed r.events
+
 -- ---- a demand
 
 pub demand_text : (d : RunDemand) (s : Settings) (files : Files)
@@ -131,11 +164,13 @@ pub demand_sited : (d : RunDemand) (s : Settings) (files : Files) → d.pcs ≡ 
 demand_sited d s files pcs =
     let symbols = symbol_records (content files d.program) in
     let r = run_for_demand d s files in
-    let told = run-told s.harts symbols r (no_touch (symbols_of (content files d.program))) in
+    let none = no_touch (symbols_of (content files d.program)) in
+    let told = run-told s.harts symbols r none in
     subst (λ (b : Bool). TellsSites d s files (trace_for (version_with b) s.harts symbols r))
     (sym pcs) (record {
       header = told.header;
       records = told.records;
       ending = told.ending;
       sites = ap (map sited) told.sites;
+      blamed = run_blamed s.harts symbols r none;
     })

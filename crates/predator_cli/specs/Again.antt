@@ -9,9 +9,10 @@ use Rattle.shelf.specs.Files.{bytes_for}
 use Rattle.run_recorder.specs.Recorded.{sited_records}
 use Rattle.settings.specs.declared.values.Settings.{Settings}
 use Rattle.shelf.specs.Shelf.{Files, content}
+use Rattle.takings.specs.BlameRecords.{sited_in}
 use Rattle.takings.specs.Watched.{sited, sited_run}
 use Rattle.trace_format.specs.Pcs.{without_pcs}
-use Rattle.trace_passes.specs.Passes.{Trace, trace_of}
+use Rattle.trace_passes.specs.Passes.{Trace, all_records, trace_of}
 use Rattle.command_files.specs.SettingsFiles.{chosen_settings, settings_in}
 use Rattle.command_files.specs.Statuses.{Kind, done, refusal, read_fault, write_fault, no_memory}
 use Rattle.command_files.specs.Works.{Work, done_with}
@@ -50,7 +51,7 @@ abbrev pub without_sites : RunDemand → RunDemand
 without_sites demand = record demand { pcs = false }
 
 -- A trace has the records of the trace without pcs but for the pcs, and its accesses with their pcs
--- are the sited list of the run, of which `explain` tells.
+-- are the sited list of the run, of which `explain` tells; as `blame` reads them, too.
 pub record TellsSites (demand : RunDemand) (settings : Settings) (files : Files) (t : Trace) :
     Type 0 where
   pub header : t.header ≡ (trace_for_demand (without_sites demand) settings files).header
@@ -59,6 +60,7 @@ pub record TellsSites (demand : RunDemand) (settings : Settings) (files : Files)
   pub ending : t.ending ≡ (trace_for_demand (without_sites demand) settings files).ending
   pub sites : map sited (sited_records t.items)
       ≡ sited_run (run_for_demand demand settings files)
+  pub blamed : sited_in (all_records t) ≡ sited_run (run_for_demand demand settings files)
 
 -- Where files hold the trace that a run wrote with pcs, it is such a trace.
 abbrev pub RunTellsSites : RunDemand → Files → Type 0
