@@ -66,6 +66,7 @@ __attribute__((destructor)) static void tell(void)
 CALLS = [
     ("run", "allocates.elf", "--settings", "S", "--trace", "t", "--output", "o"),
     ("run", "queue.elf", "--trace", "t"),
+    ("run", "words.elf", "--trace", "t", "--pcs"),
     ("run", "words.elf", "--schedule", "C", "--output", "o"),
     ("replay", "given.trace", "--settings", "S"),
     ("check", "symbols.elf"),
