@@ -1,5 +1,5 @@
 -- The usual settings under changes: how they are refused.
-use Rattle.std.proofs.Common.{◌≡◌, Option, Some, None, Result, Ok, Err, refl, sym, ap, ◌∙◌, subst}
+use Rattle.std.proofs.Common.{◌≡◌, Option, Some, None, Ok, Err, refl, sym, ap, ◌∙◌, subst}
 use Rattle.std.specs.Option.{option_map_or}
 use Rattle.toml.specs.Data.{Members, no_members}
 use Rattle.settings.specs.Answers.{usual_under, with_fault}
@@ -9,7 +9,6 @@ use Rattle.settings.specs.declared.changes.Changes.{Changes}
 use Rattle.settings.specs.declared.fault.SettingsFault.{SettingsFault}
 use Rattle.settings.specs.declared.fault.SettingsFault.TheVariants.{ChangedOutOfRange}
 use Rattle.settings.specs.declared.key.Key.{Key}
-use Rattle.settings.specs.declared.values.Settings.{Settings}
 use Rattle.command_files.specs.Readings.{IsRefusal}
 use Rattle.command_files.specs.SettingsFiles.{settings_refusal, usual_settings}
 use Rattle.command_files.specs.Statuses.{status_of_settings}

@@ -75,9 +75,7 @@ fn said_of_words<R: Env + AllocGlobal>(
     reason: &Reason<'_>,
 ) -> Result<String, AllocError> {
     match reason {
-        Reason::NoCommand if has_no_text(runtime) => {
-            String::from_str(runtime.alloc(), NOT_TEXT)
-        }
+        Reason::NoCommand if has_no_text(runtime) => { String::from_str(runtime.alloc(), NOT_TEXT) }
         reason => reason.text(runtime.alloc()),
     }
 }

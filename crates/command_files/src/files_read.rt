@@ -74,12 +74,8 @@ fn files_of<'a>(demand: &Demand<'a>) -> FilesRead<'a>
             state: options.resume,
             ..of_trace(options.trace, false)
         },
-        Demand::Check(options) => {
-            of_program(options.program, options.settings, None)
-        }
-        Demand::Run(options) => {
-            of_program(options.program, options.settings, options.schedule)
-        }
+        Demand::Check(options) => { of_program(options.program, options.settings, None) }
+        Demand::Run(options) => { of_program(options.program, options.settings, options.schedule) }
         Demand::Explain(options) => {
             of_program(options.program, options.settings, options.schedule)
         }
