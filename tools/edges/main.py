@@ -17,8 +17,8 @@ builds it. What is wanted after each:
 - a call that a signal interrupts (EINTR) is made anew, but for a read, which fails then; so is what moved fewer bytes;
 - an error of a close changes nothing. That of a write to standard error, or of asking what the streams are, changes nothing else.
 
-tries.py tries what needs no failing call: names of files, streams, full disks, and what `main` does. files.py has what each call is to
-print and write, worked out apart from the program.
+tries.py tries what needs no failing call: names of files, streams, full disks, traces that change, and what `main` does. files.py
+has what each call is to print and write, worked out apart from the program.
 
 The short form takes EINTR and some of the other errnos in turn, and of calls that are alike the first two and the last; --long takes all.
 With --planted between.c makes mistakes in the program's name, one kind after another, and each must be found. So what is shown is that such
