@@ -335,27 +335,28 @@ const BLAMED: [(&str, u32, u32); 3] = [
     ("blame t --shift=60", 64, 60),
 ];
 
-fn under(size: u32, shift: u32) -> Option<LayoutOptions<'static>> {
-    let layout = Layout::new(size, shift)?;
-    Some(LayoutOptions { trace: "t", layout })
+fn misses<'a>(layout: Option<Layout>) -> Answer<'a> {
+    match layout {
+        Some(layout) => Some(Demand::Misses(LayoutOptions { trace: "t", layout })),
+        None => None,
+    }
 }
 
-fn misses(size: u32, shift: u32) -> Answer<'static> {
-    Some(Demand::Misses(under(size, shift)?))
-}
-
-fn blame(size: u32, shift: u32) -> Answer<'static> {
-    Some(Demand::Blame(under(size, shift)?))
+fn blame<'a>(layout: Option<Layout>) -> Answer<'a> {
+    match layout {
+        Some(layout) => Some(Demand::Blame(LayoutOptions { trace: "t", layout })),
+        None => None,
+    }
 }
 
 #[test]
 fn reads_traces_under_layouts(rt: HostRuntime) -> Result<(), Fail> {
     let alloc = rt.alloc();
     for (line, size, shift) in &MISSED {
-        answers(&rt, alloc, line, &misses(*size, *shift))?;
+        answers(&rt, alloc, line, &misses(Layout::new(*size, *shift)))?;
     }
     for (line, size, shift) in &BLAMED {
-        answers(&rt, alloc, line, &blame(*size, *shift))?;
+        answers(&rt, alloc, line, &blame(Layout::new(*size, *shift)))?;
     }
     Ok(())
 }
