@@ -198,20 +198,24 @@ class Predictions(Shown):
 RECORDER = os.path.join(TOP, "native", "out", "predator-amd64-linux")
 
 
-@unittest.skipUnless(os.path.exists(RECORDER), "the recorder of native/ isn't built")
-class OfThisMachine(Shown):
-    """A program whose words lie in no object, by both recorders."""
-
+class Compiled(Shown):
     def compiled(self, name, *words):
         source = os.path.join(TOP, "native", "tries", f"{name}.c")
         subprocess.run(["gcc", "-g", "-O1", "-pthread", source, "-o", name, *words], cwd=self.folder, check=True)
         return f"./{name}"
 
+
+@unittest.skipUnless(os.path.exists(RECORDER), "the recorder of native/ isn't built")
+class OfThisMachine(Compiled):
+    """A program whose words lie in no object, by both recorders."""
+
+    program = STAND_IN
+
     def shown(self, program, *words):
         """What one call shows of a program, which leaves nothing behind."""
         left = self.path("left")
         os.makedirs(left, exist_ok=True)
-        status, text, said = view(*words, program, program=STAND_IN, cwd=self.folder, TMPDIR=left)
+        status, text, said = view(*words, program, program=self.program, cwd=self.folder, TMPDIR=left)
         self.assertEqual(status, 0)
         self.assertTrue(said.startswith("stack 0x"), said)
         self.assertEqual(os.listdir(left), [])
@@ -234,7 +238,15 @@ class OfThisMachine(Shown):
         library = os.path.join(TOP, "native", "out", "lib")
         self.judge(self.shown(self.compiled("nameless", "-fsanitize=thread", f"-L{library}"), "--top", "4"))
 
-    def test_without_instructions(self):
+
+@unittest.skipUnless(os.path.exists(RECORDER) and has(PROGRAM, "misses", "blame"), "one of the two isn't built, or has no blame")
+class OfThisMachineByTheProgram(OfThisMachine):
+    program = PROGRAM
+
+
+@unittest.skipUnless(os.path.exists(RECORDER), "the recorder of native/ isn't built")
+class WithoutInstructions(Compiled):
+    def test_what_has_no_name_then(self):
         program = self.compiled("nameless")
         for more in ({"lacks": "blame"}, {}):
             words = () if more else ("--explain", "0")
