@@ -1,0 +1,110 @@
+#!/usr/bin/env python3
+"""Measures what pcs in a trace cost, and what `blame` takes of time and memory.
+
+usage: bench/pcs.py [PROGRAM]
+
+20,000,000 accesses to 64 lines are written in version 3, with 64 pcs for each of 8 harts, and converted to version 2. The commands run five
+times in turn, and the least time of each counts. Then 1,000,000 pairs of instructions take one line: `blame` of that shows its memory. A
+benchmark, no test."""
+
+import functools
+import os
+import struct
+import subprocess
+import sys
+import tempfile
+import time
+from typing import Iterable, Iterator, NamedTuple
+
+TOP = os.path.join(os.path.dirname(os.path.abspath(__file__)), "..")
+sys.path.insert(0, os.path.join(TOP, "tools"))
+
+from traces import groups  # noqa: E402
+
+BUILT = os.path.join(TOP, "crates/predator/out/predator")
+# As the launcher has it.
+os.environ.setdefault("GLIBC_TUNABLES", "glibc.malloc.hugetlb=1")
+ROUNDS, MADE, HARTS, PCS = 5, 20_000_000, 8, 64
+# So many instructions of one hart take a line from as many of another.
+SIDE = 1000
+CODE, DATA = 0x10000, 0x20000
+
+
+class Touch(NamedTuple):
+    """An access of a word."""
+
+    writes: bool
+    hart: int
+    addr: int
+    pc: int
+
+
+def mixed() -> Iterator[Touch]:
+    """Accesses of 64 lines by 8 harts, three writes to a read, from a fixed seed."""
+    state = 1
+    for _ in range(MADE):
+        state = (state * 6364136223846793005 + 1442695040888963407) & 0xFFFFFFFFFFFFFFFF
+        r = state >> 32
+        hart = r & 7
+        yield Touch(r >> 10 & 3 != 0, hart, DATA + 64 * (r >> 3 & 63) + 4 * hart, CODE + 4 * (r >> 13 & PCS - 1) + 1024 * hart)
+
+
+def paired() -> Iterator[Touch]:
+    """Each of some instructions of hart 1 takes a line from each of some of hart 0."""
+    for victim in range(SIDE):
+        for taker in range(SIDE):
+            yield Touch(True, 0, DATA, CODE + 4 * victim)
+            yield Touch(True, 1, DATA + 4, CODE + 4 * (SIDE + taker))
+
+
+def write(path: str, touches: Iterable[Touch]) -> str:
+    """The touches as a trace of version 3, in a file."""
+    spelled = functools.lru_cache(1 << 16)(groups)
+    addr, pcs, count, piece = 0, [0] * HARTS, 0, bytearray()
+    with open(path, "wb") as out:
+        out.write(struct.pack("<8sQHH", b"PRDTRC03", 0, HARTS, 0))
+        for it in touches:
+            piece += bytes((0x24 if it.writes else 0x14, it.hart)) + spelled(it.addr - addr) + spelled(it.pc - pcs[it.hart])
+            addr, pcs[it.hart], count = it.addr, it.pc, count + 1
+            if len(piece) > 1 << 20:
+                out.write(piece)
+                piece.clear()
+        out.write(piece + struct.pack("<B8xQQ", 6, count, count))
+    return path
+
+
+def timed(words: list[str]) -> tuple[float, int]:
+    """Seconds, and the most bytes of memory."""
+    begin = time.monotonic()
+    with subprocess.Popen(words, stdout=subprocess.DEVNULL) as child:
+        _, status, used = os.wait4(child.pid, 0)
+        child.returncode = os.waitstatus_to_exitcode(status)
+    if child.returncode:
+        sys.exit(f"bench: status {child.returncode} of {' '.join(words)}")
+    return time.monotonic() - begin, used.ru_maxrss * 1024
+
+
+def main(program: str) -> None:
+    with tempfile.TemporaryDirectory() as work:
+        three, two = write(f"{work}/three", mixed()), f"{work}/two"
+        subprocess.run([program, "convert", three, two], check=True, stdout=subprocess.DEVNULL)
+        commands = {
+            "replay of version 2": [program, "replay", two],
+            "replay": [program, "replay", three],
+            "blame": [program, "blame", three],
+            "misses": [program, "misses", three],
+            "convert": [program, "convert", three, f"{work}/again"],
+        }
+        least = dict.fromkeys(commands, float("inf"))
+        for _ in range(ROUNDS):
+            for name, words in commands.items():
+                least[name] = min(least[name], timed(words)[0])
+        print(f"{os.path.getsize(three) / MADE:.2f} bytes an access in version 3, {os.path.getsize(two) / MADE:.2f} in version 2")
+        for name, took in least.items():
+            print(f"{name}: {took:.2f} s, {took / least['replay']:.2f} of replay, {took / least['replay of version 2']:.2f} of that of version 2")
+        took, memory = timed([program, "blame", write(f"{work}/pairs", paired())])
+        print(f"blame of {SIDE * SIDE} pairs: {took:.2f} s, {memory / 1e6:.0f} MB")
+
+
+if __name__ == "__main__":
+    main(os.path.abspath(sys.argv[1]) if len(sys.argv) > 1 else BUILT)
