@@ -101,7 +101,8 @@ def main(program: str) -> None:
                 least[name] = min(least[name], timed(words)[0])
         print(f"{os.path.getsize(three) / MADE:.2f} bytes an access in version 3, {os.path.getsize(two) / MADE:.2f} in version 2")
         for name, took in least.items():
-            print(f"{name}: {took:.2f} s, {took / least['replay']:.2f} of replay, {took / least['replay of version 2']:.2f} of that of version 2")
+            beside = took / least["replay"], took / least["replay of version 2"]
+            print(f"{name}: {took:.2f} s, {beside[0]:.2f} of replay, {beside[1]:.2f} of that of version 2")
         took, memory = timed([program, "blame", write(f"{work}/pairs", paired())])
         print(f"blame of {SIDE * SIDE} pairs: {took:.2f} s, {memory / 1e6:.0f} MB")
 
