@@ -3,9 +3,9 @@
 
 usage: bench/pcs.py [PROGRAM]
 
-20,000,000 accesses to 64 lines are written in version 3, with 64 pcs for each of 8 harts, and converted to version 2. The commands run five
-times in turn, and the least time of each counts. Then 1,000,000 pairs of instructions take one line: `blame` of that shows its memory. A
-benchmark, no test."""
+20,000,000 accesses to 64 lines are written in version 3, with 64 pcs for each of 8 harts, and converted to version 2: once each line has a pc
+of its own, and once any pc comes at any line. The commands run five times in turn, and the least time of each counts. Then 1,000,000 pairs of
+instructions take one line: `blame` of that shows its memory. A benchmark, no test."""
 
 import functools
 import os
@@ -39,14 +39,16 @@ class Touch(NamedTuple):
     pc: int
 
 
-def mixed() -> Iterator[Touch]:
-    """Accesses of 64 lines by 8 harts, three writes to a read, from a fixed seed."""
+def mixed(are_apart: bool) -> Iterator[Touch]:
+    """Accesses of 64 lines by 8 harts that run the same code, three writes to a read, from a fixed seed. Each line has a pc of its own, or
+    any pc comes at any line."""
     state = 1
     for _ in range(MADE):
         state = (state * 6364136223846793005 + 1442695040888963407) & 0xFFFFFFFFFFFFFFFF
         r = state >> 32
-        hart = r & 7
-        yield Touch(r >> 10 & 3 != 0, hart, DATA + 64 * (r >> 3 & 63) + 4 * hart, CODE + 4 * (r >> 13 & PCS - 1) + 1024 * hart)
+        hart, line = r & 7, r >> 3 & 63
+        pc = line if are_apart else r >> 13 & PCS - 1
+        yield Touch(r >> 10 & 3 != 0, hart, DATA + 64 * line + 4 * hart, CODE + 4 * pc)
 
 
 def paired() -> Iterator[Touch]:
@@ -84,25 +86,32 @@ def timed(words: list[str]) -> tuple[float, int]:
     return time.monotonic() - begin, used.ru_maxrss * 1024
 
 
+def measure(program: str, work: str, are_apart: bool) -> None:
+    """What each command takes."""
+    three, two = write(f"{work}/three", mixed(are_apart)), f"{work}/two"
+    subprocess.run([program, "convert", three, two], check=True, stdout=subprocess.DEVNULL)
+    commands = {
+        "replay of version 2": [program, "replay", two],
+        "replay": [program, "replay", three],
+        "blame": [program, "blame", three],
+        "misses": [program, "misses", three],
+        "convert": [program, "convert", three, f"{work}/again"],
+    }
+    least = dict.fromkeys(commands, float("inf"))
+    for _ in range(ROUNDS):
+        for name, words in commands.items():
+            least[name] = min(least[name], timed(words)[0])
+    print("a pc of its own for each line:" if are_apart else "any pc at any line:")
+    print(f"{os.path.getsize(three) / MADE:.2f} bytes an access in version 3, {os.path.getsize(two) / MADE:.2f} in version 2")
+    for name, took in least.items():
+        beside = took / least["replay"], took / least["replay of version 2"]
+        print(f"{name}: {took:.2f} s, {beside[0]:.2f} of replay, {beside[1]:.2f} of that of version 2")
+
+
 def main(program: str) -> None:
     with tempfile.TemporaryDirectory() as work:
-        three, two = write(f"{work}/three", mixed()), f"{work}/two"
-        subprocess.run([program, "convert", three, two], check=True, stdout=subprocess.DEVNULL)
-        commands = {
-            "replay of version 2": [program, "replay", two],
-            "replay": [program, "replay", three],
-            "blame": [program, "blame", three],
-            "misses": [program, "misses", three],
-            "convert": [program, "convert", three, f"{work}/again"],
-        }
-        least = dict.fromkeys(commands, float("inf"))
-        for _ in range(ROUNDS):
-            for name, words in commands.items():
-                least[name] = min(least[name], timed(words)[0])
-        print(f"{os.path.getsize(three) / MADE:.2f} bytes an access in version 3, {os.path.getsize(two) / MADE:.2f} in version 2")
-        for name, took in least.items():
-            beside = took / least["replay"], took / least["replay of version 2"]
-            print(f"{name}: {took:.2f} s, {beside[0]:.2f} of replay, {beside[1]:.2f} of that of version 2")
+        for are_apart in (True, False):
+            measure(program, work, are_apart)
         took, memory = timed([program, "blame", write(f"{work}/pairs", paired())])
         print(f"blame of {SIDE * SIDE} pairs: {took:.2f} s, {memory / 1e6:.0f} MB")
 
