@@ -537,11 +537,11 @@ C
     int main(void) { return pthread_timedjoin_np(pthread_self(), 0, 0); }' "a thread has no clock of its own"
     cannot "bring a stack" '#include <pthread.h>
     int main(void) { pthread_attr_t a; return pthread_attr_setstack(&a, 0, 0); }' "each hart has the stack"
-    cannot "be woken by a clock" '#include <unistd.h>
-    int main(void) { return (int)alarm(1); }' "nothing comes by itself after a time"
 }
 
 try_c_library() {
+    cannot "be woken by a clock" '#include <unistd.h>
+    int main(void) { return (int)alarm(1); }' "nothing comes by itself after a time"
     for it in as_is atomics; do
         try "a build of $it" 0 "$here/build.sh" $it.elf "$here/examples/$it.c"
         try "$it" 0 "$predator" run $it.elf --output $it.out
