@@ -17,6 +17,8 @@ Number = int | None
 COLUMNS, UP, DOWN = 200, 36, 24
 # A column is so wide, as far as the strip gets no wider than this.
 LEAST, MOST, STRIP = 3, 12, 360
+# A bar is at most so wide.
+BAR = 110
 # A curve: its width and height, and what is kept free on each side.
 WIDTH, HEIGHT, EDGE = 640, 200, 12
 
@@ -59,6 +61,13 @@ def strip(upper: Sequence[Number], lower: Sequence[Number], marked: int) -> Give
     size = {"width": len(columns) * wide, "wide": 2 * wide // 3, "height": UP + DOWN + 8, "middle": UP}
     each = len(columns[0]) if columns else 0
     return {**size, "each": each, "upper": bars[0], "lower": bars[1], "ticks": ticks, "mark": mark, "most": most}
+
+
+def bar(part: int, whole: int, most: int) -> Given:
+    """A number as a frame, as wide as it is large beside the greatest one, and a part of it as what fills the frame: something as long as it
+    isn't 0, and all only where it is the whole."""
+    frame, fill = (max(round(BAR * it / most), 1) if it else 0 for it in (whole, part))
+    return {"width": BAR, "frame": frame, "fill": min(fill, max(frame - 1, 1)) if 0 < part < whole else fill}
 
 
 def curve(values: Sequence[int], marked: Sequence[tuple[int, str]]) -> Given:
