@@ -175,7 +175,7 @@ def rows(sized: Sized) -> Iterator[str]:
     yield f"{sized.told()} ({sized.accesses} accesses)"
     if not sized.count:
         return
-    wide = [max(9, len(str(it.shape)) + 1) for it in sized.shapes]
+    wide = [max(9, *(len(str(cell)) + 1 for cell in (it.shape, it.total.bounded, it.total.evicted))) for it in sized.shapes]
 
     def row(first: object, cells: Sequence[object], rest: str) -> str:
         return f"{first:>11}" + "".join(f"{cell:>{width}}" for cell, width in zip(cells, wide)) + f"  {rest}".rstrip()

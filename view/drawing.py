@@ -78,5 +78,6 @@ def curve(values: Sequence[int], marked: Sequence[tuple[int, str]]) -> Given:
         return EDGE + at * (WIDTH - 2 * EDGE) // last, HEIGHT - EDGE - values[at] * (HEIGHT - 2 * EDGE) // most
 
     points = " ".join("{},{}".format(*place(it)) for it in range(len(values)))
-    marks = [{"x": place(at)[0], "y": place(at)[1], "text": text, "is_right": 2 * at > last} for at, text in marked]
-    return {"width": WIDTH, "height": HEIGHT, "edge": EDGE, "points": points, "marks": marks, "most": most}
+    marks = [{"x": place(at)[0], "y": place(at)[1], "text": text} for at, text in marked]
+    # (what its greatest number takes at the right)
+    return {"room": 12 * len(str(most)), "width": WIDTH, "height": HEIGHT, "edge": EDGE, "points": points, "marks": marks, "most": most}

@@ -93,7 +93,7 @@ class CachesOfShapes(unittest.TestCase):
         for it, (fill, frame, _, _) in zip(own, found):
             drawn = bar(it.bounded, it.unbounded, greatest)
             self.assertEqual((int(fill), int(frame)), (drawn["fill"], drawn["frame"]))
-        self.assertIn(f'<td class="n">{own[0].unbounded}</td>', row)
+        self.assertIn(f'<td class="n" data-of="lose no line">{own[0].unbounded}</td>', row)
         self.assertEqual(
             re.findall(r"<title>.*?: (\d+) of (\d+) are left", row), [(str(it.bounded), str(it.unbounded)) for it in own]
         )
