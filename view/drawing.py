@@ -14,7 +14,7 @@ HERE = os.path.dirname(os.path.abspath(__file__))
 Given = dict[str, Any]
 Number = int | None
 # A strip: so many columns of so many points, which go up so far for the first number and down so far for the second.
-COLUMNS, UP, DOWN = 200, 36, 24
+COLUMNS, UP, DOWN = 125, 36, 24
 # A column is so wide, as far as the strip gets no wider than this.
 LEAST, MOST, STRIP = 3, 12, 360
 # A bar is at most so wide.

@@ -76,7 +76,7 @@ class Sheets(unittest.TestCase):
         text = self.page(part, *({"quantum": it + 1} for it in range(10)))
         self.assertEqual(text.count("<svg"), sheet.STRIPS)
         self.assertIn(f"{170 - sheet.STRIPS} more rows are in objects.tsv", text)
-        self.assertIn("50 seeds a column", text)
+        self.assertIn("80 seeds a column", text)
         self.assertLess(len(text.encode()), 2_000_000)
 
 
