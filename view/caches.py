@@ -1,9 +1,9 @@
 """How much of each line's takings is left in caches of some shapes: `predator view caches TRACE`. The program counts; this draws."""
 
 import concurrent.futures
-import contextlib
 import os
 import re
+import subprocess
 from typing import Iterator, NamedTuple, Sequence
 
 from calls import Call
@@ -36,7 +36,7 @@ class Shape(NamedTuple):
 
     def told(self) -> str:
         held = self.size * self.sets * self.ways
-        return f"{held / 1024:g} KiB" if held >= 1024 else f"{held} bytes"
+        return f"{held / 1024:g} KiB ({self})" if held >= 1024 else f"{held} bytes ({self})"
 
     def words(self) -> list[str]:
         return ["caches", "--size", str(self.size), "--sets", str(self.sets), "--ways", str(self.ways)]
@@ -56,8 +56,8 @@ def shape_of(text: str) -> Shape:
     size, sets, ways = map(int, found.groups()) if found else (0, 0, 0)
     is_power = all(it & (it - 1) == 0 for it in (size, sets))
     if not found or not is_power or not 4 <= size <= 1024 or sets > 1024 or ways > 64 or sets * ways > 4096:
-        told = "the bytes of a line, a power of two from 4 to 1024; sets, a power of two up to 1024; and ways, up to 64, with at most 4096 lines"
-        raise Fault(f"'--shape' is as 64x64x8, {told} in all; and not '{text}'")
+        told = "bytes of a line, a power of two from 4 to 1024; sets, a power of two up to 1024; ways, up to 64; at most 4096 lines in all"
+        raise Fault(f"'--shape' is as 64x64x8, and not '{text}': {told}")
     return Shape(size, sets, ways)
 
 
@@ -108,9 +108,9 @@ class Sized:
         few, many = (of(self.shapes, key=lambda it: it.total.bounded) for of in (min, max))
         least, most = few.total.bounded, many.total.bounded
         if least < most:
-            return f"{told}, {counted(least, 'time')} in those of {few.shape.told()} ({few.shape}) and {most} in those of {many.shape.told()} ({many.shape})"
-        where = f"those of all {len(self.shapes)} shapes" if len(self.shapes) > 1 else f"those of {few.shape.told()} ({few.shape})"
-        return f"{told}, and {'as often' if least == self.unbounded else counted(least, 'time')} in {where}"
+            return f"{told}, {counted(least, 'time')} in those of {few.shape.told()} and {most} in those of {many.shape.told()}"
+        where = f"all {len(self.shapes)} shapes" if len(self.shapes) > 1 else few.shape.told()
+        return f"{told}, and {'as often' if least == self.unbounded else counted(least, 'time')} in those of {where}"
 
     def is_nowhere(self, base: int) -> bool:
         """Whether nothing of a line's takings is left in caches of any of the shapes."""
@@ -121,39 +121,43 @@ class Sized:
 
 
 def texts(call: Call, calls: Sequence[list[str]]) -> list[str]:
-    """What the program says of the trace for each list of words, some of them side by side. A pipe is read once, for all of them."""
+    """What the program says of the trace for each list of words, some of them side by side."""
     predator = Predator()
-    with contextlib.ExitStack() as still:
-        if not call.reads_once():
-            pool = still.enter_context(concurrent.futures.ThreadPoolExecutor(max_workers=min(4, os.cpu_count() or 1)))
-            return list(pool.map(lambda words: predator.text([*words, "--", call.subject], REPORTED), calls))
-        take = still.enter_context(fed(call.subject))
-        pool = still.enter_context(concurrent.futures.ThreadPoolExecutor(max_workers=len(calls)))
+    if call.reads_once():
+        return texts_of_pipe(predator, call.subject, calls)
+    with concurrent.futures.ThreadPoolExecutor(max_workers=min(4, os.cpu_count() or 1)) as pool:
+        return list(pool.map(lambda words: predator.text([*words, "--", call.subject], REPORTED, stderr=subprocess.PIPE), calls))
 
-        def of_pipe(words: list[str], own: int) -> str:
-            with open(own, "rb", 0) as trace:
-                return predator.text([*words, "-"], REPORTED, stdin=trace)
 
+def texts_of_pipe(predator: Predator, path: str, calls: Sequence[list[str]]) -> list[str]:
+    """The same of a trace that can be read once: each call has a copy."""
+
+    def told(words: list[str], take: int) -> str:
+        with open(take, "rb", 0) as trace:
+            return predator.text([*words, "-"], REPORTED, stdin=trace, stderr=subprocess.PIPE)
+
+    with fed(path) as source, concurrent.futures.ThreadPoolExecutor(max_workers=len(calls)) as pool:
         asked, ends = [], []
         for words in calls:
-            own, give = os.pipe()
-            asked.append(pool.submit(of_pipe, words, own))
+            take, give = os.pipe()
+            asked.append(pool.submit(told, words, take))
             ends.append(open(give, "wb", 0))  # noqa: SIM115 (`copy` closes it)
-        copy(os.dup(take), ends)
-        return [it.result() for it in asked]
+        copy(os.dup(source), ends)
+    return [it.result() for it in asked]
 
 
 def names_of(report: Report, bases: Sequence[int]) -> dict[int, str]:
     """What each of some lines is called: by the object that most of its accesses went to, and how many others are beside that."""
-    naming, lines, found = Naming(report), report.at(), {}
+    naming, lines = Naming(report), report.at()
+    names: dict[int, str] = {}
     for base in bases:
         line = lines.get(base)
         if line:
             shares = parties(Spot(base, line, None), line.objects(), naming)
             key = max(shares, key=lambda it: shares[it][1])
             beside = f", beside {len(shares) - 1} more" if len(shares) > 1 else ""
-            found[base] = naming.names.shortened(naming.key_name(key, shares[key][0])) + beside
-    return found
+            names[base] = naming.names.shortened(naming.key_name(key, shares[key][0])) + beside
+    return names
 
 
 def found(call: Call) -> list[Sized]:
@@ -197,20 +201,21 @@ def drawn(sized: Sized) -> Given:
     most = max((own.unbounded for own in sized.shapes[0].lines.values()), default=0)
 
     def cell(own: Counts, greatest: int, of: str, shape: Shape) -> Given:
-        told = f"{of}: {own.bounded} of {own.unbounded} are left in caches of {shape.told()} ({shape})"
+        told = f"{of}: {own.bounded} of {own.unbounded} are left in caches of {shape.told()}"
         return {"left": own.bounded, "evicted": own.evicted, "told": told, "bar": bar(own.bounded, own.unbounded, greatest)}
 
     lines = []
     for base in sized.bases:
         name, own = f"{base:#010x}", [(it.lines[base], it.shape) for it in sized.shapes]
         cells = [cell(it, most, name, shape) for it, shape in own]
-        lines.append({"base": name, "name": sized.names.get(base, ""), "note": sized.note(base), "unbounded": own[0][0].unbounded, "cells": cells})
+        told = {"base": name, "name": sized.names.get(base, ""), "note": sized.note(base)}
+        lines.append({**told, "unbounded": own[0][0].unbounded, "cells": cells})
     return {
         "told": sized.told(),
         "accesses": sized.accesses,
         "count": sized.count,
         "unbounded": sized.unbounded,
-        "shapes": [{"name": str(it.shape), "told": it.shape.told()} for it in sized.shapes],
+        "shapes": [it.shape.told() for it in sized.shapes],
         "all": [cell(it.total, sized.unbounded, "all lines", it.shape) for it in sized.shapes],
         "lines": lines,
         "more": sized.count - len(lines),

@@ -64,8 +64,8 @@ def strip(upper: Sequence[Number], lower: Sequence[Number], marked: int) -> Give
 
 
 def bar(part: int, whole: int, most: int) -> Given:
-    """A number as a frame, as wide as it is large beside the greatest one, and a part of it as what fills the frame: something as long as it
-    isn't 0, and all only where it is the whole."""
+    """A number as a frame, as wide as it is large beside the greatest one, and a part of it as what fills the frame: something unless it is
+    0, and all only where it is the whole, but in a frame of one point."""
     frame, fill = (max(round(BAR * it / most), 1) if it else 0 for it in (whole, part))
     return {"width": BAR, "frame": frame, "fill": min(fill, max(frame - 1, 1)) if 0 < part < whole else fill}
 

@@ -44,8 +44,8 @@ class Sheets(unittest.TestCase):
         self.assertIn(f"<h1>{title}</h1>", text)
         self.assertIn("<h2>one, quantum=3: 3 seeds</h2>", text)
         cells = re.findall(r'<td class="n" data-of="([^"]*)">(.*?)</td>', text)
-        told = [("listed", "2 of 3"), ("useless misses, least, middle, greatest", "-, -, -"), ("count, least, middle, greatest", "110, 110, 250")]
-        self.assertEqual(cells, told)
+        each = "least, middle, greatest"
+        self.assertEqual(cells, [("listed", "2 of 3"), (f"useless misses, {each}", "-, -, -"), (f"count, {each}", "110, 110, 250")])
         self.assertIn("predator view run &#39;/work/my one.elf&#39; --set quantum=3,seed=2 --schedule &#39;fill it&#39;", text)
         # Ticks for the two seeds that list it, and none for the third.
         self.assertIn('<path class="ink" d="M6 62v5M18 62v5"/><path d="M14 -7h8l-4 6z"/>', text)

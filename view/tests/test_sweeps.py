@@ -45,7 +45,8 @@ class Sweeps(unittest.TestCase):
         for it in (r"<script", r"https?:", r"""(src|href)=""", "<i>"):
             self.assertNotRegex(text, it)
         self.assertIn(f"<h1>&lt;i&gt;t: {TITLE}</h1>", text)
-        self.assertEqual(re.findall(r"<rect .*?</svg> (.*?); <svg .*?<circle .*?</svg> (.*?)</p>", text), [("as it lies: 39", "least, shift 4: 0")])
+        told = re.findall(r"<rect .*?</svg> (.*?); <svg .*?<circle .*?</svg> (.*?)</p>", text)
+        self.assertEqual(told, [("as it lies: 39", "least, shift 4: 0")])
         # Each mark is beside its text, and in the picture on the line.
         self.assertEqual(re.findall(r'<rect x="(\S+)" y="(\S+)"', text), [("-5", "-5"), ("7", "7")])
         self.assertEqual(re.findall(r'<circle cx="(\S+)" cy="(\S+)"', text), [("0", "0"), ("628", "188")])
