@@ -36,8 +36,8 @@ Options:
                      trace that has its instructions tells those of all objects
   --type SITE=TYPE   what the blocks of a call site hold, as arena.c:78=node; a type, or a variable that points to one
   --sources DIR      where the sources are, if they moved
-  --shape SHAPE      for `view caches`: a shape of caches, as 64x16x2 for 16 sets of 2 lines of 64 bytes; may come more than once, and without
-                     it the shapes are 64x16x2, 64x32x4, 64x64x8 and 64x512x8
+  --shape SHAPE      for `view caches`: a shape of caches, as 64x16x2 for 16 sets of 2 lines of 64 bytes; may come more than once, and
+                     without it the shapes are 64x16x2, 64x32x4, 64x64x8 and 64x512x8
   --html F           writes a page to F; of one of these three options F may be `-`: standard output, in place of the screen
   --json F           writes all that was found to F, by view/schema.json
   --sarif F          writes the same for editors and code hosts, as SARIF 2.1.0
