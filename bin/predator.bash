@@ -20,7 +20,7 @@ _predator() {
             return
         fi
     done
-    if [ "$of" = view ] && ((COMP_CWORD > 2)) && [[ ${COMP_WORDS[2]} == @(run|replay|native|sweep) ]]; then of="view ${COMP_WORDS[2]}"; fi
+    if [ "$of" = view ] && ((COMP_CWORD > 2)) && [[ ${COMP_WORDS[2]} == @(run|replay|native|sweep|caches) ]]; then of="view ${COMP_WORDS[2]}"; fi
     case $of in
     # commands.toml: options
         'run') options="--settings --set --schedule --trace --pcs --output" ;;
@@ -41,6 +41,7 @@ _predator() {
         'view run') options="--top --object --words --library --predicted --no-predicted --explain --type --sources --html --json --sarif --against --fail-above --by --settings --set --schedule --trace --pcs --output" ;;
         'view replay') options="--top --object --words --library --predicted --no-predicted --explain --type --sources --html --json --sarif --against --fail-above --by --program --back --settings --set --size --shift --save --resume" ;;
         'view sweep') options="--size --html" ;;
+        'view caches') options="--shape --top --html" ;;
         'view native') options="--top --object --words --library --predicted --no-predicted --explain --type --sources --html --json --sarif --against --fail-above --by --built --quantum --all --marked --most --settings --set --size --shift" ;;
     # (so far)
         *) return ;;
@@ -49,7 +50,7 @@ _predator() {
     case $before in
         --by) known="useless count" ;;
         --profile) known="slurm ssh $(compgen -d -- "$word")" ;;
-        --object | --type | --top | --explain | --fail-above | --cores | --quantum | --most) known= ;;
+        --object | --type | --top | --shape | --explain | --fail-above | --cores | --quantum | --most) known= ;;
     # commands.toml: values
         --size) known="4 8 16 32 64 128 256 512 1024" ;;
         --shift) known="" ;;
@@ -61,7 +62,7 @@ _predator() {
             if [[ $word == -* ]]; then
                 mapfile -t COMPREPLY < <(compgen -W "$options --help" -- "$word")
             elif [ "$of:$COMP_CWORD" = view:2 ]; then
-                mapfile -t COMPREPLY < <(compgen -W "run replay native sweep" -- "$word"; compgen -f -- "$word")
+                mapfile -t COMPREPLY < <(compgen -W "run replay native sweep caches" -- "$word"; compgen -f -- "$word")
             else
                 mapfile -t COMPREPLY < <(compgen -f -- "$word")
             fi

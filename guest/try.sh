@@ -130,6 +130,7 @@ try_completion() {
     completes "--sources --sarif --settings --set --size --shift" view native p --s
     completes "" view run p --ba
     completes "--size --html --help" view sweep t --
+    completes "--shape --top --html --help" view caches t --
     completes "--back" view replay t --ba
     completes "useless count" view run p --fail-above 3 --by ""
     completes "run" view ru

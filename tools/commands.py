@@ -183,6 +183,7 @@ def view_options(table: dict[str, list[Row]]) -> dict[str, list[str]]:
         "view run": [*own["options"], *of["run"]],
         "view replay": [*own["options"], *own["names"], *of["replay"]],
         "view sweep": [*of["sweep"], "--html"],
+        "view caches": own["caches"],
         "view native": [*own["options"], *recorder["traces"], *layout],
     }
 
@@ -317,7 +318,7 @@ def check_pages(table: dict[str, list[Row]]) -> Iterator[str]:
         option = r"(?:--[a-z-]+|-h)(?: [A-Z]+(?:=[A-Z]+)?| count)?"
         rows = re.findall(rf"^(?:#  )? ((?: *{option},?)+)(?=  |$)", read(PAGES[it["name"]]), re.MULTILINE)
         told = {name for row in rows for name in re.findall(r"--[a-z-]+", row)} - {"--help"}
-        for name in sorted(told ^ {*it["options"], *it.get("names", ())}):
+        for name in sorted(told ^ {*it["options"], *it.get("names", ()), *it.get("caches", ())}):
             yield f"commands.toml and {PAGES[it['name']]} have other options: {name}"
 
 

@@ -13,23 +13,30 @@ import sys
 import tempfile
 
 TOP = os.path.abspath(os.path.join(os.path.dirname(os.path.abspath(__file__)), ".."))
-# Of each picture the call that writes its page, and the width and height that are shown.
+# Of each picture the calls that make its page, in a folder of their own, and the width and height that are shown.
 PICTURES = {
-    "view": (["view", "run", "guest/built/counters.elf", "--html"], 1000, 800),
+    "view": ([["view", "run", f"{TOP}/guest/built/counters.elf", "--html", "page.html"]], 1000, 836),
+    "sweep": (
+        [
+            ["run", f"{TOP}/guest/built/studies/linear_regression.elf", "--trace", "linear_regression"],
+            ["view", "sweep", "linear_regression", "--size", "64", "--html", "page.html"],
+        ],
+        *(1000, 395),
+    ),
 }
 MOST = 100_000
 
 
 def draw(name: str, browser: str) -> str:
     """Makes a picture, and says what it takes."""
-    words, width, height = PICTURES[name]
+    calls, width, height = PICTURES[name]
     to = os.path.join(TOP, "docs/pictures", f"{name}.png")
     os.makedirs(os.path.dirname(to), exist_ok=True)
     with tempfile.TemporaryDirectory() as folder:
-        page = os.path.join(folder, "page.html")
-        subprocess.run([os.path.join(TOP, "bin/predator"), *words, page], cwd=TOP, check=True, capture_output=True)
+        for words in calls:
+            subprocess.run([os.path.join(TOP, "bin/predator"), *words], cwd=folder, check=True, capture_output=True)
         options = ["--headless", "--no-sandbox", "--disable-gpu", "--hide-scrollbars", f"--user-data-dir={folder}/user"]
-        options += [f"--window-size={width},{height}", f"--screenshot={to}", f"file://{page}"]
+        options += [f"--window-size={width},{height}", f"--screenshot={to}", f"file://{folder}/page.html"]
         subprocess.run([browser, *options], check=True, capture_output=True, timeout=120)
     size = os.path.getsize(to)
     if size > MOST:

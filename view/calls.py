@@ -13,6 +13,7 @@ USAGE = """usage: predator view run PROGRAM [options of run] [OPTIONS] [-- WORD 
        predator view replay TRACE [options of replay] [--program PROGRAM] [OPTIONS]
        predator view native PROGRAM [options of native] [OPTIONS] [-- WORD ..]
        predator view sweep TRACE --size N [--html F]
+       predator view caches TRACE [--shape 64x64x8 ..] [--top N] [--html F]
        predator view REPORT [--program PROGRAM] [OPTIONS]          (the report - is standard input)
        predator view FILE ..          (a program or a trace: as run, native or replay, by what the file is)"""
 HELP = (
@@ -35,6 +36,8 @@ Options:
                      trace that has its instructions tells those of all objects
   --type SITE=TYPE   what the blocks of a call site hold, as arena.c:78=node; a type, or a variable that points to one
   --sources DIR      where the sources are, if they moved
+  --shape SHAPE      for `view caches`: a shape of caches, as 64x16x2 for 16 sets of 2 lines of 64 bytes; may come more than once, and
+                     without it the shapes are 64x16x2, 64x32x4, 64x64x8 and 64x512x8
   --html F           writes a page to F; of one of these three options F may be `-`: standard output, in place of the screen
   --json F           writes all that was found to F, by view/schema.json
   --sarif F          writes the same for editors and code hosts, as SARIF 2.1.0
@@ -51,6 +54,10 @@ lacked a hart; 127 a package is missing, or the program. Colours are for termina
 # The options of view's own that have a value, and those that have none; `type` may come more than once.
 VALUES = ("top", "object", "html", "json", "sarif", "against", "fail-above", "by", "type", "program", "back", "sources", "explain")
 FLAGS = ("words", "predicted", "no-predicted", "library", "help")
+# Those that may come more than once, each of which is a list of texts.
+LISTS = ("type", "shape")
+# Those that what counts a trace alone takes.
+ALONE = {"sweep": ("html",), "caches": ("html", "shape", "top")}
 # Options of `predator native` that have no value, and those that have one.
 MARKS = ("all", "marked", "built", "pcs")
 RECORDS = ("--quantum", "--most")
@@ -73,10 +80,9 @@ class Call:
 
     def __init__(self, words: Sequence[str]) -> None:
         first = words[0] if words else ""
-        named: dict[str, How] = {"run": "run", "replay": "replay", "native": "native", "sweep": "sweep"}
+        named: dict[str, How] = {"run": "run", "replay": "replay", "native": "native", "sweep": "sweep", "caches": "caches"}
         self.how = named.get(first, "file")
-        # (each a text, but for `type`, which has several)
-        self.options: dict[str, Any] = {"type": []}
+        self.options: dict[str, Any] = {it: [] for it in LISTS}
         self.own: list[str] = []
         self.marks: list[str] = []
         self.given: list[str] = []
@@ -84,7 +90,7 @@ class Call:
         if "help" in self.options:
             return
         if len(names) != 1:
-            what = {"run": "a program", "native": "a program", "replay": "a trace", "sweep": "a trace", "file": "a report"}[self.how]
+            what = {"run": "a program", "native": "a program", "file": "a report"}.get(self.how, "a trace")
             raise Fault(f"{what} is wanted, one\n{USAGE}" if not names else f"'{names[1]}' is one word more than is wanted\n{USAGE}")
         self.subject = self.named = names[0]
         self.judge_words()
@@ -94,12 +100,12 @@ class Call:
     def judge_words(self) -> None:
         """Refuses words that what is done with the file doesn't take, and a file with which it can't be done."""
         what = how_of(self.subject)
-        if what not in ("file", "replay" if self.how == "sweep" else self.how):
+        if what not in ("file", "replay" if self.how in ALONE else self.how):
             raise Fault(f"{self.subject} is {IS[what]}: `predator view {self.subject}` {DOES[what]} it")
         known = [*OPTIONS.get("replay" if self.how == "native" else self.how, ()), *(RECORDS if self.how == "native" else ())]
         for word in (it for it in self.given if it.partition("=")[0] not in known):
             where = "view" if self.how == "file" else f"view {self.how}"
-            near = nearest(word.partition("=")[0], [*known, *(f"--{it}" for it in (*VALUES, *FLAGS))]).strip()
+            near = nearest(word.partition("=")[0], [*known, *(f"--{it}" for it in (*VALUES, *LISTS, *FLAGS))]).strip()
             raise Fault(f"'{word}' is no option of {where}{near and '; '}{near}\n{USAGE}")
         if self.marks and self.how != "native":
             raise Fault(f"'{self.marks[0]}' is for a program of this machine")
@@ -125,8 +131,8 @@ class Call:
                 return [*rest, *words[at : at + 1]], [*words[at : at + 1]]
             if word == "--":
                 return [*rest, "--", *words[at:]], [*names, *words[at:]]
-            if name[:2] == "--" and name[2:] in VALUES or word == "-h" or word[2:] in FLAGS and word[:2] == "--":
-                if name[2:] in VALUES and not has_value:
+            if name[:2] == "--" and name[2:] in (*VALUES, *LISTS) or word == "-h" or word[2:] in FLAGS and word[:2] == "--":
+                if name[2:] in (*VALUES, *LISTS) and not has_value:
                     if at == len(words):
                         raise Fault(f"a value is required for '{word}'")
                     value, at = words[at], at + 1
@@ -146,8 +152,8 @@ class Call:
         return rest, names
 
     def put(self, name: str, value: str) -> None:
-        if name == "type":
-            self.options["type"].append(value)
+        if name in LISTS:
+            self.options[name].append(value)
         elif name in self.options:
             raise Fault(f"the option '--{name}' stands twice")
         else:
@@ -155,8 +161,7 @@ class Call:
 
     def judge(self) -> None:
         """Refuses values that an option can't have."""
-        if self.how == "sweep":
-            self.judge_sweep()
+        self.judge_alone()
         for name in ("top", "fail-above", "explain"):
             value = self.options.get(name, "0")
             if not re.fullmatch("[0-9]{1,18}", value):
@@ -179,12 +184,16 @@ class Call:
         if "back" in self.options and (self.how in ("run", "native") or "program" in self.options):
             raise Fault("'--back' is for a trace or a report of this machine's programs, and names the program itself")
 
-    def judge_sweep(self) -> None:
-        """Refuses what a sweep doesn't take."""
-        strange = [name for name, value in self.options.items() if name != "html" and value != []]
+    def judge_alone(self) -> None:
+        """Refuses what a sweep and caches don't take, and shapes for anything else."""
+        if self.options["shape"] and self.how != "caches":
+            raise Fault("'--shape' is for `predator view caches`")
+        if self.how not in ALONE:
+            return
+        strange = [name for name, value in self.options.items() if name not in ALONE[self.how] and value != []]
         if strange:
-            raise Fault(f"'--{strange[0]}' isn't for a sweep, of which `--html` alone makes something")
-        if self.value_of("--size") is None:
+            raise Fault(f"'--{strange[0]}' isn't for `view {self.how}`, which takes {', '.join(f'--{it}' for it in ALONE[self.how])}")
+        if self.how == "sweep" and self.value_of("--size") is None:
             raise Fault("a sweep is of lines of a size: '--size' names it")
 
     def has_types(self) -> bool:
@@ -215,7 +224,7 @@ class Call:
     def reads_once(self) -> bool:
         """Whether the trace comes from a pipe or a terminal, and can be read once."""
         is_pipe = self.subject == "-" or os.path.exists(self.subject) and not os.path.isfile(self.subject)
-        return self.how in ("replay", "sweep") and is_pipe
+        return self.how in ("replay", *ALONE) and is_pipe
 
     def trace(self) -> str | None:
         """The trace's file, where it is one that is there and can be read again and again."""

@@ -14,9 +14,11 @@ HERE = os.path.dirname(os.path.abspath(__file__))
 Given = dict[str, Any]
 Number = int | None
 # A strip: so many columns of so many points, which go up so far for the first number and down so far for the second.
-COLUMNS, UP, DOWN = 200, 36, 24
+COLUMNS, UP, DOWN = 125, 36, 24
 # A column is so wide, as far as the strip gets no wider than this.
 LEAST, MOST, STRIP = 3, 12, 360
+# A bar is at most so wide.
+BAR = 110
 # A curve: its width and height, and what is kept free on each side.
 WIDTH, HEIGHT, EDGE = 640, 200, 12
 
@@ -61,6 +63,13 @@ def strip(upper: Sequence[Number], lower: Sequence[Number], marked: int) -> Give
     return {**size, "each": each, "upper": bars[0], "lower": bars[1], "ticks": ticks, "mark": mark, "most": most}
 
 
+def bar(part: int, whole: int, most: int) -> Given:
+    """A number as a frame, as wide as it is large beside the greatest one, and a part of it as what fills the frame: something unless it is
+    0, and all only where it is the whole, but in a frame of one point."""
+    frame, fill = (max(round(BAR * it / most), 1) if it else 0 for it in (whole, part))
+    return {"width": BAR, "frame": frame, "fill": min(fill, max(frame - 1, 1)) if 0 < part < whole else fill}
+
+
 def curve(values: Sequence[int], marked: Sequence[tuple[int, str]]) -> Given:
     """Numbers as a line, from 0 at the lower edge up to the greatest, with some of them marked by a shape and a text each."""
     most, last = max([*values, 1]), max(len(values) - 1, 1)
@@ -69,5 +78,6 @@ def curve(values: Sequence[int], marked: Sequence[tuple[int, str]]) -> Given:
         return EDGE + at * (WIDTH - 2 * EDGE) // last, HEIGHT - EDGE - values[at] * (HEIGHT - 2 * EDGE) // most
 
     points = " ".join("{},{}".format(*place(it)) for it in range(len(values)))
-    marks = [{"x": place(at)[0], "y": place(at)[1], "text": text, "is_right": 2 * at > last} for at, text in marked]
-    return {"width": WIDTH, "height": HEIGHT, "edge": EDGE, "points": points, "marks": marks, "most": most}
+    marks = [{"x": place(at)[0], "y": place(at)[1], "text": text} for at, text in marked]
+    # (what its greatest number takes at the right)
+    return {"room": 12 * len(str(most)), "width": WIDTH, "height": HEIGHT, "edge": EDGE, "points": points, "marks": marks, "most": most}

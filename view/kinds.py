@@ -4,8 +4,9 @@ import contextlib
 import os
 from typing import Literal
 
-# What is done with a file: a program for RV32 is run, one of this machine recorded, a trace replayed or swept, and a report shown.
-How = Literal["run", "native", "replay", "sweep", "file"]
+# What is done with a file: a program for RV32 is run, one of this machine recorded, a trace replayed or counted under many layouts, and a
+# report shown.
+How = Literal["run", "native", "replay", "sweep", "caches", "file"]
 IS = {"run": "a program", "native": "a program of this machine", "replay": "a trace"}
 DOES = {"run": "runs", "native": "records", "replay": "replays"}
 # The number of x86-64 in an ELF file.

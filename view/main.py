@@ -10,7 +10,7 @@ from typing import TYPE_CHECKING
 sys.path.insert(0, os.path.dirname(os.path.abspath(__file__)))
 
 import compare  # noqa: E402
-from calls import HELP, OUTPUTS, TOP, Call, nearest  # noqa: E402
+from calls import ALONE, HELP, OUTPUTS, TOP, Call, nearest  # noqa: E402
 from faults import Fault, plain  # noqa: E402
 from model import View, memory_of  # noqa: E402
 from naming import Naming  # noqa: E402
@@ -245,8 +245,8 @@ def outputs(view: View) -> None:
 def show(call: Call) -> int:
     """Does what a call asks, and gives its status."""
     keep_inputs(call)
-    if call.how == "sweep":
-        return show_sweep(call)
+    if call.how in ALONE:
+        return show_alone(call)
     # (before --json writes to the same file)
     old = compare.loaded(call.options["against"], call) if "against" in call.options else None
     with kept(call), recorded(call):
@@ -258,10 +258,11 @@ def show(call: Call) -> int:
     return status_of(view)
 
 
-def show_sweep(call: Call) -> int:
-    import sweep
+def show_alone(call: Call) -> int:
+    from caches import show as caches
+    from sweep import show as sweep
 
-    rows, page = sweep.show(call)
+    rows, page = (sweep if call.how == "sweep" else caches)(call)
     if page is not None:
         write(call.options["html"], page)
     if call.options.get("html") != "-":

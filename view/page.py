@@ -173,6 +173,16 @@ def library(view: View) -> str:
     return "{} useless, {} useful, count {}, lines {}: {}".format(*numbers, text) if view.folded() else ""
 
 
+def title(view: View, chosen: Sequence[Thing]) -> str:
+    """What is seen, in a sentence: `chosen` are the objects that have a row."""
+    name = os.path.basename(view.call.named)
+    if not chosen:
+        return f"{name}: {'objects of the C library alone are' if view.folded() else 'no line is'} fought over"
+    useless = view.misses.total["useless"] if view.misses else 0
+    how = f"{chosen[0].useless} of {useless} useless misses" if useless else f"a count of {chosen[0].count}"
+    return f"{name}: the worst object is {view.label(chosen[0])}, with {how}"
+
+
 def page(view: View) -> str:
     """The whole page."""
     chosen, top = view.listed(), view.call.number("top", TOP)
@@ -189,7 +199,7 @@ def page(view: View) -> str:
         templates()
         .get_template("page.html")
         .render(
-            title=os.path.basename(view.call.named),
+            title=title(view, chosen),
             report=view.report,
             next_step=next_step(view),
             total=view.misses.total if view.misses else None,

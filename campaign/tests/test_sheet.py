@@ -43,7 +43,9 @@ class Sheets(unittest.TestCase):
         title = "1 object is fought over in 3 runs; the worst is low of one, quantum=3: up to 250 counted, with seed 2"
         self.assertIn(f"<h1>{title}</h1>", text)
         self.assertIn("<h2>one, quantum=3: 3 seeds</h2>", text)
-        self.assertIn('<td class="n">2 of 3</td><td class="n">-, -, -</td><td class="n">110, 110, 250</td>', text)
+        cells = re.findall(r'<td class="n" data-of="([^"]*)">(.*?)</td>', text)
+        each = "least, middle, greatest"
+        self.assertEqual(cells, [("listed", "2 of 3"), (f"useless misses, {each}", "-, -, -"), (f"count, {each}", "110, 110, 250")])
         self.assertIn("predator view run &#39;/work/my one.elf&#39; --set quantum=3,seed=2 --schedule &#39;fill it&#39;", text)
         # Ticks for the two seeds that list it, and none for the third.
         self.assertIn('<path class="ink" d="M6 62v5M18 62v5"/><path d="M14 -7h8l-4 6z"/>', text)
@@ -59,7 +61,7 @@ class Sheets(unittest.TestCase):
         self.assertEqual(loud[0], told + "<code>predator view run &#39;/work/my one.elf&#39; --set seed=2</code>")
         self.assertIn("a call failed three times, with status 9: predator: &lt;no memory&gt;", loud[1])
         self.assertIn("there is no result of the job one/usual/1-100", loud[2])
-        self.assertLess(text.index('class="loud"'), text.index("<table>"))
+        self.assertLess(text.index('class="loud"'), text.index("<table"))
 
     def test_nothing(self):
         self.assertIn("<h1>No object is fought over in 1 run</h1>", self.page(part_of(record(1, [])), {}))
@@ -74,7 +76,7 @@ class Sheets(unittest.TestCase):
         text = self.page(part, *({"quantum": it + 1} for it in range(10)))
         self.assertEqual(text.count("<svg"), sheet.STRIPS)
         self.assertIn(f"{170 - sheet.STRIPS} more rows are in objects.tsv", text)
-        self.assertIn("50 seeds a column", text)
+        self.assertIn("80 seeds a column", text)
         self.assertLess(len(text.encode()), 2_000_000)
 
 

@@ -11,6 +11,7 @@ import tomllib
 HERE = os.path.dirname(os.path.abspath(__file__))
 sys.path[:0] = [HERE, os.path.join(HERE, "..", "..", "tools")]
 
+import bounded  # noqa: E402
 import judge_report  # noqa: E402
 import recount_blame  # noqa: E402
 import recount_misses  # noqa: E402
@@ -28,6 +29,7 @@ USAGE = {
     "explain": "PROGRAM BASE SIZE START [--settings F] [--schedule F]",
     "place": "TRACE NAME [--size N]",
     "sweep": "TRACE --size N",
+    "caches": "TRACE --size N --sets S --ways W",
 }
 
 
@@ -205,9 +207,14 @@ def sweep(names, options):
     yield from ("least {1} total {0}".format(*min(totals)), "end")
 
 
+def caches(names, options):
+    accesses = case_of(read(names[0]), settings_of(options), options).accesses
+    return bounded.told([(it[0], it[2], it[1]) for it in accesses], *(int(options[it]) for it in ("--size", "--sets", "--ways")))
+
+
 def main(words):
     known = {name: told for name, told in USAGE.items() if name not in LACKS}
-    works = {it.__name__: it for it in (run, replay, check, misses, blame, explain, place, sweep)}
+    works = {it.__name__: it for it in (run, replay, check, misses, blame, explain, place, sweep, caches)}
     if not words or words[0] not in known:
         print(*(f"usage: predator {name} {told}" for name, told in known.items()), sep="\n")
         return 1

@@ -105,7 +105,7 @@ class Files(unittest.TestCase):
         self.assertEqual([places(it) for it in sarif(f"{page}.sarif")["results"]], [[]])
         with open(page, encoding="utf-8") as file:
             told = file.read()
-        self.assertIn("<h1>r\\udcff&lt;b&gt;&amp;&#39;&#34;</h1>", told)
+        self.assertIn("<h1>r\\udcff&lt;b&gt;&amp;&#39;&#34;: ", told)
         self.assertIn("&lt;i&gt;&amp;\\x00&#34;&#39;", told)
         self.assertNotIn("<i>", told)
 

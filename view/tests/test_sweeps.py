@@ -45,9 +45,12 @@ class Sweeps(unittest.TestCase):
         for it in (r"<script", r"https?:", r"""(src|href)=""", "<i>"):
             self.assertNotRegex(text, it)
         self.assertIn(f"<h1>&lt;i&gt;t: {TITLE}</h1>", text)
-        self.assertEqual(re.findall(r'anchor="\w+">(.*?)</text>', text)[:2], ["as it lies: 39", "least, shift 4: 0"])
+        told = re.findall(r"<rect .*?</svg> (.*?); <svg .*?<circle .*?</svg> (.*?)</p>", text)
+        self.assertEqual(told, [("as it lies: 39", "least, shift 4: 0")])
+        # Each mark is beside its text, and in the picture on the line.
+        self.assertEqual(re.findall(r'<rect x="(\S+)" y="(\S+)"', text), [("-5", "-5"), ("7", "7")])
+        self.assertEqual(re.findall(r'<circle cx="(\S+)" cy="(\S+)"', text), [("0", "0"), ("628", "188")])
         self.assertIn('points="12,12 628,188"', text)
-        self.assertEqual((text.count("<rect"), text.count("<circle")), (1, 1))
         # The file has the same.
         self.assertEqual(view("sweep", self.trace, "--size=8", "--html", self.html, program=self.program)[0], 0)
         with open(self.html, encoding="utf-8") as file:
@@ -76,7 +79,7 @@ class Texts(unittest.TestCase):
     def test_what_is_the_least(self):
         self.assertIn("taken 7 times as data lies, and under no shift less often", Sweep(TEXT.format(7, 9, 0, 7)).title())
         same = page(Sweep(TEXT.format(7, 9, 0, 7)), "t")
-        self.assertEqual((same.count("<rect"), same.count("<circle")), (1, 0))
+        self.assertEqual((same.count("<rect"), same.count("<circle")), (2, 0))
         self.assertIn("as data lies, the least", same)
         for bad in ("", TEXT, TEXT.format(7, 9, 0, 7)[:-4], "sweep 8\naccesses 9\nleast 0 total 0\nend\n"):
             with self.assertRaises(Fault):
@@ -85,7 +88,7 @@ class Texts(unittest.TestCase):
     def test_a_curve_is_drawn_from_zero_up(self):
         told = curve([0, 50, 100, 25], [(2, "most")])
         self.assertEqual(told["points"], "12,188 217,100 422,12 628,144")
-        self.assertEqual([(it["x"], it["y"], it["is_right"]) for it in told["marks"]], [(422, 12, True)])
+        self.assertEqual(told["marks"], [{"x": 422, "y": 12, "text": "most"}])
         self.assertEqual(curve([0], [])["points"], "12,188")
 
 

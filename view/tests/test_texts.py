@@ -161,7 +161,7 @@ class Words(unittest.TestCase):
         call = Call(["sweep", "t", "--size", "64", "--html=f"])
         self.assertEqual((call.how, call.subject, call.words), ("sweep", "t", ["t", "--size", "64"]))
         self.assertIn("a sweep is of lines of a size", self.refused("sweep", "t"))
-        self.assertIn("'--json' isn't for a sweep", self.refused("sweep", "t", "--size=64", "--json=f"))
+        self.assertIn("'--json' isn't for `view sweep`, which takes --html", self.refused("sweep", "t", "--size=64", "--json=f"))
         self.assertIn("'--shift' is no option of view sweep", self.refused("sweep", "t", "--size=64", "--shift", "4"))
 
     def test_what_a_file_is(self):
