@@ -3,9 +3,9 @@
 
 usage: bench/pcs.py [PROGRAM]
 
-20,000,000 accesses to 64 lines are written in version 3, with 64 pcs for each of 8 harts, and converted to version 2: once each line has a
-pc of its own, and once any pc comes at any line. The commands run five times in turn, and the least time of each counts. Then 1,000,000 pairs
-of instructions take one line: `blame` of that shows its memory. A benchmark, no test."""
+20,000,000 accesses to 64 lines are written in version 3, with 64 pcs for each of 8 harts, and converted to version 2: once each line has
+a pc of its own, and once any pc comes at any line. The commands run five times in turn, and the least time of each counts. Then 1,000,000
+pairs of instructions take one line: `blame` of that shows its memory. A benchmark, no test."""
 
 import functools
 import os
