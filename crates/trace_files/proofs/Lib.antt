@@ -18,3 +18,4 @@ pub mod Readings
 pub mod Splittings
 pub mod Stopped
 pub mod Worked
+pub mod WorkedMoves

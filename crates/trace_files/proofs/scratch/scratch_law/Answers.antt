@@ -1,0 +1,6 @@
+use Rattle.std.proofs.Common.{refl}
+use Rattle.trace_files.proofs.WorkedMoves.{move}
+use Rattle.trace_files.proofs.scratch.scratch_law.Goals as goal
+
+pub returns : goal.returns
+returns c = λ n. refl
