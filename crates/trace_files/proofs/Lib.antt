@@ -3,6 +3,7 @@ pub mod Answering
 pub mod Begun
 pub mod Conversions
 pub mod Differing
+pub mod Digits
 pub mod Distances
 pub mod Going
 pub mod HalfTraces
@@ -15,6 +16,7 @@ pub mod OneTraces
 pub mod Others
 pub mod Pieces
 pub mod Readings
+pub mod Rows
 pub mod Splittings
 pub mod Stopped
 pub mod Worked

@@ -7,4 +7,5 @@ pub mod Moves
 pub mod Moving
 pub mod Numerals
 pub mod OneTrace
+pub mod Rows
 pub mod Tables

@@ -3,8 +3,8 @@ use Rattle.std.specs.Prelude.{◌≡◌, ℕ, ◌+◌, ◌-◌, ◌%◌, ◌^◌
 use Rattle.std.specs.Prelude.{nat_le, nat_lt}
 use Rattle.std.specs.Prelude.{if◌then◌else◌, List, [], ◌∷◌, length, take, Option, Some, None}
 use Rattle.std.specs.Prelude.{Result, Ok, Err}
-use Rattle.std.specs.Option.{option_map_or}
-use Rattle.std.specs.List.{All, after_first, before_first, enumerate_from, filter_map, list_all}
+use Rattle.std.specs.Option.{option_and_then, option_map_or}
+use Rattle.std.specs.List.{All, AllPairs, after_first, before_first, enumerate_from, filter_map, list_all}
 use Rattle.std.specs.List.{slice_split}
 use Rattle.trace_files.specs.declared.table_fault.TableFault.{TableFault}
 use Rattle.trace_files.specs.declared.table_fault.TableFault.TheVariants.{TooLong, BadLine, Overlap}
@@ -63,6 +63,10 @@ abbrev pub keeps_rules : Move → Bool
 keeps_rules m = is_of_words m.from && (is_of_words m.size && (is_of_words m.to &&
     (nat_le 4 m.size && (nat_le (m.from + m.size) (2 ^ 32) && nat_le (m.to + m.size) (2 ^ 32)))))
 
+-- the move that a line says, where it keeps them
+abbrev pub kept_move_of : List ℕ → Option Move
+kept_move_of line = option_and_then (λ m. if keeps_rules m then Some m else None) (move_of line)
+
 -- the range begins at or above the end of each earlier one
 abbrev pub is_behind : List Move → Move → Bool
 is_behind earlier m = list_all (λ e. nat_le (e.from + e.size) m.from) earlier
@@ -84,16 +88,19 @@ move_fault earlier number m =
     then (if is_apart earlier m then None else Some (Overlap number))
     else Some (BadLine number)
 
--- the fault of a numbered line among all, if it has one: an empty line has none
-abbrev pub line_fault : List (List ℕ) → ℕ × List ℕ → Option TableFault
-line_fault lines line =
-    if nat_eq (length line.1) 0 then None
-    else option_map_or (move_fault (moves_of (take (line.0 - 1) lines)) line.0) (move_of line.1)
-    (Some (BadLine line.0))
+-- the fault of a line so, if it has one: an empty line has none
+abbrev pub line_fault : List Move → ℕ → List ℕ → Option TableFault
+line_fault earlier number line =
+    if nat_eq (length line) 0 then None
+    else option_map_or (move_fault earlier number) (move_of line) (Some (BadLine number))
 
--- the faults of all lines, in their order; the first line has the number 1
+-- the fault of a numbered line behind the lines before it; the first line has the number 1
+abbrev pub fault_among : List (List ℕ) → ℕ × List ℕ → Option TableFault
+fault_among lines line = line_fault (moves_of (take (line.0 - 1) lines)) line.0 line.1
+
+-- the faults of all lines, in their order
 abbrev pub faults_of : List (List ℕ) → List TableFault
-faults_of lines = filter_map (line_fault lines) (enumerate_from 1 lines)
+faults_of lines = filter_map (fault_among lines) (enumerate_from 1 lines)
 
 -- how many bytes a table may have
 abbrev pub longest_table : ℕ
@@ -124,6 +131,6 @@ pub record AreInOrder (a b : Move) : Type 0 where
   pub apart : meets a b ≡ false
 
 -- each move keeps its own rules, and each two are in order
-abbrev pub IsTable : List Move → Type 0
-IsTable [] = Unit {0}
-IsTable (m ∷ moves) = (keeps_rules m ≡ true) × All (AreInOrder m) moves × IsTable moves
+pub record IsTable (table : List Move) : Type 0 where
+  pub rules : All (λ m. keeps_rules m ≡ true) table
+  pub order : AllPairs AreInOrder table
