@@ -15,6 +15,7 @@ pub mod MadeGoing
 pub mod OneTraces
 pub mod Others
 pub mod Pieces
+pub mod Ranges
 pub mod Readings
 pub mod Rows
 pub mod Splittings

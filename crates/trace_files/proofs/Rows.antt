@@ -1,7 +1,7 @@
 -- A line of a table by its three words.
 use Rattle.std.proofs.Common.{◌≡◌, ℕ, List, Option, ap, ◌∙◌, sym}
 use Rattle.trace_files.specs.Numerals.{number_of}
-use Rattle.trace_files.specs.Tables.{Move, behind_word, move_of, move_with, word_before}
+use Rattle.trace_files.specs.Tables.{behind_word, move_of, move_with, word_before}
 
 pub move_parts : (line first rest second third : List ℕ) (from size to : Option ℕ)
     → first ≡ word_before line → rest ≡ behind_word line

@@ -11,7 +11,8 @@ use Rattle.trace_files.specs.declared.table_fault.TableFault.TheVariants.{BadLin
 use Rattle.trace_files.specs.Moves.{count_moved, is_taken, moved_addr}
 use Rattle.trace_files.specs.Moving.{first_in_the_way, moved_items}
 use Rattle.trace_files.specs.Numerals.{decimal_of, hexadecimal_of, number_of}
-use Rattle.trace_files.specs.Tables.{Move, move_of, table_of}
+use Rattle.trace_files.specs.Tables.{move_of, table_of}
+use Rattle.trace_files.specs.declared.move_row.Move.{Move}
 
 abbrev pub move : ℕ → ℕ → ℕ → Move
 move from size to = record { from = from; size = size; to = to }

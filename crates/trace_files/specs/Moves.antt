@@ -4,7 +4,7 @@ use Rattle.std.specs.Prelude.{find}
 use Rattle.std.specs.Option.{option_map_or}
 use Rattle.std.specs.List.{All, count_by, list_any}
 use Rattle.base.specs.Touch.{Touch}
-use Rattle.trace_files.specs.Tables.{Move}
+use Rattle.trace_files.specs.declared.move_row.Move.{Move}
 
 -- ---- addresses
 

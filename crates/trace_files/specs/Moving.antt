@@ -18,7 +18,7 @@ use Rattle.trace_files.specs.declared.move_fault.MoveFault.TheVariants.{ReadFaul
 use Rattle.trace_files.specs.declared.relocation.Moved.{Moved}
 use Rattle.trace_files.specs.Copies.{any}
 use Rattle.trace_files.specs.Moves.{IsFree, count_moved, is_taken, moved_in}
-use Rattle.trace_files.specs.Tables.{Move}
+use Rattle.trace_files.specs.declared.move_row.Move.{Move}
 
 -- ---- the records
 

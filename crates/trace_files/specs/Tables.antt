@@ -9,13 +9,8 @@ use Rattle.std.specs.List.{slice_split}
 use Rattle.trace_files.specs.declared.table_fault.TableFault.{TableFault}
 use Rattle.trace_files.specs.declared.table_fault.TableFault.TheVariants.{TooLong, BadLine, Overlap}
 use Rattle.trace_files.specs.declared.table_fault.TableFault.TheVariants.{NoMemory}
+use Rattle.trace_files.specs.declared.move_row.Move.{Move}
 use Rattle.trace_files.specs.Numerals.{number_of}
-
--- The range of `size` bytes that begins at `from`, and its place: as many bytes that begin at `to`.
-pub record Move : Type 0 where
-  pub from : ℕ
-  pub size : ℕ
-  pub to : ℕ
 
 -- ---- a line
 

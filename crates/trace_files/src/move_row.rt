@@ -1,49 +1,30 @@
 // A line of a table.
-ghost use Rattle.std.specs.Prelude.{◌≡◌, ◌+◌, ◌^◌, ◌≤◌, None, true};
+ghost use Rattle.std.specs.Prelude.{◌≡◌, ◌+◌, ◌^◌, Some, nat_le, true};
 ghost use Rattle.std.specs.Option.{SomeIff, option_and_then};
 ghost use Rattle.std.specs.List.{position_or_len, before_first, after_first};
 ghost use Rattle.trace_files.specs.Rows.{turned};
 ghost use Rattle.trace_files.specs.Tables.{is_byte, keeps_rules, kept_move_of, move_of, move_with};
-ghost use Rattle.trace_files.specs.Tables.{word_before, behind_word};
+ghost use Rattle.trace_files.specs.Tables.{is_of_words};
 
 use crate::numerals::number;
-use std::marker::Model;
 
 // No range and no place ends above this.
 const MEMORY: u64 = 1 << 32;
 
-// A range of memory, and the place that its bytes go to.
+// The range of `size` bytes that begins at `from`, and its place: as many bytes that begin at `to`.
 #[derive(Clone, Copy)]
-pub(crate) struct Row {
+pub(crate) struct Move {
     pub(crate) from: u32,
     pub(crate) size: u64,
     pub(crate) to: u32,
 }
 
-impl Model for Row {
-    ghost use Rattle.trace_files.specs.Tables.{Move};
-
-    ghost Value = { Move };
-
-    ghost view = { λ r. record { from = r.from; size = r.size; to = r.to } };
-
-    ghost inverse = { λ m. record { from = m.from; size = m.size; to = m.to } };
-}
-
-impl Row {
-    // Where the range ends.
-    pub(crate) fn end(&self) -> u64
-        requires { self.now.from + self.now.size ≤ 2 ^ 33 }
-        ensures { result ≡ self.now.from + self.now.size }
-    {
-        u64::from(self.from) + self.size
-    }
-
+impl Move {
     // The way back.
-    pub(crate) fn turned(&self) -> Row
+    pub(crate) fn turned(&self) -> Move
         ensures { result ≡ turned self.now }
     {
-        Row {
+        Move {
             from: self.to,
             size: self.size,
             to: self.from,
@@ -78,26 +59,26 @@ pub(crate) fn cut_at(text: &[u8], code: u8) -> (&[u8], &[u8])
 }
 
 fn is_of_words(number: u64) -> bool
-    ensures { result ≡ Rattle.trace_files.specs.Tables.is_of_words number }
+    ensures { result ≡ is_of_words number }
 {
     number % 4 == 0
 }
 
 // Whether as many bytes from there on lie in memory.
 fn fits(from: u64, size: u64) -> bool
-    ensures { result ≡ Rattle.std.specs.Prelude.nat_le (from + size) (2 ^ 32) }
+    ensures { result ≡ nat_le (from + size) (2 ^ 32) }
 {
     from <= MEMORY && size <= MEMORY - from
 }
 
 // The row of three numbers, where they keep the rules of one.
-fn row_with(from: u64, size: u64, to: u64) -> Option<Row>
+fn row_with(from: u64, size: u64, to: u64) -> Option<Move>
     ensures { SomeIff result (keeps_rules (record { from = from; size = size; to = to }) ≡ true)
         (record { from = from; size = size; to = to }) }
 {
     let of_words = is_of_words(from) && is_of_words(size) && is_of_words(to);
     if of_words && size >= 4 && fits(from, size) && fits(to, size) {
-        Some(Row {
+        Some(Move {
             from: from as u32,
             size,
             to: to as u32,
@@ -121,7 +102,7 @@ fn numbers(line: &[u8]) -> Option<(u64, u64, u64)>
 }
 
 // The row that a line says, where it keeps the rules of one.
-pub(crate) fn row_of(line: &[u8]) -> Option<Row>
+pub(crate) fn row_of(line: &[u8]) -> Option<Move>
     ensures { result ≡ kept_move_of line.now }
 {
     let (from, size, to) = numbers(line)?;
