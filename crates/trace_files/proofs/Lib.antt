@@ -20,5 +20,6 @@ pub mod Readings
 pub mod Rows
 pub mod Splittings
 pub mod Stopped
+pub mod TableRows
 pub mod Worked
 pub mod WorkedMoves
