@@ -11,6 +11,7 @@ pub mod Items
 pub mod Jumps
 pub mod Kept
 pub mod Lengths
+pub mod Lookups
 pub mod MadeGoing
 pub mod OneTraces
 pub mod Others
@@ -20,6 +21,7 @@ pub mod Readings
 pub mod Rows
 pub mod Splittings
 pub mod Stopped
+pub mod TableLines
 pub mod TableRows
 pub mod Worked
 pub mod WorkedMoves
