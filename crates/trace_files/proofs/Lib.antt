@@ -13,6 +13,7 @@ pub mod Kept
 pub mod Lengths
 pub mod Lookups
 pub mod MadeGoing
+pub mod MovedWords
 pub mod OneTraces
 pub mod Others
 pub mod Pieces

@@ -1,9 +1,9 @@
 -- Where the accesses of a list go by a table, and what is true of its moves.
-use Rattle.std.specs.Prelude.{◌≡◌, ℕ, ◌+◌, ◌-◌, Bool, false, not, ◌&&◌, nat_le, nat_lt, List, map}
-use Rattle.std.specs.Prelude.{find}
+use Rattle.std.specs.Prelude.{◌≡◌, ◌↔◌, ℕ, ◌+◌, ◌-◌, ◌<◌, Bool, false, not, ◌&&◌, nat_eq, nat_le, nat_lt}
+use Rattle.std.specs.Prelude.{List, filter, find, map}
 use Rattle.std.specs.Option.{option_map_or}
-use Rattle.std.specs.List.{All, count_by, list_any}
-use Rattle.base.specs.Touch.{Touch}
+use Rattle.std.specs.List.{All, Contains, count_by, list_any}
+use Rattle.base.specs.Touch.{Touch, word_of}
 use Rattle.trace_files.specs.declared.move_row.Move.{Move}
 
 -- ---- addresses
@@ -47,3 +47,31 @@ IsFree table accesses = All (λ a. is_taken table a.addr ≡ false) accesses
 -- how many accesses are moved
 abbrev pub count_moved : List Move → List Touch → ℕ
 count_moved table accesses = count_by (λ a. is_moved table a.addr) accesses
+
+-- ---- what a free list keeps
+
+-- those that lie in a word
+abbrev pub accesses_in : ℕ → List Touch → List Touch
+accesses_in word accesses = filter (λ a. nat_eq (word_of a.addr) word) accesses
+
+-- each two accesses lie in one word exactly where they do once they are moved
+abbrev pub KeepsWords : List Move → List Touch → Type 0
+KeepsWords table accesses =
+    (a b : Touch) → Contains accesses a → Contains accesses b
+    → (word_of (moved_in table a).addr ≡ word_of (moved_in table b).addr)
+    ↔ (word_of a.addr ≡ word_of b.addr)
+
+-- byte i of one is byte j of another exactly where it is once they are moved
+abbrev pub KeepsBytes : List Move → List Touch → Type 0
+KeepsBytes table accesses =
+    (a b : Touch) (i j : ℕ) → Contains accesses a → Contains accesses b → i < a.size → j < b.size
+    → ((moved_in table a).addr + i ≡ (moved_in table b).addr + j)
+    ↔ (a.addr + i ≡ b.addr + j)
+
+-- the accesses in the word of one are those in the word that it goes to, each moved, and so with the
+-- same harts, kinds and sizes
+abbrev pub KeepsAccesses : List Move → List Touch → Type 0
+KeepsAccesses table accesses =
+    (a : Touch) → Contains accesses a
+    → accesses_in (word_of (moved_in table a).addr) (moved_list table accesses)
+    ≡ moved_list table (accesses_in (word_of a.addr) accesses)
