@@ -15,6 +15,8 @@ Fault = tuple[list[str], int, str, str]
 BUILD = "guest/build.sh builds for RV32IMA"
 LINK = "link it statically and at fixed addresses, as with -static -no-pie"
 DAMAGED = "the file is damaged or cut off; docs/FORMATS.md says what stands where"
+NO_PCS = "its accesses have no pcs: `predator run PROGRAM --pcs --trace F` writes them for a guest, " \
+    "`predator native --pcs --trace F -- PROGRAM` for a program of this machine"
 AGAIN = "the file is damaged or cut off; link it again"
 SCRIPT = "guest/link.ld is a linker script that works"
 ENTRY = "the entry is the address of an instruction; guest/start.S has one"
@@ -131,6 +133,7 @@ def faults() -> Iterator[Fault]:
         yield ["convert", name, "a"], 5, f"trace {row[1]}", f"{name}: {row[2]}"
     for name, row in SCHEDULES.items():
         yield ["run", "p", "--schedule", name], 3, f"schedule {row[1]}", f"{name}: {row[2]}"
+    yield ["blame", "t"], 5, "trace NoPcs", f"t: {NO_PCS}"
     none = "no object symbol of the trace has this name, nor was exactly one block made at that address"
     yield ["place", "t", "none"], 13, "place NoObject", none
     yield ["place", "large", "large"], 13, "place TooLarge", "an object that is placed has at most 16 MiB"

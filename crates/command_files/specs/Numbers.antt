@@ -10,6 +10,7 @@ number_of (status.Elf fault) = 2
 number_of (status.Schedule fault) = 3
 number_of (status.Settings fault) = 4
 number_of (status.Trace fault) = 5
+number_of status.NoPcs = 5
 number_of (status.State fault) = 6
 number_of status.ReadFault = 7
 number_of status.WriteFault = 8

@@ -34,6 +34,7 @@ kind_of (status.Elf fault) = refusal
 kind_of (status.Schedule fault) = refusal
 kind_of (status.Settings fault) = refusal
 kind_of (status.Trace fault) = refusal
+kind_of status.NoPcs = refusal
 kind_of (status.State fault) = refusal
 kind_of status.ReadFault = read_fault
 kind_of status.WriteFault = write_fault

@@ -8,7 +8,7 @@ use crate::schedule_faults::schedule_advice;
 use crate::settings_faults::settings_advice;
 use crate::state_faults::state_advice;
 use crate::status::Status;
-use crate::trace_faults::trace_advice;
+use crate::trace_faults::{NO_PCS_ADVICE, trace_advice};
 use command_line::{Reason, WordsFault, read_words};
 use std::alloc::{AllocError, Global};
 use std::env;
@@ -37,6 +37,7 @@ pub fn advice_on(
         Status::Schedule(fault) => schedule_advice(alloc, *fault)?,
         Status::Settings(fault) => settings_advice(alloc, fault, front)?,
         Status::Trace(fault) => trace_advice(alloc, *fault)?,
+        Status::NoPcs => String::from_str(alloc, NO_PCS_ADVICE)?,
         Status::State(fault) => state_advice(alloc, *fault)?,
         Status::Place(refusal) => String::from_str(alloc, place_advice(*refusal))?,
         Status::Budget => String::from_str(alloc, BUDGET)?,

@@ -54,6 +54,7 @@ pub fn fault_line(alloc: Global, status: &Status) -> Result<String, AllocError>
             let name = trace_name(alloc, *fault)?;
             line_of(alloc, "trace", name.as_str())
         }
+        Status::NoPcs => line_of(alloc, "trace", "NoPcs"),
         Status::State(fault) => {
             let name = state_name(alloc, *fault)?;
             line_of(alloc, "state", name.as_str())

@@ -150,6 +150,7 @@ pub fn file_refused<'a>(demand: &Demand<'a>, status: &Status) -> Option<&'a str>
             }
         }
         Status::Trace(_)
+        | Status::NoPcs
         | Status::State(StateFault::WrongSettings(HARTS) | StateFault::WrongPosition { .. }) => {
             trace
         }

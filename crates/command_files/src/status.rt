@@ -45,6 +45,8 @@ pub enum Status {
     Settings(SettingsFault),
     /// The trace has this fault, which is never want of memory.
     Trace(TraceFault),
+    /// The command needs the pc of each access, and the trace is of version 1 or 2, which have none.
+    NoPcs,
     /// The saved state has this fault, or the trace doesn't go on from where the count of it
     /// stands.
     State(StateFault),
@@ -75,7 +77,7 @@ impl Status {
             Status::Elf(_) => 2,
             Status::Schedule(_) => 3,
             Status::Settings(_) => 4,
-            Status::Trace(_) => 5,
+            Status::Trace(_) | Status::NoPcs => 5,
             Status::State(_) => 6,
             Status::ReadFault => 7,
             Status::WriteFault => 8,

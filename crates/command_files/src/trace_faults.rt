@@ -12,6 +12,11 @@ const NO_TRACE: &str =
 
 const CUT: &str = "write or copy it again";
 
+/// What to do about a trace without pcs, where a command needs them.
+pub const NO_PCS_ADVICE: &str =
+    "its accesses have no pcs: `predator run PROGRAM --pcs --trace F` writes them for a guest, \
+     `predator native --pcs --trace F -- PROGRAM` for a program of this machine";
+
 const TOO_LONG: &str = "a trace has at most 2^40 accesses, and less than 2^44 bytes";
 
 // What a fault of a trace is called, with its numbers.

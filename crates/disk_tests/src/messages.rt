@@ -174,7 +174,7 @@ fn the_wrong_word_is_named(rt: HostRuntime) -> Result<(), Fail> {
     Ok(())
 }
 
-const ADVICE: [(Status, &str); 10] = [
+const ADVICE: [(Status, &str); 11] = [
     (
         Status::Elf(ElfFault::BadFlags),
         "it has compressed instructions, floating-point registers or RV32E's registers: compile \
@@ -207,6 +207,11 @@ const ADVICE: [(Status, &str); 10] = [
         }),
         "its end tells of 3 accesses, and it has 0: the file is damaged or cut off; \
             docs/FORMATS.md says what stands where",
+    ),
+    (
+        Status::NoPcs,
+        "its accesses have no pcs: `predator run PROGRAM --pcs --trace F` writes them for a guest, \
+            `predator native --pcs --trace F -- PROGRAM` for a program of this machine",
     ),
     (
         Status::State(StateFault::WrongPosition {

@@ -97,6 +97,7 @@ no_memory_hidden (status.Elf fault) kind = refl
 no_memory_hidden (status.Schedule fault) kind = let k : refusal ≡ done = kind in cc
 no_memory_hidden (status.Settings fault) kind = let k : refusal ≡ done = kind in cc
 no_memory_hidden (status.Trace fault) kind = let k : refusal ≡ done = kind in cc
+no_memory_hidden status.NoPcs kind = refl
 no_memory_hidden (status.State fault) kind = refl
 no_memory_hidden status.ReadFault kind = refl
 no_memory_hidden status.WriteFault kind = refl
@@ -398,6 +399,9 @@ stopped_faulty demand a b (status.Settings fault) stopped = file_faulty demand a
     stopped.why.0 stopped.why.1 stopped.only
 stopped_faulty demand a b (status.Trace fault) stopped = file_faulty demand a b
     (status.Trace fault) refl stopped.words stopped.memory
+    stopped.why.0 stopped.why.1 stopped.only
+stopped_faulty demand a b status.NoPcs stopped = file_faulty demand a b
+    status.NoPcs refl stopped.words stopped.memory
     stopped.why.0 stopped.why.1 stopped.only
 stopped_faulty demand a b (status.State fault) stopped = file_faulty demand a b
     (status.State fault) refl stopped.words stopped.memory

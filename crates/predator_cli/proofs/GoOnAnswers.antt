@@ -1,6 +1,6 @@
 -- A replay that goes on from the state of some records is not refused.
 use Rattle.std.proofs.Common.{◌≡◌, ℕ, List, [], ◌∷◌, ◌++◌, length, Option, Some, None, Result, Ok}
-use Rattle.std.proofs.Common.{Err}
+use Rattle.std.proofs.Common.{Bool, false, Err}
 use Rattle.std.proofs.Common.{refl, ap, ◌∙◌}
 use Rattle.std.proofs.lemmas.Bool.{eq-eqb}
 use Rattle.std.proofs.lemmas.Option.{none-some, same_Some}
@@ -11,6 +11,7 @@ use Rattle.base.specs.Levels.{Levels}
 use Rattle.base.specs.Lines.{Grid}
 use Rattle.base.specs.declared.ending.Ending.{Ending}
 use Rattle.shelf.specs.Shelf.{Files, content}
+use Rattle.trace_format.specs.Judging.{version_at}
 use Rattle.trace_format.specs.Reading.{ending_of, reading_of}
 use Rattle.trace_format.specs.Rules.{touches_in}
 use Rattle.trace_format.specs.declared.fault.TraceFault.{TraceFault}
@@ -18,7 +19,8 @@ use Rattle.trace_format.specs.declared.read_so_far.ReadSoFar.{ReadSoFar}
 use Rattle.trace_format.specs.declared.record.Header.{Header}
 use Rattle.trace_format.specs.declared.record.TraceRecord.{TraceRecord}
 use Rattle.trace_passes.specs.Passes.{Trace, before_last, head_of, header_refusal, trace_at}
-use Rattle.trace_passes.specs.Passes.{trace_of, trace_refusal, refusal_of as refuses}
+use Rattle.trace_passes.specs.Passes.{trace_of, trace_refusal, version_refusal}
+use Rattle.trace_passes.specs.Passes.{refusal_of as refuses}
 use Rattle.trace_passes.specs.declared.wanted.Refusal.{Refusal}
 use Rattle.trace_passes.specs.declared.wanted.Wanted.{Wanted}
 use Rattle.predator_cli.specs.Answer.{answer_of}
@@ -36,28 +38,32 @@ use Rattle.command_files.specs.Laws.Readings.{accepted_both}
 
 -- ---- the trace
 
-module _ (w : Wanted) (t : Trace) (unrefused : header_refusal w (Some t.header) ≡ None) where
-  wanted_at : (all : List TraceRecord) (p : Option ReadSoFar) (end : Result Ending TraceFault)
-      → trace_at all p end ≡ Some t
-      → option_or (header_refusal w (head_of p)) (trace_refusal end) ≡ None
-  wanted_at all (Some p) (Ok e) is =
-      let given : Trace = record {
-        version = p.version;
-        header = p.header;
-        items = before_last all;
-        ending = e;
-      } in
-      let head : p.header ≡ t.header = ap (λ (x : Trace). x.header) (same_Some given t is) in
-      ap (λ (r : Option Refusal). option_or r None)
-      (ap (λ (h : Header). header_refusal w (Some h)) head ∙ unrefused)
-  wanted_at all (Some p) (Err fault) is = absurd (none-some t is)
-  wanted_at all None (Ok e) is = absurd (none-some t is)
-  wanted_at all None (Err fault) is = absurd (none-some t is)
+module _ (w : Wanted) (t : Trace) (any : w.pcs ≡ false)
+    (unrefused : header_refusal w (Some t.header) ≡ None)
+  where
+    wanted_at : (all : List TraceRecord) (p : Option ReadSoFar) (end : Result Ending TraceFault)
+        → trace_at all p end ≡ Some t
+        → option_or (header_refusal w (head_of p)) (trace_refusal end) ≡ None
+    wanted_at all (Some p) (Ok e) is =
+        let given : Trace = record {
+          version = p.version;
+          header = p.header;
+          items = before_last all;
+          ending = e;
+        } in
+        let head : p.header ≡ t.header = ap (λ (x : Trace). x.header) (same_Some given t is) in
+        ap (λ (r : Option Refusal). option_or r None)
+        (ap (λ (h : Header). header_refusal w (Some h)) head ∙ unrefused)
+    wanted_at all (Some p) (Err fault) is = absurd (none-some t is)
+    wanted_at all None (Ok e) is = absurd (none-some t is)
+    wanted_at all None (Err fault) is = absurd (none-some t is)
 
-  pub trace_accepted : (bytes : List ℕ) → trace_of bytes ≡ Some t → refuses w bytes ≡ None
-  trace_accepted bytes is =
-      let now = reading_of bytes in
-      wanted_at now.0 now.1.progress (ending_of now.1) is
+    pub trace_accepted : (bytes : List ℕ) → trace_of bytes ≡ Some t → refuses w bytes ≡ None
+    trace_accepted bytes is =
+        let now = reading_of bytes in
+        ap (λ (pcs : Bool). option_or (version_refusal pcs (version_at bytes))
+        (option_or (header_refusal w (head_of now.1.progress)) (trace_refusal (ending_of now.1)))) any
+        ∙ wanted_at now.0 now.1.progress (ending_of now.1) is
 
 -- one that goes on from some records is wanted behind them
 wanted_behind : (g : Grid) (v : Levels) (harts : ℕ) (before : List TraceRecord) (h : Header)
@@ -99,7 +105,7 @@ module _ (demand : ReplayDemand) (files : Files) (harts : ℕ) (before : List Tr
         ap (λ (b : Option Begun). option_or
         (option_map status_of_refusal (refuses (wanted_after b) bytes)) None) begun
         ∙ ap (λ (r : Option Refusal). option_or (option_map status_of_refusal r) None)
-        (trace_accepted (wanted_after (Some (begun_of g v harts before))) t
+        (trace_accepted (wanted_after (Some (begun_of g v harts before))) t refl
         (wanted_behind g v harts before t.header so.same_harts so.first) bytes so.trace)
 
     pub answered_on : (all : Work) → replay_work demand files ≡ all

@@ -152,7 +152,7 @@ module _
         (Some files) (settings_pass how.settings files s settings)
         (none_alone (option_map status_of_refusal (refuses whole (content files name)))
         (ap (option_map status_of_refusal)
-        (trace_accepted whole t (wanted_whole t first) (content files name) is)))
+        (trace_accepted whole t refl (wanted_whole t first) (content files name) is)))
 
     whole_work : (files : Files) (name : List ℕ) (t : Trace) (save : Option (List ℕ))
         → settings_in how.settings files ≡ Ok s

@@ -37,6 +37,7 @@ refusal_cases (refusals.Trace (trace.AfterEnd place)) =
 refusal_cases (refusals.Trace trace.TooLong) =
     inr (record { kind = refl; words = λ e. cc; memory = refl })
 refusal_cases (refusals.Trace trace.NoMemory) = inl refl
+refusal_cases refusals.NoPcs = inr (record { kind = refl; words = λ e. cc; memory = refl })
 refusal_cases refusals.Harts = inr (record { kind = refl; words = λ e. cc; memory = refl })
 refusal_cases (refusals.Position saved first) =
     inr (record { kind = refl; words = λ e. cc; memory = refl })

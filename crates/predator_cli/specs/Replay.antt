@@ -1,6 +1,6 @@
 -- The command `replay`: what it reads, the report that it gives of a trace, and the state that it
 -- saves. A trace is a whole one, or goes on from a saved state.
-use Rattle.std.specs.Prelude.{ℕ, List, [], ◌∷◌, ◌++◌, ◌≡◌, Option, Some, None}
+use Rattle.std.specs.Prelude.{ℕ, List, [], ◌∷◌, ◌++◌, ◌≡◌, Option, Some, None, false}
 use Rattle.std.specs.Option.{option_and_then, option_map, option_map_or}
 use Rattle.std.specs.Result.{result_ok}
 use Rattle.command_line.specs.Replay.{ReplayDemand}
@@ -50,15 +50,20 @@ abbrev pub begun_in : ReplayDemand → Files → Option Begun
 begun_in demand files =
     begun_under (grid_in demand files) (levels_in demand files) demand.resume files
 
--- a whole trace is wanted: one of any number of harts, whose first access has position 0
+-- a whole trace is wanted: one of any version and number of harts, whose first access has position
+-- 0
 abbrev pub whole : Wanted
-whole = record { harts = None; first = Some 0 }
+whole = record { harts = None; first = Some 0; pcs = false }
 
 -- behind a state one of its harts, from its position on
 abbrev pub wanted_after : Option Begun → Wanted
 wanted_after None = whole
 wanted_after (Some begun) =
-    record { harts = Some begun.harts; first = Some begun.sightings.watch.position }
+    record {
+      harts = Some begun.harts;
+      first = Some begun.sightings.watch.position;
+      pcs = false;
+    }
 
 -- how a file is refused that is no trace as it is wanted
 abbrev pub refuses_trace : Wanted → List ℕ → Files → Option Status

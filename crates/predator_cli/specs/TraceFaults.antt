@@ -14,6 +14,7 @@ use Rattle.command_files.specs.declared.status.Status.TheVariants as status
 -- a header of another number of harts differs from that field of a saved state
 abbrev pub status_of_refusal : Refusal → Status
 status_of_refusal (refusals.Trace fault) = status_of_trace fault
+status_of_refusal refusals.NoPcs = status.NoPcs
 status_of_refusal refusals.Harts = status.State (state.WrongSettings harts_place)
 status_of_refusal (refusals.Position saved first) = status.State (state.WrongPosition saved first)
 

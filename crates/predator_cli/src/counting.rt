@@ -18,10 +18,11 @@ use shelf::Shelf;
 use std::alloc::Global;
 use trace_passes::{Observer, Passed, Wanted, pass};
 
-/// A whole trace: of any number of harts, from position 0 on.
+/// A whole trace: of any version and number of harts, from position 0 on.
 pub const WHOLE: Wanted = Wanted {
     harts: None,
     first: Some(0),
+    pcs: false,
 };
 
 /// Gives the records of the trace of a name to an observer, or says why the trace isn't taken.

@@ -149,6 +149,7 @@ fn count_on<S: Shelf>(
     let wanted = Wanted {
         harts: Some(harts),
         first: Some(sightings.position()),
+        pcs: false,
     };
     match see_trace(alloc, shelf, options.trace, &wanted, sightings) {
         Ok(passed) => {

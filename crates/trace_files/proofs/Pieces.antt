@@ -25,9 +25,10 @@ use Rattle.trace_passes.specs.Passes.{HasPassCause, refusal_of, trace_with}
 use Rattle.trace_passes.specs.Laws.Passes.{trace-records}
 use Rattle.trace_files.specs.declared.copy_fault.CopyFault.{CopyFault}
 use Rattle.trace_files.specs.declared.copy_fault.CopyFault.TheVariants.{Changed, ReadFault}
-use Rattle.trace_files.specs.declared.copy_fault.CopyFault.TheVariants.{NoMemory}
+use Rattle.trace_files.specs.declared.copy_fault.CopyFault.TheVariants.{NoMemory, Refused}
 use Rattle.trace_files.specs.Copies.{any}
-use Rattle.trace_files.specs.Copying.{AreFirst, IsCopied, IsCutShort, second_fault, write_fault}
+use Rattle.trace_files.specs.Copying.{AreFirst, IsCopied, IsCutShort, first_fault, second_fault}
+use Rattle.trace_files.specs.Copying.{write_fault}
 use Rattle.trace_files.proofs.Going.{IsAt, at_next}
 use Rattle.trace_files.proofs.Readings.{first_none, first_of, first_read, first_still, short_read}
 use Rattle.trace_files.proofs.Readings.{short_write}
@@ -166,6 +167,16 @@ short_none held name files waiting fault memory now before began =
     (short_read held name files [] waiting before now now (first_none held name) began
     (only_none now) {T = Unit {0}} passes.NoMemory
     (record { later = λ n. omega arith; failed = λ e. absurd cc; quiet = λ e. refl }))
+
+-- a first reading is refused where its call is
+pub first_refused : (fault : PassFault) (x : CopyFault) (refusal : Refusal) → x ≡ first_fault fault
+    → x ≡ Refused refusal → fault ≡ passes.Refused refusal
+first_refused (passes.Refused r) x refusal is refused = let same : Refused r ≡ Refused refusal =
+    sym is ∙ refused in cc
+first_refused passes.ReadFault x refusal is refused = let same : ReadFault ≡ Refused refusal =
+    sym is ∙ refused in absurd cc
+first_refused passes.NoMemory x refusal is refused = let same : NoMemory ≡ Refused refusal =
+    sym is ∙ refused in absurd cc
 
 -- a second reading is refused where its call is
 pub was_refused : (fault : PassFault) (x : CopyFault) (refusal : Refusal) → x ≡ second_fault fault

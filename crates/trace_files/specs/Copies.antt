@@ -1,6 +1,6 @@
 -- Which traces a copy writes, and what stands where it gave up.
 use Rattle.std.specs.Prelude.{◌≡◌, ◌≢◌, ◌⊎◌, ◌≤◌, ℕ, ◌==◌, List, [], ◌∷◌, Option, Some, None}
-use Rattle.std.specs.Prelude.{if◌then◌else◌}
+use Rattle.std.specs.Prelude.{if◌then◌else◌, false}
 use Rattle.std.specs.Option.{option_and_then, option_or}
 use Rattle.shelf.specs.Shelf.{Files, Goes, Narrows, Outside, Rose, Told, content}
 use Rattle.shelf.specs.Files.{Output, AreWritten, BegunInOrder, one_file}
@@ -22,7 +22,7 @@ use Rattle.trace_files.specs.declared.copy_fault.CopyFault.TheVariants.{ReadFaul
 
 -- any trace will do
 abbrev pub any : Wanted
-any = record { harts = None; first = None }
+any = record { harts = None; first = None; pcs = false }
 
 -- ---- the copies
 
@@ -93,7 +93,7 @@ abbrev pub difference : Passed → Passed → Option Refusal
 difference first second =
     option_or (version_difference first.version second.version)
     (option_or (header_refusal
-    (record { harts = Some first.header.harts; first = Some first.header.first })
+    (record { harts = Some first.header.harts; first = Some first.header.first; pcs = false })
     (Some second.header))
     (count_difference first.ending.accesses second.ending.accesses))
 

@@ -31,6 +31,7 @@ fn any() -> Wanted
     Wanted {
         harts: None,
         first: None,
+        pcs: false,
     }
 }
 

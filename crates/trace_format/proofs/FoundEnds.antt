@@ -1,16 +1,14 @@
 -- What is judged good is good, and the bytes are its spelling: the end and the header.
 use Rattle.std.proofs.Common.{◌≡◌, ℕ, ◌%◌, ◌^◌, ◌<◌, inl, inr, Bool, true, false, cond, ◌&&◌, eqb}
 use Rattle.std.proofs.Common.{eqb-true, ltb, leb, List, [], ◌∷◌, ◌++◌}
-use Rattle.std.proofs.Common.{length, get_or, drop, Option, Some, None, Ok, refl, sym, ap, subst}
+use Rattle.std.proofs.Common.{length, get_or, Option, Some, None, Ok, refl, sym, ap, subst}
 use Rattle.std.proofs.Common.{◌∙◌, arith}
 use Rattle.std.specs.Prelude.{find}
 use Rattle.std.proofs.lemmas.Bool.{and_parts, leb-true}
-use Rattle.std.proofs.lemmas.Bool.Decides.{nat_tests, Decides-eqb}
+use Rattle.std.proofs.lemmas.Bool.Decides.{nat_tests}
 use Rattle.std.proofs.lemmas.Option.{same_Some, none-some}
-use Rattle.std.proofs.lemmas.Slice.Eq.{starts_is}
 use Rattle.std.proofs.lemmas.List.{drop_more}
 use Rattle.std.specs.Int.{w16, w32, w64, to_le_bytes}
-use Rattle.std.specs.List.{starts_with}
 use Rattle.base.specs.Levels.{is_from_to}
 use Rattle.base.specs.declared.ending.Cause.{Cause}
 use Rattle.base.specs.declared.ending.Cause.TheVariants.{Illegal, Breakpoint, FetchMisaligned}
@@ -19,7 +17,6 @@ use Rattle.base.specs.declared.ending.Cause.TheVariants.{LoadOutside, StoreMisal
 use Rattle.base.specs.declared.ending.Outcome.{Outcome}
 use Rattle.base.specs.declared.ending.Outcome.TheVariants.{Exit, Budget, Deadlock, Trap, Part}
 use Rattle.trace_format.specs.declared.record.Version.{Version}
-use Rattle.trace_format.specs.declared.record.Version.TheVariants.{One, Two, Three}
 use Rattle.trace_format.specs.declared.record.Header.{Header}
 use Rattle.trace_format.specs.declared.tag.Tag.TheVariants as tags
 use Rattle.trace_format.specs.declared.read_so_far.ReadSoFar.{ReadSoFar}
@@ -35,6 +32,7 @@ use Rattle.trace_format.specs.Judging.{plain_outcome_of, plain_with, trap_for, t
 use Rattle.trace_format.specs.Judging.{version_at}
 use Rattle.trace_format.specs.Laws.Bytes.{IsBytes, below_32, below_64, from_part, last_part, part}
 use Rattle.trace_format.specs.Laws.Bytes.{spelled_16, spelled_32, spelled_64}
+use Rattle.trace_format.specs.Laws.Magic.{version_found}
 use Rattle.trace_format.proofs.FoundRecords.{chosen, granted, passed, same_Ok}
 
 find_passes : {A : Type 0} (p : A → Bool) (xs : List A) (x : A) → find p xs ≡ Some x → p x ≡ true
@@ -214,38 +212,6 @@ ending_found harts place bytes o len is tag found =
     (good, parts ∙ sym spelled)
 
 -- ---- the header
-
--- bytes begin with the text of the version that is found
-IsHead : List ℕ → Version → Type 0
-IsHead bytes v = bytes ≡ magic_of v ++ drop 8 bytes
-
-one_tried : (bytes : List ℕ) (k v : Version) (rest : Option Version)
-    → (starts_with eqb bytes (magic_of k) ≡ true → IsHead bytes k)
-    → (rest ≡ Some v → IsHead bytes v)
-    → cond (starts_with eqb bytes (magic_of k)) (Some k) rest ≡ Some v → IsHead bytes v
-one_tried bytes k v rest is else e =
-    elim (chosen (starts_with eqb bytes (magic_of k)) (Some k) rest (Some v) e) [
-      | inl h ↦ subst (IsHead bytes) (same_Some k v h.1) (is h.0)
-      | inr h ↦ else h.1
-    ]
-
-head_of : (bytes : List ℕ) (v : Version) → starts_with eqb bytes (magic_of v) ≡ true
-    → IsHead bytes v
-unfolding IsHead
-head_of bytes One is = (starts_is Decides-eqb bytes (magic_of One)
-    (starts_with eqb bytes (magic_of One)) refl).0 is
-head_of bytes Two is = (starts_is Decides-eqb bytes (magic_of Two)
-    (starts_with eqb bytes (magic_of Two)) refl).0 is
-head_of bytes Three is = (starts_is Decides-eqb bytes (magic_of Three)
-    (starts_with eqb bytes (magic_of Three)) refl).0 is
-
-version_found : (bytes : List ℕ) (v : Version) → version_at bytes ≡ Some v → bytes
-    ≡ magic_of v ++ drop 8 bytes
-unfolding IsHead
-version_found bytes v =
-    one_tried bytes One v _ (head_of bytes One)
-    (one_tried bytes Two v _ (head_of bytes Two)
-    (one_tried bytes Three v _ (head_of bytes Three) (λ none. absurd (none-some v none))))
 
 -- what 20 bytes that are accepted begin
 pub record BeginsWith (bytes : List ℕ) (p : ReadSoFar) : Type 0 where

@@ -80,6 +80,7 @@ record_extent v bytes = extent_if (tag_of v (slice_index bytes 0)) bytes
 
 -- ---- the header
 
+-- the version whose magic some bytes begin with
 abbrev pub version_at : List ℕ → Option Version
 version_at bytes =
     if starts_with nat_eq bytes (magic_of One) then Some One

@@ -4,6 +4,7 @@ pub mod Before
 pub mod Bytes
 pub mod Counts
 pub mod Extents
+pub mod Magic
 pub mod Pieces
 pub mod Prefixes
 pub mod Reading

@@ -8,10 +8,12 @@ use Rattle.trace_format.specs.declared.fault.TraceFault.{TraceFault}
 use Rattle.trace_format.specs.declared.fault.TraceFault.TheVariants as faults
 use Rattle.trace_format.specs.declared.record.TraceRecord.{TraceRecord}
 use Rattle.trace_format.specs.declared.record.TraceRecord.TheVariants as records
+use Rattle.trace_format.specs.declared.record.Version.{Version}
 use Rattle.trace_format.specs.declared.read_so_far.ReadSoFar.{ReadSoFar}
 use Rattle.trace_format.specs.Spelling.{before_after}
 use Rattle.trace_format.specs.Rules.{longest_trace}
 use Rattle.trace_format.specs.Judging.{header_judged, header_length, record_extent, record_judged}
+use Rattle.trace_format.specs.Judging.{version_at}
 
 -- how far some bytes are read
 pub record Reading : Type 0 where
@@ -39,6 +41,14 @@ place_of (Some p) = p.place
 
 abbrev pub taken : Reading → ℕ
 taken r = place_of r.progress + length r.pending
+
+-- The version whose magic the bytes begin with: until the header is accepted they wait.
+abbrev pub magic_at : Option ReadSoFar → List ℕ → Option Version
+magic_at None pending = version_at pending
+magic_at (Some p) pending = Some p.version
+
+abbrev pub magic_in : Reading → Option Version
+magic_in r = magic_at r.progress r.pending
 
 -- how many accesses there are once a record is read
 abbrev pub counted_after : ℕ → TraceRecord → ℕ

@@ -19,7 +19,8 @@ pub(crate) const HEADER_LENGTH: usize = 20;
 // The position that no access has.
 pub(crate) const LAST_POSITION: u64 = 1 << 40;
 
-fn version_of(bytes: &[u8]) -> Option<Version>
+// The version whose magic some bytes begin with.
+pub(crate) fn version_of(bytes: &[u8]) -> Option<Version>
     ensures { result ≡ version_at bytes.now }
 {
     if bytes.starts_with(&MAGIC_ONE) {

@@ -2,6 +2,7 @@
 ghost use Rattle.std.specs.Prelude.{◌≡◌, ◌≢◌, ◌⊎◌, ◌+◌, ◌<◌, ◌≤◌, Some, None, [], ◌++◌, length};
 ghost use Rattle.std.specs.Prelude.{IsSome, IfOk};
 
+use crate::header_read::version_of;
 use crate::reader_state::{State, read_parts};
 use crate::{
     Header, TraceFault, TraceRecord, Version, what_is_read_was_spelled,
@@ -85,7 +86,7 @@ impl TraceReader {
     ghost use Rattle.base.specs.declared.ending.Ending.{Ending};
     ghost use Rattle.trace_format.specs.declared.fault.TraceFault.{TraceFault};
     ghost use Rattle.trace_format.specs.declared.record.TraceRecord.{TraceRecord};
-    ghost use Rattle.trace_format.specs.Reading.{begin, ending_of};
+    ghost use Rattle.trace_format.specs.Reading.{begin, ending_of, magic_in};
     ghost use Rattle.trace_format.specs.Reading.{taken, with_fault};
     ghost use Rattle.trace_format.specs.Rules.{longest_trace};
     ghost use Rattle.trace_format.specs.ReaderStates.{AddsSome, HasRead, KeepsHead};
@@ -113,6 +114,18 @@ impl TraceReader {
         match &self.state.progress {
             Some(progress) => Some(progress.version),
             None => None,
+        }
+    }
+
+    /// The version that the first 8 bytes name, which are its magic: known once they are read, before
+    /// the header is. None before, where they are no magic, and at a fault before the header was
+    /// accepted.
+    pub fn magic(&self) -> Option<Version>
+        ensures { result ≡ magic_in self.now }
+    {
+        match &self.state.progress {
+            Some(progress) => Some(progress.version),
+            None => version_of(&self.pending),
         }
     }
 

@@ -7,13 +7,13 @@ use Rattle.trace_format.specs.declared.record.TraceRecord.{TraceRecord}
 use Rattle.trace_format.specs.Reading.{Reading, ending_of, reading_of}
 use Rattle.trace_format.specs.Rules.{IsGoodHeader}
 use Rattle.trace_passes.specs.declared.passes.Passed.{Passed}
+use Rattle.trace_passes.specs.declared.wanted.Refusal.{Refusal}
 use Rattle.trace_passes.specs.declared.wanted.Wanted.{Wanted}
 use Rattle.trace_passes.specs.Passes.{HasPassed, IsWanted, before_last, head_of, header_refusal}
-use Rattle.trace_passes.specs.Passes.{refusal_of}
-use Rattle.trace_passes.specs.Passes.{trace_with}
+use Rattle.trace_passes.specs.Passes.{refusal_of, trace_refusal, trace_with}
 use Rattle.trace_format.specs.Laws.Counts.{counted_so_far}
-use Rattle.trace_passes.specs.Laws.Passes.{accepted_at_end, is_wanted}
-use Rattle.trace_passes.specs.Laws.Passes.{trace-records, trace_there}
+use Rattle.trace_passes.specs.Laws.Passes.{accepted_at_end, is_sited, is_wanted}
+use Rattle.trace_passes.specs.Laws.Passes.{refusal_at_end, trace-records, trace_there}
 use Rattle.trace_passes.specs.Cursors.{HasEnded, IsHeadOf, IsRead}
 
 module _ (held : Option Files) (name : List ℕ) (w : Wanted) (now : Reading) (bytes : List ℕ)
@@ -49,9 +49,18 @@ module _ (held : Option Files) (name : List ℕ) (w : Wanted) (now : Reading) (b
               }));
           header = subst IsGoodHeader (sym head.header) good;
           wanted = subst (IsWanted w) (sym head.header) wanted;
-          accepted = accepted_at_end w bytes passed.ending unrefused
+          sited = λ is. head.version ∙ is_sited w bytes head.now read.sited known is;
+          accepted = accepted_at_end w bytes passed.ending read.sited unrefused
               (ap ending_of (sym read.reading) ∙ end);
         }
+
+    -- what the bytes end with is why the file is refused
+    pub refused_end : (x : Refusal) → trace_refusal (ending_of now) ≡ Some x
+        → Told held (λ files. refusal_of w (content files name) ≡ Some x)
+    refused_end x e =
+        told_map held (λ files same. ap (refusal_of w) (sym same)
+        ∙ refusal_at_end w bytes read.sited unrefused
+        ∙ ap (λ (r : Reading). trace_refusal (ending_of r)) (sym read.reading) ∙ e) whole
 
 -- the observer was given all records of the trace
 pub has_passed : (held : Option Files) (name : List ℕ) (w : Wanted) (bytes : List ℕ)

@@ -1,6 +1,6 @@
 -- The front of a file that a pass has read, and its end.
 use Rattle.std.proofs.Common.{◌≡◌, ◌≢◌, ℕ, ◌+◌, ◌-◌, ◌≤◌, ◌<◌, List, [], ◌++◌, length, take, drop}
-use Rattle.std.proofs.Common.{Option, Some, refl, sym, ap}
+use Rattle.std.proofs.Common.{Bool, true, false, Option, Some, None, refl, sym, ap}
 use Rattle.std.proofs.Common.{◌∙◌, arith}
 use Rattle.std.proofs.Math.Seq.{take-add}
 use Rattle.std.proofs.lemmas.List.{append-nil, drop_all, length-append, length-take-le}
@@ -11,11 +11,12 @@ use Rattle.shelf.specs.Laws.Told.{told, told_both, told_map, told_still}
 use Rattle.trace_format.specs.declared.record.TraceRecord.{TraceRecord}
 use Rattle.trace_format.specs.Reading.{Reading, begin, read_on, reading_of}
 use Rattle.trace_format.specs.Rules.{longest_trace}
-use Rattle.trace_passes.specs.Passes.{head_of, header_refusal, refusal_of}
+use Rattle.trace_passes.specs.Passes.{head_of, header_refusal, pcs_refusal, refusal_of}
+use Rattle.trace_passes.specs.Passes.{version_refusal}
 use Rattle.trace_format.specs.Laws.Counts.{few_bytes}
 use Rattle.trace_passes.specs.declared.wanted.Refusal.{Refusal}
 use Rattle.trace_passes.specs.declared.wanted.Wanted.{Wanted}
-use Rattle.trace_passes.specs.Cursors.{HasCome, IsRead, Reached}
+use Rattle.trace_passes.specs.Cursors.{HasCome, IsRead, Reached, StopsAtMagic, magic_length}
 
 -- no more bytes are read than a trace may have
 pub at_most : (held : Option Files) (name : List ℕ) (w : Wanted) (bytes : List ℕ) (now : Reached)
@@ -29,6 +30,10 @@ at_most held name w bytes now come =
 pub nothing_read : reading_of [] ≡ ([], begin)
 unfolding read_on
 nothing_read = refl
+
+no_magic : (pcs : Bool) → version_refusal pcs None ≡ None
+no_magic false = refl
+no_magic true = refl
 
 -- before the first byte
 pub first_come : (held : Option Files) (name : List ℕ) (w : Wanted) (now : Reached) → now.reading
@@ -44,6 +49,7 @@ first_come held name w now is at room =
       read = record {
         reading = reading;
         clean = ap (λ (r : Reading). r.fault) is;
+        sited = no_magic w.pcs;
         unrefused = ap (λ (r : Reading). header_refusal w (head_of r.progress)) is;
       };
     }
@@ -92,6 +98,19 @@ pub longer : (bytes buffer : List ℕ) (at n : ℕ) → length bytes ≡ at → 
     → length (bytes ++ take n buffer) ≡ at + n
 longer bytes buffer at n size fits =
     omega (arith, size, length-append bytes (take n buffer), length-take-le n buffer fits)
+
+-- where pcs are wanted, a piece that was read doesn't go beyond the magic
+pub stops_there : (w : Wanted) (bytes buffer : List ℕ) (at n : ℕ) → length bytes ≡ at
+    → n ≤ length buffer → pcs_refusal w bytes ≡ None
+    → (w.pcs ≡ true → at < magic_length → at + n ≤ magic_length)
+    → StopsAtMagic w bytes (take n buffer)
+stops_there w bytes buffer at n size fits sited stops =
+    record {
+      sited = sited;
+      stops = λ pcs short.
+          let few = stops pcs (omega (arith, size, short)) in
+          omega (arith, size, few, length-take-le n buffer fits);
+    }
 
 -- what was read stands as long as its file is told
 pub come_still : (o n : Option Files) (name : List ℕ) (w : Wanted) (bytes : List ℕ) (now : Reached)

@@ -1,17 +1,22 @@
 -- What a piece says, once it is read behind the bytes before it.
-use Rattle.std.proofs.Common.{◌≡◌, ◌≢◌, ◌⊎◌, inl, inr, ℕ, ◌<◌, Bool, true, false, cond, eqb, List}
+use Rattle.std.proofs.Common.{◌≡◌, ◌≢◌, ◌⊎◌, inl, inr, ℕ, ◌+◌, ◌≤◌, ◌<◌, Bool, true, false, cond}
+use Rattle.std.proofs.Common.{eqb, List}
 use Rattle.std.proofs.Common.{[], ◌∷◌, ◌++◌, length, All, Option, Some}
 use Rattle.std.proofs.Common.{None, Ok, Err, refl, sym, ap, subst, ◌∙◌, unwrap_or, arith}
+use Rattle.std.proofs.lemmas.Bool.{cases_Bool, cases_lt}
 use Rattle.std.proofs.lemmas.List.{length-append}
 use Rattle.std.proofs.lemmas.List.Elements.{All-nil, All-tail}
 use Rattle.trace_format.specs.declared.fault.TraceFault.{TraceFault}
 use Rattle.trace_format.specs.declared.fault.TraceFault.TheVariants as faults
 use Rattle.trace_format.specs.declared.read_so_far.ReadSoFar.{ReadSoFar}
 use Rattle.trace_format.specs.declared.record.Header.{Header}
+use Rattle.trace_format.specs.declared.record.Version.{Version}
 use Rattle.trace_format.specs.declared.record.TraceRecord.{TraceRecord}
 use Rattle.std.specs.Option.{option_or}
 use Rattle.base.specs.declared.ending.Ending.{Ending}
-use Rattle.trace_format.specs.Reading.{Reading, read_on, reading_of}
+use Rattle.trace_format.specs.Judging.{version_at}
+use Rattle.trace_format.specs.Reading.{Reading, magic_in, read_on, reading_of}
+use Rattle.trace_format.specs.Laws.Magic.{fault_is_late, magic_of_bytes}
 use Rattle.trace_format.specs.Laws.Reading.{read_on-pieces, then_read}
 use Rattle.trace_format.specs.Rules.{IsGoodHeader, IsWritable, touches_in}
 use Rattle.trace_format.specs.ReaderStates.{ReadsOn, answer_at}
@@ -19,11 +24,12 @@ use Rattle.trace_passes.specs.declared.wanted.Refusal.{Refusal}
 use Rattle.trace_passes.specs.declared.wanted.Refusal.TheVariants as refusals
 use Rattle.trace_passes.specs.declared.wanted.Wanted.{Wanted}
 use Rattle.trace_passes.specs.Passes.{IsWanted, first_refusal, harts_refusal, head_of}
-use Rattle.trace_passes.specs.Passes.{header_refusal, refusal_of}
+use Rattle.trace_passes.specs.Passes.{header_refusal, pcs_refusal, refusal_of, version_refusal}
 use Rattle.trace_format.specs.Laws.Counts.{IsSoFar, counted_so_far, few_accesses, so_far}
-use Rattle.trace_passes.specs.Laws.Passes.{is_wanted, refused_for_fault, refused_for_header}
+use Rattle.trace_passes.specs.Laws.Passes.{is_wanted, neither, pcs_taken, refused_for_fault}
+use Rattle.trace_passes.specs.Laws.Passes.{refused_for_header, refused_for_pcs}
 use Rattle.trace_passes.specs.Rooms.{HasRoom}
-use Rattle.trace_passes.specs.Cursors.{IsRead}
+use Rattle.trace_passes.specs.Cursors.{IsRead, StopsAtMagic}
 
 -- an answer is no error
 pub ok_is_no_err : {T E : Type 0} (t : T) (e : E) → Ok t ≢ Err e
@@ -104,6 +110,13 @@ writable_in None e items is = subst (All IsWritable) (sym is.0) (All-nil IsWrita
 writable_in (Some p) None items is = is.0.writable
 writable_in (Some p) (Some e) items is = is.0.writable
 
+long_enough : (n m : ℕ) → (n < 8 → n + m ≤ 8) → 20 ≤ n + m → 8 ≤ n
+long_enough n m stops long =
+    elim (cases_lt n 8) [
+      | inl short ↦ let few = stops short in absurd (omega (arith, few, long))
+      | inr le ↦ le
+    ]
+
 module _ (old new : Reading) (piece : List ℕ) (after : List TraceRecord)
     (on : ReadsOn old piece new [] after) where
   module _ (bytes : List ℕ) (from : old ≡ (reading_of bytes).1) where
@@ -120,26 +133,72 @@ module _ (old new : Reading) (piece : List ℕ) (after : List TraceRecord)
         (on.records ∙ ap (λ (r : Reading). (read_on r piece).0) from)
         ∙ sym (ap (λ (x : List TraceRecord × Reading). x.0) both)
 
-    pub refused_now : (w : Wanted) (more : List ℕ) (x : Refusal)
+    -- the magic is known where there is no fault
+    pub magic_now : new.fault ≡ None → magic_in new ≡ version_at (bytes ++ piece)
+    magic_now clean = ap magic_in now_read
+        ∙ magic_of_bytes (bytes ++ piece) (ap (λ (r : Reading). r.fault) (sym now_read) ∙ clean)
+
+    refused_now : (w : Wanted) (more : List ℕ) (x : Refusal) → pcs_refusal w (bytes ++ piece) ≡ None
         → header_refusal w (head_of new.progress) ≡ Some x
         → refusal_of w ((bytes ++ piece) ++ more) ≡ Some x
-    refused_now w more x e =
-        refused_for_header w (bytes ++ piece) more x
+    refused_now w more x sited e =
+        refused_for_header w (bytes ++ piece) more x sited
         (ap (λ (r : Reading). header_refusal w (head_of r.progress)) (sym now_read) ∙ e)
+
+    -- for the magic before the header
+    refused_either : (w : Wanted) (more : List ℕ) (x : Refusal) (first : Option Refusal)
+        → pcs_refusal w (bytes ++ piece) ≡ first
+        → option_or first (header_refusal w (head_of new.progress)) ≡ Some x
+        → refusal_of w ((bytes ++ piece) ++ more) ≡ Some x
+    refused_either w more x None first e = refused_now w more x first e
+    refused_either w more x (Some y) first e = refused_for_pcs w (bytes ++ piece) more x (first ∙ e)
+
+    pub refused_in_front : (w : Wanted) (more : List ℕ) (x : Refusal) → new.fault ≡ None
+        → option_or (version_refusal w.pcs (magic_in new))
+        (header_refusal w (head_of new.progress)) ≡ Some x
+        → refusal_of w ((bytes ++ piece) ++ more) ≡ Some x
+    refused_in_front w more x clean e =
+        refused_either w more x (pcs_refusal w (bytes ++ piece)) refl
+        (ap (λ (v : Option Version). option_or (version_refusal w.pcs v)
+        (header_refusal w (head_of new.progress))) (sym (magic_now clean)) ∙ e)
+
+    -- a piece with a fault doesn't stop at the magic
+    sited_at_fault : (w : Wanted) (fault : TraceFault) → StopsAtMagic w bytes piece
+        → new.fault ≡ Some fault → pcs_refusal w (bytes ++ piece) ≡ None
+    sited_at_fault w fault stops e =
+        let late = fault_is_late (bytes ++ piece) fault
+        (ap (λ (r : Reading). r.fault) (sym now_read) ∙ e) in
+        let size = length-append bytes piece in
+        elim (cases_Bool w.pcs) [
+          | inl pcs ↦ pcs_taken w bytes piece
+              (long_enough (length bytes) (length piece) (stops.stops pcs) (omega (arith, late, size)))
+              stops.sited
+          | inr any ↦ ap (λ (pcs : Bool). version_refusal pcs (version_at (bytes ++ piece))) any
+        ]
 
     -- for the header before any fault
     pub refused_first : (w : Wanted) (more : List ℕ) (fault : TraceFault) (told : Option Refusal)
-        → told ≡ header_refusal w (head_of new.progress) → new.fault ≡ Some fault
+        → StopsAtMagic w bytes piece → told ≡ header_refusal w (head_of new.progress) → new.fault ≡ Some fault
         → refusal_of w ((bytes ++ piece) ++ more) ≡ Some (unwrap_or told (refusals.Trace fault))
-    refused_first w more fault None is e =
-        refused_for_fault w (bytes ++ piece) more fault
+    refused_first w more fault None stops is e =
+        refused_for_fault w (bytes ++ piece) more fault (sited_at_fault w fault stops e)
         (ap (λ (r : Reading). header_refusal w (head_of r.progress)) (sym now_read) ∙ sym is)
         (ap (λ (r : Reading). r.fault) (sym now_read) ∙ e)
-    refused_first w more fault (Some x) is e = refused_now w more x (sym is)
+    refused_first w more fault (Some x) stops is e =
+        refused_now w more x (sited_at_fault w fault stops e) (sym is)
 
-    pub read_now : (w : Wanted) → new.fault ≡ None → header_refusal w (head_of new.progress) ≡ None
+    pub read_now : (w : Wanted) → new.fault ≡ None
+        → option_or (version_refusal w.pcs (magic_in new))
+        (header_refusal w (head_of new.progress)) ≡ None
         → IsRead w (bytes ++ piece) new
-    read_now w clean unrefused = record { reading = now_read; clean = clean; unrefused = unrefused }
+    read_now w clean unrefused =
+        let both = neither (version_refusal w.pcs (magic_in new)) _ unrefused in
+        record {
+          reading = now_read;
+          clean = clean;
+          sited = ap (version_refusal w.pcs) (sym (magic_now clean)) ∙ both.0;
+          unrefused = both.1;
+        }
 
 -- what came behind other bytes
 module _ (bytes more : List ℕ) (after : List TraceRecord) (records : (reading_of (bytes ++ more)).0

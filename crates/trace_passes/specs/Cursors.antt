@@ -1,21 +1,34 @@
 -- How far a named trace is read, piece after piece, and what stands at its end.
-use Rattle.std.specs.Prelude.{◌≡◌, ℕ, ◌-◌, ◌<◌, List, ◌++◌, length, Option, Some, None}
+use Rattle.std.specs.Prelude.{◌≡◌, ℕ, ◌+◌, ◌-◌, ◌<◌, ◌≤◌, List, ◌++◌, length, Option, Some}
+use Rattle.std.specs.Prelude.{None, true}
 use Rattle.shelf.specs.Shelf.{Files, Told, content}
 use Rattle.shelf.specs.Fetch.{IsFront}
 use Rattle.trace_format.specs.declared.read_so_far.ReadSoFar.{ReadSoFar}
 use Rattle.trace_format.specs.declared.record.TraceRecord.{TraceRecord}
+use Rattle.trace_format.specs.declared.record.Version.TheVariants.{Three}
 use Rattle.trace_format.specs.Reading.{Reading, reading_of}
 use Rattle.trace_format.specs.Rules.{IsGoodHeader, longest_trace}
 use Rattle.trace_passes.specs.declared.passes.Passed.{Passed}
 use Rattle.trace_passes.specs.declared.wanted.Wanted.{Wanted}
-use Rattle.trace_passes.specs.Passes.{IsWanted, head_of, header_refusal, refusal_of, trace_of}
-use Rattle.trace_passes.specs.Passes.{trace_with}
+use Rattle.trace_passes.specs.Passes.{IsWanted, head_of, header_refusal, pcs_refusal, refusal_of}
+use Rattle.trace_passes.specs.Passes.{trace_of, trace_with}
 
--- These bytes are read with no fault, and their header isn't refused.
+-- These bytes are read with no fault, and neither their version nor their header is refused.
 pub record IsRead (w : Wanted) (bytes : List ℕ) (now : Reading) : Type 0 where
   pub reading : now ≡ (reading_of bytes).1
   pub clean : now.fault ≡ None
+  pub sited : pcs_refusal w bytes ≡ None
   pub unrefused : header_refusal w (head_of now.progress) ≡ None
+
+abbrev pub magic_length : ℕ
+magic_length = 8
+
+-- The bytes so far aren't refused for having no pcs, and where pcs are wanted, a piece behind them
+-- doesn't go beyond the magic before that is whole.
+pub record StopsAtMagic (w : Wanted) (bytes piece : List ℕ) : Type 0 where
+  pub sited : pcs_refusal w bytes ≡ None
+  pub stops : w.pcs ≡ true → length bytes < magic_length
+      → length bytes + length piece ≤ magic_length
 
 -- what is given of a header that was accepted
 pub record IsHeadOf (progress : Option ReadSoFar) (passed : Passed) : Type 0 where
@@ -64,4 +77,5 @@ pub record HasEnded (held : Option Files) (name : List ℕ) (w : Wanted) (bytes 
   pub is : trace_of bytes ≡ Some (trace_with passed items)
   pub header : IsGoodHeader passed.header
   pub wanted : IsWanted w passed.header
+  pub sited : w.pcs ≡ true → passed.version ≡ Three
   pub accepted : refusal_of w bytes ≡ None

@@ -1,15 +1,18 @@
 -- Which trace some bytes are, how one is refused that is not wanted, and what a pass over it says.
 use Rattle.std.specs.Prelude.{◌≡◌, ℕ, ◌-◌, ◌≤◌, ◌==◌, List, [], ◌∷◌, ◌++◌, length, take, Option}
 use Rattle.std.specs.Prelude.{Some, None, Result, Ok, Err, IsErrOf, if◌then◌else◌, option_map}
+use Rattle.std.specs.Prelude.{Bool, true}
 use Rattle.std.specs.Option.{ForSome, option_or}
 use Rattle.base.specs.declared.ending.Ending.{Ending}
 use Rattle.shelf.specs.Shelf.{Files, Outside, Rose, Told, content}
 use Rattle.trace_format.specs.declared.fault.TraceFault.{TraceFault}
 use Rattle.trace_format.specs.declared.record.Header.{Header}
 use Rattle.trace_format.specs.declared.record.Version.{Version}
+use Rattle.trace_format.specs.declared.record.Version.TheVariants.{One, Two}
 use Rattle.trace_format.specs.declared.record.TraceRecord.{TraceRecord}
 use Rattle.trace_format.specs.declared.record.TraceRecord.TheVariants as records
 use Rattle.trace_format.specs.declared.read_so_far.ReadSoFar.{ReadSoFar}
+use Rattle.trace_format.specs.Judging.{version_at}
 use Rattle.trace_format.specs.Reading.{ending_of, reading_of}
 use Rattle.trace_format.specs.Spelling.{spell}
 use Rattle.trace_passes.specs.declared.passes.PassFault.{PassFault}
@@ -54,6 +57,16 @@ trace_of bytes =
 
 -- ---- how a trace is refused
 
+-- Where pcs are wanted, a version that has none is refused.
+abbrev pub version_refusal : Bool → Option Version → Option Refusal
+version_refusal true (Some One) = Some refusals.NoPcs
+version_refusal true (Some Two) = Some refusals.NoPcs
+version_refusal _ _ = None
+
+-- how bytes are refused for their version, by the magic that they begin with, whatever is behind it
+abbrev pub pcs_refusal : Wanted → List ℕ → Option Refusal
+pcs_refusal w bytes = version_refusal w.pcs (version_at bytes)
+
 -- the header has what is wanted, where something is
 pub record IsWanted (w : Wanted) (h : Header) : Type 0 where
   pub harts : ForSome w.harts (λ harts. h.harts ≡ harts)
@@ -82,12 +95,13 @@ abbrev pub trace_refusal : Result Ending TraceFault → Option Refusal
 trace_refusal (Ok e) = None
 trace_refusal (Err fault) = Some (refusals.Trace fault)
 
--- how bytes are refused: for their header, else for the first fault; None where they are a trace as
--- wanted
+-- how bytes are refused: for having no pcs, else for their header, else for the first fault; None
+-- where they are a trace as wanted
 abbrev pub refusal_of : Wanted → List ℕ → Option Refusal
 refusal_of w bytes =
     let now = (reading_of bytes).1 in
-    option_or (header_refusal w (head_of now.progress)) (trace_refusal (ending_of now))
+    option_or (pcs_refusal w bytes)
+    (option_or (header_refusal w (head_of now.progress)) (trace_refusal (ending_of now)))
 
 -- ---- what a pass says
 

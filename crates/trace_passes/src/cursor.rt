@@ -1,18 +1,19 @@
 // A named trace, piece after piece.
-ghost use Rattle.std.specs.Prelude.{◌≡◌, ◌≢◌, ◌++◌, ◌<◌, ℕ, List, [], length};
+ghost use Rattle.std.specs.Prelude.{◌≡◌, ◌≢◌, ◌++◌, ◌+◌, ◌<◌, ◌≤◌, ℕ, List, [], length, true};
 ghost use Rattle.std.specs.Prelude.{None, Some, unwrap_or, Ok, Err, IfOk, OnOk};
-ghost use Rattle.shelf.specs.Shelf.{content, OnlyReads, Told};
+ghost use Rattle.std.specs.Io.{ReadsAtMost};
+ghost use Rattle.shelf.specs.Shelf.{content, HasCauseAt, OnlyReads, Reads, Told};
 ghost use Rattle.trace_format.specs.declared.fault.TraceFault.TheVariants as trace_faults;
 ghost use Rattle.trace_format.specs.Reading.{ending_of, reading_of};
 ghost use Rattle.trace_passes.specs.Cursors.{GoesOn, HasCome, HasEnded, IsHeadOf, IsRead};
-ghost use Rattle.trace_passes.specs.Cursors.{bytes_left};
+ghost use Rattle.trace_passes.specs.Cursors.{bytes_left, magic_length, StopsAtMagic};
 ghost use Rattle.trace_passes.specs.Passes.{HasPassCause, refusal_of, trace_refusal};
 ghost use Rattle.trace_passes.specs.declared.passes.Passed.{Passed as Parts};
 ghost use Rattle.trace_passes.specs.declared.wanted.Refusal.{Refusal as Refused};
 ghost use Rattle.trace_passes.specs.declared.wanted.Refusal.TheVariants as refusals;
 
 use crate::{PassFault, Passed, Refusal, Wanted};
-use shelf::Shelf;
+use shelf::{Shelf, ShelfError};
 use std::alloc::{AllocError, Global};
 use std::marker::Model;
 use trace_format::{TraceFault, TraceReader, TraceRecord};
@@ -20,6 +21,9 @@ use trace_format::{TraceFault, TraceReader, TraceRecord};
 // The most bytes that are asked for at once. The records of a piece are held together, so that a
 // small piece keeps them few.
 const PIECE: usize = 16384;
+
+// How many bytes a magic has.
+const MAGIC_LENGTH: u64 = 8;
 
 /// A place in a named trace that is read piece after piece, and the records of the last piece.
 ///
@@ -67,7 +71,32 @@ fn fault_after(refusal: Option<Refusal>, fault: TraceFault) -> PassFault
     }
 }
 
-// Reads a piece, and judges the header.
+// Reads bytes of a name into the front of a piece. Where pcs are wanted, no byte behind the magic is
+// asked for before the magic is whole.
+fn fetch<S: Shelf>(
+    shelf: &mut S,
+    name: &str,
+    at: u64,
+    pcs: bool,
+    piece: &mut [u8],
+) -> Result<usize, ShelfError>
+    requires { 0 < length piece.old }
+    ensures bound { ReadsAtMost result piece.new }
+    ensures bytes { IfOk result (λ n. Told (S.outside shelf.new).held
+        (λ files. Reads (content files name.now) at n piece.new)) }
+    ensures magic { IfOk result (λ n. pcs ≡ true → at < magic_length → at + n ≤ magic_length) }
+    ensures cause { HasCauseAt name.now
+        (S.outside shelf.old).read_faults (S.outside shelf.new).read_faults result }
+    ensures only { OnlyReads (S.outside shelf.old) (S.outside shelf.new) }
+{
+    if !pcs || MAGIC_LENGTH <= at {
+        return shelf.read_at(name, at, piece);
+    }
+    let most = piece.len().min((MAGIC_LENGTH - at) as usize);
+    shelf.read_at(name, at, &mut piece[..most])
+}
+
+// Reads a piece, and judges the version and the header.
 fn take_piece(
     reader: &mut TraceReader,
     wanted: &Wanted,
@@ -81,16 +110,17 @@ fn take_piece(
         → (reading_of (bytes ++ piece.now)).0 ≡ (reading_of bytes).0 ++ items.new.items) }
     ensures refused { (refusal : Refused) → result ≡ Err (PassFault.Refused refusal)
         → (bytes more : List ℕ) → reader.old ≡ (reading_of bytes).1
+        → StopsAtMagic wanted.now bytes piece.now
         → refusal_of wanted.now ((bytes ++ piece.now) ++ more) ≡ Some refusal }
     ensures memory { result ≢ Err (PassFault.Refused (refusals.Trace trace_faults.NoMemory)) }
     ensures quiet { result ≢ Err PassFault.ReadFault }
 {
     match reader.feed(piece, items) {
-        Ok(()) => match wanted.refusal(reader.header()) {
+        Ok(()) => match wanted.refusal(reader.magic(), reader.header()) {
             Some(refusal) => Err(PassFault::Refused(refusal)),
             None => Ok(()),
         },
-        Err(fault) => Err(fault_after(wanted.refusal(reader.header()), fault)),
+        Err(fault) => Err(fault_after(wanted.refusal_of_header(reader.header()), fault)),
     }
 }
 
@@ -150,7 +180,8 @@ impl Cursor {
     }
 
     /// Reads the next piece of a name, of at most 16 KiB, and judges the header once it is
-    /// accepted. None stands for more records, and the trace's parts for its end.
+    /// accepted. Where pcs are wanted, the first 8 bytes are read and judged before any byte behind
+    /// them is asked for. None stands for more records, and the trace's parts for its end.
     ///
     /// The condition is that the bytes so far are read without a fault. At an error nothing is said
     /// of the cursor.
@@ -182,7 +213,7 @@ impl Cursor {
         ensures only { OnlyReads (S.outside shelf.old) (S.outside shelf.new) }
     {
         self.items.clear();
-        let count = shelf.read_at(name, self.at, &mut self.piece)?;
+        let count = fetch(shelf, name, self.at, wanted.pcs, &mut self.piece)?;
         if count == 0 {
             return Ok(Some(end_of(&self.reader)?));
         }

@@ -1,8 +1,8 @@
 //! A named trace, read in pieces, each of whose records an observer sees.
 //!
-//! [`pass`] reads the trace, judges its header against what a caller wants, and gives each record to
-//! an [`Observer`]. It goes by a [`Cursor`], for those who need the shelf between two pieces.
-//! `specs/Passes.antt` says which trace some bytes are, and how one is refused, and
+//! [`pass`] reads the trace, judges its version and its header against what a caller wants, and gives
+//! each record to an [`Observer`]. It goes by a [`Cursor`], for those who need the shelf between two
+//! pieces. `specs/Passes.antt` says which trace some bytes are, and how one is refused, and
 //! `specs/Cursors.antt` how far a cursor is. `specs/Lives.antt` says which objects stand in memory
 //! after a list of records, and [`note_object`] keeps a table of them. `specs/Laws/` has laws for
 //! those who cite them.

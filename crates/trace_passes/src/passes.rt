@@ -1,6 +1,6 @@
 // One pass over a named trace.
 ghost use Rattle.std.specs.Prelude.{◌≡◌, ◌≢◌, ◌++◌, ◌<◌, List, [], length};
-ghost use Rattle.std.specs.Prelude.{None, Some, Err, IfOk, OnOk};
+ghost use Rattle.std.specs.Prelude.{None, Some, Err, IfOk, OnOk, true};
 ghost use Rattle.std.specs.List.{All};
 ghost use Rattle.shelf.specs.Shelf.{content, OnlyReads, Told};
 ghost use Rattle.trace_format.specs.declared.record.Header.{Header as Head};
@@ -89,10 +89,11 @@ fn note_all<O: Observer>(observer: &mut O, items: &[TraceRecord]) -> Result<(), 
 /// Reads the trace of a name in pieces of at most 16 KiB, and gives each record to the observer, in
 /// order, the end record last.
 ///
-/// Once the header is accepted it is judged: another number of harts than is wanted, then another
-/// first position, comes before any fault of the records. `ReadFault` comes only where the shelf's
-/// faults of reading this name rose in this call, and `NoMemory` for want of memory alone. At an
-/// error nothing is said of the observer.
+/// Where pcs are wanted, the first 8 bytes are judged before anything behind them is read: the magic
+/// of version 1 or 2 is refused. Once the header is accepted it is judged: another number of harts
+/// than is wanted, then another first position, comes before any fault of the records. `ReadFault`
+/// comes only where the shelf's faults of reading this name rose in this call, and `NoMemory` for
+/// want of memory alone. At an error nothing is said of the observer.
 pub fn pass<S: Shelf, O: Observer>(
     alloc: Global,
     shelf: &mut S,
@@ -109,6 +110,9 @@ pub fn pass<S: Shelf, O: Observer>(
         (O.given observer.old observer.new)) }
     ensures head { IfOk result (λ passed. IsGoodHeader passed.header
         × IsWanted wanted.now passed.header) }
+    // Only version 3 passes where pcs are wanted.
+    ensures sited { IfOk result (λ passed. wanted.now.pcs ≡ true
+        → passed.version ≡ Version.Three) }
     ensures accepted { OnOk result (Told (S.outside shelf.new).held
         (λ files. refusal_of wanted.now (content files name.now) ≡ None)) }
     ensures refused { (refusal : Refused) → result ≡ Err (PassFault.Refused refusal)

@@ -1,16 +1,19 @@
 // What a caller wants of a trace, and how one is refused.
 ghost use Rattle.std.specs.Prelude.{◌≡◌};
-ghost use Rattle.trace_passes.specs.Passes.{first_refusal, header_refusal};
+ghost use Rattle.std.specs.Option.{option_or};
+ghost use Rattle.trace_passes.specs.Passes.{first_refusal, header_refusal, version_refusal};
 
-use trace_format::{Header, TraceFault};
+use trace_format::{Header, TraceFault, Version};
 
-/// What a caller wants of a trace's header; None where it takes any.
+/// What a caller wants of a trace: of its header, None where it takes any, and of its accesses.
 #[derive(Clone, Copy, PartialEq, Eq, Debug)]
 pub struct Wanted {
     /// How many harts there are.
     pub harts: Option<u16>,
     /// The position of the first access.
     pub first: Option<u64>,
+    /// Whether each access has its pc, as version 3 alone has it; `false` takes any version.
+    pub pcs: bool,
 }
 
 /// Why a trace is not taken.
@@ -18,6 +21,8 @@ pub struct Wanted {
 pub enum Refusal {
     /// It is no trace.
     Trace(TraceFault),
+    /// Pcs are wanted, and its first 8 bytes are the magic of version 1 or 2, which have none.
+    NoPcs,
     /// Its header has another number of harts than is wanted.
     Harts,
     /// Its header has another first position than is wanted.
@@ -30,8 +35,20 @@ pub enum Refusal {
 }
 
 impl Wanted {
+    // How a front of a trace is refused, if it is: for the version that its magic names, then for
+    // its header.
+    pub(crate) fn refusal(&self, magic: Option<Version>, header: Option<Header>) -> Option<Refusal>
+        ensures { result ≡ option_or (version_refusal self.now.pcs magic)
+            (header_refusal self.now header) }
+    {
+        match magic {
+            Some(Version::One | Version::Two) if self.pcs => Some(Refusal::NoPcs),
+            _ => self.refusal_of_header(header),
+        }
+    }
+
     // How a header is refused, if it is; one that isn't accepted yet is not.
-    pub(crate) fn refusal(&self, header: Option<Header>) -> Option<Refusal>
+    pub(crate) fn refusal_of_header(&self, header: Option<Header>) -> Option<Refusal>
         ensures { result ≡ header_refusal self.now header }
     {
         let Some(header) = header else {

@@ -19,6 +19,7 @@ pub(crate) fn tallied(
     let wanted = Wanted {
         harts: Some(8),
         first: Some(first),
+        pcs: false,
     };
     let mut tally = tally_from(first);
     match pass(alloc, &mut shelf, "t", &wanted, &mut tally) {
@@ -96,6 +97,45 @@ fn a_header_is_refused_before_a_fault(rt: HostRuntime) {
     ] {
         let fault = PassFault::Refused(refusal);
         assert!(rt; odd_tallied(rt.alloc(), harts, first) == Err(fault));
+    }
+}
+
+// A pass over the file `t` with this content that wants pcs.
+fn sited(alloc: Global, content: &[u8]) -> Result<(), PassFault> {
+    let mut shelf = shelf_with(alloc, content, &[])?;
+    let wanted = Wanted {
+        harts: None,
+        first: Some(0),
+        pcs: true,
+    };
+    let mut tally = tally_from(0);
+    match pass(alloc, &mut shelf, "t", &wanted, &mut tally) {
+        Ok(_) => Ok(()),
+        Err(fault) => Err(fault),
+    }
+}
+
+#[test]
+fn a_trace_without_pcs_is_refused_by_its_magic(rt: HostRuntime) {
+    for (content, refusal) in [
+        (b"PRDTRC01".as_slice(), Refusal::NoPcs),
+        (b"PRDTRC02".as_slice(), Refusal::NoPcs),
+        // Its header is at fault too.
+        (b"PRDTRC01            ".as_slice(), Refusal::NoPcs),
+        (
+            b"PRDTRC0".as_slice(),
+            Refusal::Trace(TraceFault::Truncated(7)),
+        ),
+        (
+            b"PRDTRC03".as_slice(),
+            Refusal::Trace(TraceFault::Truncated(8)),
+        ),
+        (
+            b"PRDTRC04            ".as_slice(),
+            Refusal::Trace(TraceFault::BadMagic),
+        ),
+    ] {
+        assert!(rt; sited(rt.alloc(), content) == Err(PassFault::Refused(refusal)));
     }
 }
 

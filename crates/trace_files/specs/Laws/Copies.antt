@@ -20,7 +20,7 @@ any_header (Some h) = refl
 pub trace_unrefused : (bytes : List ℕ) (t : Trace) → trace_of bytes ≡ Some t
     → refusal_of any bytes ≡ None
 trace_unrefused bytes t is =
-    accepted_at_end any bytes t.ending (any_header (head_of (reading_of bytes).1.progress))
+    accepted_at_end any bytes t.ending refl (any_header (head_of (reading_of bytes).1.progress))
     (trace-ending bytes t is)
 
 found_at : (all : List TraceRecord) (p : Option ReadSoFar) (r : Result Ending TraceFault)
@@ -40,5 +40,5 @@ pub trace_found : (bytes : List ℕ) → refusal_of any bytes ≡ None
 trace_found bytes none =
     let now = reading_of bytes in
     found_at now.0 now.1.progress (ending_of now.1)
-    (sym (refusal_at_end any bytes (any_header (head_of now.1.progress))) ∙ none)
+    (sym (refusal_at_end any bytes refl (any_header (head_of now.1.progress))) ∙ none)
     (λ e is. let whole = whole_at_end bytes e is in (whole.now, whole.known))

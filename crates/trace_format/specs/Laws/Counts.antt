@@ -178,7 +178,7 @@ one_more p items (records.End e) size is counted there inner =
 
 -- ---- one byte more
 
-by_test : {A : Type 0} (P : A → Type 0) (b : Bool) (x y : A) → (b ≡ true → P x) → (b ≡ false → P y)
+pub by_test : {A : Type 0} (P : A → Type 0) (b : Bool) (x y : A) → (b ≡ true → P x) → (b ≡ false → P y)
     → P (cond b x y)
 by_test P true x y on off = on refl
 by_test P false x y on off = off refl

@@ -9,22 +9,25 @@ use Rattle.base.specs.declared.ending.Ending.{Ending}
 use Rattle.trace_format.specs.declared.fault.TraceFault.{TraceFault}
 use Rattle.trace_format.specs.declared.fault.TraceFault.TheVariants as faults
 use Rattle.trace_format.specs.declared.record.Header.{Header}
+use Rattle.trace_format.specs.declared.record.Version.{Version}
+use Rattle.trace_format.specs.declared.record.Version.TheVariants.{One, Two, Three}
 use Rattle.trace_format.specs.declared.record.TraceRecord.{TraceRecord}
 use Rattle.trace_format.specs.declared.record.TraceRecord.TheVariants as records
 use Rattle.trace_format.specs.declared.read_so_far.ReadSoFar.{ReadSoFar}
 use Rattle.trace_format.specs.Rules.{IsGoodHeader, IsInner, IsWritable, last_position}
 use Rattle.trace_format.specs.Rules.{longest_trace, touches_in}
-use Rattle.trace_format.specs.Judging.{record_judged}
+use Rattle.trace_format.specs.Judging.{record_judged, version_at}
 use Rattle.trace_format.specs.Reading.{Reading, byte_read, ending_at, ending_of, extent_at}
 use Rattle.trace_format.specs.Reading.{part_at, place_of, read_on, reading_of, record_read, taken}
 use Rattle.trace_format.specs.Reading.{with_fault}
+use Rattle.trace_format.specs.Laws.Magic.{fault_is_late, has_version, version_kept, version_stays}
 use Rattle.trace_format.specs.Laws.Reading.{read_on-fault, read_on-pieces, waiting}
 use Rattle.trace_passes.specs.declared.wanted.Refusal.{Refusal}
 use Rattle.trace_passes.specs.declared.wanted.Refusal.TheVariants as refusals
 use Rattle.trace_passes.specs.declared.wanted.Wanted.{Wanted}
 use Rattle.trace_passes.specs.Passes.{Trace, IsWanted, all_records, before_last, first_refusal}
-use Rattle.trace_passes.specs.Passes.{harts_refusal, head_of, header_refusal, refusal_of, trace_at}
-use Rattle.trace_passes.specs.Passes.{trace_of, trace_refusal}
+use Rattle.trace_passes.specs.Passes.{harts_refusal, head_of, header_refusal, pcs_refusal, refusal_of}
+use Rattle.trace_passes.specs.Passes.{trace_at, trace_of, trace_refusal, version_refusal}
 use Rattle.trace_format.specs.Laws.Counts.{EndsWith, IsCounted, IsSoFar, so_far, touches_in-append}
 
 by_test : {A : Type 0} (P : A → Type 0) (b : Bool) (x y : A) → P x → P y → P (cond b x y)
@@ -111,13 +114,44 @@ or_second : (a b : Option Refusal) → a ≡ None → option_or a b ≡ b
 or_second None b e = refl
 or_second (Some a) b e = absurd cc
 
+version_refused : (pcs : Bool) (a b : Option Version) (x : Refusal)
+    → ((v : Version) → a ≡ Some v → b ≡ Some v) → version_refusal pcs a ≡ Some x
+    → version_refusal pcs b ≡ Some x
+version_refused false a b x kept e = absurd cc
+version_refused true None b x kept e = absurd cc
+version_refused true (Some v) b x kept e = ap (version_refusal true) (kept v refl) ∙ e
+
+-- A magic that is refused refuses all that begins so.
+pub refused_for_pcs : (w : Wanted) (bytes more : List ℕ) (x : Refusal)
+    → pcs_refusal w bytes ≡ Some x → refusal_of w (bytes ++ more) ≡ Some x
+refused_for_pcs w bytes more x e =
+    or_first (pcs_refusal w (bytes ++ more)) _ x
+    (version_refused w.pcs (version_at bytes) (version_at (bytes ++ more)) x
+    (version_kept bytes more) e)
+
+-- A magic that is there and isn't refused is not refused with more bytes.
+pub pcs_taken : (w : Wanted) (bytes more : List ℕ) → 8 ≤ length bytes → pcs_refusal w bytes ≡ None
+    → pcs_refusal w (bytes ++ more) ≡ None
+pcs_taken w bytes more long sited = ap (version_refusal w.pcs) (version_stays bytes more long)
+    ∙ sited
+
+-- a header that is refused is there
+refused_header : (w : Wanted) (p : Option ReadSoFar) (x : Refusal)
+    → header_refusal w (head_of p) ≡ Some x → (now : ReadSoFar) × (p ≡ Some now)
+refused_header w None x e = absurd cc
+refused_header w (Some p) x e = (p, refl)
+
 -- A header that is refused once it is accepted refuses all that begins so.
 pub refused_for_header : (w : Wanted) (bytes more : List ℕ) (x : Refusal)
+    → pcs_refusal w bytes ≡ None
     → header_refusal w (head_of (reading_of bytes).1.progress) ≡ Some x
     → refusal_of w (bytes ++ more) ≡ Some x
-refused_for_header w bytes more x e =
+refused_for_header w bytes more x sited e =
     let now = (reading_of (bytes ++ more)).1 in
-    or_first (header_refusal w (head_of now.progress)) (trace_refusal (ending_of now)) x
+    let head = refused_header w (reading_of bytes).1.progress x e in
+    let long = (has_version bytes head.0 head.1).long in
+    or_second (pcs_refusal w (bytes ++ more)) _ (pcs_taken w bytes more (omega (arith, long)) sited)
+    ∙ or_first (header_refusal w (head_of now.progress)) (trace_refusal (ending_of now)) x
     (same_header (reading_of bytes).1.progress now.progress (head_of_front bytes more) w x e)
 
 fault_in : (r : Reading) (bytes : List ℕ) (f : Option TraceFault) (fault : TraceFault) → r.fault ≡ f
@@ -153,38 +187,44 @@ fault_ends r None fault is e = absurd cc
 fault_ends r (Some g) fault is e = ap (λ (f : Option TraceFault). ending_at f r.ending (taken r))
     (is ∙ e)
 
--- Bytes whose header is not refused are refused for what they end with.
-pub refusal_at_end : (w : Wanted) (bytes : List ℕ)
+-- Bytes whose magic and header are not refused are refused for what they end with.
+pub refusal_at_end : (w : Wanted) (bytes : List ℕ) → pcs_refusal w bytes ≡ None
     → header_refusal w (head_of (reading_of bytes).1.progress) ≡ None
     → refusal_of w bytes ≡ trace_refusal (ending_of (reading_of bytes).1)
-refusal_at_end w bytes unrefused =
+refusal_at_end w bytes sited unrefused =
     let now = (reading_of bytes).1 in
-    or_second (header_refusal w (head_of now.progress)) (trace_refusal (ending_of now)) unrefused
+    or_second (pcs_refusal w bytes) _ sited
+    ∙ or_second (header_refusal w (head_of now.progress)) (trace_refusal (ending_of now)) unrefused
 
 pub refused_at_end : (w : Wanted) (bytes : List ℕ) (fault : TraceFault)
+    → pcs_refusal w bytes ≡ None
     → header_refusal w (head_of (reading_of bytes).1.progress) ≡ None
     → ending_of (reading_of bytes).1 ≡ Err fault
     → refusal_of w bytes ≡ Some (refusals.Trace fault)
-refused_at_end w bytes fault unrefused e = refusal_at_end w bytes unrefused ∙ ap trace_refusal e
+refused_at_end w bytes fault sited unrefused e = refusal_at_end w bytes sited unrefused
+    ∙ ap trace_refusal e
 
--- A fault of a front whose header is not refused is that of the whole.
+-- A fault of a front whose magic and header are not refused is that of the whole.
 pub refused_for_fault : (w : Wanted) (bytes more : List ℕ) (fault : TraceFault)
+    → pcs_refusal w bytes ≡ None
     → header_refusal w (head_of (reading_of bytes).1.progress) ≡ None
     → (reading_of bytes).1.fault ≡ Some fault
     → refusal_of w (bytes ++ more) ≡ Some (refusals.Trace fault)
-refused_for_fault w bytes more fault unrefused e =
+refused_for_fault w bytes more fault sited unrefused e =
     let same = fault_stays bytes more fault e in
     let r = (reading_of bytes).1 in
-    refused_at_end w (bytes ++ more) fault
+    let long = fault_is_late bytes fault e in
+    refused_at_end w (bytes ++ more) fault (pcs_taken w bytes more (omega (arith, long)) sited)
     (ap (λ (x : Reading). header_refusal w (head_of x.progress)) same ∙ unrefused)
     (ap ending_of same ∙ fault_ends r r.fault fault refl e)
 
--- What is a trace with a header that is not refused is not refused.
-pub accepted_at_end : (w : Wanted) (bytes : List ℕ) (e : Ending)
+-- What is a trace with a magic and a header that are not refused is not refused.
+pub accepted_at_end : (w : Wanted) (bytes : List ℕ) (e : Ending) → pcs_refusal w bytes ≡ None
     → header_refusal w (head_of (reading_of bytes).1.progress) ≡ None
     → ending_of (reading_of bytes).1 ≡ Ok e
     → refusal_of w bytes ≡ None
-accepted_at_end w bytes e unrefused is = refusal_at_end w bytes unrefused ∙ ap trace_refusal is
+accepted_at_end w bytes e sited unrefused is = refusal_at_end w bytes sited unrefused
+    ∙ ap trace_refusal is
 
 -- ---- which header is as wanted
 
@@ -207,7 +247,7 @@ wanted_first (Some m) first e =
     let same = eqb-true first m (by_none (eqb first m) (refusals.Position m first) e) in
     λ n is. cc
 
-neither : (a b : Option Refusal) → option_or a b ≡ None → (a ≡ None) × (b ≡ None)
+pub neither : (a b : Option Refusal) → option_or a b ≡ None → (a ≡ None) × (b ≡ None)
 neither None b e = (refl, e)
 neither (Some a) b e = absurd cc
 
@@ -220,6 +260,20 @@ is_wanted w h e =
       first =
           wanted_first w.first h.first both.1;
     }
+
+sited_version : (pcs : Bool) (v : Version) → version_refusal pcs (Some v) ≡ None → pcs ≡ true
+    → v ≡ Three
+sited_version false v e is = absurd cc
+sited_version true One e is = absurd cc
+sited_version true Two e is = absurd cc
+sited_version true Three e is = refl
+
+-- a trace that isn't refused for having no pcs has them where they are wanted
+pub is_sited : (w : Wanted) (bytes : List ℕ) (p : ReadSoFar) → pcs_refusal w bytes ≡ None
+    → (reading_of bytes).1.progress ≡ Some p → w.pcs ≡ true → p.version ≡ Three
+is_sited w bytes p sited known =
+    let version = (has_version bytes p known).version in
+    sited_version w.pcs p.version (ap (version_refusal w.pcs) (sym version) ∙ sited)
 
 -- ---- the parts of a trace
 
@@ -370,6 +424,7 @@ pub record IsTaken (w : Wanted) (bytes : List ℕ) : Type 0 where
   pub trace : Trace
   pub is : trace_of bytes ≡ Some trace
   pub wanted : IsWanted w trace.header
+  pub sited : w.pcs ≡ true → trace.version ≡ Three
 
 no_fault : (j : Result Ending TraceFault) → trace_refusal j ≡ None → (e : Ending) × (j ≡ Ok e)
 no_fault (Ok e) is = (e, refl)
@@ -378,8 +433,9 @@ no_fault (Err fault) is = absurd cc
 pub not_refused : (w : Wanted) (bytes : List ℕ) → refusal_of w bytes ≡ None → IsTaken w bytes
 not_refused w bytes is =
     let now = (reading_of bytes).1 in
-    let both = neither (header_refusal w (head_of now.progress)) (trace_refusal (ending_of now)) is
-    in
+    let front = neither (pcs_refusal w bytes) _ is in
+    let both = neither (header_refusal w (head_of now.progress)) (trace_refusal (ending_of now))
+    front.1 in
     let end = no_fault (ending_of now) both.1 in
     let whole = whole_at_end bytes end.0 end.1 in
     let head : header_refusal w (Some whole.now.header) ≡ None =
@@ -388,4 +444,5 @@ not_refused w bytes is =
       trace = _;
       is = trace_there bytes whole.now end.0 whole.known end.1;
       wanted = is_wanted w whole.now.header head;
+      sited = is_sited w bytes whole.now front.0 whole.known;
     }

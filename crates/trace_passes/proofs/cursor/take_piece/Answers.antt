@@ -1,15 +1,23 @@
-use Rattle.std.proofs.Common.{◌≡◌, List, [], None, Some, inl, inr, sym, ap, subst, ◌∙◌}
+use Rattle.std.proofs.Common.{◌≡◌, List, [], Option, None, Some, inl, inr, sym, ap, subst, ◌∙◌}
 use Rattle.trace_format.specs.declared.record.TraceRecord.{TraceRecord}
+use Rattle.std.specs.Option.{option_or}
+use Rattle.trace_format.specs.declared.record.Header.{Header}
+use Rattle.trace_format.specs.declared.record.Version.{Version}
+use Rattle.trace_format.specs.Reading.{magic_in}
 use Rattle.trace_format.specs.ReaderStates.{ReadsOn}
 use Rattle.trace_passes.specs.declared.wanted.Refusal.{Refusal}
-use Rattle.trace_passes.specs.Passes.{head_of, header_refusal}
+use Rattle.trace_passes.specs.declared.wanted.Wanted.{Wanted}
+use Rattle.trace_passes.specs.Passes.{head_of, header_refusal, version_refusal}
 use Rattle.trace_passes.proofs.Pieces.{first_not_memory, is_memory, no_fault, now_seen}
-use Rattle.trace_passes.proofs.Pieces.{ok_is_no_err, read_now, refused_first, refused_now}
+use Rattle.trace_passes.proofs.Pieces.{ok_is_no_err, read_now, refused_first, refused_in_front}
 use Rattle.trace_passes.proofs.Pieces.{that_fault}
 use Rattle.trace_passes.proofs.cursor.take_piece.Goals as goal
 
+abbrev judged : Wanted → Option Version → Option Header → Option Refusal
+judged w v h = option_or (version_refusal w.pcs v) (header_refusal w h)
+
 pub returns-in-Some-clause-refused : goal.returns-in-Some-clause-refused
-returns-in-Some-clause-refused c = λ refusal same bytes more from.
+returns-in-Some-clause-refused c = λ refusal same bytes more from stops.
     let old = c.args.reader.now in
     let piece = c.args.piece.now in
     let new = c.feed.new.self in
@@ -17,11 +25,14 @@ returns-in-Some-clause-refused c = λ refusal same bytes more from.
     let on : ReadsOn old piece new [] after =
     subst (λ (xs : List TraceRecord). ReadsOn old piece new xs after) c.requires.empty
     (c.in-Ok.ensures.read (ok_is_no_err _ _)) in
-    let told : header_refusal c.args.wanted.now (head_of new.progress) ≡ Some c.in-Some.refusal =
-    ap (header_refusal c.args.wanted.now) (sym c.header.ensures) ∙ sym c.refusal.ensures
+    let w = c.args.wanted.now in
+    let told : judged w (magic_in new) (head_of new.progress) ≡ Some c.in-Some.refusal =
+    ap (judged w (magic_in new)) (sym c.header.ensures)
+    ∙ ap (λ v. judged w v c.header.result) (sym c.magic.ensures) ∙ sym c.refusal.ensures
     ∙ c.in-Some.is in
     let is : c.in-Some.refusal ≡ refusal = cc in
-    refused_now old new piece after on bytes from c.args.wanted.now more c.in-Some.refusal told
+    let clean : new.fault ≡ None = no_fault new.fault c.in-Ok.field-0 (c.in-Ok.ensures.answer) in
+    refused_in_front old new piece after on bytes from w more c.in-Some.refusal clean told
     ∙ ap (λ (x : Refusal). Some x) is
 
 pub returns-in-None-clause-read : goal.returns-in-None-clause-read
@@ -33,8 +44,10 @@ returns-in-None-clause-read c = λ bytes from.
     let on : ReadsOn old piece new [] after =
     subst (λ (xs : List TraceRecord). ReadsOn old piece new xs after) c.requires.empty
     (c.in-Ok.ensures.read (ok_is_no_err _ _)) in
-    let unrefused : header_refusal c.args.wanted.now (head_of new.progress) ≡ None =
-    ap (header_refusal c.args.wanted.now) (sym c.header.ensures) ∙ sym c.refusal.ensures
+    let w = c.args.wanted.now in
+    let unrefused : judged w (magic_in new) (head_of new.progress) ≡ None =
+    ap (judged w (magic_in new)) (sym c.header.ensures)
+    ∙ ap (λ v. judged w v c.header.result) (sym c.magic.ensures) ∙ sym c.refusal.ensures
     ∙ c.in-None.is in
     let clean : new.fault ≡ None = no_fault new.fault c.in-Ok.field-0 (c.in-Ok.ensures.answer) in
     read_now old new piece after on bytes from c.args.wanted.now clean unrefused
@@ -51,12 +64,12 @@ returns-in-None-clause-records c = λ bytes from.
     sym (now_seen old new piece after on bytes from)
 
 pub returns-in-Err-clause-refused : goal.returns-in-Err-clause-refused
-returns-in-Err-clause-refused c = λ refusal same bytes more from.
+returns-in-Err-clause-refused c = λ refusal same bytes more from stops.
     let old = c.args.reader.now in
     let piece = c.args.piece.now in
     let new = c.feed.new.self in
     let after = c.feed.new.into.items in
-    let told = c.refusal-in-Err.result in
+    let told = c.refusal_of_header.result in
     let fault = c.in-Err.fault in
     let known = c.fault_after.ensures in
     elim (is_memory fault) [
@@ -66,11 +79,12 @@ returns-in-Err-clause-refused c = λ refusal same bytes more from.
           subst (λ (xs : List TraceRecord). ReadsOn old piece new xs after) c.requires.empty
           (c.in-Err.ensures.read (λ e. other cc)) in
           let is : told ≡ header_refusal c.args.wanted.now (head_of new.progress) =
-          c.refusal-in-Err.ensures ∙ ap (header_refusal c.args.wanted.now) c.header-in-Err.ensures
+          c.refusal_of_header.ensures ∙ ap (header_refusal c.args.wanted.now) c.header-in-Err.ensures
           in
           let there = that_fault new.fault fault c.in-Err.ensures.answer in
           let out = known.refused other in
-          refused_first old new piece after on bytes from c.args.wanted.now more fault told is there
+          refused_first old new piece after on bytes from c.args.wanted.now more fault told stops is
+          there
           ∙ cc
     ]
 
@@ -82,8 +96,8 @@ returns-in-Err-clause-memory c = λ same.
       | inl memory ↦ let out = known.memory memory in cc
       | inr other ↦
           let out = known.refused other in
-          first_not_memory c.args.wanted.now c.header-in-Err.result c.refusal-in-Err.result fault
-          c.refusal-in-Err.ensures other cc
+          first_not_memory c.args.wanted.now c.header-in-Err.result c.refusal_of_header.result fault
+          c.refusal_of_header.ensures other cc
     ]
 
 pub returns-in-Err-clause-quiet : goal.returns-in-Err-clause-quiet

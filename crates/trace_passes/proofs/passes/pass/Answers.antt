@@ -96,6 +96,7 @@ returns-in-Some g c =
       passed = has_passed held name w bytes passed
           (g.O.Observer.given c.args.observer.now c.pieces.observer) ended x.way.saw;
       head = (ended.header, ended.wanted);
+      sited = ended.sited;
       accepted = accepted_then held name w bytes passed ended;
       refused = λ refusal same. absurd (ok_is_no_err _ _ same);
       memory = ok_is_no_err _ _;

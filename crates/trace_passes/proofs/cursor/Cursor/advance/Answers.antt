@@ -5,22 +5,22 @@ use Rattle.shelf.specs.Fetch.{IsFront}
 use Rattle.shelf.specs.Laws.Told.{told_both}
 use Rattle.trace_format.specs.Reading.{reading_of}
 use Rattle.trace_format.specs.Rules.{longest_trace}
-use Rattle.trace_passes.specs.Cursors.{HasCome, HasEnded, IsRead, Reached}
+use Rattle.trace_passes.specs.Cursors.{HasCome, HasEnded, IsRead, Reached, StopsAtMagic}
 use Rattle.trace_passes.specs.Passes.{refusal_of}
 use Rattle.trace_passes.proofs.Fronts.{at_most, come_still, falls, given_back, longer_front}
 use Rattle.trace_passes.proofs.Fronts.{next_come}
-use Rattle.trace_passes.proofs.Fronts.{refused_file, whole_front}
-use Rattle.trace_passes.proofs.Closings.{ended}
+use Rattle.trace_passes.proofs.Fronts.{refused_file, stops_there, whole_front}
+use Rattle.trace_passes.proofs.Closings.{ended, refused_end}
 use Rattle.trace_passes.proofs.cursor.Cursor.advance.Goals as goal
 
 pub returns-then-count-eq0-clause-ended : goal.returns-then-count-eq0-clause-ended
 returns-then-count-eq0-clause-ended g c = λ passed same bytes reached.
-    let held = (g.S.Shelf.outside c.read_at.new.self).held in
+    let held = (g.S.Shelf.outside c.fetch.new.shelf).held in
     let came = subst (HasCome (g.S.Shelf.outside c.args.shelf.now).held c.args.name.now
     c.args.wanted.now bytes) (sym c.self.view_is)
     reached in
     let come = come_still _ held _ _ _ _ c.in_ok-count.ensures.only.held came in
-    let into = c.read_at.new.into in
+    let into = c.fetch.new.piece in
     let size : length c.self.inside.piece.items ≡ c.self.inside.piece.len = omega arith in
     let some : 0 < length into = omega (arith, c.deref_mut.ensures.len, size, come.room) in
     let none : c.in_ok-count.count ≡ 0 = c.if-count-eq0.true in
@@ -38,15 +38,35 @@ returns-then-count-eq0-clause-ended g c = λ passed same bytes reached.
     c.in_ok-end_of.ensures.ending
     c.in_ok-end_of.ensures.progress)
 
+pub returns-in_err-end_of-clause-refused : goal.returns-in_err-end_of-clause-refused
+returns-in_err-end_of-clause-refused g c = λ refusal same.
+    let held = (g.S.Shelf.outside c.fetch.new.shelf).held in
+    let bytes = c.requires.0 in
+    let came = subst (HasCome (g.S.Shelf.outside c.args.shelf.now).held c.args.name.now
+    c.args.wanted.now bytes) (sym c.self.view_is) c.requires.1 in
+    let come = come_still _ held _ _ _ _ c.in_ok-count.ensures.only.held came in
+    let into = c.fetch.new.piece in
+    let size : length c.self.inside.piece.items ≡ c.self.inside.piece.len = omega arith in
+    let some : 0 < length into = omega (arith, c.deref_mut.ensures.len, size, come.room) in
+    let none : c.in_ok-count.count ≡ 0 = c.if-count-eq0.true in
+    let name = c.args.name.now in
+    let whole : Told held (λ files. bytes ≡ content files name) =
+    told_both held (λ files. whole_front (content files name) bytes into c.self.inside.at
+    c.in_ok-count.count come.size none some) come.front c.in_ok-count.ensures.bytes in
+    let was_err = c.in_err-end_of.was in
+    let handed_on = rw same at c.from_residual-in_err-end_of.ensures.1 in
+    refused_end held name c.args.wanted.now c.self.inside.reader bytes come.read whole refusal
+    (c.end_of.ensures.refused refusal (cc))
+
 pub returns-in_err-take_piece-clause-refused : goal.returns-in_err-take_piece-clause-refused
 returns-in_err-take_piece-clause-refused g c = λ refusal same.
-    let into = c.read_at.new.into in
+    let into = c.fetch.new.piece in
     let was = c.self.inside.piece.items in
     let lent : length into ≡ c.self.inside.piece.len = omega (arith, c.deref_mut.ensures.len) in
     let size : length was ≡ c.self.inside.piece.len = omega arith in
     let back = given_back c.self.inside.piece.len into was lent size in
     let bytes = c.requires.0 in
-    let held = (g.S.Shelf.outside c.read_at.new.self).held in
+    let held = (g.S.Shelf.outside c.fetch.new.shelf).held in
     let name = c.args.name.now in
     let came = subst (HasCome (g.S.Shelf.outside c.args.shelf.now).held name c.args.wanted.now
     bytes) (sym c.self.view_is) c.requires.1 in
@@ -59,31 +79,51 @@ returns-in_err-take_piece-clause-refused g c = λ refusal same.
     come.front c.in_ok-count.ensures.bytes in
     let was_err = c.in_err-take_piece.was in
     let handed_on = rw same at c.from_residual-in_err-take_piece.ensures.1 in
-    let refused : (more : List ℕ) → refusal_of c.args.wanted.now
-    ((bytes ++ take count into) ++ more) ≡ Some refusal =
-    λ more. subst (λ (xs : List ℕ). refusal_of c.args.wanted.now ((bytes ++ take count xs) ++ more)
-    ≡ Some refusal)
+    let w = c.args.wanted.now in
+    let stops : StopsAtMagic w bytes (take count into) =
+    stops_there w bytes into at count come.size fits come.read.sited
+    (c.in_ok-count.ensures.magic) in
+    let refused : (more : List ℕ) → refusal_of w ((bytes ++ take count into) ++ more)
+    ≡ Some refusal =
+    λ more. subst (λ (xs : List ℕ). StopsAtMagic w bytes (take count xs)
+    → refusal_of w ((bytes ++ take count xs) ++ more) ≡ Some refusal)
     (c.deref.ensures.value ∙ back) (c.take_piece.ensures.refused refusal
-    (cc) bytes more come.read.reading) in
-    refused_file held name (bytes ++ take count into) c.args.wanted.now refusal front refused
+    (cc) bytes more come.read.reading) stops in
+    refused_file held name (bytes ++ take count into) w refusal front refused
 
 pub returns-in_err-take_piece-clause-found : goal.returns-in_err-take_piece-clause-found
 returns-in_err-take_piece-clause-found g c = λ refusal same.
     let bytes = c.requires.0 in
     let come = subst (HasCome (g.S.Shelf.outside c.args.shelf.now).held c.args.name.now
     c.args.wanted.now bytes) (sym c.self.view_is) c.requires.1 in
+    let into = c.fetch.new.piece in
+    let was = c.self.inside.piece.items in
+    let lent : length into ≡ c.self.inside.piece.len = omega (arith, c.deref_mut.ensures.len) in
+    let size : length was ≡ c.self.inside.piece.len = omega arith in
+    let back = given_back c.self.inside.piece.len into was lent size in
+    let count = c.in_ok-count.count in
+    let fits : count ≤ length into = omega (arith, c.in_ok-count.ensures.bound) in
+    let w = c.args.wanted.now in
     let was_err = c.in_err-take_piece.was in
     let handed_on = rw same at c.from_residual-in_err-take_piece.ensures.1 in
-    (_, c.take_piece.ensures.refused refusal (cc) bytes [] come.read.reading)
+    let stops : StopsAtMagic w bytes (take count into) =
+    stops_there w bytes into c.self.inside.at count come.size fits come.read.sited
+    (c.in_ok-count.ensures.magic) in (
+      (bytes ++ take count into) ++ [],
+      subst (λ (xs : List ℕ). StopsAtMagic w bytes (take count xs)
+          → refusal_of w ((bytes ++ take count xs) ++ []) ≡ Some refusal)
+          (c.deref.ensures.value ∙ back) (c.take_piece.ensures.refused refusal
+          (cc) bytes [] come.read.reading) stops,
+    )
 
 pub returns-clause-more : goal.returns-clause-more
 returns-clause-more g c = λ same bytes reached.
-    let held = (g.S.Shelf.outside c.read_at.new.self).held in
+    let held = (g.S.Shelf.outside c.fetch.new.shelf).held in
     let came = subst (HasCome (g.S.Shelf.outside c.args.shelf.now).held c.args.name.now
     c.args.wanted.now bytes) (sym c.self.view_is)
     reached in
     let come = come_still _ held _ _ _ _ c.in_ok-count.ensures.only.held came in
-    let into = c.read_at.new.into in
+    let into = c.fetch.new.piece in
     let was = c.self.inside.piece.items in
     let lent : length into ≡ c.self.inside.piece.len = omega (arith, c.deref_mut.ensures.len) in
     let size : length was ≡ c.self.inside.piece.len = omega arith in
@@ -120,7 +160,7 @@ overflow_add-self g c =
 
 pub returns-clause-fewer : goal.returns-clause-fewer
 returns-clause-fewer g c = λ same.
-    let held = (g.S.Shelf.outside c.read_at.new.self).held in
+    let held = (g.S.Shelf.outside c.fetch.new.shelf).held in
     let on = returns-clause-more g c same c.requires.0 c.requires.1 in
     let low = at_most held c.args.name.now c.args.wanted.now _ _ on.come in
     subst (λ (n : ℕ). longest_trace - (c.self.inside.at + c.in_ok-count.count) < longest_trace - n)
