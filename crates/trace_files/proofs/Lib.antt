@@ -14,6 +14,7 @@ pub mod Lengths
 pub mod Lookups
 pub mod MadeGoing
 pub mod MovedWords
+pub mod Movings
 pub mod OneTraces
 pub mod Others
 pub mod Pieces

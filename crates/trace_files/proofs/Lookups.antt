@@ -1,5 +1,5 @@
 -- What is found of an address in a table.
-use Rattle.std.proofs.Common.{◌≡◌, ℕ, ◌+◌, ◌-◌, ◌<◌, ◌^◌, Bool, true, false, not, List, [], ◌∷◌, map}
+use Rattle.std.proofs.Common.{◌≡◌, ℕ, ◌+◌, ◌-◌, ◌%◌, ◌<◌, ◌^◌, Bool, true, false, not, List, [], ◌∷◌, map}
 use Rattle.std.proofs.Common.{Option, Some, None, refl, sym, ap, ◌∙◌, arith, cond, find, option_map}
 use Rattle.std.specs.Prelude.{◌&&◌, ◌||◌, is_none, is_some}
 use Rattle.std.specs.Option.{option_map_or}
@@ -106,3 +106,36 @@ fits_place table addr m is within holds =
     let rules : keeps_rules m ≡ true =
     within keeps_rules (list_all-from_AllPass keeps_rules table is.rules) in
     grind (arith, nat_tests)
+
+-- and keeps a byte's place in its word
+pub kept_word : (table : List Move) (addr : ℕ) (m : Move) → IsTable table
+    → ((test : Move → Bool) → list_all test table ≡ true → test m ≡ true)
+    → is_in_range addr m ≡ true → (addr - m.from + m.to) % 4 ≡ addr % 4
+kept_word table addr m is within holds =
+    let rules : keeps_rules m ≡ true =
+    within keeps_rules (list_all-from_AllPass keeps_rules table is.rules) in
+    grind (arith, nat_tests)
+
+some_mapped : {X Y : Type 0} (f : X → Y) (o : Option X) (y : Y) → option_map f o ≡ Some y
+    → is_some o ≡ true
+some_mapped f None y is = absurd cc
+some_mapped f (Some x) y is = refl
+
+none_mapped : {X Y : Type 0} (f : X → Y) (o : Option X) → option_map f o ≡ None
+    → is_some o ≡ false
+none_mapped f None is = refl
+none_mapped f (Some x) is = absurd cc
+
+pub moved_there : (table : List Move) (addr place : ℕ)
+    → option_map (carried addr) (find (is_in_range addr) table) ≡ Some place
+    → true ≡ is_moved table addr
+moved_there table addr place is =
+    sym (any_find (is_in_range addr) table
+    ∙ some_mapped (carried addr) (find (is_in_range addr) table) place is)
+
+pub stays_there : (table : List Move) (addr : ℕ)
+    → option_map (carried addr) (find (is_in_range addr) table) ≡ None
+    → false ≡ is_moved table addr
+stays_there table addr is =
+    sym (any_find (is_in_range addr) table
+    ∙ none_mapped (carried addr) (find (is_in_range addr) table) is)

@@ -3,6 +3,7 @@ pub mod Copying
 pub mod Halves
 pub mod Laws
 pub mod Made
+pub mod Movers
 pub mod Moves
 pub mod Moving
 pub mod Numerals

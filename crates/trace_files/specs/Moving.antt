@@ -5,12 +5,14 @@ use Rattle.std.specs.Option.{option_map_or}
 use Rattle.std.specs.List.{take_while}
 use Rattle.shelf.specs.Files.{Output, AreWritten, BegunInOrder, one_file}
 use Rattle.shelf.specs.Shelf.{Files, Goes, Narrows, Outside, Rose, Told, content}
-use Rattle.trace_format.specs.declared.read_so_far.ReadSoFar.{ReadSoFar}
+use Rattle.trace_format.specs.declared.record.Header.{Header}
+use Rattle.trace_format.specs.declared.record.Version.{Version}
 use Rattle.trace_format.specs.declared.record.TraceRecord.{TraceRecord}
 use Rattle.trace_format.specs.declared.record.TraceRecord.TheVariants as records
 use Rattle.trace_format.specs.Reading.{reading_of}
 use Rattle.trace_format.specs.Rules.{touches_in}
 use Rattle.trace_format.specs.Writing.{begun_with}
+use Rattle.trace_passes.specs.Cursors.{version_and_header}
 use Rattle.trace_passes.specs.Passes.{Trace, refusal_of, spell_trace}
 use Rattle.trace_files.specs.declared.move_fault.MoveFault.{MoveFault}
 use Rattle.trace_files.specs.declared.move_fault.MoveFault.TheVariants.{Refused, Occupied}
@@ -53,15 +55,20 @@ before_the_first table items = take_while (λ item. not (is_in_the_way table ite
 
 -- ---- any bytes
 
--- What is written of bytes: nothing before their header is accepted; then the header, and the
--- records that are read before an access is in the way.
+-- the file of a name as far as it is written: none before a header is accepted; then the header,
+-- and these records with the accesses moved
+abbrev pub moved_so_far : List Move → List ℕ → Option (Version × Header) → List TraceRecord
+    → List Output
+moved_so_far table name None seen = []
+moved_so_far table name (Some head) seen =
+    one_file name (begun_with head.0 head.1 (moved_items table seen))
+
+-- What is written of bytes: their header, once it is accepted, and the records that are read before
+-- an access is in the way.
 abbrev pub written_of : List Move → List ℕ → List ℕ → List Output
 written_of table name bytes =
     let now = reading_of bytes in
-    option_map_or
-    (λ (p : ReadSoFar). one_file name
-    (begun_with p.version p.header (moved_items table (before_the_first table now.0))))
-    now.1.progress []
+    moved_so_far table name (version_and_header now.1.progress) (before_the_first table now.0)
 
 -- how they are refused: for the first access in the way among the records that are read, else as
 -- they are no trace

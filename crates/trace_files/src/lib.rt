@@ -25,6 +25,7 @@ mod move_fault;
 mod move_laws;
 mod move_row;
 mod move_table;
+mod mover;
 mod numbers;
 mod numerals;
 mod part_laws;

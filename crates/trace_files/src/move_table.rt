@@ -1,5 +1,5 @@
 // The table of moves.
-ghost use Rattle.std.specs.Prelude.{◌≡◌, ◌≢◌, ◌≤◌, ◌<◌, ◌↔◌, ◌++◌, ◌-◌, ◌||◌, ◌∷◌, length, Bool, [], None};
+ghost use Rattle.std.specs.Prelude.{◌≡◌, ◌≢◌, ◌≤◌, ◌<◌, ◌↔◌, ◌++◌, ◌-◌, ◌%◌, ◌||◌, ◌∷◌, length, Bool, [], None};
 ghost use Rattle.std.specs.Prelude.{Some, nat_eq, nat_le, slice_index_or};
 ghost use Rattle.std.specs.Prelude.{Err, Ok, IfErr, IfOk, OnOk, IfSome, false, true, slice_get};
 ghost use Rattle.std.specs.Prelude.{find, option_map};
@@ -239,7 +239,8 @@ impl MoveTable {
     /// The address that the byte of an address in a range goes to, None where it is in no range. It
     /// takes time as the logarithm of the number of lines, as the calls below do.
     pub fn destination(&self, addr: u32) -> Option<u32>
-        ensures { result ≡ option_map (carried addr) (find (is_in_range addr) self.now) }
+        ensures value { result ≡ option_map (carried addr) (find (is_in_range addr) self.now) }
+        ensures word { IfSome result (λ place. place % 4 ≡ addr % 4) }
     {
         match row_at(&self.rows, addr) {
             Some(row) => Some(addr - row.from + row.to),
