@@ -25,5 +25,6 @@ pub mod Splittings
 pub mod Stopped
 pub mod TableLines
 pub mod TableRows
+pub mod Takings
 pub mod Worked
 pub mod WorkedMoves

@@ -52,7 +52,7 @@ count_more table seen item =
     ∙ sum_by-append (λ (a : Touch). cond (is_moved table a.addr) 1 0) (touches_in seen)
     (touches_in (item ∷ []))
 
-free_more : (table : List Move) (seen : List TraceRecord) (item : TraceRecord)
+pub free_more : (table : List Move) (seen : List TraceRecord) (item : TraceRecord)
     → list_any (is_in_the_way table) seen ≡ false → is_in_the_way table item ≡ false
     → list_any (is_in_the_way table) (seen ++ item ∷ []) ≡ false
 free_more table seen item free here =

@@ -33,6 +33,7 @@ mod relocation;
 mod scratch;
 mod split;
 mod table_fault;
+mod taking;
 mod target;
 mod trace_file;
 mod trace_outputs;

@@ -96,6 +96,7 @@ impl<'a> Mover<'a> {
             → HasMoved table self.old.name.now self.old None [] before (S.outside shelf.old)
             → AreCut (moved_so_far table self.old.name.now (Some (version, header)) []) before
             (S.outside shelf.new) error) }
+        ensures name { self.new.name ≡ self.old.name }
         ensures tells { (S.outside shelf.new).held ≡ (S.outside shelf.old).held }
     {
         match self.files.begin_trace(alloc, shelf, 0, self.name, version, header) {
@@ -184,7 +185,14 @@ impl<'a> Mover<'a> {
             (head : Option (AVersion × Head)) (seen : List Record) (before : Outside)
             → HasMoved table name self.old head seen before (S.outside shelf.old)
             → AreCut (moved_so_far table name head seen) before (S.outside shelf.new) error) }
+        // What was put is all there, and no more.
+        ensures cut_there { OnOk result ((table : List Move) (name : List ℕ)
+            (head : Option (AVersion × Head)) (seen : List Record) (before : Outside)
+            → HasMoved table name self.old head seen before (S.outside shelf.old)
+            → AreCut (moved_so_far table name head seen) before (S.outside shelf.new)
+            ShelfError.NoMemory) }
         ensures moved { self.new.moved ≡ self.old.moved }
+        ensures name { self.new.name ≡ self.old.name }
         ensures tells { (S.outside shelf.new).held ≡ (S.outside shelf.old).held }
     {
         self.files.finish(shelf)

@@ -1,5 +1,6 @@
 use Rattle.std.proofs.lemmas.Result.{IfErr-weaker, on_ok_weaker}
-use Rattle.shelf.specs.Laws.Files.{IsOutputs-begun}
+use Rattle.shelf.specs.declared.shelf.ShelfError.TheVariants.{NoMemory}
+use Rattle.shelf.specs.Laws.Files.{IsOutputs-begun, IsOutputs-cut}
 use Rattle.trace_files.specs.Moving.{moved_so_far}
 use Rattle.trace_files.proofs.mover.Mover.finish.Goals as goal
 
@@ -20,3 +21,12 @@ returns-clause-cut g c =
     IfErr-weaker c.finish.result _ _
     (λ error cut table name head seen before has.
     cut (moved_so_far table name head seen) before has.outputs) c.finish.ensures.cut
+
+pub returns-clause-cut_there : goal.returns-clause-cut_there
+returns-clause-cut_there g c =
+    let new = g.S.Shelf.outside c.finish.new.shelf in
+    on_ok_weaker c.finish.result
+    (λ outputs table name head seen before has.
+    IsOutputs-cut c.finish.new.self (moved_so_far table name head seen) before new NoMemory
+    (λ e. cc) (outputs (moved_so_far table name head seen) before has.outputs))
+    c.finish.ensures.outputs
