@@ -315,3 +315,108 @@ pub moved_all : (table : List Move) (items : List TraceRecord) (i : ℕ) (first 
 moved_all table items i first now old new to all head seen before has =
     subst (λ (l : List TraceRecord). HasMoved table first.name.now now (Some head) (seen ++ l)
     before new) all (to.moved head seen before has)
+
+-- ---- the header
+
+-- where it is known now, no matter which records come
+pub follows_any : (known : Option (Version × Header)) (seen : List TraceRecord)
+    (head : Version × Header) (more other : List TraceRecord)
+    → Follows known seen (Some head) more → Follows known seen (Some head) other
+follows_any None seen head more other follows = follows
+follows_any (Some g) seen head more other follows = follows
+
+-- where nothing is begun, nothing is put
+pub not_begun : (table : List Move) (name : List ℕ) (m : Mover)
+    (known : Option (Version × Header)) (seen : List TraceRecord) (before now : Outside)
+    (head : Version × Header) → HasMoved table name m known seen before now
+    → Follows known seen (Some head) [] → m.begun ≡ false
+    → HasMoved table name m None [] before now × (seen ≡ [])
+not_begun table name m None seen before now head has follows off =
+    (subst (λ (l : List TraceRecord). HasMoved table name m None l before now) follows has, follows)
+not_begun table name m (Some g) seen before now head has follows off =
+    let no_way : false ≡ true = sym off ∙ has.begun in absurd cc
+
+-- where it is, it is begun with this header
+pub is_begun : (table : List Move) (name : List ℕ) (m : Mover)
+    (known : Option (Version × Header)) (seen : List TraceRecord) (before now : Outside)
+    (head : Version × Header) → HasMoved table name m known seen before now
+    → Follows known seen (Some head) [] → m.begun ≡ true
+    → HasMoved table name m (Some head) seen before now
+is_begun table name m None seen before now head has follows on =
+    let no_way : true ≡ false = sym on ∙ has.begun in absurd cc
+is_begun table name m (Some g) seen before now head has follows on =
+    subst (λ (h : Version × Header). HasMoved table name m (Some h) seen before now) follows has
+
+-- the file was cut as its header was put
+pub cut_header : (table : List Move) (name : List ℕ) (head : Version × Header)
+    (seen : List TraceRecord) (before now : Outside) (error : ShelfError) → seen ≡ []
+    → AreCut (moved_so_far table name (Some head) []) before now error
+    → IsCutAt table name (Some head) seen before now error
+cut_header table name head seen before now error none cut = record {
+  put = [];
+  more = [];
+  free = refl;
+  first = none;
+  cut = cut;
+}
+
+-- without a header no record came
+pub none_taken : (table : List Move) (name : List ℕ) (m : Mover)
+    (known : Option (Version × Header)) (seen items : List TraceRecord) (before now : Outside)
+    → HasMoved table name m known seen before now → Follows known seen None items
+    → HasMoved table name m None (seen ++ items) before now
+none_taken table name m None seen items before now has follows =
+    subst (λ (l : List TraceRecord). HasMoved table name m None l before now)
+    (sym (ap (λ (l : List TraceRecord). seen ++ l) follows.1 ∙ append-nil seen)) has
+none_taken table name m (Some g) seen items before now has follows = absurd follows
+
+-- ---- a piece
+
+module _ (table : List Move) (m n : Mover) (head : Version × Header) (items : List TraceRecord)
+    (old mid : Outside) (named : n.name ≡ m.name)
+    (begun : (known : Option (Version × Header)) (seen : List TraceRecord) (before : Outside)
+    → HasMoved table m.name.now m known seen before old → Follows known seen (Some head) []
+    → HasMoved table m.name.now n (Some head) seen before mid)
+  where
+    abbrev same_name : n.name.now ≡ m.name.now
+    same_name = ap (λ v. v.now) named
+
+    pub then_put : MayTake table m (Some head) items old → MayPut table n items mid
+    then_put may = record {
+      name = m.name.now;
+      head = head;
+      seen = may.seen;
+      before = may.before;
+      has = begun may.known may.seen may.before
+          (named_so table may.name m may.known may.seen may.before old may.has)
+          (follows_any may.known may.seen head items [] may.follows);
+      room = may.room;
+    }
+
+    pub then_moved : (later : Mover) (last : Outside)
+        → ((head : Version × Header) (seen : List TraceRecord) (before : Outside)
+        → HasMoved table n.name.now n (Some head) seen before mid
+        → HasMoved table n.name.now later (Some head) (seen ++ items) before last)
+        → (known : Option (Version × Header)) (seen : List TraceRecord) (before : Outside)
+        → HasMoved table m.name.now m known seen before old → Follows known seen (Some head) items
+        → HasMoved table m.name.now later (Some head) (seen ++ items) before last
+    then_moved later last put known seen before has follows =
+        subst (λ (x : List ℕ). HasMoved table x later (Some head) (seen ++ items) before last)
+        same_name
+        (put head seen before
+        (subst (λ (x : List ℕ). HasMoved table x n (Some head) seen before mid) (sym same_name)
+        (begun known seen before has (follows_any known seen head items [] follows))))
+
+    pub then_stopped : (last : Outside) (fault : MoveFault)
+        → ((head : Version × Header) (seen : List TraceRecord) (before : Outside)
+        → HasMoved table n.name.now n (Some head) seen before mid
+        → StopsAt table n.name.now (Some head) (seen ++ items) before last fault)
+        → (known : Option (Version × Header)) (seen : List TraceRecord) (before : Outside)
+        → HasMoved table m.name.now m known seen before old → Follows known seen (Some head) items
+        → StopsAt table m.name.now (Some head) (seen ++ items) before last fault
+    then_stopped last fault put known seen before has follows =
+        subst (λ (x : List ℕ). StopsAt table x (Some head) (seen ++ items) before last fault)
+        same_name
+        (put head seen before
+        (subst (λ (x : List ℕ). HasMoved table x n (Some head) seen before mid) (sym same_name)
+        (begun known seen before has (follows_any known seen head items [] follows))))
