@@ -5,6 +5,7 @@ pub mod Conversions
 pub mod Differing
 pub mod Digits
 pub mod Distances
+pub mod GivingUp
 pub mod Going
 pub mod HalfTraces
 pub mod Items
@@ -20,6 +21,7 @@ pub mod Others
 pub mod Pieces
 pub mod Ranges
 pub mod Readings
+pub mod Relocations
 pub mod Rows
 pub mod Splittings
 pub mod Stopped

@@ -96,6 +96,22 @@ some_found : (o q : Option TraceRecord) (addr : ℕ) → option_map addr_of o �
 some_found None q addr is = absurd cc
 some_found (Some x) q addr is = (is, refl)
 
+-- the first one stays
+pub first_stays : (table : List Move) (all more : List TraceRecord) (addr : ℕ)
+    → first_in_the_way table all ≡ Some addr → first_in_the_way table (all ++ more) ≡ Some addr
+first_stays table all more addr is =
+    let p = is_in_the_way table in
+    ap (option_map addr_of) (find-append p all more)
+    ∙ (some_found (find p all) (find p more) addr is).0
+
+pub front_same : (table : List Move) (all more : List TraceRecord) (addr : ℕ)
+    → first_in_the_way table all ≡ Some addr
+    → before_the_first table (all ++ more) ≡ before_the_first table all
+front_same table all more addr is =
+    let p = is_in_the_way table in
+    let found = some_found (find p all) (find p more) addr is in
+    front_stays p all more (any_find p all ∙ found.1)
+
 -- ---- where it gives up
 
 pub stops_by : (table : List Move) (name : List ℕ) (head : Option (Version × Header))

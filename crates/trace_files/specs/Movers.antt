@@ -108,3 +108,23 @@ pub record MayTake (table : List Move) (m : Mover) (head : Option (Version × He
   pub follows : Follows known seen head more
   pub room : length (touches_in (seen ++ more)) < 2 ^ 63
   pub good : IfSome head (λ h. IsGoodHeader h.1)
+
+-- All records were put, none of which is in the way, and are written.
+pub record IsAllWritten (table : List Move) (name : List ℕ) (head : Option (Version × Header))
+    (all : List TraceRecord) (before now : Outside) : Type 0 where
+  pub free : list_any (is_in_the_way table) all ≡ false
+  pub written : AreWritten (moved_so_far table name head all) before now
+  pub cut : IsCutAt table name head all before now errors.NoMemory
+
+-- the same where a trace ends that is refused, once its records were put
+abbrev pub EndsAt : List Move → List ℕ → Option (Version × Header) → List TraceRecord → Outside
+    → Outside → MoveFault → Type 0
+EndsAt table name head all before now (faults.Refused refusal) =
+    IsAllWritten table name head all before now
+EndsAt table name head all before now (faults.Occupied addr) =
+    IsOccupied table name head all before now addr
+EndsAt table name head all before now faults.WriteFault =
+    IsCutAt table name head all before now errors.Failed
+EndsAt table name head all before now faults.NoMemory =
+    IsCutAt table name head all before now errors.NoMemory
+EndsAt table name head all before now faults.ReadFault = ⊥

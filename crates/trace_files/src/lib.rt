@@ -47,7 +47,7 @@ pub use move_fault::MoveFault;
 pub use move_laws::a_free_list_keeps_its_words;
 pub use move_table::MoveTable;
 pub use part_laws::the_halves_are_traces;
-pub use relocation::Moved;
+pub use relocation::{Moved, move_trace};
 pub use scratch::scratch_law;
 pub use split::{Halves, split_trace};
 pub use table_fault::TableFault;

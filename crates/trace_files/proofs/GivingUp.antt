@@ -1,0 +1,331 @@
+-- What stands where a moved trace gives up, and that it is whole where it doesn't.
+use Rattle.std.proofs.Common.{◌≡◌, ◌≢◌, ◌≤◌, ℕ, Bool, true, false, not, List, [], ◌∷◌, ◌++◌, length, drop}
+use Rattle.std.proofs.Common.{cond, Option, Some, None, Result, Ok, Err, find, inl, inr, refl, sym, ap}
+use Rattle.std.proofs.Common.{◌∙◌, subst, arith, append-nil, append_assoc, option_map}
+use Rattle.std.specs.Prelude.{◌||◌, is_some}
+use Rattle.std.specs.List.{All, filter_map, list_any}
+use Rattle.std.specs.Option.{option_map_or, option_or}
+use Rattle.std.proofs.lemmas.List.{map-append, take-append-drop}
+use Rattle.std.proofs.lemmas.List.Elements.{All-cons, All-nil, filter_map-append}
+use Rattle.std.proofs.lemmas.List.Folds.{find-append, list_any-append}
+use Rattle.base.specs.Touch.{Touch}
+use Rattle.base.specs.declared.ending.Ending.{Ending}
+use Rattle.shelf.specs.Shelf.{Files, Goes, Narrows, OnlyReads, Outside, Rose, Told, content}
+use Rattle.shelf.specs.Fetch.{IsFront}
+use Rattle.shelf.specs.declared.shelf.ShelfError.{ShelfError}
+use Rattle.shelf.specs.declared.shelf.ShelfError.TheVariants as errors
+use Rattle.shelf.specs.Files.{AreCut, AreWritten, BegunInOrder, GoOn, Output, RoseAmong, one_file}
+use Rattle.shelf.specs.OnTheirWay.{IsNew, IsOutputs}
+use Rattle.shelf.specs.Laws.Files.{AreCut-longer, IsOutputs-cut, output_names}
+use Rattle.shelf.specs.Laws.Told.{goes_map, narrows_then, told_map}
+use Rattle.trace_format.specs.declared.fault.TraceFault.{TraceFault}
+use Rattle.trace_format.specs.declared.read_so_far.ReadSoFar.{ReadSoFar}
+use Rattle.trace_format.specs.declared.record.Header.{Header}
+use Rattle.trace_format.specs.declared.record.TraceRecord.{TraceRecord}
+use Rattle.trace_format.specs.declared.record.TraceRecord.TheVariants as records
+use Rattle.trace_format.specs.declared.record.Version.{Version}
+use Rattle.trace_format.specs.Laws.Writing.{begun-all, begun-append}
+use Rattle.trace_format.specs.Reading.{ending_of, reading_of}
+use Rattle.trace_format.specs.Rules.{touch_in, touches_in}
+use Rattle.trace_format.specs.Spelling.{nothing_before, spell_records}
+use Rattle.trace_format.specs.Writing.{before_behind, begun_with}
+use Rattle.trace_passes.specs.declared.passes.PassFault.{PassFault}
+use Rattle.trace_passes.specs.declared.passes.PassFault.TheVariants as passes
+use Rattle.trace_passes.specs.declared.passes.Passed.{Passed}
+use Rattle.trace_passes.specs.declared.wanted.Refusal.{Refusal}
+use Rattle.trace_passes.specs.Cursors.{version_and_header}
+use Rattle.trace_passes.specs.Laws.Passes.{trace-parts, trace-records}
+use Rattle.trace_passes.specs.Passes.{HasPassCause, Trace, all_records, refusal_of, spell_trace}
+use Rattle.trace_passes.specs.Passes.{trace_at, trace_of, trace_with}
+use Rattle.trace_files.specs.declared.move_fault.MoveFault.{MoveFault}
+use Rattle.trace_files.specs.declared.move_fault.MoveFault.TheVariants as faults
+use Rattle.trace_files.specs.declared.move_row.Move.{Move}
+use Rattle.trace_files.specs.declared.mover.Mover.{Mover}
+use Rattle.trace_files.specs.declared.relocation.Moved.{Moved}
+use Rattle.trace_files.specs.Copies.{HasCopied, any}
+use Rattle.trace_files.specs.Movers.{EndsAt, HasMoved, IsAllWritten, IsCutAt, IsOccupied, read_fault}
+use Rattle.trace_files.specs.Moves.{IsFree, count_moved, is_taken}
+use Rattle.trace_files.specs.Moving.{HasGivenUp, HasMoveCause, IsCounted, IsRefused, addr_of}
+use Rattle.trace_files.specs.Moving.{before_the_first, fault_of, first_in_the_way, is_in_the_way}
+use Rattle.trace_files.specs.Moving.{moved_item, moved_items, moved_so_far, moving, written_of}
+use Rattle.trace_files.proofs.Readings.{front_first, same_at}
+use Rattle.trace_files.proofs.Relocations.{header_stays, none_read}
+use Rattle.trace_files.proofs.Stopped.{others_stay}
+use Rattle.trace_files.proofs.Takings.{all_free, first_stays, front_free, front_same, none_in_the_way}
+
+-- ---- who is the cause
+
+rose_one : (table : List Move) (file : List ℕ) (head : Option (Version × Header))
+    (put : List TraceRecord) (b n : List ℕ → ℕ)
+    → RoseAmong (moved_so_far table file head put) b n → Rose (b file) (n file)
+rose_one table file None put b n rose = absurd rose
+rose_one table file (Some h) put b n (inl rose) = rose
+rose_one table file (Some h) put b n (inr rose) = absurd rose
+
+quiet_cause : (trace file : List ℕ) (before now : Outside) (fault : MoveFault)
+    → fault ≢ faults.ReadFault → fault ≢ faults.WriteFault
+    → now.read_faults ≡ before.read_faults → now.write_faults ≡ before.write_faults
+    → HasMoveCause trace file before now fault
+quiet_cause trace file before now fault no_read no_write reads writes = record {
+  reads = λ n. same_at before.read_faults now.read_faults n reads;
+  writes = λ n. same_at before.write_faults now.write_faults n writes;
+  read_failed = λ e. absurd (no_read e);
+  write_failed = λ e. absurd (no_write e);
+  read_quiet = λ e. reads;
+  write_quiet = λ e. writes;
+}
+
+module _ (trace file : List ℕ) (table : List Move) (head : Option (Version × Header))
+    (put : List TraceRecord) (before now : Outside)
+  where
+    write_cause : AreCut (moved_so_far table file head put) before now errors.Failed
+        → HasMoveCause trace file before now faults.WriteFault
+    write_cause cut = record {
+      reads = λ n. same_at before.read_faults now.read_faults n cut.only.read_faults;
+      writes = cut.cause.later;
+      read_failed = λ e. absurd cc;
+      write_failed = λ e. rose_one table file head put before.write_faults now.write_faults
+          (cut.cause.failed refl);
+      read_quiet = λ e. cut.only.read_faults;
+      write_quiet = λ e. absurd (e refl);
+    }
+
+    other_cause : (fault : MoveFault) → fault ≢ faults.ReadFault → fault ≢ faults.WriteFault
+        → AreCut (moved_so_far table file head put) before now errors.NoMemory
+        → HasMoveCause trace file before now fault
+    other_cause fault no_read no_write cut =
+        quiet_cause trace file before now fault no_read no_write cut.only.read_faults
+        (cut.cause.quiet (λ e. cc))
+
+reading_cause : {T : Type 0} (trace file : List ℕ) (before mid now : Outside) (fault : PassFault)
+    → HasPassCause {T = T} trace mid now (Err fault) → mid.read_faults ≡ before.read_faults
+    → now.write_faults ≡ before.write_faults
+    → HasMoveCause trace file before now (read_fault fault)
+reading_cause trace file before mid now (passes.Refused refusal) cause reads writes =
+    quiet_cause trace file before now (faults.Refused refusal) (λ e. cc) (λ e. cc)
+    (cause.quiet (λ e. cc) ∙ reads) writes
+reading_cause trace file before mid now passes.NoMemory cause reads writes =
+    quiet_cause trace file before now faults.NoMemory (λ e. cc) (λ e. cc)
+    (cause.quiet (λ e. cc) ∙ reads) writes
+reading_cause trace file before mid now passes.ReadFault cause reads writes = record {
+  reads = subst (λ (f : List ℕ → ℕ). (n : List ℕ) → f n ≤ now.read_faults n) reads cause.later;
+  writes = λ n. same_at before.write_faults now.write_faults n writes;
+  read_failed = λ e. subst (λ (f : List ℕ → ℕ). Rose (f trace) (now.read_faults trace)) reads
+      (cause.failed refl);
+  write_failed = λ e. absurd cc;
+  read_quiet = λ e. absurd (e refl);
+  write_quiet = λ e. writes;
+}
+
+-- ---- what is written goes on to what is written of the bytes
+
+go_head : (table : List Move) (file : List ℕ) (known now : Option (Version × Header))
+    (put more all : List TraceRecord)
+    → ((h : Version × Header) → known ≡ Some h → now ≡ Some h) → all ≡ put ++ more
+    → list_any (is_in_the_way table) put ≡ false
+    → GoOn (moved_so_far table file known put)
+    (moved_so_far table file now (before_the_first table all))
+go_head table file None now put more all stays is free = tt
+go_head table file (Some h) now put more all stays is free =
+    let rest = before_the_first table more in
+    let first : before_the_first table all ≡ put ++ rest =
+    ap (before_the_first table) is ∙ front_free (is_in_the_way table) put more free in
+    let split : begun_with h.0 h.1 (moved_items table (put ++ rest))
+    ≡ begun_with h.0 h.1 (moved_items table put)
+    ++ spell_records h.0 (before_behind nothing_before (moved_items table put))
+    (moved_items table rest) =
+    ap (begun_with h.0 h.1) (map-append (moved_item table) put rest)
+    ∙ begun-append h.0 h.1 (moved_items table put) (moved_items table rest) in
+    let longer : GoOn (one_file file (begun_with h.0 h.1 (moved_items table put)))
+    (one_file file (begun_with h.0 h.1 (moved_items table (put ++ rest)))) =
+    (refl, (spell_records h.0 (before_behind nothing_before (moved_items table put))
+    (moved_items table rest), split), tt) in
+    subst (λ (k : Option (Version × Header)). GoOn (moved_so_far table file (Some h) put)
+    (moved_so_far table file k (before_the_first table all))) (sym (stays h refl))
+    (subst (λ (l : List TraceRecord). GoOn (moved_so_far table file (Some h) put)
+    (moved_so_far table file (Some h) l)) (sym first) longer)
+
+-- bytes that some begin with
+front_whole : (all bytes : List ℕ) → IsFront all bytes → all ≡ bytes ++ drop (length bytes) all
+front_whole all bytes front =
+    let rest = drop (length bytes) all in
+    sym (ap (λ (xs : List ℕ). xs ++ rest) front.same ∙ take-append-drop (length bytes) all)
+
+head_kept : (all bytes : List ℕ) → IsFront all bytes → (h : Version × Header)
+    → version_and_header (reading_of bytes).1.progress ≡ Some h
+    → version_and_header (reading_of all).1.progress ≡ Some h
+head_kept all bytes front h is =
+    ap (λ (l : List ℕ). version_and_header (reading_of l).1.progress) (front_whole all bytes front)
+    ∙ header_stays bytes (drop (length bytes) all) h is
+
+go_all : (table : List Move) (file all bytes : List ℕ) (put more : List TraceRecord)
+    → IsFront all bytes → (reading_of bytes).0 ≡ put ++ more
+    → list_any (is_in_the_way table) put ≡ false
+    → GoOn (moved_so_far table file (version_and_header (reading_of bytes).1.progress) put)
+    (written_of table file all)
+go_all table file all bytes put more front is free =
+    let first = front_first all bytes front in
+    go_head table file (version_and_header (reading_of bytes).1.progress)
+    (version_and_header (reading_of all).1.progress) put (more ++ first.0) (reading_of all).0
+    (head_kept all bytes front)
+    (first.1 ∙ ap (λ (l : List TraceRecord). l ++ first.0) is ∙ append_assoc put more first.0) free
+
+new_name : (table : List Move) (file : List ℕ) (head : Option (Version × Header))
+    (put : List TraceRecord) (n : List ℕ) → n ≢ file
+    → IsNew n (output_names (moved_so_far table file head put))
+new_name table file None put n other = tt
+new_name table file (Some h) put n other = (λ e. other (sym e), tt)
+
+known_or_not : (k : Option (Version × Header)) (P : Type 0) → (k ≡ None → P)
+    → ((h : Version × Header) → k ≡ Some h → P) → P
+known_or_not None P none some = none refl
+known_or_not (Some h) P none some = some h refl
+
+none_occupied : (table : List Move) (seen : List TraceRecord) (addr : ℕ) → seen ≡ []
+    → first_in_the_way table seen ≡ Some addr → ⊥
+none_occupied table seen addr none first =
+    let no_one : None ≡ Some addr = ap (first_in_the_way table) (sym none) ∙ first in absurd cc
+
+-- the bytes where an access is in the way, or all that are told behind them
+occupied_by : (held : Option Files) (trace file : List ℕ) (table : List Move) (bytes : List ℕ)
+    → Told held (λ fs. IsFront (content fs trace) bytes) → (before now : Outside) (addr : ℕ)
+    → IsOccupied table file (version_and_header (reading_of bytes).1.progress)
+    (reading_of bytes).0 before now addr
+    → IsRefused held trace file table before now (faults.Occupied addr)
+occupied_by None trace file table bytes front before now addr occupied = record {
+  bytes = bytes;
+  whole = tt;
+  refused = ap (λ (o : Option ℕ). option_map_or (λ n. Some (faults.Occupied n)) o
+      (option_map faults.Refused (refusal_of any bytes))) occupied.first;
+  written = occupied.written;
+}
+occupied_by (Some files) trace file table bytes front before now addr occupied =
+    let all = content files trace in
+    let seen = (reading_of bytes).0 in
+    let more = front_first all bytes front in
+    let head = version_and_header (reading_of bytes).1.progress in
+    let first : first_in_the_way table (reading_of all).0 ≡ Some addr =
+    ap (first_in_the_way table) more.1 ∙ first_stays table seen more.0 addr occupied.first in
+    let same : before_the_first table (reading_of all).0 ≡ before_the_first table seen =
+    ap (before_the_first table) more.1 ∙ front_same table seen more.0 addr occupied.first in
+    let known : version_and_header (reading_of all).1.progress ≡ head =
+    known_or_not head (version_and_header (reading_of all).1.progress ≡ head)
+    (λ none. absurd (none_occupied table seen addr (none_read bytes none) occupied.first))
+    (λ h is. head_kept all bytes front h is ∙ sym is) in
+    record {
+      bytes = all;
+      whole = refl;
+      refused = ap (λ (o : Option ℕ). option_map_or (λ n. Some (faults.Occupied n)) o
+          (option_map faults.Refused (refusal_of any all))) first;
+      written = subst (λ (k : Option (Version × Header)). AreWritten
+          (moved_so_far table file k (before_the_first table (reading_of all).0)) before now)
+          (sym known)
+          (subst (λ (l : List TraceRecord). AreWritten (moved_so_far table file head l) before now)
+          (sym same) occupied.written);
+    }
+
+module _ (held : Option Files) (trace file : List ℕ) (table : List Move) (bytes : List ℕ)
+    (front : Told held (λ fs. IsFront (content fs trace) bytes))
+  where
+    abbrev pub head : Option (Version × Header)
+    head = version_and_header (reading_of bytes).1.progress
+
+    -- some records were put, the file was cut, and only reads came then
+    pub gives_up : (put more : List TraceRecord) (before last now : Outside) (error : ShelfError)
+        (fault : MoveFault) → (reading_of bytes).0 ≡ put ++ more
+        → list_any (is_in_the_way table) put ≡ false
+        → AreCut (moved_so_far table file head put) before last error
+        → now.written ≡ last.written → HasMoveCause trace file before now fault
+        → Narrows before.held now.held → now.printed ≡ before.printed
+        → now.print_faults ≡ before.print_faults
+        → HasGivenUp held trace file table before now fault
+    gives_up put more before last now error fault is free cut written cause narrow printed prints =
+        let outs = moved_so_far table file head put in
+        let later : (P : Files → Files → Type 0) → Goes before.written last.written P
+        → Goes before.written now.written P =
+        λ P goes. subst (λ (w : Option Files). Goes before.written w P) (sym written) goes in
+        record {
+          fronts = told_map held (λ fs f.
+              let longer = written_of table file (content fs trace) in
+              later (BegunInOrder longer)
+              (AreCut-longer outs longer before last error
+              (go_all table file (content fs trace) bytes put more f is free) cut).begun) front;
+          others = later (λ old new. (n : List ℕ) → n ≢ file → new n ≡ old n)
+              (goes_map before.written last.written
+              (λ old new same n other. same n (new_name table file head put n other))
+              (others_stay outs before last cut.begun));
+          cause = cause;
+          held_stay = narrow;
+          printed = printed;
+          print_faults = prints;
+        }
+
+    cut_up : (before now : Outside) (error : ShelfError) (fault : MoveFault)
+        → (cut : IsCutAt table file head (reading_of bytes).0 before now error)
+        → HasMoveCause trace file before now fault → HasGivenUp held trace file table before now fault
+    cut_up before now error fault cut cause =
+        gives_up cut.put cut.more before now now error fault cut.first cut.free cut.cut refl cause
+        cut.cut.only.held cut.cut.only.printed cut.cut.only.print_faults
+
+    pub gave_up : (before now : Outside) (fault : MoveFault)
+        → EndsAt table file head (reading_of bytes).0 before now fault
+        → HasGivenUp held trace file table before now fault
+    gave_up before now (faults.Refused refusal) ends =
+        cut_up before now errors.NoMemory (faults.Refused refusal) ends.cut
+        (other_cause trace file table head ends.cut.put before now (faults.Refused refusal)
+        (λ e. cc) (λ e. cc) ends.cut.cut)
+    gave_up before now (faults.Occupied addr) ends =
+        cut_up before now errors.NoMemory (faults.Occupied addr) ends.cut
+        (other_cause trace file table head ends.cut.put before now (faults.Occupied addr)
+        (λ e. cc) (λ e. cc) ends.cut.cut)
+    gave_up before now faults.ReadFault ends = absurd ends
+    gave_up before now faults.WriteFault ends =
+        cut_up before now errors.Failed faults.WriteFault ends
+        (write_cause trace file table head ends.put before now ends.cut)
+    gave_up before now faults.NoMemory ends =
+        cut_up before now errors.NoMemory faults.NoMemory ends
+        (other_cause trace file table head ends.put before now faults.NoMemory
+        (λ e. cc) (λ e. cc) ends.cut)
+
+    -- a call that reads gave up behind what was put
+    pub gave_up_reading : {T : Type 0} (m : Mover) (before mid now : Outside) (fault : PassFault)
+        → HasMoved table file m head (reading_of bytes).0 before mid → OnlyReads mid now
+        → HasPassCause {T = T} trace mid now (Err fault)
+        → HasGivenUp held trace file table before now (read_fault fault)
+    gave_up_reading {T} m before mid now fault has only cause =
+        let on = has.outputs in
+        let seen = (reading_of bytes).0 in
+        gives_up seen [] before mid now errors.NoMemory (read_fault fault)
+        (sym (append-nil seen)) has.free
+        (IsOutputs-cut m.files (moved_so_far table file head seen) before mid errors.NoMemory
+        (λ e. cc) on)
+        only.written (reading_cause {T = T} trace file before mid now fault cause
+        on.only.read_faults (only.write_faults ∙ on.faults))
+        (narrows_then before.held mid.held now.held on.only.held only.held)
+        (only.printed ∙ on.only.printed) (only.print_faults ∙ on.only.print_faults)
+
+    -- an access is in the way
+    pub refused_occupied : (before now : Outside) (addr : ℕ)
+        → IsOccupied table file head (reading_of bytes).0 before now addr
+        → IsRefused held trace file table before now (faults.Occupied addr)
+    refused_occupied before now addr occupied =
+        occupied_by held trace file table bytes front before now addr occupied
+
+-- a trace that is refused, all of whose records were put
+pub refused_whole : (held : Option Files) (trace file : List ℕ) (table : List Move)
+    (all : List ℕ) (refusal : Refusal) (before now : Outside)
+    → Told held (λ files. all ≡ content files trace) → refusal_of any all ≡ Some refusal
+    → IsAllWritten table file (version_and_header (reading_of all).1.progress) (reading_of all).0
+    before now
+    → IsRefused held trace file table before now (faults.Refused refusal)
+refused_whole held trace file table all refusal before now whole is written = record {
+  bytes = all;
+  whole = whole;
+  refused = ap (λ (o : Option ℕ). option_map_or (λ addr. Some (faults.Occupied addr)) o
+      (option_map faults.Refused (refusal_of any all)))
+      (none_in_the_way table (reading_of all).0 written.free)
+      ∙ ap (option_map faults.Refused) is;
+  written = subst (λ (l : List TraceRecord). AreWritten
+      (moved_so_far table file (version_and_header (reading_of all).1.progress) l) before now)
+      (sym (all_free (is_in_the_way table) (reading_of all).0 written.free)) written.written;
+}
