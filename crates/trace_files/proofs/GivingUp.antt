@@ -5,7 +5,7 @@ use Rattle.std.proofs.Common.{◌∙◌, subst, arith, append-nil, append_assoc,
 use Rattle.std.specs.Prelude.{◌||◌, is_some}
 use Rattle.std.specs.List.{All, filter_map, list_any}
 use Rattle.std.specs.Option.{option_map_or, option_or}
-use Rattle.std.proofs.lemmas.List.{map-append, take-append-drop}
+use Rattle.std.proofs.lemmas.List.{map-append, take-append-drop, take_all}
 use Rattle.std.proofs.lemmas.List.Elements.{All-cons, All-nil, filter_map-append}
 use Rattle.std.proofs.lemmas.List.Folds.{find-append, list_any-append}
 use Rattle.base.specs.Touch.{Touch}
@@ -19,6 +19,7 @@ use Rattle.shelf.specs.OnTheirWay.{IsNew, IsOutputs}
 use Rattle.shelf.specs.Laws.Files.{AreCut-longer, IsOutputs-cut, output_names}
 use Rattle.shelf.specs.Laws.Told.{goes_map, narrows_then, told_map}
 use Rattle.trace_format.specs.declared.fault.TraceFault.{TraceFault}
+use Rattle.trace_format.specs.declared.fault.TraceFault.TheVariants as trace_faults
 use Rattle.trace_format.specs.declared.read_so_far.ReadSoFar.{ReadSoFar}
 use Rattle.trace_format.specs.declared.record.Header.{Header}
 use Rattle.trace_format.specs.declared.record.TraceRecord.{TraceRecord}
@@ -33,17 +34,20 @@ use Rattle.trace_passes.specs.declared.passes.PassFault.{PassFault}
 use Rattle.trace_passes.specs.declared.passes.PassFault.TheVariants as passes
 use Rattle.trace_passes.specs.declared.passes.Passed.{Passed}
 use Rattle.trace_passes.specs.declared.wanted.Refusal.{Refusal}
+use Rattle.trace_passes.specs.declared.wanted.Refusal.TheVariants as refusals
 use Rattle.trace_passes.specs.Cursors.{version_and_header}
 use Rattle.trace_passes.specs.Laws.Passes.{trace-parts, trace-records}
 use Rattle.trace_passes.specs.Passes.{HasPassCause, Trace, all_records, refusal_of, spell_trace}
-use Rattle.trace_passes.specs.Passes.{trace_at, trace_of, trace_with}
+use Rattle.trace_passes.specs.Passes.{head_of, header_refusal, trace_at, trace_of, trace_refusal}
+use Rattle.trace_passes.specs.Passes.{trace_with}
 use Rattle.trace_files.specs.declared.move_fault.MoveFault.{MoveFault}
 use Rattle.trace_files.specs.declared.move_fault.MoveFault.TheVariants as faults
 use Rattle.trace_files.specs.declared.move_row.Move.{Move}
 use Rattle.trace_files.specs.declared.mover.Mover.{Mover}
 use Rattle.trace_files.specs.declared.relocation.Moved.{Moved}
 use Rattle.trace_files.specs.Copies.{HasCopied, any}
-use Rattle.trace_files.specs.Movers.{EndsAt, HasMoved, IsAllWritten, IsCutAt, IsOccupied, read_fault}
+use Rattle.trace_files.specs.Movers.{EndsAt, HasMoved, IsAllWritten, IsCutAt, IsOccupied, StopsAt}
+use Rattle.trace_files.specs.Movers.{read_fault}
 use Rattle.trace_files.specs.Moves.{IsFree, count_moved, is_taken}
 use Rattle.trace_files.specs.Moving.{HasGivenUp, HasMoveCause, IsCounted, IsRefused, addr_of}
 use Rattle.trace_files.specs.Moving.{before_the_first, fault_of, first_in_the_way, is_in_the_way}
@@ -51,7 +55,8 @@ use Rattle.trace_files.specs.Moving.{moved_item, moved_items, moved_so_far, movi
 use Rattle.trace_files.proofs.Readings.{front_first, same_at}
 use Rattle.trace_files.proofs.Relocations.{header_stays, none_read}
 use Rattle.trace_files.proofs.Stopped.{others_stay}
-use Rattle.trace_files.proofs.Takings.{all_free, first_stays, front_free, front_same, none_in_the_way}
+use Rattle.trace_files.proofs.Takings.{all_free, first_stays, front_free, front_same, neither_passes}
+use Rattle.trace_files.proofs.Takings.{none_in_the_way}
 
 -- ---- who is the cause
 
@@ -329,3 +334,198 @@ refused_whole held trace file table all refusal before now whole is written = re
       (moved_so_far table file (version_and_header (reading_of all).1.progress) l) before now)
       (sym (all_free (is_in_the_way table) (reading_of all).0 written.free)) written.written;
 }
+
+-- ---- a whole trace
+
+trace_head : (all : List TraceRecord) (p : Option ReadSoFar) (r : Result Ending TraceFault)
+    (t : Trace) → trace_at all p r ≡ Some t → version_and_header p ≡ Some (t.version, t.header)
+trace_head all None (Ok e) t is = absurd cc
+trace_head all None (Err fault) t is = absurd cc
+trace_head all (Some p) (Err fault) t is = absurd cc
+trace_head all (Some p) (Ok e) t is = cc
+
+one_touch : (table : List Move) (item : TraceRecord) (items : List TraceRecord)
+    → is_in_the_way table item ≡ false → IsFree table (touches_in items)
+    → IsFree table (touches_in (item ∷ items))
+one_touch table (records.Touch a pc) items here free =
+    All-cons (λ (b : Touch). is_taken table b.addr ≡ false) a (touches_in items) here free
+one_touch table (records.Alloc addr size sites) items here free = free
+one_touch table (records.Free addr) items here free = free
+one_touch table (records.Symbol kind addr size symbol) items here free = free
+one_touch table (records.End e) items here free = free
+
+free_touches : (table : List Move) (items : List TraceRecord)
+    → list_any (is_in_the_way table) items ≡ false → IsFree table (touches_in items)
+free_touches table [] none = All-nil (λ (b : Touch). is_taken table b.addr ≡ false)
+free_touches table (item ∷ items) none =
+    let parts = neither_passes (is_in_the_way table item) (list_any (is_in_the_way table) items) none
+    in
+    one_touch table item items parts.0 (free_touches table items parts.1)
+
+touches_ended : (items : List TraceRecord) (e : Ending)
+    → touches_in (items ++ records.End e ∷ []) ≡ touches_in items
+touches_ended items e =
+    filter_map-append touch_in items (records.End e ∷ []) ∙ append-nil (touches_in items)
+
+pub whole_copied : (held : Option Files) (trace file : List ℕ) (table : List Move) (m : Mover)
+    (passed : Passed) (bytes : List ℕ) (items : List TraceRecord) (made : Moved)
+    (before mid now : Outside) → Told held (λ files. bytes ≡ content files trace)
+    → trace_of bytes ≡ Some (trace_with passed items)
+    → HasMoved table file m (version_and_header (reading_of bytes).1.progress)
+    (reading_of bytes).0 before mid
+    → AreWritten (moved_so_far table file (version_and_header (reading_of bytes).1.progress)
+    (reading_of bytes).0) before now
+    → made.accesses ≡ passed.ending.accesses → made.moved ≡ m.moved
+    → HasCopied held trace (moving table file) (IsCounted table made) before now
+whole_copied held trace file table m passed bytes items made before mid now whole is has written
+    accesses count =
+    let t = trace_with passed items in
+    let all = trace-records bytes t is in
+    let head = trace_head (reading_of bytes).0 (reading_of bytes).1.progress
+    (ending_of (reading_of bytes).1) t is in
+    let free : list_any (is_in_the_way table) (items ++ records.End t.ending ∷ []) ≡ false =
+    ap (list_any (is_in_the_way table)) (sym all) ∙ has.free in
+    let parts = neither_passes (list_any (is_in_the_way table) items) _
+    (sym (list_any-append (is_in_the_way table) items (records.End t.ending ∷ [])) ∙ free) in
+    let file_is : moved_so_far table file (version_and_header (reading_of bytes).1.progress)
+    (reading_of bytes).0 ≡ moving table file t =
+    (λ i. moved_so_far table file (head i) (all i))
+    ∙ ap (λ (l : List TraceRecord). one_file file (begun_with t.version t.header l))
+    (map-append (moved_item table) items (records.End t.ending ∷ []))
+    ∙ ap (one_file file)
+    (begun-all t.version t.header (moved_items table items) t.ending) in
+    record {
+      bytes = bytes;
+      whole = whole;
+      trace = t;
+      is = is;
+      told = record {
+        free = free_touches table items parts.0;
+        accesses = accesses ∙ (trace-parts bytes t is).counted;
+        moved = count ∙ has.moved
+            ∙ ap (λ (l : List TraceRecord). count_moved table (touches_in l)) all
+            ∙ ap (count_moved table) (touches_ended items t.ending);
+      };
+      written = subst (λ (l : List Output). AreWritten l before now) file_is written;
+    }
+
+-- ---- all that is said of a fault
+
+pub record Gave (held : Option Files) (trace file : List ℕ) (table : List Move)
+    (before now : Outside) (fault : MoveFault) : Type 0 where
+  pub refused : (refusal : Refusal) → fault ≡ faults.Refused refusal
+      → IsRefused held trace file table before now (faults.Refused refusal)
+  pub occupied : (addr : ℕ) → fault ≡ faults.Occupied addr
+      → IsRefused held trace file table before now (faults.Occupied addr)
+  pub memory : fault ≢ faults.Refused (refusals.Trace trace_faults.NoMemory)
+  pub given_up : HasGivenUp held trace file table before now fault
+
+module _ (held : Option Files) (trace file : List ℕ) (table : List Move) (bytes : List ℕ)
+    (front : Told held (λ fs. IsFront (content fs trace) bytes)) (before now : Outside)
+  where
+    -- within a call that writes
+    pub gave_stopped : (fault : MoveFault)
+        → StopsAt table file (version_and_header (reading_of bytes).1.progress)
+        (reading_of bytes).0 before now fault
+        → Gave held trace file table before now fault
+    gave_stopped (faults.Refused refusal) stops = absurd stops
+    gave_stopped faults.ReadFault stops = absurd stops
+    gave_stopped (faults.Occupied addr) stops = record {
+      refused = λ refusal e. absurd cc;
+      occupied = λ other e.
+          let same : addr ≡ other = cc in
+          subst (λ (n : ℕ). IsRefused held trace file table before now (faults.Occupied n)) same
+          (refused_occupied held trace file table bytes front before now addr stops);
+      memory = λ e. cc;
+      given_up = gave_up held trace file table bytes front before now (faults.Occupied addr) stops;
+    }
+    gave_stopped faults.WriteFault stops = record {
+      refused = λ refusal e. absurd cc;
+      occupied = λ addr e. absurd cc;
+      memory = λ e. cc;
+      given_up = gave_up held trace file table bytes front before now faults.WriteFault stops;
+    }
+    gave_stopped faults.NoMemory stops = record {
+      refused = λ refusal e. absurd cc;
+      occupied = λ addr e. absurd cc;
+      memory = λ e. cc;
+      given_up = gave_up held trace file table bytes front before now faults.NoMemory stops;
+    }
+
+    -- within one that reads
+    pub gave_reading : {T : Type 0} (m : Mover) (mid : Outside) (fault : PassFault)
+        → ((refusal : Refusal) → fault ≡ passes.Refused refusal → ⊥)
+        → HasMoved table file m (version_and_header (reading_of bytes).1.progress)
+        (reading_of bytes).0 before mid → OnlyReads mid now
+        → HasPassCause {T = T} trace mid now (Err fault)
+        → Gave held trace file table before now (read_fault fault)
+    gave_reading {T} m mid (passes.Refused refusal) other has only cause = absurd (other refusal refl)
+    gave_reading {T} m mid passes.ReadFault other has only cause = record {
+      refused = λ refusal e. absurd cc;
+      occupied = λ addr e. absurd cc;
+      memory = λ e. cc;
+      given_up = gave_up_reading held trace file table bytes front {T = T} m before mid now
+          passes.ReadFault has only cause;
+    }
+    gave_reading {T} m mid passes.NoMemory other has only cause = record {
+      refused = λ refusal e. absurd cc;
+      occupied = λ addr e. absurd cc;
+      memory = λ e. cc;
+      given_up = gave_up_reading held trace file table bytes front {T = T} m before mid now
+          passes.NoMemory has only cause;
+    }
+
+-- at a trace that is refused
+module _ (held : Option Files) (trace file : List ℕ) (table : List Move) (all : List ℕ)
+    (whole : Told held (λ fs. all ≡ content fs trace)) (refusal : Refusal)
+    (is : refusal_of any all ≡ Some refusal)
+    (other : refusal ≢ refusals.Trace trace_faults.NoMemory) (before now : Outside)
+  where
+    front_of_all : Told held (λ fs. IsFront (content fs trace) all)
+    front_of_all = told_map held (λ fs same.
+        subst (λ (l : List ℕ). IsFront l all) same
+        (record { within = omega arith; same = sym (take_all (length all) all (omega arith)) })) whole
+
+    pub gave_refused : (fault : MoveFault)
+        → ((r : Refusal) → fault ≡ faults.Refused r → r ≡ refusal)
+        → EndsAt table file (version_and_header (reading_of all).1.progress) (reading_of all).0
+        before now fault
+        → Gave held trace file table before now fault
+    gave_refused (faults.Refused r) same ends =
+        let so : r ≡ refusal = same r refl in
+        record {
+          refused = λ r' e.
+              let also : r' ≡ refusal = same r' e in
+              subst (λ (x : Refusal). IsRefused held trace file table before now (faults.Refused x))
+              (sym also)
+              (refused_whole held trace file table all refusal before now whole is ends);
+          occupied = λ addr e. absurd cc;
+          memory = λ e. other (sym (same (refusals.Trace trace_faults.NoMemory) e));
+          given_up = gave_up held trace file table all front_of_all before now (faults.Refused r)
+              ends;
+        }
+    gave_refused (faults.Occupied addr) same ends =
+        gave_stopped held trace file table all front_of_all before now (faults.Occupied addr) ends
+    gave_refused faults.ReadFault same ends = absurd ends
+    gave_refused faults.WriteFault same ends =
+        gave_stopped held trace file table all front_of_all before now faults.WriteFault ends
+    gave_refused faults.NoMemory same ends =
+        gave_stopped held trace file table all front_of_all before now faults.NoMemory ends
+
+of_ending : (r : Result Ending TraceFault) (refusal : Refusal)
+    → trace_refusal r ≡ Some refusal → (fault : TraceFault) × (refusal ≡ refusals.Trace fault)
+of_ending (Ok e) refusal is = absurd cc
+of_ending (Err fault) refusal is = (fault, cc)
+
+fault_in : (p : Option ReadSoFar) (r : Result Ending TraceFault) (refusal : Refusal)
+    → option_or (header_refusal any (head_of p)) (trace_refusal r) ≡ Some refusal
+    → (fault : TraceFault) × (refusal ≡ refusals.Trace fault)
+fault_in None r refusal is = of_ending r refusal is
+fault_in (Some p) r refusal is = of_ending r refusal is
+
+-- any trace that is refused has a fault
+pub is_trace_fault : (bytes : List ℕ) (refusal : Refusal) → refusal_of any bytes ≡ Some refusal
+    → (fault : TraceFault) × (refusal ≡ refusals.Trace fault)
+is_trace_fault bytes refusal is =
+    let now = (reading_of bytes).1 in
+    fault_in now.progress (ending_of now) refusal is

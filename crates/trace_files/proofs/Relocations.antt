@@ -16,7 +16,7 @@ use Rattle.shelf.specs.declared.shelf.ShelfError.TheVariants as errors
 use Rattle.shelf.specs.Files.{AreCut, AreWritten, BegunInOrder, GoOn, Output, RoseAmong, one_file}
 use Rattle.shelf.specs.OnTheirWay.{IsNew, IsOutputs}
 use Rattle.shelf.specs.Laws.Files.{AreCut-longer, IsOutputs-cut, IsOutputs-read, goes_by, output_names}
-use Rattle.shelf.specs.Laws.Told.{goes_map, narrows_then, told, told_both, told_map, told_still}
+use Rattle.shelf.specs.Laws.Told.{told_same}
 use Rattle.trace_format.specs.declared.fault.TraceFault.{TraceFault}
 use Rattle.trace_format.specs.declared.read_so_far.ReadSoFar.{ReadSoFar}
 use Rattle.trace_format.specs.declared.record.Header.{Header}
@@ -259,3 +259,56 @@ module _ (table : List Move) (trace file : List ℕ) (m : Mover) (cursor : Reach
         subst (λ (r : Reading). Follows (version_and_header (reading_of at.bytes).1.progress)
         (reading_of at.bytes).0 (version_and_header r.progress) items) (sym is)
         (follows_of at.bytes all items behind records)
+
+    -- what is said of what was put before and what comes is said of all
+    pub at_all : (all : List ℕ) (items its : List TraceRecord) (reading : Reading)
+        (head : Option (Version × Header))
+        (P : List ℕ → Option (Version × Header) → List TraceRecord → Outside → Type 0)
+        → (more : List ℕ) × (all ≡ at.bytes ++ more)
+        → (reading_of all).0 ≡ (reading_of at.bytes).0 ++ items → reading ≡ (reading_of all).1
+        → head ≡ version_and_header reading.progress → its ≡ items
+        → ((known : Option (Version × Header)) (seen : List TraceRecord) (before : Outside)
+        → HasMoved table m.name.now m known seen before read → Follows known seen head its
+        → P m.name.now head (seen ++ its) before)
+        → P file (version_and_header (reading_of all).1.progress) (reading_of all).0 old
+    at_all all items its reading head P behind records is known_head same says =
+        let seen = (reading_of at.bytes).0 in
+        let known = version_and_header (reading_of at.bytes).1.progress in
+        let follows : Follows known seen head its =
+        subst (λ (h : Option (Version × Header)). Follows known seen h its) (sym known_head)
+        (subst (λ (l : List TraceRecord). Follows known seen
+        (version_and_header reading.progress) l) (sym same)
+        (did_follow all items reading behind records is)) in
+        let here : P m.name.now head (seen ++ its) old = says known seen old had_moved follows in
+        let head_is : head ≡ version_and_header (reading_of all).1.progress =
+        known_head ∙ ap (λ (r : Reading). version_and_header r.progress) is in
+        let all_is : seen ++ its ≡ (reading_of all).0 =
+        ap (λ (l : List TraceRecord). seen ++ l) same ∙ sym records in
+        subst (λ (n : List ℕ). P n (version_and_header (reading_of all).1.progress)
+        (reading_of all).0 old) at.has.named
+        (subst (λ (h : Option (Version × Header)). P m.name.now h (reading_of all).0 old) head_is
+        (subst (λ (l : List TraceRecord). P m.name.now head l old) all_is here))
+
+-- the bytes that were read are the first of the name's, as long as these are told
+pub front_still : (o n : Option Files) (trace bytes : List ℕ) → n ≡ o
+    → Told o (λ fs. IsFront (content fs trace) bytes)
+    → Told n (λ fs. IsFront (content fs trace) bytes)
+front_still o n trace bytes same front =
+    told_same (λ fs. IsFront (content fs trace) bytes) o n same front
+
+pub moving_next : (table : List Move) (trace file : List ℕ) (m : Mover) (cursor : Reached)
+    (old read new : Outside) (all : List ℕ) → new.held ≡ read.held
+    → HasCome read.held trace any all cursor
+    → HasMoved table file m (version_and_header (reading_of all).1.progress) (reading_of all).0 old
+    new
+    → IsMoving table trace file m cursor old new
+moving_next table trace file m cursor old read new all same come has = record {
+  bytes = all;
+  come = record {
+    size = come.size;
+    room = come.room;
+    front = front_still read.held new.held trace all same come.front;
+    read = come.read;
+  };
+  has = has;
+}

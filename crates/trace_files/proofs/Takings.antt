@@ -36,7 +36,7 @@ of_test : {X : Type 0} (o : Option X) → is_some o ≡ false → o ≡ None
 of_test None is = refl
 of_test (Some x) is = absurd cc
 
-neither_passes : (a b : Bool) → (a || b) ≡ false → (a ≡ false) × (b ≡ false)
+pub neither_passes : (a b : Bool) → (a || b) ≡ false → (a ≡ false) × (b ≡ false)
 neither_passes true b is = absurd cc
 neither_passes false b is = (refl, is)
 
