@@ -1,5 +1,6 @@
 -- What stands where a moved trace gives up, and that it is whole where it doesn't.
 use Rattle.std.proofs.Common.{◌≡◌, ◌≢◌, ◌≤◌, ℕ, Bool, true, false, not, List, [], ◌∷◌, ◌++◌, length, drop}
+use Rattle.std.specs.Prelude.{IfOk, OnOk}
 use Rattle.std.proofs.Common.{cond, Option, Some, None, Result, Ok, Err, find, inl, inr, refl, sym, ap}
 use Rattle.std.proofs.Common.{◌∙◌, subst, arith, append-nil, append_assoc, option_map}
 use Rattle.std.specs.Prelude.{◌||◌, is_some}
@@ -47,7 +48,6 @@ use Rattle.trace_files.specs.declared.mover.Mover.{Mover}
 use Rattle.trace_files.specs.declared.relocation.Moved.{Moved}
 use Rattle.trace_files.specs.Copies.{HasCopied, any}
 use Rattle.trace_files.specs.Movers.{EndsAt, HasMoved, IsAllWritten, IsCutAt, IsOccupied, StopsAt}
-use Rattle.trace_files.specs.Movers.{read_fault}
 use Rattle.trace_files.specs.Moves.{IsFree, count_moved, is_taken}
 use Rattle.trace_files.specs.Moving.{HasGivenUp, HasMoveCause, IsCounted, IsRefused, addr_of}
 use Rattle.trace_files.specs.Moving.{before_the_first, fault_of, first_in_the_way, is_in_the_way}
@@ -101,6 +101,12 @@ module _ (trace file : List ℕ) (table : List Move) (head : Option (Version × 
     other_cause fault no_read no_write cut =
         quiet_cause trace file before now fault no_read no_write cut.only.read_faults
         (cut.cause.quiet (λ e. cc))
+
+-- what is answered for a fault of a call that reads
+abbrev pub read_fault : PassFault → MoveFault
+read_fault (passes.Refused refusal) = faults.Refused refusal
+read_fault passes.ReadFault = faults.ReadFault
+read_fault passes.NoMemory = faults.NoMemory
 
 reading_cause : {T : Type 0} (trace file : List ℕ) (before mid now : Outside) (fault : PassFault)
     → HasPassCause {T = T} trace mid now (Err fault) → mid.read_faults ≡ before.read_faults
@@ -529,3 +535,9 @@ pub is_trace_fault : (bytes : List ℕ) (refusal : Refusal) → refusal_of any b
 is_trace_fault bytes refusal is =
     let now = (reading_of bytes).1 in
     fault_in now.progress (ending_of now) refusal is
+
+-- what a call says of its answer where it is Ok
+pub three_ok : {T E W : Type 0} {A B Q : T → Type 0} (r : Result T E)
+    → ((x : T) → W → A x → B x → Q x) → OnOk r W → IfOk r A → IfOk r B → IfOk r Q
+three_ok (Ok x) f w a b = f x w a b
+three_ok (Err e) f w a b = tt

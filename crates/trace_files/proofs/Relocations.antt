@@ -46,7 +46,7 @@ use Rattle.trace_files.specs.declared.move_row.Move.{Move}
 use Rattle.trace_files.specs.declared.mover.Mover.{Mover}
 use Rattle.trace_files.specs.Copies.{any}
 use Rattle.trace_files.specs.Movers.{EndsAt, Follows, HasMoved, IsAllWritten, IsCutAt, IsOccupied}
-use Rattle.trace_files.specs.Movers.{MayTake, StopsAt, read_fault, write_fault}
+use Rattle.trace_files.specs.Movers.{MayTake, StopsAt}
 use Rattle.trace_files.specs.Moves.{IsFree, count_moved, is_taken}
 use Rattle.trace_files.specs.Moving.{HasGivenUp, HasMoveCause, IsCounted, IsRefused, addr_of}
 use Rattle.trace_files.specs.Moving.{before_the_first, fault_of, first_in_the_way, is_in_the_way}

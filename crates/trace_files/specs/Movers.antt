@@ -14,8 +14,6 @@ use Rattle.trace_format.specs.declared.record.Version.{Version}
 use Rattle.trace_format.specs.Rules.{IsGoodHeader, touches_in}
 use Rattle.trace_format.specs.Spelling.{nothing_before}
 use Rattle.trace_format.specs.Writing.{before_behind}
-use Rattle.trace_passes.specs.declared.passes.PassFault.{PassFault}
-use Rattle.trace_passes.specs.declared.passes.PassFault.TheVariants as passes
 use Rattle.trace_files.specs.declared.move_fault.MoveFault.{MoveFault}
 use Rattle.trace_files.specs.declared.move_fault.MoveFault.TheVariants as faults
 use Rattle.trace_files.specs.declared.move_row.Move.{Move}
@@ -80,11 +78,6 @@ StopsAt table name head all before now (faults.Refused refusal) = ⊥
 abbrev pub write_fault : ShelfError → MoveFault
 write_fault errors.Failed = faults.WriteFault
 write_fault errors.NoMemory = faults.NoMemory
-
-abbrev pub read_fault : PassFault → MoveFault
-read_fault (passes.Refused refusal) = faults.Refused refusal
-read_fault passes.ReadFault = faults.ReadFault
-read_fault passes.NoMemory = faults.NoMemory
 
 -- ---- the header
 

@@ -1,9 +1,9 @@
 // Why a trace isn't moved.
 ghost use Rattle.std.specs.Prelude.{◌≡◌};
-ghost use Rattle.trace_files.specs.Movers.{read_fault, write_fault};
+ghost use Rattle.trace_files.specs.Movers.{write_fault};
 
 use shelf::ShelfError;
-use trace_passes::{PassFault, Refusal};
+use trace_passes::Refusal;
 
 /// Why a trace with its accesses moved wasn't written, or not all of it.
 #[derive(Clone, Copy, PartialEq, Eq, Debug)]
@@ -18,17 +18,6 @@ pub enum MoveFault {
     WriteFault,
     /// Memory ran out.
     NoMemory,
-}
-
-// Why it isn't moved where it can't be read.
-pub(crate) fn read_fault(fault: PassFault) -> MoveFault
-    ensures { result ≡ read_fault fault }
-{
-    match fault {
-        PassFault::Refused(refusal) => MoveFault::Refused(refusal),
-        PassFault::ReadFault => MoveFault::ReadFault,
-        PassFault::NoMemory => MoveFault::NoMemory,
-    }
 }
 
 // Why it isn't moved where the file can't be written.

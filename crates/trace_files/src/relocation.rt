@@ -17,7 +17,7 @@ ghost use Rattle.trace_files.specs.Movers.{EndsAt, Follows, HasMoved, MayTake, S
 ghost use Rattle.trace_files.specs.Moving.{HasGivenUp, IsCounted, IsRefused, moved_so_far, moving};
 
 use crate::copy::any;
-use crate::move_fault::{read_fault, write_fault};
+use crate::move_fault::write_fault;
 use crate::mover::Mover;
 use crate::taking::take;
 use crate::{MoveFault, MoveTable};
@@ -128,7 +128,7 @@ pub fn move_trace<S: Shelf>(
 {
     let mut cursor = match Cursor::new(alloc) {
         Ok(cursor) => cursor,
-        Err(fault) => return Err(read_fault(fault)),
+        Err(_) => return Err(MoveFault::NoMemory),
     };
     let mut mover = Mover::new(alloc, file);
     'pieces: loop {
@@ -141,7 +141,8 @@ pub fn move_trace<S: Shelf>(
             Err(PassFault::Refused(refusal)) => {
                 return Err(end_refused(alloc, shelf, table, &mut mover, &cursor, refusal));
             }
-            Err(fault) => return Err(read_fault(fault)),
+            Err(PassFault::ReadFault) => return Err(MoveFault::ReadFault),
+            Err(PassFault::NoMemory) => return Err(MoveFault::NoMemory),
         }
     }
 }

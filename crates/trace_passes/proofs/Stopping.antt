@@ -1,6 +1,6 @@
 -- What is said of a trace that has a fault.
 use Rattle.std.proofs.Common.{◌≡◌, ℕ, List, [], ◌++◌, drop, length, Option, Some, None, refl, sym, ap, ◌∙◌}
-use Rattle.std.proofs.Common.{subst}
+use Rattle.std.proofs.Common.{append_assoc, subst}
 use Rattle.std.proofs.lemmas.List.{append-nil}
 use Rattle.shelf.specs.Shelf.{Files, Told, content}
 use Rattle.shelf.specs.Fetch.{IsFront}
@@ -43,15 +43,21 @@ records_stay bytes more fault e =
     (none_more r more r.fault fault refl e)
     ∙ append-nil (reading_of bytes).0
 
+behind_both : (bytes piece rest front : List ℕ) → front ≡ bytes ++ piece
+    → (more : List ℕ) × (front ++ rest ≡ bytes ++ more)
+behind_both bytes piece rest front is =
+    (piece ++ rest, ap (λ (l : List ℕ). l ++ rest) is ∙ append_assoc bytes piece rest)
+
 -- within a piece
-pub stopped_piece : (held : Option Files) (name bytes front : List ℕ) (w : Wanted)
-    (fault : TraceFault) (now : Reached)
+pub stopped_piece : (held : Option Files) (name bytes front piece : List ℕ) (w : Wanted)
+    (fault : TraceFault) (now : Reached) → front ≡ bytes ++ piece
     → Told held (λ files. IsFront (content files name) front)
     → StopsIn front bytes fault now.reading now.items
     → ((more : List ℕ) → refusal_of w (front ++ more) ≡ Some (refusals.Trace fault))
     → HasStopped held name w bytes (refusals.Trace fault) now
-stopped_piece None name bytes front w fault now is stops refused = record {
+stopped_piece None name bytes front piece w fault now two is stops refused = record {
   all = front ++ [];
+  behind = behind_both bytes piece [] front two;
   whole = tt;
   refused = refused [];
   reading = stops.reading
@@ -60,11 +66,12 @@ stopped_piece None name bytes front w fault now is stops refused = record {
   records = records_stay front [] fault (ap (λ (r : Reading). r.fault) (sym stops.reading)
       ∙ stops.fault_there) ∙ stops.records;
 }
-stopped_piece (Some files) name bytes front w fault now is stops refused =
+stopped_piece (Some files) name bytes front piece w fault now two is stops refused =
     let rest = drop (length front) (content files name) in
     let there = ap (λ (r : Reading). r.fault) (sym stops.reading) ∙ stops.fault_there in
     record {
       all = front ++ rest;
+      behind = behind_both bytes piece rest front two;
       whole = behind_front (content files name) front is;
       refused = refused rest;
       reading = stops.reading ∙ sym (fault_stays front rest fault there);
@@ -79,6 +86,7 @@ pub stopped_end : (held : Option Files) (name bytes : List ℕ) (w : Wanted) (x 
     → HasStopped held name w bytes x now
 stopped_end held name bytes w x now whole read none e = record {
   all = bytes;
+  behind = ([], sym (append-nil bytes));
   whole = whole;
   refused = refusal_at_end w bytes read.sited
       (ap (λ (r : Reading). header_refusal w (head_of r.progress)) (sym read.reading)

@@ -101,6 +101,7 @@ pub record HasEnded (held : Option Files) (name : List ℕ) (w : Wanted) (bytes 
 pub record HasStopped (held : Option Files) (name : List ℕ) (w : Wanted) (bytes : List ℕ)
     (refusal : Refusal) (now : Reached) : Type 0 where
   pub all : List ℕ
+  pub behind : (more : List ℕ) × (all ≡ bytes ++ more)
   pub whole : Told held (λ files. all ≡ content files name)
   pub refused : refusal_of w all ≡ Some refusal
   pub reading : now.reading ≡ (reading_of all).1

@@ -225,4 +225,5 @@ returns-in_err-take_piece-clause-stopped g c = λ fault same bytes reached.
     subst (λ (xs : List ℕ). StopsIn (bytes ++ take count xs) bytes fault reader items)
     (c.deref.ensures.value ∙ back) (c.take_piece.ensures.stopped fault (cc) bytes
     come.read.reading) in
-    stopped_piece held name bytes (bytes ++ take count into) w fault _ front in_it refused
+    stopped_piece held name bytes (bytes ++ take count into) (take count into) w fault _ refl front
+    in_it refused
