@@ -1,14 +1,13 @@
 -- What stands where a moved trace gives up, and that it is whole where it doesn't.
-use Rattle.std.proofs.Common.{◌≡◌, ◌≢◌, ◌≤◌, ℕ, Bool, true, false, not, List, [], ◌∷◌, ◌++◌, length, drop}
+use Rattle.std.proofs.Common.{◌≡◌, ◌≢◌, ◌≤◌, ℕ, false, List, [], ◌∷◌, ◌++◌, length, drop}
 use Rattle.std.specs.Prelude.{IfOk, OnOk}
-use Rattle.std.proofs.Common.{cond, Option, Some, None, Result, Ok, Err, find, inl, inr, refl, sym, ap}
+use Rattle.std.proofs.Common.{Option, Some, None, Result, Ok, Err, inl, inr, refl, sym, ap}
 use Rattle.std.proofs.Common.{◌∙◌, subst, arith, append-nil, append_assoc, option_map}
-use Rattle.std.specs.Prelude.{◌||◌, is_some}
-use Rattle.std.specs.List.{All, filter_map, list_any}
+use Rattle.std.specs.List.{list_any}
 use Rattle.std.specs.Option.{option_map_or, option_or}
 use Rattle.std.proofs.lemmas.List.{map-append, take-append-drop, take_all}
 use Rattle.std.proofs.lemmas.List.Elements.{All-cons, All-nil, filter_map-append}
-use Rattle.std.proofs.lemmas.List.Folds.{find-append, list_any-append}
+use Rattle.std.proofs.lemmas.List.Folds.{list_any-append}
 use Rattle.base.specs.Touch.{Touch}
 use Rattle.base.specs.declared.ending.Ending.{Ending}
 use Rattle.shelf.specs.Shelf.{Files, Goes, Narrows, OnlyReads, Outside, Rose, Told, content}
@@ -16,7 +15,7 @@ use Rattle.shelf.specs.Fetch.{IsFront}
 use Rattle.shelf.specs.declared.shelf.ShelfError.{ShelfError}
 use Rattle.shelf.specs.declared.shelf.ShelfError.TheVariants as errors
 use Rattle.shelf.specs.Files.{AreCut, AreWritten, BegunInOrder, GoOn, Output, RoseAmong, one_file}
-use Rattle.shelf.specs.OnTheirWay.{IsNew, IsOutputs}
+use Rattle.shelf.specs.OnTheirWay.{IsNew}
 use Rattle.shelf.specs.Laws.Files.{AreCut-longer, IsOutputs-cut, output_names}
 use Rattle.shelf.specs.Laws.Told.{goes_map, narrows_then, told_map}
 use Rattle.trace_format.specs.declared.fault.TraceFault.{TraceFault}
@@ -38,7 +37,7 @@ use Rattle.trace_passes.specs.declared.wanted.Refusal.{Refusal}
 use Rattle.trace_passes.specs.declared.wanted.Refusal.TheVariants as refusals
 use Rattle.trace_passes.specs.Cursors.{version_and_header}
 use Rattle.trace_passes.specs.Laws.Passes.{trace-parts, trace-records}
-use Rattle.trace_passes.specs.Passes.{HasPassCause, Trace, all_records, refusal_of, spell_trace}
+use Rattle.trace_passes.specs.Passes.{HasPassCause, Trace, refusal_of}
 use Rattle.trace_passes.specs.Passes.{head_of, header_refusal, trace_at, trace_of, trace_refusal}
 use Rattle.trace_passes.specs.Passes.{trace_with}
 use Rattle.trace_files.specs.declared.move_fault.MoveFault.{MoveFault}
@@ -49,8 +48,8 @@ use Rattle.trace_files.specs.declared.relocation.Moved.{Moved}
 use Rattle.trace_files.specs.Copies.{HasCopied, any}
 use Rattle.trace_files.specs.Movers.{EndsAt, HasMoved, IsAllWritten, IsCutAt, IsOccupied, StopsAt}
 use Rattle.trace_files.specs.Moves.{IsFree, count_moved, is_taken}
-use Rattle.trace_files.specs.Moving.{HasGivenUp, HasMoveCause, IsCounted, IsRefused, addr_of}
-use Rattle.trace_files.specs.Moving.{before_the_first, fault_of, first_in_the_way, is_in_the_way}
+use Rattle.trace_files.specs.Moving.{HasGivenUp, HasMoveCause, IsCounted, IsRefused}
+use Rattle.trace_files.specs.Moving.{before_the_first, first_in_the_way, is_in_the_way}
 use Rattle.trace_files.specs.Moving.{moved_item, moved_items, moved_so_far, moving, written_of}
 use Rattle.trace_files.proofs.Readings.{front_first, same_at}
 use Rattle.trace_files.proofs.Relocations.{header_stays, none_read}
@@ -148,9 +147,15 @@ go_head table file (Some h) now put more all stays is free =
     ap (begun_with h.0 h.1) (map-append (moved_item table) put rest)
     ∙ begun-append h.0 h.1 (moved_items table put) (moved_items table rest) in
     let longer : GoOn (one_file file (begun_with h.0 h.1 (moved_items table put)))
-    (one_file file (begun_with h.0 h.1 (moved_items table (put ++ rest)))) =
-    (refl, (spell_records h.0 (before_behind nothing_before (moved_items table put))
-    (moved_items table rest), split), tt) in
+    (one_file file (begun_with h.0 h.1 (moved_items table (put ++ rest)))) = (
+      refl,
+      (
+        spell_records h.0 (before_behind nothing_before (moved_items table put))
+            (moved_items table rest),
+        split,
+      ),
+      tt,
+    ) in
     subst (λ (k : Option (Version × Header)). GoOn (moved_so_far table file (Some h) put)
     (moved_so_far table file k (before_the_first table all))) (sym (stays h refl))
     (subst (λ (l : List TraceRecord). GoOn (moved_so_far table file (Some h) put)

@@ -1,8 +1,8 @@
 -- The words of moved accesses.
-use Rattle.std.proofs.Common.{◌≡◌, ◌↔◌, ℕ, zero, suc, ◌+◌, ◌-◌, ◌*◌, ◌/◌, ◌%◌, ◌<◌, ◌≤◌, ◌^◌, ◌⊎◌, Bool}
+use Rattle.std.proofs.Common.{◌≡◌, ◌↔◌, ℕ, zero, suc, ◌+◌, ◌%◌, ◌<◌, ◌≤◌, ◌^◌, ◌⊎◌, Bool}
 use Rattle.std.proofs.Common.{true, false, not, List, [], ◌∷◌, map, length, get_or, Option, Some, None}
 use Rattle.std.proofs.Common.{refl, sym, ap, ◌∙◌, subst, inl, inr, arith, find, cond, filter}
-use Rattle.std.specs.Prelude.{◌&&◌, IsTrue, is_some, nat_eq, nat_le, nat_lt}
+use Rattle.std.specs.Prelude.{◌&&◌, IsTrue, is_some, nat_eq}
 use Rattle.std.specs.Option.{option_map_or}
 use Rattle.std.specs.List.{All, Contains, list_any}
 use Rattle.std.proofs.lemmas.Bool.{cases_Bool, cases_lt}
@@ -12,10 +12,10 @@ use Rattle.std.proofs.lemmas.List.Folds.{list_any_at}
 use Rattle.std.proofs.lemmas.List.Elements.{All-map, All-weaker}
 use Rattle.base.specs.Touch.{IsAllowed, Touch, is_access_size, word_of}
 use Rattle.trace_files.specs.declared.move_row.Move.{Move}
-use Rattle.trace_files.specs.Moves.{IsFree, KeepsAccesses, KeepsBytes, KeepsWords, accesses_in}
+use Rattle.trace_files.specs.Moves.{IsFree, KeepsAccesses, KeepsBytes, KeepsWords}
 use Rattle.trace_files.specs.Moves.{carried, is_in_place, is_in_range, is_moved, is_taken, moved_addr}
 use Rattle.trace_files.specs.Moves.{moved_in, moved_list}
-use Rattle.trace_files.specs.Tables.{AreInOrder, IsTable, keeps_rules, meets}
+use Rattle.trace_files.specs.Tables.{AreInOrder, IsTable, keeps_rules}
 use Rattle.trace_files.proofs.Lookups.{any_find}
 
 -- ---- where an address goes

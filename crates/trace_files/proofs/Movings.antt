@@ -1,17 +1,16 @@
 -- A trace on its way, with its accesses moved.
 use Rattle.std.proofs.Common.{◌≡◌, ℕ, ◌+◌, ◌<◌, ◌≤◌, ◌^◌, Bool, true, false, List, [], ◌∷◌, ◌++◌, length}
 use Rattle.std.proofs.Common.{Result, Ok, Err, OnOk}
-use Rattle.std.proofs.Common.{map, cond, Option, Some, None, refl, sym, ap, ◌∙◌, subst, arith, append-nil}
-use Rattle.std.specs.Prelude.{◌||◌, if◌then◌else◌, is_some}
-use Rattle.std.specs.List.{count_by, filter_map, list_any, sum_by}
-use Rattle.std.specs.Option.{option_map, option_map_or}
+use Rattle.std.proofs.Common.{cond, Option, Some, None, refl, sym, ap, ◌∙◌, subst, arith}
+use Rattle.std.specs.Prelude.{◌||◌, if◌then◌else◌}
+use Rattle.std.specs.List.{list_any}
 use Rattle.std.proofs.lemmas.List.{map-append, length-append}
 use Rattle.std.proofs.lemmas.List.Elements.{filter_map-append}
 use Rattle.std.proofs.lemmas.List.Folds.{list_any-append}
 use Rattle.std.proofs.lemmas.List.Sums.{count_by-le-length, sum_by-append}
 use Rattle.base.specs.Touch.{Touch}
 use Rattle.shelf.specs.Shelf.{Outside}
-use Rattle.shelf.specs.Files.{AreCut, Output, one_file}
+use Rattle.shelf.specs.Files.{Output, one_file}
 use Rattle.shelf.specs.OneFile.{Waiting}
 use Rattle.shelf.specs.OnTheirWay.{AreBegun, IsNew, IsOutputs, names_of, outputs_with}
 use Rattle.shelf.specs.Laws.Files.{IsOutputs-begun}
@@ -26,7 +25,7 @@ use Rattle.trace_format.specs.Laws.Writing.{begun-more, writer-more}
 use Rattle.trace_files.specs.declared.move_row.Move.{Move}
 use Rattle.trace_files.specs.declared.mover.Mover.{Mover}
 use Rattle.trace_files.specs.Movers.{HasMoved, MayPut}
-use Rattle.trace_files.specs.Moves.{count_moved, is_moved, is_taken}
+use Rattle.trace_files.specs.Moves.{count_moved, is_moved}
 use Rattle.trace_files.specs.Moving.{is_in_the_way, moved_item, moved_items, moved_so_far}
 use Rattle.trace_files.proofs.Begun.{as_many}
 

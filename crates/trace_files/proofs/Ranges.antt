@@ -1,11 +1,10 @@
 -- Ranges that rise: which one holds an address, and where one more goes.
 use Rattle.std.proofs.Common.{◌≡◌, ◌≢◌, ℕ, zero, suc, ◌+◌, ◌-◌, ◌<◌, ◌≤◌, Bool, true, false, not, ◌⊎◌, List, []}
-use Rattle.std.proofs.Common.{◌∷◌, ◌++◌, length, map, get_or, take, drop, Option, Some, None, cond}
-use Rattle.std.proofs.Common.{refl, sym, ap, ◌∙◌, subst, inl, inr, arith, find, option_map}
-use Rattle.std.specs.Prelude.{◌&&◌, ◌||◌, nat_eq, nat_le, nat_lt, is_some, is_none}
-use Rattle.std.specs.List.{All, AllPairs, AllWithin, insert, list_all, list_any}
+use Rattle.std.proofs.Common.{◌∷◌, length, get_or, take, drop, Some, None, cond}
+use Rattle.std.proofs.Common.{refl, sym, ap, ◌∙◌, subst, inl, inr, arith, find}
+use Rattle.std.specs.Prelude.{◌||◌, nat_eq, nat_le}
+use Rattle.std.specs.List.{AllPairs, AllWithin, insert, list_all}
 use Rattle.std.specs.List.Sorted.{IsPartitionedBy}
-use Rattle.std.specs.Option.{option_map_or}
 use Rattle.std.proofs.lemmas.Bool.{cases_lt}
 use Rattle.std.proofs.lemmas.List.Edits.{get_or-insert_above, get_or-insert_at, get_or-insert_below}
 use Rattle.std.proofs.lemmas.List.{get_or_default}
@@ -117,8 +116,13 @@ behind_all rows at d rising some =
                 let o = rising.order k (length rows - 1) e before (omega (arith, some)) in
                 let same = get_or_default rows (length rows - 1) d e (omega (arith, some)) in
                 let ends : end_of (get_or rows k e) ≤ at =
-                omega (arith, o, more, ap (λ (m : Move). m.from + m.size) same,
-                ap (λ (m : Move). m.from) same) in
+                omega (
+                  arith,
+                  o,
+                  more,
+                  ap (λ (m : Move). m.from + m.size) same,
+                  ap (λ (m : Move). m.from) same,
+                ) in
                 grind (arith, nat_tests)
             | inr last_one ↦
                 let is : length rows - 1 ≡ k = omega (arith, inside, last_one) in
@@ -144,12 +148,18 @@ at_insert xs i y d k bound =
       | inr more ↦ elim (cases_lt i k) [
         | inl above ↦
             let is : k - 1 + 1 ≡ k = omega (arith, above) in
-            inr (inr (above, subst (λ (j : ℕ). get_or (insert xs i y) j d ≡ get_or xs (k - 1) d) is
-            (get_or-insert_above xs i y d (k - 1) (omega (arith, above)) bound)))
+            inr (inr (
+              above,
+              subst (λ (j : ℕ). get_or (insert xs i y) j d ≡ get_or xs (k - 1) d) is
+                  (get_or-insert_above xs i y d (k - 1) (omega (arith, above)) bound),
+            ))
         | inr here ↦
             let is : i ≡ k = omega (arith, more, here) in
-            inr (inl (sym is, subst (λ (j : ℕ). get_or (insert xs i y) j d ≡ y) is
-            (get_or-insert_at xs i y d bound)))
+            inr (inl (
+              sym is,
+              subst (λ (j : ℕ). get_or (insert xs i y) j d ≡ y) is
+                  (get_or-insert_at xs i y d bound),
+            ))
       ]
     ]
 

@@ -1,60 +1,37 @@
 -- A moved trace on its way, piece after piece, and what stands where it gives up.
-use Rattle.std.proofs.Common.{◌≡◌, ◌≢◌, ◌≤◌, ◌<◌, ◌+◌, ◌^◌, ℕ, Bool, true, false, not, List, [], ◌∷◌, ◌++◌}
-use Rattle.std.proofs.Common.{length, drop, cond, Option, Some, None, Result, Ok, Err, OnOk, find, inl}
-use Rattle.std.proofs.Common.{inr, refl, sym, ap, ◌∙◌, subst, arith, append-nil, append_assoc, option_map}
-use Rattle.std.specs.Prelude.{◌⊎◌, ◌||◌, is_some}
-use Rattle.std.specs.List.{All, filter_map, list_any, take_while}
-use Rattle.std.specs.Option.{IfSome, option_map_or, option_or}
-use Rattle.std.proofs.lemmas.List.Elements.{All-cons, All-nil}
-use Rattle.std.proofs.lemmas.List.Folds.{find-append, list_any-append}
-use Rattle.base.specs.Touch.{Touch}
+use Rattle.std.proofs.Common.{◌≡◌, ◌<◌, ◌^◌, ℕ, List, [], ◌∷◌, ◌++◌}
+use Rattle.std.proofs.Common.{length, Option, Some, None}
+use Rattle.std.proofs.Common.{refl, sym, ap, ◌∙◌, subst, arith, append-nil}
+use Rattle.std.specs.List.{All}
+use Rattle.std.specs.Option.{IfSome}
 use Rattle.base.specs.declared.ending.Ending.{Ending}
-use Rattle.shelf.specs.Shelf.{Files, Goes, HasRead, Narrows, OnlyReads, Outside, Rose, Told, content}
+use Rattle.shelf.specs.Shelf.{Files, HasRead, Outside, Told, content}
 use Rattle.shelf.specs.Fetch.{IsFront}
 use Rattle.shelf.specs.declared.shelf.ShelfError.{ShelfError}
 use Rattle.shelf.specs.declared.shelf.ShelfError.TheVariants as errors
-use Rattle.shelf.specs.Files.{AreCut, AreWritten, BegunInOrder, GoOn, Output, RoseAmong, one_file}
-use Rattle.shelf.specs.OnTheirWay.{IsNew, IsOutputs}
-use Rattle.shelf.specs.Laws.Files.{AreCut-longer, IsOutputs-cut, IsOutputs-read, goes_by, output_names}
+use Rattle.shelf.specs.Files.{AreCut, AreWritten}
+use Rattle.shelf.specs.Laws.Files.{IsOutputs-read}
 use Rattle.shelf.specs.Laws.Told.{told_same}
-use Rattle.trace_format.specs.declared.fault.TraceFault.{TraceFault}
 use Rattle.trace_format.specs.declared.read_so_far.ReadSoFar.{ReadSoFar}
 use Rattle.trace_format.specs.declared.record.Header.{Header}
 use Rattle.trace_format.specs.declared.record.TraceRecord.{TraceRecord}
 use Rattle.trace_format.specs.declared.record.TraceRecord.TheVariants as records
 use Rattle.trace_format.specs.declared.record.Version.{Version}
 use Rattle.trace_format.specs.Laws.Counts.{IsSoFar, counted_so_far, few_accesses, so_far}
-use Rattle.trace_format.specs.Laws.Writing.{begun-all, begun-append}
-use Rattle.trace_format.specs.Reading.{Reading, begin, ending_of, read_on, reading_of}
-use Rattle.trace_format.specs.Rules.{IsGoodHeader, IsWritable, last_position, touches_in}
-use Rattle.trace_format.specs.Spelling.{nothing_before, spell_records}
-use Rattle.trace_format.specs.Writing.{before_behind, begun_with}
-use Rattle.trace_passes.specs.declared.passes.PassFault.{PassFault}
-use Rattle.trace_passes.specs.declared.passes.PassFault.TheVariants as passes
-use Rattle.trace_passes.specs.declared.passes.Passed.{Passed}
-use Rattle.trace_passes.specs.declared.wanted.Refusal.{Refusal}
-use Rattle.trace_passes.specs.declared.wanted.Refusal.TheVariants as refusals
-use Rattle.trace_passes.specs.declared.wanted.Wanted.{Wanted}
-use Rattle.trace_passes.specs.Cursors.{GoesOn, HasCome, HasEnded, HasStopped, Reached}
+use Rattle.trace_format.specs.Reading.{Reading, begin, read_on, reading_of}
+use Rattle.trace_format.specs.Rules.{IsGoodHeader, IsWritable, touches_in}
+use Rattle.trace_passes.specs.Cursors.{HasCome, Reached}
 use Rattle.trace_passes.specs.Cursors.{version_and_header}
-use Rattle.trace_passes.specs.Laws.Passes.{HeadStays, head_of_front, trace-parts, trace-records}
-use Rattle.trace_passes.specs.Passes.{HasPassCause, Trace, all_records, refusal_of, spell_trace}
-use Rattle.trace_passes.specs.Passes.{trace_of, trace_with}
+use Rattle.trace_passes.specs.Laws.Passes.{HeadStays, head_of_front}
 use Rattle.trace_files.specs.declared.move_fault.MoveFault.{MoveFault}
 use Rattle.trace_files.specs.declared.move_fault.MoveFault.TheVariants as faults
 use Rattle.trace_files.specs.declared.move_row.Move.{Move}
 use Rattle.trace_files.specs.declared.mover.Mover.{Mover}
 use Rattle.trace_files.specs.Copies.{any}
-use Rattle.trace_files.specs.Movers.{EndsAt, Follows, HasMoved, IsAllWritten, IsCutAt, IsOccupied}
+use Rattle.trace_files.specs.Movers.{EndsAt, Follows, HasMoved, IsAllWritten, IsCutAt}
 use Rattle.trace_files.specs.Movers.{MayTake, StopsAt}
-use Rattle.trace_files.specs.Moves.{IsFree, count_moved, is_taken}
-use Rattle.trace_files.specs.Moving.{HasGivenUp, HasMoveCause, IsCounted, IsRefused, addr_of}
-use Rattle.trace_files.specs.Moving.{before_the_first, fault_of, first_in_the_way, is_in_the_way}
-use Rattle.trace_files.specs.Moving.{moved, moved_item, moved_items, moved_so_far, moving, written_of}
+use Rattle.trace_files.specs.Moving.{moved, moved_so_far}
 use Rattle.trace_files.proofs.Pieces.{all_behind, writable_in}
-use Rattle.trace_files.proofs.Readings.{front_first, same_at}
-use Rattle.trace_files.proofs.Stopped.{others_stay}
-use Rattle.trace_files.proofs.Takings.{all_free, front_free, none_in_the_way, stops_by}
 
 -- ---- where it ends
 

@@ -215,8 +215,11 @@ module _ (text : List ℕ) (number : ℕ) (rest : List ℕ) (rows : List Move)
                 one_line rest none
                     ∙ ap (λ (l : List ℕ). let ls : List (List ℕ) = l ∷ [] in ls)
                     (sym (whole_before rest none) ∙ sym is_line),
-                λ more. absurd (omega (arith, more,
-                    ap length (is_after ∙ nothing_after rest none))),
+                λ more. absurd (omega (
+                  arith,
+                  more,
+                  ap length (is_after ∙ nothing_after rest none),
+                )),
               )
             ]
 

@@ -17,7 +17,6 @@ use Rattle.trace_files.specs.declared.move_row.Move.{Move}
 abbrev pub move : ℕ → ℕ → ℕ → Move
 move from size to = record { from = from; size = size; to = to }
 
-
 -- `0x11000 4 0x11080` and `0x11004 4 0x11040`
 two_lines : table_of (48 ∷ 120 ∷ 49 ∷ 49 ∷ 48 ∷ 48 ∷ 48 ∷ 32 ∷ 52 ∷ 32 ∷ 48 ∷ 120 ∷ 49 ∷ 49 ∷ 48 ∷ 56 ∷ 48 ∷ 10 ∷ 48 ∷ 120 ∷ 49 ∷ 49 ∷ 48 ∷ 48 ∷ 52 ∷ 32 ∷ 52 ∷ 32 ∷ 48 ∷ 120 ∷ 49 ∷ 49 ∷ 48 ∷ 52 ∷ 48 ∷ 10 ∷ [])
     ≡ Ok (move 0x11000 4 0x11080 ∷ move 0x11004 4 0x11040 ∷ [])

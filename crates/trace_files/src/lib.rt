@@ -13,6 +13,11 @@
 //! Each half may be cut again. `specs/Halves.antt` says what two traces are to each other that are the
 //! halves of a third: each is a trace, its end tells how many accesses it has, and the second goes on
 //! where the first one ends.
+//!
+//! [`move_trace`] writes a trace with its accesses moved as a [`MoveTable`] says, in one pass.
+//! `specs/Tables.antt` says what the text of a table is and which rules it keeps, `specs/Moves.antt`
+//! where an address goes and what a list keeps then, and `specs/Moving.antt` which file is written,
+//! and what stands where it gave up.
 #![tactic(auto)]
 
 mod convert;
@@ -30,7 +35,6 @@ mod numbers;
 mod numerals;
 mod part_laws;
 mod relocation;
-mod scratch;
 mod split;
 mod table_fault;
 mod taking;
@@ -48,7 +52,6 @@ pub use move_laws::a_free_list_keeps_its_words;
 pub use move_table::MoveTable;
 pub use part_laws::the_halves_are_traces;
 pub use relocation::{Moved, move_trace};
-pub use scratch::scratch_law;
 pub use split::{Halves, split_trace};
 pub use table_fault::TableFault;
 pub use trace_outputs::TraceOutputs;

@@ -1,5 +1,5 @@
 // What moved accesses keep.
-ghost use Rattle.std.specs.Prelude.{◌≡◌, List, [], Ok};
+ghost use Rattle.std.specs.Prelude.{◌≡◌, List, []};
 ghost use Rattle.std.specs.List.{All};
 ghost use Rattle.base.specs.Touch.{IsAllowed, Touch};
 ghost use Rattle.trace_files.specs.declared.move_row.Move.{Move};

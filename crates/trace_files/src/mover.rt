@@ -99,7 +99,10 @@ impl<'a> Mover<'a> {
         ensures name { self.new.name ≡ self.old.name }
         ensures tells { (S.outside shelf.new).held ≡ (S.outside shelf.old).held }
     {
-        match self.files.begin_trace(alloc, shelf, 0, self.name, version, header) {
+        match self
+            .files
+            .begin_trace(alloc, shelf, 0, self.name, version, header)
+        {
             Ok(writer) => {
                 self.writer = writer;
                 self.begun = true;

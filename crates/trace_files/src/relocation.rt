@@ -134,7 +134,14 @@ pub fn move_trace<S: Shelf>(
     'pieces: loop {
         match cursor.advance(shelf, trace, &any()) {
             Ok(Some(passed)) => return end_whole(shelf, &mut mover, &passed),
-            Ok(None) => match take(alloc, shelf, table, &mut mover, cursor.head(), cursor.items()) {
+            Ok(None) => match take(
+                alloc,
+                shelf,
+                table,
+                &mut mover,
+                cursor.head(),
+                cursor.items(),
+            ) {
                 Ok(()) => {}
                 Err(fault) => return Err(fault),
             },

@@ -1,6 +1,5 @@
 use Rattle.std.proofs.Common.{None, Some, refl, sym, ◌∙◌}
 use Rattle.trace_files.specs.Numerals.{number_of}
-use Rattle.trace_files.specs.Tables.{move_of, move_with}
 use Rattle.trace_files.proofs.Rows.{move_parts}
 use Rattle.trace_files.proofs.move_row.numbers.Goals as goal
 

@@ -1,6 +1,6 @@
 use Rattle.std.proofs.Common.{arith, ◌<◌, length, sym, ◌∙◌}
 use Rattle.std.proofs.lemmas.Bool.Decides.{nat_tests}
-use Rattle.trace_files.proofs.TableLines.{first_fault, none_left, read_none, read_on}
+use Rattle.trace_files.proofs.TableLines.{first_fault, none_left, read_on}
 use Rattle.trace_files.proofs.TableLines.{unless_memory}
 use Rattle.trace_files.proofs.move_table.read_lines.Goals as goal
 

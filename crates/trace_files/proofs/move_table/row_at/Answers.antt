@@ -1,5 +1,4 @@
 use Rattle.std.proofs.Common.{arith, sym}
-use Rattle.std.proofs.lemmas.Bool.Decides.{nat_tests}
 use Rattle.trace_files.proofs.Ranges.{last_holds, none_begun, none_holds}
 use Rattle.trace_files.proofs.move_table.row_at.Goals as goal
 

@@ -1,4 +1,4 @@
-use Rattle.std.proofs.Common.{◌≡◌, ◌≢◌, ◌++◌, ℕ, List, [], Option, Some, None, Ok, Err, refl, sym, ap}
+use Rattle.std.proofs.Common.{◌≡◌, ◌≢◌, ◌++◌, ℕ, List, Option, Some, Ok, Err, refl, sym, ap}
 use Rattle.std.proofs.Common.{subst, ◌∙◌}
 use Rattle.std.specs.List.{All}
 use Rattle.std.proofs.lemmas.Result.{IfErr-at_err, IfErr-weaker}
@@ -19,13 +19,10 @@ use Rattle.trace_format.specs.declared.fault.TraceFault.TheVariants as trace_fau
 use Rattle.trace_passes.specs.declared.wanted.Wanted.{Wanted}
 use Rattle.trace_passes.specs.Cursors.{GoesOn, HasCome, HasEnded, HasStopped, version_and_header}
 use Rattle.trace_passes.specs.Passes.{HasPassCause, refusal_of}
-use Rattle.trace_files.specs.declared.move_fault.MoveFault.{MoveFault}
 use Rattle.trace_files.specs.declared.move_fault.MoveFault.TheVariants as faults
 use Rattle.trace_files.specs.declared.move_row.Move.{Move}
-use Rattle.trace_files.specs.declared.relocation.Moved.{Moved}
-use Rattle.trace_files.specs.Copies.{any}
 use Rattle.trace_files.specs.Movers.{EndsAt, HasMoved, MayTake, StopsAt}
-use Rattle.trace_files.proofs.GivingUp.{Gave, gave_reading, gave_refused, gave_stopped, is_trace_fault}
+use Rattle.trace_files.proofs.GivingUp.{gave_reading, gave_refused, gave_stopped, is_trace_fault}
 use Rattle.trace_files.proofs.GivingUp.{three_ok, whole_copied}
 use Rattle.trace_files.proofs.Relocations.{at_all, front_still, has_read, may_take, moving_first}
 use Rattle.trace_files.proofs.Relocations.{moving_next, writable_behind}

@@ -1,4 +1,4 @@
-use Rattle.std.proofs.Common.{List, Some, [], subst, sym}
+use Rattle.std.proofs.Common.{List, Some, subst, sym}
 use Rattle.trace_format.specs.declared.record.Header.{Header}
 use Rattle.trace_format.specs.declared.record.TraceRecord.{TraceRecord}
 use Rattle.trace_format.specs.declared.record.Version.{Version}

@@ -1,10 +1,9 @@
-use Rattle.std.proofs.Common.{◌≡◌, ◌++◌, List, Option, OnOk, Some, [], ap, subst, sym, ◌∙◌}
+use Rattle.std.proofs.Common.{◌++◌, List, Option, OnOk, Some, [], subst, sym}
 use Rattle.std.proofs.lemmas.Result.{IfErr-weaker, on_ok_weaker}
 use Rattle.shelf.specs.Shelf.{Outside}
 use Rattle.trace_format.specs.declared.record.Header.{Header}
 use Rattle.trace_format.specs.declared.record.TraceRecord.{TraceRecord}
 use Rattle.trace_format.specs.declared.record.Version.{Version}
-use Rattle.trace_files.specs.declared.move_fault.MoveFault.{MoveFault}
 use Rattle.trace_files.specs.Movers.{Follows, HasMoved, MayTake, StopsAt}
 use Rattle.trace_files.proofs.Takings.{follows_any, stops_on, then_moved, then_put, then_stopped}
 use Rattle.trace_files.proofs.taking.take.Goals as goal

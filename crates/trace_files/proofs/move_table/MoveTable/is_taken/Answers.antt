@@ -1,4 +1,4 @@
-use Rattle.std.proofs.Common.{◌≡◌, Bool, List, ap, false, find, not, subst, sym, true, ◌∙◌}
+use Rattle.std.proofs.Common.{◌≡◌, List, ap, false, find, not, subst, sym, true, ◌∙◌}
 use Rattle.std.specs.Prelude.{is_some}
 use Rattle.trace_files.specs.declared.move_row.Move.{Move}
 use Rattle.trace_files.specs.Moves.{is_in_range, is_taken}

@@ -1,5 +1,4 @@
-use Rattle.std.proofs.Common.{List, [], ap, arith, length, subst, sym, refl}
-use Rattle.shelf.specs.Files.{AreCut}
+use Rattle.std.proofs.Common.{List, [], ap, length, refl}
 use Rattle.trace_files.proofs.Movings.{has_begun, no_file_there, none_begun_there, none_new}
 use Rattle.shelf.specs.OneFile.{Waiting}
 use Rattle.trace_files.proofs.mover.Mover.begin.Goals as goal
