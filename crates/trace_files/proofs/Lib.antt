@@ -5,6 +5,7 @@ pub mod Conversions
 pub mod Differing
 pub mod Digits
 pub mod Distances
+pub mod Endings
 pub mod GivingUp
 pub mod Going
 pub mod HalfTraces

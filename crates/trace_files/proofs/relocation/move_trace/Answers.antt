@@ -22,6 +22,7 @@ use Rattle.trace_passes.specs.Passes.{HasPassCause, refusal_of}
 use Rattle.trace_files.specs.declared.move_fault.MoveFault.TheVariants as faults
 use Rattle.trace_files.specs.declared.move_row.Move.{Move}
 use Rattle.trace_files.specs.Movers.{EndsAt, HasMoved, MayTake, StopsAt}
+use Rattle.trace_files.proofs.Endings.{taken_up}
 use Rattle.trace_files.proofs.GivingUp.{gave_reading, gave_refused, gave_stopped, is_trace_fault}
 use Rattle.trace_files.proofs.GivingUp.{three_ok, whole_copied}
 use Rattle.trace_files.proofs.Relocations.{at_all, front_still, has_read, may_take, moving_first}
@@ -135,129 +136,69 @@ pieces-smaller g c = c.in-Ok-None.ensures.fewer (ap Ok c.in-Ok-None.field-0-is)
 
 pub returns-in-Err-take-clause-refused : goal.returns-in-Err-take-clause-refused
 returns-in-Err-take-clause-refused g c = λ refusal same.
-    let t = c.args.table.now in
-    let trace = c.args.trace.now in
-    let file = c.args.file.now in
-    let m = c.pieces.mover in
-    let old = g.S.Shelf.outside c.args.shelf.now in
-    let mid = g.S.Shelf.outside c.pieces.shelf in
-    let read = g.S.Shelf.outside c.advance.new.shelf in
-    let next = c.advance.new.self in
-    let at = c.pieces.invariant in
-    let come = subst (λ (w : Wanted). HasCome mid.held trace w at.bytes c.pieces.cursor)
-    (sym c.any.ensures) at.come in
     let none = c.in-Ok-None.field-0-is in
     let e = c.in-Ok-None.ensures in
-    let new = g.S.Shelf.outside c.take.new.shelf in
+    let mid = g.S.Shelf.outside c.pieces.shelf in
+    let read = g.S.Shelf.outside c.advance.new.shelf in
     let fault = c.in-Err-take.fault in
     let reads : HasRead mid read = record { only = e.only; faults = e.cause.quiet (no_fault _ _) }
     in
-    let on = subst (λ (w : Wanted). GoesOn read.held trace w at.bytes next)
-    c.any.ensures (e.more (ap Ok none) at.bytes come) in
-    let all = at.bytes ++ on.more in
-    let front : Told new.held (λ fs. IsFront (content fs trace) all) =
-    front_still read.held new.held trace all c.take.ensures.tells on.come.front in
-    let gave = gave_stopped new.held trace file t all front old new fault
-    (at_all t trace file m c.pieces.cursor old mid at read reads all next.items
-    c.items.result.now next.reading c.head.result
-    (λ n h l b. StopsAt t n h l b new fault) (on.more, refl) on.records on.come.read.reading
-    c.head.ensures c.items.ensures c.in-Err-take.ensures.stopped) in
+    let gave = taken_up c.args.table.now c.args.trace.now c.args.file.now c.pieces.mover
+    c.pieces.cursor c.advance.new.self (g.S.Shelf.outside c.args.shelf.now) mid read
+    (g.S.Shelf.outside c.take.new.shelf) c.pieces.invariant reads c.any.result c.any.ensures
+    (e.more (ap Ok none)) c.head.result c.items.result.now fault c.head.ensures c.items.ensures
+    c.take.ensures.tells c.in-Err-take.ensures.stopped in
     let is : fault ≡ faults.Refused refusal = cc in
     gave.refused refusal is
 
 pub returns-in-Err-take-clause-occupied : goal.returns-in-Err-take-clause-occupied
 returns-in-Err-take-clause-occupied g c = λ addr same.
-    let t = c.args.table.now in
-    let trace = c.args.trace.now in
-    let file = c.args.file.now in
-    let m = c.pieces.mover in
-    let old = g.S.Shelf.outside c.args.shelf.now in
-    let mid = g.S.Shelf.outside c.pieces.shelf in
-    let read = g.S.Shelf.outside c.advance.new.shelf in
-    let next = c.advance.new.self in
-    let at = c.pieces.invariant in
-    let come = subst (λ (w : Wanted). HasCome mid.held trace w at.bytes c.pieces.cursor)
-    (sym c.any.ensures) at.come in
     let none = c.in-Ok-None.field-0-is in
     let e = c.in-Ok-None.ensures in
-    let new = g.S.Shelf.outside c.take.new.shelf in
+    let mid = g.S.Shelf.outside c.pieces.shelf in
+    let read = g.S.Shelf.outside c.advance.new.shelf in
     let fault = c.in-Err-take.fault in
     let reads : HasRead mid read = record { only = e.only; faults = e.cause.quiet (no_fault _ _) }
     in
-    let on = subst (λ (w : Wanted). GoesOn read.held trace w at.bytes next)
-    c.any.ensures (e.more (ap Ok none) at.bytes come) in
-    let all = at.bytes ++ on.more in
-    let front : Told new.held (λ fs. IsFront (content fs trace) all) =
-    front_still read.held new.held trace all c.take.ensures.tells on.come.front in
-    let gave = gave_stopped new.held trace file t all front old new fault
-    (at_all t trace file m c.pieces.cursor old mid at read reads all next.items
-    c.items.result.now next.reading c.head.result
-    (λ n h l b. StopsAt t n h l b new fault) (on.more, refl) on.records on.come.read.reading
-    c.head.ensures c.items.ensures c.in-Err-take.ensures.stopped) in
+    let gave = taken_up c.args.table.now c.args.trace.now c.args.file.now c.pieces.mover
+    c.pieces.cursor c.advance.new.self (g.S.Shelf.outside c.args.shelf.now) mid read
+    (g.S.Shelf.outside c.take.new.shelf) c.pieces.invariant reads c.any.result c.any.ensures
+    (e.more (ap Ok none)) c.head.result c.items.result.now fault c.head.ensures c.items.ensures
+    c.take.ensures.tells c.in-Err-take.ensures.stopped in
     let is : fault ≡ faults.Occupied addr = cc in
     gave.occupied addr is
 
 pub returns-in-Err-take-clause-memory : goal.returns-in-Err-take-clause-memory
 returns-in-Err-take-clause-memory g c = λ same.
-    let t = c.args.table.now in
-    let trace = c.args.trace.now in
-    let file = c.args.file.now in
-    let m = c.pieces.mover in
-    let old = g.S.Shelf.outside c.args.shelf.now in
-    let mid = g.S.Shelf.outside c.pieces.shelf in
-    let read = g.S.Shelf.outside c.advance.new.shelf in
-    let next = c.advance.new.self in
-    let at = c.pieces.invariant in
-    let come = subst (λ (w : Wanted). HasCome mid.held trace w at.bytes c.pieces.cursor)
-    (sym c.any.ensures) at.come in
     let none = c.in-Ok-None.field-0-is in
     let e = c.in-Ok-None.ensures in
-    let new = g.S.Shelf.outside c.take.new.shelf in
+    let mid = g.S.Shelf.outside c.pieces.shelf in
+    let read = g.S.Shelf.outside c.advance.new.shelf in
     let fault = c.in-Err-take.fault in
     let reads : HasRead mid read = record { only = e.only; faults = e.cause.quiet (no_fault _ _) }
     in
-    let on = subst (λ (w : Wanted). GoesOn read.held trace w at.bytes next)
-    c.any.ensures (e.more (ap Ok none) at.bytes come) in
-    let all = at.bytes ++ on.more in
-    let front : Told new.held (λ fs. IsFront (content fs trace) all) =
-    front_still read.held new.held trace all c.take.ensures.tells on.come.front in
-    let gave = gave_stopped new.held trace file t all front old new fault
-    (at_all t trace file m c.pieces.cursor old mid at read reads all next.items
-    c.items.result.now next.reading c.head.result
-    (λ n h l b. StopsAt t n h l b new fault) (on.more, refl) on.records on.come.read.reading
-    c.head.ensures c.items.ensures c.in-Err-take.ensures.stopped) in
+    let gave = taken_up c.args.table.now c.args.trace.now c.args.file.now c.pieces.mover
+    c.pieces.cursor c.advance.new.self (g.S.Shelf.outside c.args.shelf.now) mid read
+    (g.S.Shelf.outside c.take.new.shelf) c.pieces.invariant reads c.any.result c.any.ensures
+    (e.more (ap Ok none)) c.head.result c.items.result.now fault c.head.ensures c.items.ensures
+    c.take.ensures.tells c.in-Err-take.ensures.stopped in
     let is : fault ≡ faults.Refused (refusals.Trace trace_faults.NoMemory) = cc in
     gave.memory is
 
 pub returns-in-Err-take-clause-given_up : goal.returns-in-Err-take-clause-given_up
 returns-in-Err-take-clause-given_up g c =
-    let t = c.args.table.now in
-    let trace = c.args.trace.now in
-    let file = c.args.file.now in
-    let m = c.pieces.mover in
-    let old = g.S.Shelf.outside c.args.shelf.now in
-    let mid = g.S.Shelf.outside c.pieces.shelf in
-    let read = g.S.Shelf.outside c.advance.new.shelf in
-    let next = c.advance.new.self in
-    let at = c.pieces.invariant in
-    let come = subst (λ (w : Wanted). HasCome mid.held trace w at.bytes c.pieces.cursor)
-    (sym c.any.ensures) at.come in
     let none = c.in-Ok-None.field-0-is in
     let e = c.in-Ok-None.ensures in
-    let new = g.S.Shelf.outside c.take.new.shelf in
+    let mid = g.S.Shelf.outside c.pieces.shelf in
+    let read = g.S.Shelf.outside c.advance.new.shelf in
     let fault = c.in-Err-take.fault in
     let reads : HasRead mid read = record { only = e.only; faults = e.cause.quiet (no_fault _ _) }
     in
-    let on = subst (λ (w : Wanted). GoesOn read.held trace w at.bytes next)
-    c.any.ensures (e.more (ap Ok none) at.bytes come) in
-    let all = at.bytes ++ on.more in
-    let front : Told new.held (λ fs. IsFront (content fs trace) all) =
-    front_still read.held new.held trace all c.take.ensures.tells on.come.front in
-    let gave = gave_stopped new.held trace file t all front old new fault
-    (at_all t trace file m c.pieces.cursor old mid at read reads all next.items
-    c.items.result.now next.reading c.head.result
-    (λ n h l b. StopsAt t n h l b new fault) (on.more, refl) on.records on.come.read.reading
-    c.head.ensures c.items.ensures c.in-Err-take.ensures.stopped) in
+    let gave = taken_up c.args.table.now c.args.trace.now c.args.file.now c.pieces.mover
+    c.pieces.cursor c.advance.new.self (g.S.Shelf.outside c.args.shelf.now) mid read
+    (g.S.Shelf.outside c.take.new.shelf) c.pieces.invariant reads c.any.result c.any.ensures
+    (e.more (ap Ok none)) c.head.result c.items.result.now fault c.head.ensures c.items.ensures
+    c.take.ensures.tells c.in-Err-take.ensures.stopped in
     gave.given_up
 
 pub end_refused-requires-clause-writable : goal.end_refused-requires-clause-writable
