@@ -378,6 +378,21 @@ touches_ended : (items : List TraceRecord) (e : Ending)
 touches_ended items e =
     filter_map-append touch_in items (records.End e ∷ []) ∙ append-nil (touches_in items)
 
+-- all that is written of the bytes of a trace
+pub file_of_whole : (table : List Move) (file bytes : List ℕ) (t : Trace)
+    → trace_of bytes ≡ Some t
+    → moved_so_far table file (version_and_header (reading_of bytes).1.progress)
+    (reading_of bytes).0 ≡ moving table file t
+file_of_whole table file bytes t is =
+    let all = trace-records bytes t is in
+    let head = trace_head (reading_of bytes).0 (reading_of bytes).1.progress
+    (ending_of (reading_of bytes).1) t is in
+    (λ i. moved_so_far table file (head i) (all i))
+    ∙ ap (λ (l : List TraceRecord). one_file file (begun_with t.version t.header l))
+    (map-append (moved_item table) t.items (records.End t.ending ∷ []))
+    ∙ ap (one_file file)
+    (begun-all t.version t.header (moved_items table t.items) t.ending)
+
 pub whole_copied : (held : Option Files) (trace file : List ℕ) (table : List Move) (m : Mover)
     (passed : Passed) (bytes : List ℕ) (items : List TraceRecord) (made : Moved)
     (before mid now : Outside) → Told held (λ files. bytes ≡ content files trace)
@@ -392,19 +407,10 @@ whole_copied held trace file table m passed bytes items made before mid now whol
     accesses count =
     let t = trace_with passed items in
     let all = trace-records bytes t is in
-    let head = trace_head (reading_of bytes).0 (reading_of bytes).1.progress
-    (ending_of (reading_of bytes).1) t is in
     let free : list_any (is_in_the_way table) (items ++ records.End t.ending ∷ []) ≡ false =
     ap (list_any (is_in_the_way table)) (sym all) ∙ has.free in
     let parts = neither_passes (list_any (is_in_the_way table) items) _
     (sym (list_any-append (is_in_the_way table) items (records.End t.ending ∷ [])) ∙ free) in
-    let file_is : moved_so_far table file (version_and_header (reading_of bytes).1.progress)
-    (reading_of bytes).0 ≡ moving table file t =
-    (λ i. moved_so_far table file (head i) (all i))
-    ∙ ap (λ (l : List TraceRecord). one_file file (begun_with t.version t.header l))
-    (map-append (moved_item table) items (records.End t.ending ∷ []))
-    ∙ ap (one_file file)
-    (begun-all t.version t.header (moved_items table items) t.ending) in
     record {
       bytes = bytes;
       whole = whole;
@@ -417,7 +423,8 @@ whole_copied held trace file table m passed bytes items made before mid now whol
             ∙ ap (λ (l : List TraceRecord). count_moved table (touches_in l)) all
             ∙ ap (count_moved table) (touches_ended items t.ending);
       };
-      written = subst (λ (l : List Output). AreWritten l before now) file_is written;
+      written = subst (λ (l : List Output). AreWritten l before now)
+          (file_of_whole table file bytes t is) written;
     }
 
 -- ---- all that is said of a fault

@@ -15,6 +15,7 @@ pub mod Kept
 pub mod Lengths
 pub mod Lookups
 pub mod MadeGoing
+pub mod MovedTraces
 pub mod MovedWords
 pub mod Movings
 pub mod OneTraces

@@ -48,7 +48,7 @@ pub use copy_laws::{a_trace_converted_twice_is_itself, the_halves_have_the_acces
 pub use made_laws::a_made_trace_is_a_trace;
 pub use maker::make_trace;
 pub use move_fault::MoveFault;
-pub use move_laws::a_free_list_keeps_its_words;
+pub use move_laws::{a_free_list_keeps_its_words, a_moved_trace_is_a_trace};
 pub use move_table::MoveTable;
 pub use part_laws::the_halves_are_traces;
 pub use relocation::{Moved, move_trace};
