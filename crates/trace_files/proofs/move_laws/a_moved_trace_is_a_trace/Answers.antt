@@ -23,7 +23,7 @@ returns-clause-trace c = λ table bytes t table_is small is short.
     let good = (c.a_trace_is_its_spelling.ensures bytes t small is).good in
     let items = moved_items table t.items in
     let same = ap length (moved_touches table t.items)
-    ∙ length-map (moved_in table) (touches_in t.items) in
+    ∙ length-map (touches_in t.items) (moved_in table) in
     trace-spelled (spell_trace (moved table t)) t.version t.header items t.ending
     (record {
       good = record {
