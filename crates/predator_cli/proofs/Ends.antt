@@ -21,7 +21,7 @@ use Rattle.predator_cli.specs.Manners.{Manner, judged_before, read_again, read_a
 use Rattle.predator_cli.specs.Written.{AreSame, StandsInPart}
 use Rattle.predator_cli.specs.Written.{StaysAtReadFault, StaysAtRefusal, Writes}
 use Rattle.predator_cli.specs.Again.{WhereDone}
-use Rattle.predator_cli.specs.Answer.{answer_of, manner_in, outputs}
+use Rattle.predator_cli.specs.Answer.{answer_of, outputs}
 use Rattle.predator_cli.specs.Meets.{EndsAs, HasFailed, IsAnswered, IsCaused, IsFaulty}
 use Rattle.predator_cli.specs.Meets.{IsQuiet, IsWorked, Meets}
 use Rattle.predator_cli.specs.Meets.{Prints, ReadsInPeace}

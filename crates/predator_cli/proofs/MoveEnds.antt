@@ -1,15 +1,15 @@
 -- How a command ends that writes a trace with its accesses moved.
 use Rattle.std.proofs.Common.{◌≡◌, ◌≢◌, ◌<◌, ◌≤◌, ℕ, List, [], ◌∷◌, Option, Some, None, Result, Ok}
 use Rattle.std.proofs.Common.{true, false, length, refl, sym, ap, subst, ◌∙◌, inl, inr}
-use Rattle.std.proofs.lemmas.Option.{none-some, same_Some}
+use Rattle.std.proofs.lemmas.Option.{same_Some}
 use Rattle.std.proofs.lemmas.Slice.Eq.{bytes_eq-Decides}
 use Rattle.std.specs.List.{All, list_any}
 use Rattle.std.specs.Option.{option_map, option_map_or, option_or}
 use Rattle.std.specs.Prelude.{unwrap_or}
 use Rattle.std.specs.Str.{bytes_eq}
 use Rattle.command_line.specs.Relocate.{MoveDemand}
-use Rattle.command_line.specs.Words.{Demand, relocate, outputs as outputs_of}
-use Rattle.shelf.specs.Files.{AreWhole, AreWritten, BegunInOrder, Output, bytes_for, one_file}
+use Rattle.command_line.specs.Words.{relocate, outputs as outputs_of}
+use Rattle.shelf.specs.Files.{AreWhole, BegunInOrder, Output, bytes_for, one_file}
 use Rattle.shelf.specs.Laws.Files.{AreWritten-behind}
 use Rattle.shelf.specs.Laws.Told.{goes_map, told, told_both, told_map}
 use Rattle.shelf.specs.Shelf.{Files, Goes, Outside, Told, content}
@@ -30,27 +30,26 @@ use Rattle.trace_format.specs.declared.fault.TraceFault.TheVariants as trace
 use Rattle.trace_passes.specs.Passes.{Trace, spell_trace, trace_of}
 use Rattle.trace_passes.specs.declared.wanted.Refusal.{Refusal}
 use Rattle.trace_passes.specs.declared.wanted.Refusal.TheVariants as refusals
-use Rattle.command_files.specs.Faults.{fault_text}
 use Rattle.command_files.specs.Readings.{FailsInOrder, IsAccepted, IsRefusal, first_refusal}
-use Rattle.command_files.specs.Statuses.{done, kind_of, refusal}
+use Rattle.command_files.specs.Statuses.{done, refusal}
 use Rattle.command_files.specs.Works.{Work, done_with, refused_with}
 use Rattle.command_files.specs.declared.status.Status.{Status}
 use Rattle.command_files.specs.declared.status.Status.TheVariants as status
 use Rattle.predator_cli.specs.Answer.{answer_of}
-use Rattle.predator_cli.specs.Commands.{leaves, readings_of, work_of}
-use Rattle.predator_cli.specs.Copies.{copy_of, copy_with}
-use Rattle.predator_cli.specs.Judged.{judged, judged_leaving}
-use Rattle.predator_cli.specs.Meets.{HasFailed, IsFaulty, IsPrintable, IsQuiet, IsWorked}
-use Rattle.predator_cli.specs.Relocate.{HasMovedList, MoveRepeats, move_left, move_readings}
+use Rattle.predator_cli.specs.Commands.{leaves}
+use Rattle.predator_cli.specs.Copies.{copy_with}
+use Rattle.predator_cli.specs.Judged.{judged}
+use Rattle.predator_cli.specs.Meets.{HasFailed, IsFaulty, IsQuiet, IsWorked}
+use Rattle.predator_cli.specs.Relocate.{HasMovedList, MoveRepeats, move_readings}
 use Rattle.predator_cli.specs.Relocate.{move_text, move_work, moved_by, moved_refusal, table_in}
 use Rattle.predator_cli.specs.Relocate.{table_reading, table_refusal, unless_refused}
-use Rattle.predator_cli.specs.TraceFaults.{status_of_move, status_of_refusal}
+use Rattle.predator_cli.specs.TraceFaults.{status_of_move}
 use Rattle.predator_cli.specs.Written.{OnlyAt, StandsInPart, StandsWhole, Writes}
 use Rattle.predator_cli.proofs.Ends.{accepted_answer}
 use Rattle.predator_cli.proofs.FaultEnds.{starved}
 use Rattle.predator_cli.proofs.PlaceEnds.{faulty_behind}
 use Rattle.predator_cli.proofs.TraceFiles.{refusal_cases}
-use Rattle.predator_cli.proofs.WriteEnds.{IsToWrite, names_in, or_false, written_worked}
+use Rattle.predator_cli.proofs.WriteEnds.{IsToWrite, or_false, written_worked}
 
 -- what a law of moved traces says under a table
 pub record Moves (table : List Move) : Type 0 where

@@ -1,8 +1,8 @@
 // Command lines as users write them, each against what it asks for.
 use base::Layout;
 use command_line::{
-    CheckOptions, ConvertOptions, Demand, GenOptions, LayoutOptions, PlaceOptions, ReplayOptions,
-    RunOptions, SplitOptions, WordsFault, read_words,
+    CheckOptions, ConvertOptions, Demand, GenOptions, LayoutOptions, MoveOptions, PlaceOptions,
+    ReplayOptions, RunOptions, SplitOptions, WordsFault, read_words,
 };
 use settings::Changes;
 use std::alloc::{AllocError, Global};
