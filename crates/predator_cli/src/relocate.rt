@@ -1,5 +1,5 @@
 // The command `move`.
-ghost use Rattle.std.specs.Prelude.{Ok, Some};
+ghost use Rattle.std.specs.Prelude.{◌≡◌, ◌^◌, Ok, Some};
 ghost use Rattle.command_line.specs.Relocate.{move_meaning};
 ghost use Rattle.command_line.specs.Words.{relocate as asks};
 ghost use Rattle.predator_cli.specs.Meets.{Meets};
