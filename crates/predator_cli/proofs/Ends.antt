@@ -367,9 +367,16 @@ refusal_faulty demand a b s kind words memory refused peace only = record {
     failed_so : HasFailed (Some demand) a b (kind_of s)
     failed_so = rw kind quiet
 
+    nothing_left : (files : Files) → answer_of (Some demand) files ≡ refused_with s
+        → (answer_of (Some demand) files).outputs ≡ []
+    nothing_left files is = ap (λ (w : Work). w.outputs) is
+
+    none_left : Told b.held (λ files. (answer_of (Some demand) files).outputs ≡ [])
+    none_left = told_map b.held (λ files is. nothing_left files is) refused
+
     stays : Writes (Some demand) a b refusal
-    stays = rw only.written (refused_same (manner_of demand) (Some demand) b.held a.written
-        (told_map b.held (λ files is. ap (λ (w : Work). w.outputs) is) refused))
+    stays = rw only.written
+        (refused_same (manner_of demand) (Some demand) b.held a.written none_left)
 
     writes_so : Writes (Some demand) a b (kind_of s)
     writes_so = rw kind stays

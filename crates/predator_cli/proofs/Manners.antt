@@ -10,7 +10,7 @@ use Rattle.predator_cli.specs.Judged.{judged_leaving}
 use Rattle.predator_cli.specs.Manners.{Manner, all_but_last, judged_before, judged_first, left_of}
 use Rattle.predator_cli.specs.Manners.{read_again, read_along}
 
-last_of : List Reading → List Reading
+abbrev last_of : List Reading → List Reading
 last_of [] = []
 last_of (r ∷ []) = r ∷ []
 last_of (r ∷ s ∷ later) = last_of (s ∷ later)

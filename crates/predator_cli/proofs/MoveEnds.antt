@@ -70,7 +70,7 @@ module _ (d : MoveDemand) (table : List Move) (moves : Moves table) where
   -- ---- of files that hold the table
 
   -- how the two files are refused, by what the first of them gives
-  refusal_by : Files → Result (List Move) TableFault → Option Status
+  abbrev refusal_by : Files → Result (List Move) TableFault → Option Status
   refusal_by files r =
       option_or (table_refusal r)
       (option_or (moved_refusal d.trace files (unless_refused r)) None)

@@ -34,7 +34,7 @@ returns-in-Ok-move_trace g c =
       accesses = law.accesses table;
       is_table = given.given.1;
     } in
-    let copied = c.in-Ok-move_trace.ensures in
+    let copied = c.in-Ok-move_trace.ensures.moved in
     let holds = still_table m.held b.held d.table given.bytes table copied.written.only.held
     given.whole given.given.0 in
     c.tell.ensures (asks d) a
