@@ -1,8 +1,12 @@
 // The command `move`.
-ghost use Rattle.std.specs.Prelude.{◌≡◌, ◌^◌, Ok, Some};
+ghost use Rattle.std.specs.Prelude.{◌≡◌, ◌^◌, ◌∷◌, [], Ok, Some};
 ghost use Rattle.command_line.specs.Relocate.{move_meaning};
 ghost use Rattle.command_line.specs.Words.{relocate as asks};
+ghost use Rattle.command_files.specs.Readings.{IsAccepted};
 ghost use Rattle.predator_cli.specs.Meets.{Meets};
+ghost use Rattle.predator_cli.specs.Relocate.{table_reading};
+ghost use Rattle.shelf.specs.Shelf.{Outside, Told, content};
+ghost use Rattle.trace_files.specs.Tables.{IsTable, table_of};
 
 use crate::copies::tell;
 use crate::endings::{refuse, stop};
@@ -19,7 +23,6 @@ struct Table;
 
 impl Judge for Table {
     ghost use Rattle.predator_cli.specs.Relocate.{table_refusal};
-    ghost use Rattle.trace_files.specs.Tables.{IsTable, table_of};
 
     type Given = MoveTable;
 
@@ -42,6 +45,27 @@ impl Judge for Table {
     }
 }
 
+// Does it by a table that was read.
+fn relocate_by<S: Shelf>(
+    alloc: Global,
+    options: &MoveOptions<'_>,
+    table: &MoveTable,
+    shelf: &mut S,
+) -> Status
+    ensures { (old : Outside)
+        → IsAccepted (table_reading options.now.table.now ∷ []) old (S.outside shelf.old)
+        → Told (S.outside shelf.old).held
+        (λ files. table_of (content files options.now.table.now) ≡ Ok table.now)
+        → IsTable table.now
+        → Meets (Some (asks (move_meaning options.now))) old (S.outside shelf.new) result }
+{
+    a_moved_trace_is_a_trace();
+    match move_trace(alloc, shelf, options.trace, table, options.file) {
+        Ok(made) => tell(alloc, shelf, "move", made.accesses, made.moved),
+        Err(fault) => refuse(alloc, shelf, status_of_move(fault)),
+    }
+}
+
 /// Writes the trace of a name under another name with its accesses moved as a table says, and prints
 /// how many accesses there are and how many of them are moved. The file is written as the trace is
 /// read.
@@ -49,13 +73,8 @@ pub fn relocate<S: Shelf>(alloc: Global, options: &MoveOptions<'_>, shelf: &mut 
     ensures { Meets (Some (asks (move_meaning options.now)))
         (S.outside shelf.old) (S.outside shelf.new) result }
 {
-    a_moved_trace_is_a_trace();
-    let table = match read_judged(alloc, shelf, options.table, &Table) {
-        Ok(table) => table,
-        Err(status) => return stop(alloc, shelf, status),
-    };
-    match move_trace(alloc, shelf, options.trace, &table, options.file) {
-        Ok(made) => tell(alloc, shelf, "move", made.accesses, made.moved),
-        Err(fault) => refuse(alloc, shelf, status_of_move(fault)),
+    match read_judged(alloc, shelf, options.table, &Table) {
+        Ok(table) => relocate_by(alloc, options, &table, shelf),
+        Err(status) => stop(alloc, shelf, status),
     }
 }
