@@ -2,7 +2,7 @@
 _predator() {
     local word=${COMP_WORDS[COMP_CWORD]} before=${COMP_WORDS[COMP_CWORD - 1]} options
     # commands.toml: names
-    local commands="run replay check split gen convert sweep caches place misses blame explain view campaign native" own="--help --version --prove"
+    local commands="run replay check split gen convert sweep caches place move misses blame explain view campaign native" own="--help --version --prove"
     # (so far)
     if ((COMP_CWORD == 1)); then
         mapfile -t COMPREPLY < <(compgen -W "$commands help $own" -- "$word")
@@ -32,6 +32,7 @@ _predator() {
         'sweep') options="--size" ;;
         'caches') options="--size --sets --ways" ;;
         'place') options="--size" ;;
+        'move') options="" ;;
         'misses') options="--size --shift" ;;
         'blame') options="--size --shift" ;;
         'explain') options="--settings --set --schedule" ;;

@@ -81,10 +81,11 @@ CALLS = [
     ("caches", "given.trace", "--size", "64", "--sets", "4", "--ways", "2"),
     ("misses", "given.trace"),
     ("place", "objects.trace", "both"),
+    ("move", "given.trace", "table", "m"),
     ("blame", "sited.trace"),
     ("explain", "queue.elf", "0x12000", "64", "73", "--set", "quantum=10"),
 ]
-WRITTEN = ("t", "o", "f", "a", "b", "c")
+WRITTEN = ("t", "o", "f", "a", "b", "c", "m")
 
 
 def files():
@@ -147,6 +148,8 @@ def main():
             out.write("tracking = 1\nprediction = 1\nreport = 1\n")
         with open("C", "w") as out:
             out.write("0 50\n1 30\n")
+        with open("table", "w") as out:
+            out.write("0 4 0xfffffffc\n")
         with open("shim.c", "w") as out:
             out.write(SHIM)
         subprocess.run(["cc", "-shared", "-fPIC", "-O1", "-o", "shim.so", "shim.c", "-ldl"], check=True)

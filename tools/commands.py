@@ -348,7 +348,7 @@ def differences(table: dict[str, list[Row]], program: str | None) -> Iterator[st
 
 def call(command: Row, **others: str) -> list[str]:
     """A command's call, with the files of the tries, or others, in the place of its names."""
-    files = {"PROGRAM": "programs/counters.elf", "TRACE": "made", "NAME": "counters", "A": "a", "B": "b", **others}
+    files = {"PROGRAM": "programs/counters.elf", "TRACE": "made", "TABLE": "table", "NAME": "counters", "A": "a", "B": "b", **others}
     return [files.get(word, word) for word in command["call"]]
 
 

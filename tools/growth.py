@@ -149,6 +149,13 @@ def place(trace: str, made: Made) -> Call:
     return Call(["place", trace, made.object], [(f"place {made.object}", 1), ("end", 1)])
 
 
+def move(trace: str, made: Made) -> Call:
+    """With as many ranges as the trace has lines, each of a word of its own."""
+    with open(f"{trace}.table", "w", encoding="ascii") as file:
+        file.writelines(f"{4 * at} 4 {4 * at}\n" for at in range(min(made.lines, 1 << 15)))
+    return Call(["move", trace, f"{trace}.table", f"{trace}.moved"], [(f"move {made.accesses} ", 1)])
+
+
 def convert(trace: str, made: Made) -> Call:
     return Call(["convert", trace, f"{trace}.other"], [(f"convert 2 {made.accesses}", 1)])
 
@@ -165,7 +172,7 @@ def generate(trace: str, made: Made) -> Call:
 
 OF_TRACES: dict[str, Callable[[str, Made], Call]] = {
     "replay": replay, "replay--size": replay_words, "replay--save": replay_save, "replay--resume": replay_resume, "misses": misses,
-    "blame": blame, "sweep": sweep, "caches": caches, "place": place, "convert": convert, "split": split, "gen": generate,
+    "blame": blame, "sweep": sweep, "caches": caches, "place": place, "move": move, "convert": convert, "split": split, "gen": generate,
 }
 
 

@@ -23,8 +23,8 @@ import commands
 from commands import Row, bounds, flags, known, names_of, number, options_of
 from message_files import faults, put_files
 
-USUAL = {"PROGRAM": "p", "TRACE": "t", "NAME": "pair", "A": "a", "B": "b", "FILE": "a", "N": "3", "K": "3", "BASE": "0x00011000",
-         "SIZE": "64", "START": "0"}
+USUAL = {"PROGRAM": "p", "TRACE": "t", "TABLE": "table", "NAME": "pair", "A": "a", "B": "b", "FILE": "a", "N": "3", "K": "3",
+         "BASE": "0x00011000", "SIZE": "64", "START": "0"}
 # What clap calls the words of the line of usage that it calls otherwise.
 CALLED = {"N": "count", "K": "at", "A": "first", "B": "second"}
 WANTED = {"sweep": ["--size", "64"], "caches": ["--size", "64", "--sets", "4", "--ways", "2"]}
@@ -269,6 +269,8 @@ def files() -> Iterator[Try]:
         if "TRACE" in row.get("reads", ()):
             yield Try(call(name, TRACE="short"), 5, "trace Truncated 10", f"short: {cut}")
             yield Try(call(name, TRACE="missing"), 7, "read fault", "missing: No such file or directory")
+        if "TABLE" in row.get("reads", ()):
+            yield Try(call(name, TABLE="missing"), 7, "read fault", "missing: No such file or directory")
         if "PROGRAM" in row.get("reads", ()):
             yield Try(call(name, PROGRAM="script"), 2, "elf TooShort", "script: a script: guest/build.sh builds for RV32IMA")
             yield Try(call(name, PROGRAM="missing"), 7, "read fault", "missing: No such file or directory")

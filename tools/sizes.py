@@ -99,6 +99,15 @@ def converted(count: int) -> str:
     return sum_of(pieces())
 
 
+def moved(count: int) -> str:
+    """The sum of the trace with the second word 64 bytes behind its line's begin."""
+    def pieces() -> Iterator[bytes]:
+        yield files.header() + files.symbol(BASE, 8, b"pair")
+        yield from often(files.records([(0, "W", BASE), (1, "W", BASE + 64)]), count // 2)
+        yield files.ending(count)
+    return sum_of(pieces())
+
+
 def halves(count: int, at: int) -> dict[str, str]:
     pair = files.records([(0, "W", BASE), (1, "W", BASE + 4)])
 
@@ -140,6 +149,8 @@ def of_trace(name: str, count: int) -> Iterator[Try]:
         "caches 64 1 1", f"accesses {count}", "lines 1", f"line {BASE:#010x} bounded {count - 1} unbounded {count - 1} evicted 0",
         f"total bounded {count - 1} unbounded {count - 1} evicted 0", "end"), 40)
     yield Try(f"place {name} pair", placed(count), 40)
+    put("apart", b"%d 4 %d\n" % (BASE + 4, BASE + 64))
+    yield Try(f"move {name} apart m", lines(f"move {count} {count // 2}"), 40, {"m": moved(count)})
     yield Try(f"convert {name} c", lines(f"convert 2 {count}"), 40, {"c": converted(count)})
     yield Try(f"split {name} {at} a b", lines(f"split {at} {count - at}"), 40, halves(count, at))
 

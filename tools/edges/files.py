@@ -109,6 +109,14 @@ def by_line(touches: list[Touch]) -> list[Sited]:
     return [(hart, kind, addr, addr // 64 * 64 + 4 * hart) for hart, kind, addr in touches]
 
 
+# A table of moves, and the accesses with it.
+TABLE = b"0x10000 4 0x20000\n"
+
+
+def moved(touches: list[Touch]) -> list[Touch]:
+    return [(hart, kind, 0x20000 if addr == 0x10000 else addr) for hart, kind, addr in touches]
+
+
 def halves(touches: list[Touch], at: int) -> tuple[bytes, bytes]:
     """What is written of these accesses where they are cut."""
     first = header() + records(touches[:at]) + ending(at, 0, 4)
@@ -256,7 +264,7 @@ def files() -> dict[str, bytes]:
     return {
         "long.elf": LONG.file, "small.elf": SMALL.file, "plain.elf": _data("plain.elf"), "adds.elf": _data("adds_bytes.elf"),
         "waits.elf": _data("waits_for_ever.elf"), "traps.elf": _data("traps.elf"),
-        "settings": b"tracking = 1\nreport = 1\n", "schedule": b"0 5\n",
+        "settings": b"tracking = 1\nreport = 1\n", "schedule": b"0 5\n", "table": TABLE,
         "made": trace(made(MADE)), "fought": trace(fights), "short": trace(made(200)), "pair": trace(pair, symbol(0x1000, 8, b"pair")),
         "taken": trace([(0, "W", 0x1000), (1, "W", 0x1000), (1, "W", 0x2000), (0, "W", 0x1000)]),
         "turns": trace(pair + [(1, "W", 0x1004)]), "written": trace([(0, "W", 0x100000 + 4 * it) for it in range(LINES)]),
@@ -286,6 +294,8 @@ def writing_cases() -> list[Case]:
              again="made"),
         Case(("split", "short", "0", "a", "b"), 0, b"split 0 200\n", ("short",), tuple(zip("ab", halves(short, 0))), again="short"),
         Case(("convert", "made", "c"), 0, lines(f"convert 2 {MADE}"), ("made",), (("c", converted(made(MADE))),), again="made"),
+        Case(("move", "made", "table", "m"), 0, lines(f"move {MADE} {sum(it[2] == 0x10000 for it in made(MADE))}"), ("table", "made"),
+             (("m", trace(moved(made(MADE)))),)),
         Case(("replay", "written", "--size", "4", "--settings", "settings", "--save", "s"), 0, kept, ("settings", "written"),
              (("s", written_state(LINES)),)),
         Case(("replay", "rest", "--size", "4", "--set", "tracking=1", "--resume", "state", "--save", "s"), 0,
@@ -337,6 +347,9 @@ def refused_cases() -> list[Case]:
         (("replay", "short", "--resume", "bad", "--save", "s"), 6, b"predator: state BadState 0\n", ("bad",), state,
          "bad: not a saved state, or only part of one: byte 0 is wrong"),
         (("place", "pair", "none"), 13, b"predator: place NoObject\n", ("pair",), (), none),
+        (("move", "made", "bad", "m"), 14, b"predator: table BadLine 1\n", ("bad",), (("m", b""),),
+         "bad: line 1 isn't FROM SIZE TO, as `0x11004 4 0x11040`, with one space between each two: multiples of 4, SIZE at least 4, "
+         "FROM + SIZE and TO + SIZE at most 2^32, and FROM at or above the end of the range before it"),
     ]
     made_of = [Case(*row[:5], said=f"predator: {row[5]}\n".encode()) for row in rows]
     return [it._replace(again=it.reads[0]) if it.words[0] in ("split", "convert", "place") else it for it in made_of]

@@ -25,6 +25,7 @@ struct FilesRead<'a> {
     trace: Option<TraceToRead<'a>>,
     program: Option<&'a str>,
     schedule: Option<&'a str>,
+    table: Option<&'a str>,
 }
 
 fn no_files<'a>() -> FilesRead<'a>
@@ -36,6 +37,7 @@ fn no_files<'a>() -> FilesRead<'a>
         trace: None,
         program: None,
         schedule: None,
+        table: None,
     }
 }
 
@@ -81,6 +83,10 @@ fn files_of<'a>(demand: &Demand<'a>) -> FilesRead<'a>
         }
         Demand::Split(options) => of_trace(options.trace, true),
         Demand::Convert(options) => of_trace(options.trace, true),
+        Demand::Move(options) => FilesRead {
+            table: Some(options.table),
+            ..of_trace(options.trace, false)
+        },
         Demand::Sweep(options) => of_trace(options.trace, false),
         Demand::Caches(options) => of_trace(options.trace, false),
         Demand::Misses(options) => of_trace(options.trace, false),
@@ -121,6 +127,7 @@ pub fn file_refused<'a>(demand: &Demand<'a>, status: &Status) -> Option<&'a str>
     match status {
         Status::Elf(_) => files.program,
         Status::Schedule(_) => files.schedule,
+        Status::Table(_) => files.table,
         Status::Settings(fault) => {
             if is_of_file(fault) {
                 files.settings
@@ -130,6 +137,7 @@ pub fn file_refused<'a>(demand: &Demand<'a>, status: &Status) -> Option<&'a str>
         }
         Status::Trace(_)
         | Status::NoPcs
+        | Status::Occupied(_)
         | Status::State(StateFault::WrongSettings(HARTS) | StateFault::WrongPosition { .. }) => {
             trace
         }

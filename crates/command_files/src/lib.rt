@@ -28,6 +28,7 @@ mod settings_file;
 mod start;
 mod state_faults;
 mod status;
+mod table_faults;
 mod trace_faults;
 
 pub use advice::{advice_on, advise};

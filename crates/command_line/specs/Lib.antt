@@ -12,6 +12,7 @@ pub mod Misses
 pub mod Names
 pub mod Numbers
 pub mod Place
+pub mod Relocate
 pub mod Replay
 pub mod Run
 pub mod Set

@@ -8,6 +8,7 @@ use crate::explain::ExplainOptions;
 use crate::generate::GenOptions;
 use crate::place::PlaceOptions;
 use crate::reason::Reason;
+use crate::relocate::MoveOptions;
 use crate::replay::ReplayOptions;
 use crate::run::RunOptions;
 use crate::split::SplitOptions;
@@ -39,6 +40,9 @@ pub enum Demand<'a> {
     Caches(CachesOptions<'a>),
     /// Give the words of an object of a trace new places, and count again.
     Place(PlaceOptions<'a>),
+    /// Write a trace with its accesses moved as a table says, and tell of it. The file has another
+    /// name than the trace and the table.
+    Move(MoveOptions<'a>),
     /// Tell what the sharing of each line costs in a trace.
     Misses(LayoutOptions<'a>),
     /// Print which instructions and which harts take the lines of a trace from each other.

@@ -15,6 +15,7 @@ use crate::generate::read_gen;
 use crate::misses::read_misses;
 use crate::place::read_place;
 use crate::reason::Reason;
+use crate::relocate::read_move;
 use crate::replay::read_replay;
 use crate::run::read_run;
 use crate::split::read_split;
@@ -32,6 +33,7 @@ pub const USAGE: &str = concat!(
     "usage: predator sweep TRACE --size N\n",
     "usage: predator caches TRACE --size N --sets S --ways W\n",
     "usage: predator place TRACE NAME [--size N]\n",
+    "usage: predator move TRACE TABLE FILE\n",
     "usage: predator misses TRACE [--size N] [--shift N]\n",
     "usage: predator blame TRACE [--size N] [--shift N]\n",
     "usage: predator explain PROGRAM BASE SIZE START [--settings F] [--schedule F]\n",
@@ -60,6 +62,7 @@ fn read_command<'a>(
         "sweep" => read_sweep(alloc, words),
         "caches" => read_caches(alloc, words),
         "place" => read_place(alloc, words),
+        "move" => read_move(alloc, words),
         "misses" => read_misses(alloc, words),
         "blame" => read_blame(alloc, words),
         "explain" => read_explain(alloc, words),

@@ -10,6 +10,8 @@ pub mod GoOnAnswers
 pub mod GoOnLaws
 pub mod GoodLaws
 pub mod ListedCounts
+pub mod Manners
+pub mod MoveEnds
 pub mod OnDiskLaws
 pub mod PartLaws
 pub mod PlaceApart

@@ -21,13 +21,15 @@ use Rattle.command_line.specs.Misses.{asked_of_misses}
 use Rattle.command_line.specs.Names.{are_apart}
 use Rattle.command_line.specs.Numbers.{number_or}
 use Rattle.command_line.specs.Place.{PlaceDemand, asked_of_place, place_app, place_of, place_with}
+use Rattle.command_line.specs.Relocate.{asked_of_move}
 use Rattle.command_line.specs.Replay.{asked_of_replay}
 use Rattle.command_line.specs.Run.{asked_of_run}
 use Rattle.command_line.specs.Split.{asked_of_split}
 use Rattle.command_line.specs.Sweep.{asked_of_sweep}
 use Rattle.command_line.specs.Words.{Demand, Named, asked_among, asked_of, blame, caches, check}
 use Rattle.command_line.specs.Words.{commands, convert, demand_of, explain, gen, inputs, misses}
-use Rattle.command_line.specs.Words.{outputs, place, replay, run, split, sweep, with_names_apart}
+use Rattle.command_line.specs.Words.{outputs, place, relocate, replay, run, split, sweep}
+use Rattle.command_line.specs.Words.{with_names_apart}
 
 -- what a test lets through
 let_through : {A : Type 0} (b : Bool) (o : Option A) (x : A) → (if b then o else None) ≡ Some x
@@ -102,9 +104,10 @@ each_sized words =
     (also (mapped sweep IsSized (asked_of_sweep words) (λ d is. tt))
     (also (mapped caches IsSized (asked_of_caches words) (λ d is. tt))
     (also (mapped place IsSized (asked_of_place words) (place_sized words))
+    (also (mapped relocate IsSized (asked_of_move words) (λ d is. tt))
     (also (mapped misses IsSized (asked_of_misses words) (λ d is. tt))
     (also (mapped blame IsSized (asked_of_blame words) (λ d is. tt))
-    (also (mapped explain IsSized (asked_of_explain words) (λ d is. tt)) tt)))))))))))
+    (also (mapped explain IsSized (asked_of_explain words) (λ d is. tt)) tt))))))))))))
 
 pub words_sized : (words : List Text) (d : Demand) → demand_of words ≡ Some d → IsSized d
 words_sized [] d is = absurd (none-some d is)

@@ -2,7 +2,7 @@
 use Rattle.std.proofs.Common.{◌≡◌, List, Option, Some, None, refl}
 use Rattle.clap.specs.Words.{Text}
 use Rattle.command_line.specs.Words.{Demand, replay, check, run, split, gen, convert, sweep}
-use Rattle.command_line.specs.Words.{blame, caches, demand_of, place, misses, explain}
+use Rattle.command_line.specs.Words.{blame, caches, demand_of, place, relocate, misses, explain}
 use Rattle.shelf.specs.Shelf.{Files}
 use Rattle.predator_cli.specs.Commands.{Command, ReportIsRecounted, StaysWithinBudget, command_of}
 use Rattle.predator_cli.specs.Explain.{as_run}
@@ -29,6 +29,7 @@ module _ (short : RunsAreShort) (spelled : TracesAreSpelled) where
   commands_are_sound (caches d) sized = record { within = λ files. tt; recounts = λ files. tt }
   commands_are_sound (place d) sized =
       record { within = λ files. tt; recounts = place_apart spelled d sized }
+  commands_are_sound (relocate d) sized = record { within = λ files. tt; recounts = λ files. tt }
   commands_are_sound (misses d) sized = record { within = λ files. tt; recounts = λ files. tt }
   commands_are_sound (blame d) sized = record { within = λ files. tt; recounts = λ files. tt }
   commands_are_sound (explain d) sized =

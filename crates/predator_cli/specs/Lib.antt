@@ -13,12 +13,14 @@ pub mod Gen
 pub mod GoesOn
 pub mod Judged
 pub mod ListedCounts
+pub mod Manners
 pub mod Meets
 pub mod Misses
 pub mod OnDisk
 pub mod Parts
 pub mod Place
 pub mod Recounts
+pub mod Relocate
 pub mod Replay
 pub mod Run
 pub mod Split

@@ -25,7 +25,7 @@ use trace_format::{TraceFault, TraceRecord};
 use trace_passes::{Cursor, Observer, Passed, Refusal, Wanted, pass};
 
 // Any trace will do.
-fn any() -> Wanted
+pub(crate) fn any() -> Wanted
     ensures { result ≡ any }
 {
     Wanted {
