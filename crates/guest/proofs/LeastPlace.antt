@@ -12,7 +12,9 @@ use Rattle.guest.specs.Heaps.{after_alloc}
 use Rattle.guest.specs.LeastPlaces.{least_below, least_place}
 use Rattle.guest.specs.Configs.{Config, value_in}
 use Rattle.guest.specs.GuestCalls.{RunTurn, block_answered, allocated, alloc_turn}
-use Rattle.guest.specs.Turns.{chosen, makes_block}
+use Rattle.guest.specs.Notes.{is_noted}
+use Rattle.guest.specs.Turns.{chosen, wants_memory}
+use Rattle.guest.proofs.NewBlocks.{not-noted}
 
 below-none : (p : ℕ → Bool) (n : ℕ) → ((i : ℕ) → i < n → p i ≡ false) → least_below p n ≡ None
 below-none p zero none = refl
@@ -85,14 +87,15 @@ least-none h size none = λ q.
       | inr fails ↦ fails
     ]
 
-no-block : (hart size : ℕ) (o : Option ℕ) (c : Config) → makes_block (block_answered hart size o c)
-    ≡ false → o ≡ None
+no-block : (hart size : ℕ) (o : Option ℕ) (c : Config)
+    → wants_memory c (block_answered hart size o c) ≡ false → o ≡ None
 no-block hart size None c h = refl
-no-block hart size (Some place) c h = absurd (true≢false h)
+no-block hart size (Some place) c h =
+    absurd (true≢false (sym (not-noted c.notes.made (is_noted c.notes place)) ∙ h))
 
--- a call that makes no block is one whose heap has no place
+-- a call that wants no memory is one whose heap has no place
 pub unmade-block : (hart size : ℕ) (c : Config) → size ≡ value_in c hart 10
-    → makes_block (alloc_turn hart (chosen c)) ≡ false → HasNoPlace c.heap size
+    → wants_memory c (alloc_turn hart (chosen c)) ≡ false → HasNoPlace c.heap size
 unmade-block hart size c asked h =
     rw asked
     (least-none c.heap (value_in c hart 10)
