@@ -11,7 +11,6 @@ pub mod LeastPlace
 pub mod LoneHart
 pub mod Mapped
 pub mod MostFree
-pub mod NewBlocks
 pub mod NextHart
 pub mod OwnAccesses
 pub mod PassedTurns

@@ -1,5 +1,5 @@
 -- What is known of an object after records of a trace, by each pass over it.
-use Rattle.std.specs.Prelude.{◌≡◌, ℕ, ◌+◌, ◌⊎◌, ⊥, nat_lt, List, [], ◌∷◌, ◌++◌, length, Option, slice_get}
+use Rattle.std.specs.Prelude.{◌≡◌, ℕ, ◌+◌, ◌⊎◌, nat_lt, List, [], ◌∷◌, ◌++◌, length, Option, slice_get}
 use Rattle.std.specs.Option.{option_map_or}
 use Rattle.base.specs.Touch.{Touch}
 use Rattle.sharing_rules.specs.AccessLists.{AccessList}

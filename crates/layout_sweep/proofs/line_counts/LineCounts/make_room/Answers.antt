@@ -2,6 +2,7 @@
 use Rattle.std.proofs.Common.{◌≡◌, ℕ, ◌/◌, ◌≤◌, ◌∙◌, IsTrue, ap, arith, sym}
 use Rattle.std.proofs.lemmas.Result.{on_err_weaker, on_ok_weaker}
 use Rattle.base.specs.Lines.{line_number}
+use Rattle.base.specs.Touch.{is_write}
 use Rattle.layout_sweep.specs.Laws.Standing.{line-begins}
 use Rattle.layout_sweep.specs.Pages.{has_window, window_at}
 use Rattle.layout_sweep.proofs.line_counts.LineCounts.make_room.Goals as goal
@@ -29,5 +30,5 @@ returns-then-is_write-clause-known c = λ t stood.
     on_err_weaker c.make_page.result
     (line-begins s.size k t c.args.access (window_at s.pages.items k)
     (c.number_of-line.ensures ∙ ap (line_number s.size 0) c.addr.ensures) (stood.windows k)
-    c.if-is_write.true)
+    (ap is_write (sym c.kind.ensures) ∙ sym c.is_write.ensures ∙ c.if-is_write.true))
     c.make_page.ensures.blank
