@@ -27,9 +27,12 @@ fn see(caches: &mut Caches, item: &TraceRecord) -> Result<(), NoMemory>
 }
 
 impl Observer for Caches {
-    ghost use Rattle.finite_cache.specs.Seen.{HasSeen, begins_at};
+    ghost use Rattle.std.specs.Prelude.{IsFalse};
+    ghost use Rattle.finite_cache.specs.Seen.{HasSeen, begins_at, record_wants_memory};
 
     ghost given = { HasSeen };
+
+    ghost known = { λ k item. IsFalse (record_wants_memory k item) };
 
     ghost begins = { begins_at };
 

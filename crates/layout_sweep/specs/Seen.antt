@@ -33,6 +33,10 @@ abbrev pub WantsMemory : ℕ → AccessList → TraceRecord → Type 0
 WantsMemory n t (records.Touch a pc) = IsFirstWrite n t a
 WantsMemory n t _ = ⊥
 
+-- one that wants none, by a list that the sweep stands for
+abbrev pub NeedsNone : Sweep → TraceRecord → Type 0
+NeedsNone s item = (t : AccessList) × StandsFor t s × (WantsMemory s.size t item → ⊥)
+
 -- the text of a list of records, under every shift of a size
 abbrev pub sweep_of_records : ℕ → List TraceRecord → List ℕ
 sweep_of_records n items = sweep_text n (touches_in items)

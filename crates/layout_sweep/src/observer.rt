@@ -27,9 +27,11 @@ fn note_record(sweep: &mut Sweep, item: &TraceRecord) -> Result<(), NoMemory>
 }
 
 impl Observer for Sweep {
-    ghost use Rattle.layout_sweep.specs.Seen.{HasSwept, begins_at};
+    ghost use Rattle.layout_sweep.specs.Seen.{HasSwept, NeedsNone, begins_at};
 
     ghost given = { HasSwept };
+
+    ghost known = { NeedsNone };
 
     ghost begins = { begins_at };
 

@@ -98,9 +98,12 @@ impl MissSightings {
 }
 
 impl Observer for MissSightings {
-    ghost use Rattle.misses.specs.Seen.{HasMissed, misses_begin_at};
+    ghost use Rattle.std.specs.Prelude.{IsFalse};
+    ghost use Rattle.misses.specs.Seen.{HasMissed, misses_begin_at, wants_memory};
 
     ghost given = { HasMissed };
+
+    ghost known = { λ s item. IsFalse (wants_memory s item) };
 
     ghost begins = { misses_begin_at };
 

@@ -58,6 +58,10 @@ abbrev pub WantsMemory : ℕ → Planned → AccessList → TraceRecord → Type
 WantsMemory n p t (records.Touch a pc) = BeginsEither n p t a (moved p a)
 WantsMemory n p t _ = ⊥
 
+-- one that wants none, by a list that was counted
+abbrev pub NeedsNone : Recount → TraceRecord → Type 0
+NeedsNone r item = (t : AccessList) × RecountsFor t r × (WantsMemory r.size r.plan t item → ⊥)
+
 -- from what it was first, it came to what it is by these records
 pub record HasRecounted (begun now : Recount) (items : List TraceRecord) : Type 0 where
   -- for each list that it had counted, it has counted the list with their accesses

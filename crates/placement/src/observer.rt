@@ -30,6 +30,8 @@ impl Observer for Owners {
 
     ghost given = { HasOwned };
 
+    ghost known = { λ _ _. Unit {0} };
+
     #[inline]
     fn note(&mut self, item: &TraceRecord) -> Result<(), NoMemory> {
         note_record(self, item);
@@ -52,9 +54,11 @@ fn recount_record(recount: &mut Recount, item: &TraceRecord) -> Result<(), NoMem
 }
 
 impl Observer for Recount {
-    ghost use Rattle.placement.specs.Passing.{HasRecounted, begins_at};
+    ghost use Rattle.placement.specs.Passing.{HasRecounted, NeedsNone, begins_at};
 
     ghost given = { HasRecounted };
+
+    ghost known = { NeedsNone };
 
     ghost begins = { begins_at };
 

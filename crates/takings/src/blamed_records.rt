@@ -23,9 +23,12 @@ fn see(blame: &mut Blame, item: &TraceRecord) -> Result<(), NoMemory>
 }
 
 impl Observer for Blame {
-    ghost use Rattle.takings.specs.BlameRecords.{HasBlamed, blame_begins_at};
+    ghost use Rattle.std.specs.Prelude.{IsFalse};
+    ghost use Rattle.takings.specs.BlameRecords.{HasBlamed, blame_begins_at, record_wants_memory};
 
     ghost given = { HasBlamed };
+
+    ghost known = { λ k item. IsFalse (record_wants_memory k item) };
 
     ghost begins = { blame_begins_at };
 
