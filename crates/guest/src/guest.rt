@@ -107,9 +107,9 @@ impl Guest {
     ///
     /// Once it has answered `Ended` it answers the same again, and all stays.
     ///
-    /// NoMemory comes only at a turn that makes a block of the heap, or notes another one where none
-    /// that was noted lives: at no exit, deadlock or end of the budget, and only where the hart that
-    /// is next is at the call and isn't refused. It leaves the guest as it was, its schedule included.
+    /// NoMemory comes only at a turn that makes a block of the heap, or notes another one where no
+    /// noted block lives: at no exit, deadlock or end of the budget, and only where the hart that is
+    /// next is at the call and isn't refused. It leaves the guest as it was, its schedule included.
     #[inline]
     pub fn step(&mut self) -> Result<Turn, NoMemory>
         // the turn of the definition, and the configuration that it gives

@@ -48,8 +48,8 @@ pub record RecountsFor (t : AccessList) (r : Recount) : Type 0 where
   pub after : HasCounted (moved_list r.plan t) r.after
   pub many : r.many ≡ many_count r.size r.plan t
 
--- an access behind these that is the first write of its line, where it is or where it is moved: only
--- such a one may want memory
+-- an access behind these that is the first write of its line, where it is or where it is moved:
+-- only such a one may want memory
 abbrev pub BeginsEither : ℕ → Planned → AccessList → Touch → Touch → Type 0
 BeginsEither n p t a there = BeginsLine n t a ⊎ BeginsLine n (moved_list p t) there
 

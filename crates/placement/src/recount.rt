@@ -164,8 +164,8 @@ impl Recount {
         count_many(&mut self.many, taken, &self.plan, self.size, there.addr());
     }
 
-    /// Counts the next access, before position 2^40. It takes memory only where it is the first write
-    /// of its line, here or there. NoMemory leaves every meaning as it was.
+    /// Counts the next access, before position 2^40. It takes memory only for the first write of its
+    /// line, here or there. NoMemory leaves every meaning as it was.
     #[inline]
     pub fn note(&mut self, access: Access) -> Result<(), NoMemory>
         requires { self.old.position < 2 ^ 40 }
