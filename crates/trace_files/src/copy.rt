@@ -42,6 +42,8 @@ struct Unseeing;
 impl Observer for Unseeing {
     ghost given = { λ _ _ _. Unit {0} };
 
+    ghost known = { λ _ _. Unit {0} };
+
     fn note(&mut self, _item: &TraceRecord) -> Result<(), NoMemory> {
         Ok(())
     }
