@@ -16,7 +16,7 @@ from model import View, memory_of  # noqa: E402
 from naming import Naming  # noqa: E402
 from pipes import fed, kept  # noqa: E402
 from program import Predator  # noqa: E402
-from recording import recorded  # noqa: E402
+from recording import recorded, traced  # noqa: E402
 from reports import Report, Symbol  # noqa: E402
 from screen import Paint, screen  # noqa: E402
 from source_lines import Sources  # noqa: E402
@@ -144,6 +144,10 @@ def look(call: Call) -> View:
     first = view.listed()[: call.number("top", TOP)]
     view.explain(predator, first)
     view.place(predator, first)
+    if program is not None and program.dwarf is not None:
+        from trying import try_all
+
+        try_all(view, predator, first)
     view.note_idle()
     return view
 
@@ -213,6 +217,10 @@ def keep_inputs(call: Call) -> None:
 def outputs(view: View) -> None:
     """Writes the files that the call names."""
     options = view.call.options
+    if "patch" in options:
+        from mending import patch_text
+
+        write(options["patch"], patch_text(view))
     if "json" in options:
         from exports import json_text
 
@@ -234,7 +242,7 @@ def show(call: Call) -> int:
         return show_sweep(call)
     # (before --json writes to the same file)
     old = compare.loaded(call.options["against"], call) if "against" in call.options else None
-    with kept(call), recorded(call):
+    with kept(call), recorded(call), traced(call):
         view = look(call)
         outputs(view)
         if all(call.options.get(it) != "-" for it in OUTPUTS):

@@ -7,7 +7,7 @@ import os
 import re
 import tempfile
 from collections import Counter
-from typing import Iterable, Sequence, cast
+from typing import TYPE_CHECKING, Iterable, Sequence, cast
 
 import advice
 from calls import EXPLAIN, Call
@@ -19,6 +19,9 @@ from overflow import Overflow, last_of_file, last_of_run, overflow
 from predicted import Foretold, Layout, judged, layouts
 from program import Predator, Refused, each_line, misses_under, setting, stacks
 from reports import Block, Explained, Misses, Pair, Placed, Report, Symbol
+
+if TYPE_CHECKING:
+    from tried import Tried
 
 WORD = (4, 0)
 # The file and the line where something is declared or made.
@@ -59,6 +62,7 @@ class View:
         self.notes: list[str] = []
         self.explained: dict[int, Explained] = {}
         self.placed: dict[Key, Placed] = {}
+        self.tried: dict[Key, Tried] = {}
         self.cached: dict[Key, Seen] = {}
         self.foreign: set[Key] = set()
         self.lacked = ""
@@ -274,6 +278,10 @@ class View:
 
     def advised(self, thing: Thing, words: list[Told]) -> str:
         """What to do about an object."""
+        tried = self.tried.get(thing.key)
+        if tried is not None and tried.knows():
+            mixed = [field_at(it, thing.example, self.naming) for it in tried.mixed()]
+            return tried.sentence(self.label(thing), self.report.size, mixed)
         total = self.misses.total["useless"] + self.misses.total["useful"] if self.misses else 0
         is_first = self.things[0] is thing or "object" in self.call.options
         if not is_first and 0 < (thing.useless + thing.useful) * advice.LITTLE < total:

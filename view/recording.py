@@ -8,7 +8,7 @@ from typing import Iterator
 
 from calls import RECORDS, Call
 from faults import Fault
-from program import launcher
+from program import Predator, launcher
 
 # What the recorder ends with where it refuses words, files or programs.
 REFUSED = (125, 126, 127)
@@ -27,6 +27,17 @@ def parted(words: list[str], program: str) -> tuple[list[str], list[str]]:
             (recorder if name in RECORDS else replay).extend(words[at : at + width])
         at += width
     return recorder, replay
+
+
+@contextlib.contextmanager
+def traced(call: Call) -> Iterator[None]:
+    """Has a guest's run write its trace to a file that is lost at the end, where the program can try repairs on it."""
+    if call.how != "run" or call.value_of("--trace") is not None or not Predator().has("move"):
+        yield
+        return
+    with tempfile.TemporaryDirectory(prefix="predator-view-") as folder:
+        call.words = ["--trace", os.path.join(folder, "trace"), *call.words]
+        yield
 
 
 @contextlib.contextmanager

@@ -1,0 +1,283 @@
+"""The ways in which an object may be declared otherwise, each as where its words would lie and as code."""
+
+from typing import Callable, Iterator, NamedTuple, Sequence
+
+from layouts import Array, Change, Member, Part, Record, Shape, Unmovable, arrays_in, in_words, laid, records_in, rounded
+from patches import AlignRecord, AlignVariable, Edit, OrderFields
+from spelled import Uses
+from subjects import Declared, Subject, Whose, declaration, patterns, spelled_record, users, whose
+
+# So many ways to put fields in groups are tried of one record, and so many repairs of one object.
+GROUPINGS, MOST = 5, 12
+WRAPPER = "own_line"
+
+
+class Repair(NamedTuple):
+    """One way. The parts are words, and go to so many bytes behind the beginning of an area of `room` bytes; `edits` are none where the
+    change isn't one of declarations alone."""
+
+    said: str
+    parts: list[Part]
+    room: int
+    edits: list[Edit] | None
+
+
+def at(place: Declared | None) -> str:
+    return f" ({place.file.rpartition('/')[2]}:{place.line})" if place else ""
+
+
+def attribute(line: int) -> str:
+    return f"__attribute__((aligned({line})))"
+
+
+def moved(subject: Subject, change: Change) -> tuple[list[Part], int]:
+    """Where the words of an object go under a change, one value behind the other, and how many bytes that takes."""
+    parts: list[Part] = []
+    to = 0
+    if subject.shape is None:
+        for begin, size in subject.ranges:
+            parts.append(Part(begin, size, to))
+            to = rounded(to + size, change.line)
+        return in_words(parts), to
+    found = laid(subject.shape, change)
+    wide, own = subject.shape.size(), subject.is_blocks()
+    for begin, size in subject.ranges:
+        # (a block is an array of what it holds)
+        for value in range(begin, begin + size - wide + 1, wide) if own else (begin,):
+            parts += [Part(value + it.begin, it.size, to + it.to) for it in found.parts]
+            to = rounded(to + found.size, found.alignment)
+        to = rounded(to, change.line)
+    return in_words(parts), to
+
+
+def aligned_alloc(subject: Subject, line: int) -> str:
+    return f", and make the blocks by `aligned_alloc({line}, ..)`" if subject.is_blocks() else ""
+
+
+def sizes(subject: Subject, shape: Shape, old: int, new: int, room: int) -> str:
+    """What becomes of the sizes of a type and of the object."""
+    whole = subject.size()
+    told = f"{old} bytes become {new}" if old != new else f"it keeps its {old} bytes"
+    return told if whole == old else f"{told} each, and {whole} become {room} in all"
+
+
+def elements(subject: Subject, array: Array, uses: Uses, line: int) -> Repair:
+    """Each element of an array on lines of its own."""
+    change, record = Change(line), array.shape.record()
+    place = users(record) if record is not None else None
+    if record is not None and place:
+        change.aligned.add(record.offset)
+        keyword, name = spelled_record(array.shape)
+        how = f"`{keyword} {attribute(line)} {name}`{at(place)}"
+        edits: list[Edit] | None = [AlignRecord(place, keyword, name, line)]
+    else:
+        change.wrapped.add(array.path)
+        how = f"a struct around it, `struct {attribute(line)} {WRAPPER} {{ {declaration(array.shape, 'value')}; }};`"
+        edits = None
+    parts, room = moved(subject, change)
+    wide = array.shape.size()
+    of = f"each element of {subject.name}{array.path.removesuffix('[]')}" if not subject.is_blocks() or array.path else "each element"
+    told = f"give {of} lines of its own by {how}{aligned_alloc(subject, line)}: {sizes(subject, array.shape, wide, rounded(wide, line), room)}"
+    return Repair(told + neighbouring(array, uses), parts, room, None if subject.is_blocks() else edits)
+
+
+def neighbouring(array: Array, uses: Uses) -> str:
+    """That neighbouring elements may go to one thread, where each is a thread's own and threads have them in turn."""
+    own = [next(iter(it.harts)) for it in (whose(uses, at, array.shape.size()) for at in array.begins) if it.kind == "own"]
+    changes = sum(one != other for one, other in zip(own, own[1:]))
+    if len(own) < len(array.begins) or len(own) == len(set(own)) or changes < len(set(own)):
+        return ""
+    return "; or give neighbouring ones to one thread: then only those at the ends of its share meet others"
+
+
+def of_whom(own: Sequence[Whose]) -> str:
+    """Whose a group is, over all the records that it lies in."""
+    known = [it for it in own if it.kind != "none"]
+    if not known:
+        return "unused"
+    if all(it.kind == "read" for it in known):
+        return "only read"
+    if any(it.kind == "shared" for it in known):
+        writers = {hart for it in known for hart in it.harts}
+        return f"written by hart {min(writers)}" if len(writers) == 1 else "shared"
+    harts = {hart for it in known for hart in it.harts}
+    return f"hart {min(harts)}" if len(harts) == 1 else "a hart's own"
+
+
+Key = tuple[object, ...]
+Pattern = tuple[Whose, ...]
+
+
+def groupings(members: Sequence[Member], found: dict[str, Pattern]) -> list[list[list[Member]]]:
+    """The ways to put the fields of a record in groups: those that are only read, each hart's own ones, and what harts share, alone, by who
+    writes it, or with what the writer has for itself."""
+
+    def kind(it: Member) -> str:
+        kinds = {one.kind for one in found[it.name]} - {"none"}
+        return next((one for one in ("shared", "read", "own") if one in kinds), "none")
+
+    def harts(it: Member) -> Key:
+        return tuple(one.harts for one in found[it.name])
+
+    def alone(it: Member) -> Key:
+        return ("shared", it.name) if kind(it) == "shared" else (kind(it), *(harts(it) if kind(it) == "own" else ()))
+
+    def by_writer(it: Member) -> Key:
+        return ("shared", *harts(it)) if kind(it) == "shared" else alone(it)
+
+    def together(it: Member) -> Key:
+        return ("shared",) if kind(it) == "shared" else alone(it)
+
+    def with_writer(it: Member) -> Key:
+        return ("of", *harts(it)) if kind(it) in ("shared", "own") else alone(it)
+
+    first: dict[Key, str] = {}
+    for it in members:
+        if kind(it) == "shared":
+            first.setdefault(harts(it), it.name)
+
+    def with_first(it: Member) -> Key:
+        return ("shared", first[harts(it)]) if kind(it) == "own" and harts(it) in first else alone(it)
+
+    ways: list[list[list[Member]]] = []
+    for key in (together, by_writer, with_writer, with_first, alone):
+        way = grouped([it for it in members if kind(it) != "none"], [it for it in members if kind(it) == "none"], key)
+        if len(way) > 1 and way not in ways:
+            ways.append(way)
+    return ways[:GROUPINGS]
+
+
+def grouped(used: Sequence[Member], unused: Sequence[Member], key: Callable[[Member], Key]) -> list[list[Member]]:
+    """The fields by their keys, in the order of their firsts; those that nobody uses go to what is only read, or else behind the rest."""
+    groups: dict[Key, list[Member]] = {}
+    for it in used:
+        groups.setdefault(key(it), []).append(it)
+    if groups and unused:
+        into = groups.get(("read",)) or list(groups.values())[-1]
+        into.extend(unused)
+    return list(groups.values())
+
+
+def fields(subject: Subject, record: Record, groups: list[list[Member]], found: dict[str, Pattern], line: int) -> Repair:
+    """The fields of a record in groups, each of which begins on a line of its own."""
+    change = Change(line)
+    change.parted[record.die.offset] = groups
+    parts, room = moved(subject, change)
+    keyword, name = spelled_record(record.shape)
+    place = users(record.die)
+    told = [f"{', '.join(it.name for it in own)} ({of_whom([one for it in own for one in found[it.name]])})" for own in groups]
+    firsts = [f"`{own[0].name}`" for own in groups[1:]]
+    behind = f"`{attribute(line)}` behind {', '.join(firsts[:-1])}{' and ' if len(firsts) > 1 else ''}{firsts[-1]}"
+    what = f"`{keyword} {name}`" if name else f"the {keyword} of {subject.name}{record.path}"
+    old, new = record.shape.size(), laid(record.shape, change).size
+    said = f"put the fields of {what}{at(place)} in this order, with {behind}: {'; '.join(told)}{aligned_alloc(subject, line)}"
+    edits: list[Edit] | None = [OrderFields(place, name, groups, line)] if place and not subject.is_blocks() else None
+    return Repair(f"{said}; {sizes(subject, record.shape, old, new, room)}", parts, room, edits)
+
+
+def alone(subjects: Sequence[Subject], line: int) -> Repair:
+    """Some variables, each on lines of its own."""
+    parts: list[Part] = []
+    room = 0
+    edits: list[Edit] | None = []
+    told: list[str] = []
+    for it in subjects:
+        own, size = moved(it, Change(line))
+        parts += [Part(one.begin, one.size, one.to + room) for one in own]
+        room = rounded(room + size, line)
+        place = users(it.die) if it.die is not None else None
+        told.append(it.name + at(place))
+        edits = [*edits, AlignVariable(place, it.name, line)] if edits is not None and place else None
+    names = ", ".join(told[:-1]) + (" and " if len(told) > 1 else "") + told[-1]
+    how = f"`{attribute(line)}` behind {'the name of each' if len(told) > 1 else 'its name'}"
+    return Repair(f"give {names} lines of {'their' if len(told) > 1 else 'its'} own: {how}", in_words(parts), room, edits)
+
+
+def blocks(subject: Subject, line: int) -> Repair:
+    """The blocks of a call site, no two of them on one line."""
+    parts: list[Part] = []
+    to = 0
+    for begin, size in subject.ranges:
+        parts.append(Part(begin, size, to))
+        to = rounded(to + size, line)
+    said = f"let no two of these blocks share a line: `aligned_alloc({line}, ..)`, with sizes that are multiples of {line}"
+    return Repair(said, in_words(parts), to, None)
+
+
+def arenas(subject: Subject, uses: Uses, line: int) -> Repair | None:
+    """Each hart's words of some memory together, on lines of their own, and what harts share behind them."""
+    found: dict[Whose, list[int]] = {}
+    for word in subject.words():
+        own = whose(uses, word, 4)
+        if own.kind != "none":
+            found.setdefault(own if own.kind == "own" else Whose("shared", frozenset()), []).append(word)
+    if sum(it.kind == "own" for it in found) < 2:
+        return None
+    parts: list[Part] = []
+    to = 0
+    for own in found.values():
+        parts += [Part(word, 4, to + 4 * at) for at, word in enumerate(own)]
+        to = rounded(to + 4 * len(own), line)
+    return Repair(
+        f"harts have words of their own in {subject.name}: give each thread an arena of its own, whose beginning and size are multiples of {line}",
+        in_words(parts),
+        to,
+        None,
+    )
+
+
+def joined(first: Repair, second: Repair, line: int) -> Repair:
+    """Two repairs of different objects as one."""
+    base = rounded(first.room, line)
+    parts = [*first.parts, *(Part(it.begin, it.size, it.to + base) for it in second.parts)]
+    edits = None if first.edits is None or second.edits is None else [*first.edits, *second.edits]
+    return Repair(f"{first.said}; and {second.said}", sorted(parts), base + second.room, edits)
+
+
+def inner(subject: Subject, uses: Uses, line: int) -> Iterator[Callable[[], Repair | None]]:
+    """The repairs of an object by itself."""
+    shape = subject.shape
+    if subject.is_blocks() and len(subject.ranges) > 1:
+        yield lambda: blocks(subject, line)
+    if shape is None:
+        yield lambda: arenas(subject, uses, line)
+        return
+    begins = subject.begins()
+    whole = Array("", shape, begins)
+    if subject.is_blocks() and len(begins) > len(subject.ranges) and shape.record() is not None:
+        yield lambda: elements(subject, whole, uses, line)
+    for array in arrays_in(shape, begins):
+        if sum(whose(uses, it, array.shape.size()).kind != "none" for it in array.begins) > 1 and array.shape.size() >= 4:
+            yield lambda array=array: elements(subject, array, uses, line)  # type: ignore[misc]
+    for record in records_in(shape, begins):
+        if users(record.die) is None:
+            continue
+        found = patterns(record.members, record.begins, uses)
+        for way in groupings(record.members, found):
+            yield lambda record=record, way=way, found=found: fields(subject, record, way, found, line)  # type: ignore[misc]
+    if shape.dims() and shape.element().size() < 4:
+        yield lambda: arenas(subject, uses, line)
+
+
+def repairs_of(subject: Subject, uses: Uses, line: int) -> list[Repair]:
+    """The repairs that may be tried of an object, each alone and with its neighbours on lines of their own."""
+    found: list[Repair] = []
+    seen: set[tuple[Part, ...]] = set()
+
+    def add(make: Callable[[], Repair | None]) -> None:
+        try:
+            it = make()
+        except Unmovable:
+            return
+        if it is not None and tuple(it.parts) not in seen and len(found) < MOST:
+            seen.add(tuple(it.parts))
+            found.append(it)
+
+    for make in inner(subject, uses, line):
+        add(make)
+    if subject.neighbours and not subject.is_blocks():
+        own = list(found)
+        add(lambda: alone([subject, *subject.neighbours], line))
+        for it in own:
+            add(lambda it=it: joined(it, alone(subject.neighbours, line), line))  # type: ignore[misc]
+    return found

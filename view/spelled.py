@@ -1,0 +1,136 @@
+"""Who uses which word of a trace while threads run, read from the trace itself. Traces of other versions are converted to version 1 first,
+in which each access has eight bytes."""
+
+import mmap
+import os
+import tempfile
+from array import array
+from collections import Counter
+from typing import Iterator, NamedTuple
+
+from program import Predator
+
+HEADER, ACCESS = 20, 8
+# So many accesses are looked at in one piece: few behind another record, and more as long as none comes.
+FEW, MANY = 64, 1 << 16
+# The sizes of records that aren't accesses, by their tags; a symbol has its name behind them.
+SIZES = {3: 25, 4: 5, 5: 12}
+SYMBOL = 5
+# A hart that makes fewer than one in so many of the accesses that another makes to a word, or no more than so many, only looks.
+SELDOM, LOOKS = 20, 2
+# A word of which fewer than one in so many accesses writes is read only.
+STEADY = 100
+READ = 1
+
+
+class Use(NamedTuple):
+    """How a hart uses a word: reads, writes, and the bytes of it, as bits."""
+
+    reads: int
+    writes: int
+    bytes: int
+
+    def accesses(self) -> int:
+        return self.reads + self.writes
+
+
+# The use of a word by each hart.
+ByHart = dict[int, Use]
+
+
+def pieces(data: mmap.mmap) -> Iterator[bytes]:
+    """The accesses of a trace of version 1, in pieces, in order."""
+    place, many, end = HEADER, FEW, len(data)
+    while place < end:
+        piece = data[place : place + ACCESS * many]
+        tags = piece[::ACCESS]
+        good = len(tags) - len(tags.lstrip(b"\1\2"))
+        if good:
+            yield piece[: ACCESS * good]
+        place += ACCESS * good
+        if good == many:
+            many = min(2 * many, MANY)
+            continue
+        tag = data[place] if place < end else 0
+        if tag not in SIZES:
+            return
+        place += SIZES[tag] + (int.from_bytes(data[place + 10 : place + 12], "little") if tag == SYMBOL else 0)
+        many = FEW
+
+
+def counted(data: mmap.mmap) -> tuple["Counter[int]", "Counter[int]"]:
+    """How often each access is made while threads run, and else. Threads run from the first access of another hart than the first one on,
+    up to the last such access."""
+    running: "Counter[int]" = Counter()
+    before: "Counter[int]" = Counter()
+    pending: "Counter[int]" = Counter()
+    first, has_begun = b"", False
+    for piece in pieces(data):
+        # (a hart is below 256, and has its number in one byte)
+        harts = piece[1::ACCESS]
+        first = first or harts[:1]
+        low, high = 0, len(harts.rstrip(first))
+        if high and not has_begun:
+            low, has_begun = len(harts) - len(harts.lstrip(first)), True
+            before.update(array("Q", piece[: ACCESS * low]))
+        if high:
+            running.update(pending)
+            pending.clear()
+            running.update(array("Q", piece[ACCESS * low : ACCESS * high]))
+        (pending if has_begun else before).update(array("Q", piece[ACCESS * high :]))
+    before.update(pending)
+    return running, before
+
+
+class Uses:
+    """The words of a trace that are accessed, and who uses them while threads run."""
+
+    def __init__(self, path: str) -> None:
+        with open(path, "rb") as file, mmap.mmap(file.fileno(), 0, access=mmap.ACCESS_READ) as data:
+            running, rest = counted(data)
+        self.accesses = sum(running.values()) + sum(rest.values())
+        self.words: dict[int, ByHart] = {}
+        self.cached: dict[int, ByHart] = {}
+        self.accessed: set[int] = set()
+        for counts, runs in ((running, True), (rest, False)):
+            for key, much in counts.items():
+                addr = key >> 24 & 0xFFFFFFFF
+                word = addr & ~3
+                self.accessed.add(word)
+                if runs:
+                    self.note(word, key, addr & 3, much)
+
+    def note(self, word: int, key: int, at: int, much: int) -> None:
+        hart, is_read, size = key >> 8 & 0xFFFF, key & 0xFF == READ, key >> 56
+        own = self.words.setdefault(word, {})
+        reads, writes, used = own.get(hart, (0, 0, 0))
+        own[hart] = Use(reads + much * is_read, writes + much * (not is_read), used | ((1 << size) - 1) << at)
+
+    def of(self, word: int) -> ByHart:
+        """The harts that use a word, without those that only look at it."""
+        if word in self.cached or word not in self.words:
+            return self.cached.get(word, {})
+        own = self.words[word]
+        most = max((it.accesses() for it in own.values()), default=0)
+        found = {hart: it for hart, it in own.items() if it.accesses() * SELDOM >= most and (it.accesses() > LOOKS or most <= LOOKS)}
+        self.cached[word] = found
+        return found
+
+    def is_mixed(self, word: int) -> bool:
+        """Whether harts use different bytes of a word, one of them to write."""
+        own = self.of(word).values()
+        return len({it.bytes for it in own}) > 1 and any(it.writes for it in own)
+
+
+def uses_of(predator: Predator, trace: str) -> Uses | None:
+    """Who uses the words of a trace, or none where it can't be read so."""
+    with tempfile.TemporaryDirectory(prefix="predator-view-") as folder:
+        for at in range(3):
+            with open(trace, "rb") as file:
+                version = file.read(8)
+            if version == b"PRDTRC01":
+                return Uses(trace)
+            other = os.path.join(folder, str(at))
+            predator.text(["convert", "--", trace, other])
+            trace = other
+    return None
