@@ -143,11 +143,11 @@ def look(call: Call) -> View:
     check_seen(view)
     first = view.listed()[: call.number("top", TOP)]
     view.explain(predator, first)
-    view.place(predator, first)
     if program is not None and program.dwarf is not None:
         from trying import try_all
 
         try_all(view, predator, first)
+    view.place(predator, first)
     view.note_idle()
     return view
 

@@ -15,7 +15,7 @@ def finder(view: View) -> Callable[[str], str | None]:
 
 def patch_text(view: View) -> str:
     """The patch. What it can't say is noted."""
-    if not view.tried:
+    if view.tried is None:
         wanted = "a trace in a file, a program with debug information, and a predator with `move`"
         raise Fault(f"`--patch` writes repairs that were counted, and none could be: it takes {wanted}")
     edits: list[Edit] = []

@@ -62,7 +62,8 @@ class View:
         self.notes: list[str] = []
         self.explained: dict[int, Explained] = {}
         self.placed: dict[Key, Placed] = {}
-        self.tried: dict[Key, Tried] = {}
+        # (none where no repair can be tried)
+        self.tried: dict[Key, Tried] | None = None
         self.cached: dict[Key, Seen] = {}
         self.foreign: set[Key] = set()
         self.lacked = ""
@@ -135,6 +136,8 @@ class View:
         if predator is None or trace is None or not predator.has("place"):
             return
         for it in things[:most]:
+            if self.tried and it.key in self.tried and self.tried[it.key].knows():
+                continue
             name = it.name_to_place()
             placed = None if name is None else predator.placed(trace, name, self.report.size)
             # (of several variables of one name it takes the first)
@@ -278,10 +281,10 @@ class View:
 
     def advised(self, thing: Thing, words: list[Told]) -> str:
         """What to do about an object."""
-        tried = self.tried.get(thing.key)
+        tried = (self.tried or {}).get(thing.key)
         if tried is not None and tried.knows():
             mixed = [field_at(it, thing.example, self.naming) for it in tried.mixed()]
-            return tried.sentence(self.label(thing), self.report.size, mixed)
+            return tried.sentence(self.label(thing), list(dict.fromkeys(mixed)))
         total = self.misses.total["useless"] + self.misses.total["useful"] if self.misses else 0
         is_first = self.things[0] is thing or "object" in self.call.options
         if not is_first and 0 < (thing.useless + thing.useful) * advice.LITTLE < total:

@@ -35,7 +35,8 @@ def attribute(line: int) -> str:
 
 def behind(text: str, name: str, line: int) -> str:
     """A declaration with the attribute behind a name and its dimensions. (What is behind a name in parentheses is another declarator's.)"""
-    found = list(re.finditer(rf"\b{re.escape(name)}\b((?:\s*\[[^\]]*\])*)(?=\s*[;,={{])", COMMENT.sub(lambda it: " " * len(it[0]), text)))
+    plain = COMMENT.sub(lambda it: " " * len(it[0]), text)
+    found = list(re.finditer(rf"\b{re.escape(name)}\b((?:\s*\[[^\]]*\])*)(?=\s*[;,={{])", plain))
     if len(found) != 1:
         raise Unpatchable(name)
     end = found[0].end()
@@ -57,9 +58,10 @@ class AlignRecord(NamedTuple):
         at = self.place.line - 1
         named = rf"\b{self.keyword}\s+{re.escape(self.name)}\b(?=\s*(?:final\s*)?(?::[^;]*)?(?:\{{|$))"
         for pattern in (named, rf"\b{self.keyword}\b(?=\s*(?:\{{|$))"):
-            text, much = re.subn(pattern, lambda it: f"{self.keyword} {attribute(self.line)}{it[0][len(self.keyword):]}", lines[at], count=1)
-            if much:
-                lines[at] = text
+            found = re.search(pattern, COMMENT.sub(lambda it: " " * len(it[0]), lines[at]))
+            if found:
+                end = found.start() + len(self.keyword)
+                lines[at] = f"{lines[at][:end]} {attribute(self.line)}{lines[at][end:]}"
                 return
         raise Unpatchable(self.name)
 

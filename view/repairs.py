@@ -61,24 +61,44 @@ def sizes(subject: Subject, shape: Shape, old: int, new: int, room: int) -> str:
     return told if whole == old else f"{told} each, and {whole} become {room} in all"
 
 
-def elements(subject: Subject, array: Array, uses: Uses, line: int) -> Repair:
-    """Each element of an array on lines of its own."""
+def element_apart(subject: Subject, array: Array, line: int) -> tuple[str, Change, list[Edit] | None]:
+    """How each element of an array gets lines of its own: as code, as a change, and as edits where declarations alone change."""
     change, record = Change(line), array.shape.record()
     place = users(record) if record is not None else None
+    edits: list[Edit] | None = None
     if record is not None and place:
         change.aligned.add(record.offset)
         keyword, name = spelled_record(array.shape)
         how = f"`{keyword} {attribute(line)} {name}`{at(place)}"
-        edits: list[Edit] | None = [AlignRecord(place, keyword, name, line)]
+        edits = None if subject.is_blocks() else [AlignRecord(place, keyword, name, line)]
     else:
         change.wrapped.add(array.path)
         how = f"a struct around it, `struct {attribute(line)} {WRAPPER} {{ {declaration(array.shape, 'value')}; }};`"
-        edits = None
+    of = f"each element of {subject.name}{array.path.removesuffix('[]')}" if not subject.is_blocks() or array.path else "each element"
+    return f"give {of} lines of its own by {how}{aligned_alloc(subject, line)}", change, edits
+
+
+def elements(subject: Subject, array: Array, uses: Uses, line: int) -> Repair:
+    """Each element of an array on lines of its own."""
+    how, change, edits = element_apart(subject, array, line)
     parts, room = moved(subject, change)
     wide = array.shape.size()
-    of = f"each element of {subject.name}{array.path.removesuffix('[]')}" if not subject.is_blocks() or array.path else "each element"
-    told = f"give {of} lines of its own by {how}{aligned_alloc(subject, line)}: {sizes(subject, array.shape, wide, rounded(wide, line), room)}"
-    return Repair(told + neighbouring(array, uses), parts, room, None if subject.is_blocks() else edits)
+    told = f"{how}: {sizes(subject, array.shape, wide, rounded(wide, line), room)}{neighbouring(array, uses)}"
+    return Repair(told, parts, room, edits)
+
+
+def bytewise(subject: Subject, uses: Uses, line: int) -> str:
+    """What to do where harts use different bytes of words, so that nothing can be tried by words."""
+    mixed = {it for it in subject.words() if uses.is_mixed(it)}
+    if subject.shape is not None:
+        for array in arrays_in(subject.shape, subject.begins()):
+            if array.shape.size() % 4 and any(it // 4 * 4 in mixed for it in array.begins):
+                return element_apart(subject, array, line)[0]
+        for record in records_in(subject.shape, subject.begins()):
+            own = [it.name for it in record.members if any((at + it.begin) // 4 * 4 in mixed for at in record.begins)]
+            if len(own) > 1:
+                return f"put `{attribute(line)}` behind each of {', '.join(own)}"
+    return f"give what each hart uses lines of its own, as `{attribute(line)}` makes them"
 
 
 def neighbouring(array: Array, uses: Uses) -> str:
@@ -215,15 +235,11 @@ def arenas(subject: Subject, uses: Uses, line: int) -> Repair | None:
         return None
     parts: list[Part] = []
     to = 0
-    for own in found.values():
-        parts += [Part(word, 4, to + 4 * at) for at, word in enumerate(own)]
-        to = rounded(to + 4 * len(own), line)
-    return Repair(
-        f"harts have words of their own in {subject.name}: give each thread an arena of its own, whose beginning and size are multiples of {line}",
-        in_words(parts),
-        to,
-        None,
-    )
+    for words in found.values():
+        parts += [Part(word, 4, to + 4 * at) for at, word in enumerate(words)]
+        to = rounded(to + 4 * len(words), line)
+    how = f"give each thread an arena of its own, whose beginning and size are multiples of {line}"
+    return Repair(f"harts have words of their own in {subject.name}: {how}", in_words(parts), to, None)
 
 
 def joined(first: Repair, second: Repair, line: int) -> Repair:

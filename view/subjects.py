@@ -2,7 +2,7 @@
 
 import os
 import re
-from typing import Iterable, Iterator, Literal, NamedTuple, Sequence
+from typing import Any, Iterable, Iterator, Literal, NamedTuple, Sequence
 
 from fields import NAMES_FOR, Die, Variable, name_of, size_of, sound, type_name, type_of, value
 from keys import Key, OfSymbol
@@ -81,8 +81,10 @@ class Subject:
 
 def place_of(die: Die) -> Declared | None:
     """Where a type or a variable is declared, or none."""
-    program = getattr(getattr(die, "dwarfinfo", None), "program", None)
-    found = sound(lambda: program.declared(Variable(die)), None) if program is not None else None
+    program: Any = getattr(getattr(die, "dwarfinfo", None), "program", None)
+    if program is None:
+        return None
+    found = sound(lambda: program.declared(Variable(die)), None)
     if not found:
         return None
     # (a file that was named from where the compiler ran)
@@ -138,13 +140,13 @@ def of_symbol(view: View, thing: Thing, symbol: Symbol) -> Subject:
     return Subject(thing, view.label(thing) if thing.name else symbol.name, [(symbol.addr, size)], shape, die)
 
 
-def of_blocks(view: View, thing: Thing) -> Subject:
+def of_blocks(view: View, thing: Thing, example: Block) -> Subject:
     ranges: set[tuple[int, int]] = set()
     for spot in thing.spots:
         for it in spot.rows():
             if isinstance(it, Block) and key_of(it, view.naming, spot.base) == thing.key:
                 ranges.add((it.addr, it.size))
-    of = sound(lambda: view.naming.type_of_block(thing.example), None) if isinstance(thing.example, Block) else None
+    of = sound(lambda: view.naming.type_of_block(example), None)
     shape = Shape(of) if of is not None and size_of(of) else None
     return Subject(thing, view.label(thing), disjoint(ranges), shape)
 
@@ -165,7 +167,7 @@ def subject_of(view: View, thing: Thing, uses: Uses) -> Subject | None:
     if isinstance(thing.example, Symbol):
         found = of_symbol(view, thing, thing.example)
     elif isinstance(thing.example, Block) and not (thing.example.sites and thing.example.sites[0].name == OWN):
-        found = of_blocks(view, thing)
+        found = of_blocks(view, thing, thing.example)
     else:
         return None
     if not 0 < found.size() <= LARGEST:

@@ -11,7 +11,7 @@ from layouts import Part, rounded
 from model import View
 from objects import Thing
 from program import Predator, Refused, each_line, misses_under
-from repairs import Repair, repairs_of
+from repairs import Repair, bytewise, repairs_of
 from reports import Misses, Report
 from spelled import Uses, uses_of
 from subjects import Subject, subject_of
@@ -107,35 +107,42 @@ def missed(misses: Misses) -> int:
     return misses.total["useless"] + misses.total["useful"]
 
 
-def is_worth(view: View, thing: Thing) -> bool:
-    own = thing.useless + thing.useful
-    return bool(view.misses) and own * advice.LITTLE >= missed(cast(Misses, view.misses)) and thing.useless + thing.useful > 0
-
-
 def try_all(view: View, predator: Predator | None, things: Sequence[Thing]) -> None:
     """Tries the repairs of the first objects, where the program can move words and the trace can be read again."""
     trace = view.trace()
     if predator is None or trace is None or view.misses is None or view.report.offset or not predator.has("move"):
+        return
+    rule = sum(it.count for it in view.each.observed()) if view.each else None
+    before = Counted(view.misses.total, rule)
+    view.tried = {it.key: Tried(it, before, view.report.accesses) for it in things}
+    worth = [it for it in things if not view.tried[it.key].is_rare() and is_worth(it, before)][:OBJECTS]
+    if not worth:
         return
     with tempfile.TemporaryDirectory(prefix="predator-view-") as folder, contextlib.suppress(Refused):
         trial = Trial(view, predator, trace, folder)
         if trial.uses is None:
             return
         left = max(BUDGET // max(view.report.accesses, 1), LEAST)
-        for thing in [it for it in things if is_worth(view, it)][:OBJECTS]:
+        for thing in worth:
             subject = subject_of(view, thing, trial.uses)
-            repairs = repairs_of(subject, trial.uses, view.report.size)[:left] if subject else []
+            if subject is None:
+                continue
+            repairs = repairs_of(subject, trial.uses, view.report.size)[:left]
             left -= len(repairs)
-            view.tried[thing.key] = tried(trial, view, thing, subject, repairs)
+            view.tried[thing.key] = tried(trial, Tried(thing, before, view.report.accesses, subject, trial.uses), subject, repairs)
         note_together(trial, view)
 
 
-def tried(trial: Trial, view: View, thing: Thing, subject: Subject | None, repairs: Sequence[Repair]) -> Tried:
+def is_worth(thing: Thing, before: Counted) -> bool:
+    """Whether an object has a part of the misses that is worth a look."""
+    return (thing.useless + thing.useful) * advice.LITTLE >= before.missed() > 0
+
+
+def tried(trial: Trial, found: Tried, subject: Subject, repairs: Sequence[Repair]) -> Tried:
     """What came of the repairs of an object."""
-    uses, before = cast(Uses, trial.uses), cast(Misses, view.misses)
-    best = trial.best(repairs)
-    rule = sum(it.count for it in view.each.observed()) if view.each else None
-    found = Tried(thing, subject, uses, Counted(before.total, rule), view.report.accesses, len(repairs))
+    best, found.many = trial.best(repairs), len(repairs)
+    if found.mixed() and trial.uses:
+        found.instead = bytewise(subject, trial.uses, trial.layout[0])
     if best is not None:
         found.repair, found.after = best[0], Counted(best[1].total, None)
         if found.is_saving():
@@ -145,15 +152,14 @@ def tried(trial: Trial, view: View, thing: Thing, subject: Subject | None, repai
 
 def note_together(trial: Trial, view: View) -> None:
     """Notes what all repairs come to that are named, where they are several."""
-    saving = [it for it in view.tried.values() if it.is_saving()]
+    saving = [it for it in (view.tried or {}).values() if it.is_saving()]
     parts: list[Part] = []
     room = 0
-    for it in saving:
-        own = it.repair
+    for own in (it.repair for it in saving):
         if own is None or any(one.begin < it.begin + it.size and it.begin < one.begin + one.size for one in own.parts for it in parts):
             continue
         parts += [Part(one.begin, one.size, one.to + room) for one in own.parts]
         room = rounded(room + own.room, view.report.size)
     counted = trial.counted(Repair("", parts, room, None)) if len(saving) > 1 else None
-    if counted is not None and saving:
+    if counted is not None:
         view.notes.append(f"all that is to do, done together: {saving[0].before.beside(Counted(counted.total, None))}")

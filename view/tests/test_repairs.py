@@ -31,9 +31,9 @@ class Known(unittest.TestCase):
         self.assertEqual((ran.returncode, ran.stderr), (0, ""), name)
         return out
 
-    def look(self, program, *words):
+    def look(self, program, *words, turns=TURNS):
         """What view finds of a run."""
-        call = ("run", program, *TURNS, "--explain", "0", *words, "--json", "-")
+        call = ("run", program, *turns, "--explain", "0", *words, "--json", "-")
         status, text, said = view(*call, program=MOVING, cwd=self.folder, MOVING_OVER=PROGRAM)
         self.assertEqual((status, said), (0, ""), program)
         return json.loads(text)
@@ -104,10 +104,12 @@ class Known(unittest.TestCase):
         self.told("grid", "own_line { int32_t value[21]; };`", "or give neighbouring ones to one thread")
 
     def test_bytes_of_a_word(self):
-        for turns in ("1", "3", "100"):
-            found = self.start("bytes") if turns == "3" else self.look(self.build("bytes"), "--set", f"quantum={turns}")
-            todo = found["objects"][0]["todo"]
+        found = self.start("bytes")
+        for turns in ("3", "1", "100"):
+            found = found if turns == "3" else self.look("bytes.elf", turns=("--set", f"quantum={turns}"))
+            (todo,) = [it["todo"] for it in found["objects"] if it["name"] == "marks"]
             self.assertIn("words can't tell: harts use different bytes of marks[0..3]", todo)
+            self.assertIn("struct __attribute__((aligned(64))) own_line { unsigned char value; };`, and look again", todo)
             self.assertNotIn("padding", todo)
 
     def test_true_sharing(self):
