@@ -12,7 +12,9 @@ from program import Predator
 
 HEADER, ACCESS = 20, 8
 # So many accesses are looked at in one piece: few behind another record, and more as long as none comes.
-FEW, MANY = 64, 1 << 16
+FEW, MANY = 64, 1 << 13
+# Of more accesses than so many only every second, third .. piece is counted: who uses what is a guess, by which repairs are chosen.
+ENOUGH = 1 << 21
 # The sizes of records that aren't accesses, by their tags; a symbol has its name behind them.
 SIZES = {3: 25, 4: 5, 5: 12}
 SYMBOL = 5
@@ -58,47 +60,39 @@ def pieces(data: mmap.mmap) -> Iterator[bytes]:
         many = FEW
 
 
-def counted(data: mmap.mmap) -> tuple["Counter[int]", "Counter[int]"]:
-    """How often each access is made while threads run, and else. Threads run from the first access of another hart than the first one on,
-    up to the last such access."""
+def counted(data: mmap.mmap) -> "Counter[int]":
+    """How often each access is made while threads run: from the first access of another hart than the first one on, up to the last such
+    access."""
     running: "Counter[int]" = Counter()
-    before: "Counter[int]" = Counter()
     pending: "Counter[int]" = Counter()
-    first, has_begun = b"", False
-    for piece in pieces(data):
+    first, has_begun, step = b"", False, len(data) // (ACCESS * ENOUGH) + 1
+    for at, piece in enumerate(pieces(data)):
         # (a hart is below 256, and has its number in one byte)
         harts = piece[1::ACCESS]
         first = first or harts[:1]
         low, high = 0, len(harts.rstrip(first))
         if high and not has_begun:
             low, has_begun = len(harts) - len(harts.lstrip(first)), True
-            before.update(array("Q", piece[: ACCESS * low]))
         if high:
             running.update(pending)
             pending.clear()
+        if has_begun and at % step == 0:
             running.update(array("Q", piece[ACCESS * low : ACCESS * high]))
-        (pending if has_begun else before).update(array("Q", piece[ACCESS * high :]))
-    before.update(pending)
-    return running, before
+            pending.update(array("Q", piece[ACCESS * high :]))
+    return running
 
 
 class Uses:
-    """The words of a trace that are accessed, and who uses them while threads run."""
+    """Who uses which words of a trace while threads run."""
 
     def __init__(self, path: str) -> None:
         with open(path, "rb") as file, mmap.mmap(file.fileno(), 0, access=mmap.ACCESS_READ) as data:
-            running, rest = counted(data)
-        self.accesses = sum(running.values()) + sum(rest.values())
+            running = counted(data)
         self.words: dict[int, ByHart] = {}
         self.cached: dict[int, ByHart] = {}
-        self.accessed: set[int] = set()
-        for counts, runs in ((running, True), (rest, False)):
-            for key, much in counts.items():
-                addr = key >> 24 & 0xFFFFFFFF
-                word = addr & ~3
-                self.accessed.add(word)
-                if runs:
-                    self.note(word, key, addr & 3, much)
+        for key, much in running.items():
+            addr = key >> 24 & 0xFFFFFFFF
+            self.note(addr & ~3, key, addr & 3, much)
 
     def note(self, word: int, key: int, at: int, much: int) -> None:
         hart, is_read, size = key >> 8 & 0xFFFF, key & 0xFF == READ, key >> 56

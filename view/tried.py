@@ -2,7 +2,7 @@
 
 from typing import NamedTuple
 
-from advice import listing
+from advice import patterns
 from objects import Thing
 from repairs import Repair
 from spelled import Uses
@@ -77,7 +77,7 @@ class Tried:
         """What to do about the object of a name; `names` are those of the words in which harts use different bytes."""
         if self.is_rare():
             return f"nothing to do: {self.own():,} of {self.accesses:,} accesses miss"
-        told = f"words can't tell: harts use different bytes of {listing(names)}, and misses are counted by whole words"
+        told = f"words can't tell: harts use different bytes of {', '.join(patterns(names))}, and misses are counted by whole words"
         how = f"{self.instead}, and look again"
         if self.is_saving() and self.repair and self.after:
             return f"{self.repair.said}; counted so: {self.before.beside(self.after)}" + (f"; of the rest {told}: {how}" if names else "")

@@ -2,18 +2,20 @@
 
 import concurrent.futures
 import contextlib
+import functools
 import os
 import tempfile
-from typing import Sequence, cast
+from typing import Collection, Sequence, cast
 
 import advice
+from fields import sound
 from layouts import Part, rounded
 from model import View
 from objects import Thing
 from program import Predator, Refused, each_line, misses_under
 from repairs import Repair, bytewise, repairs_of
 from reports import Misses, Report
-from spelled import Uses, uses_of
+from spelled import uses_of
 from subjects import Subject, subject_of
 from tried import Counted, Tried
 
@@ -24,13 +26,13 @@ PAGE = 4096
 TOP = 1 << 32
 
 
-def free(uses: Uses, room: int) -> int | None:
-    """Where so many bytes lie that no access uses, or none."""
-    at = rounded(max(uses.accessed, default=0) + 4, PAGE)
+def free(words: Collection[int], room: int) -> int | None:
+    """Where so many bytes lie that no access uses, or none; `words` are those that any uses."""
+    at = rounded(max(words, default=0) + 4, PAGE)
     if at + room <= TOP:
         return at
     below = 0
-    for word in sorted(uses.accessed):
+    for word in sorted(words):
         at = rounded(below, PAGE)
         if at + room <= word:
             return at
@@ -56,7 +58,8 @@ class Trial:
 
     def moved(self, repair: Repair) -> str | None:
         """The trace with the words of a repair where they would lie, or none where there is no room."""
-        base = free(self.uses, repair.room) if self.uses else None
+        # (each word that is used has a cold miss)
+        base = free(self.view.by_word.lines, repair.room) if self.view.by_word else None
         if base is None:
             return None
         self.moves += 1
@@ -124,10 +127,10 @@ def try_all(view: View, predator: Predator | None, things: Sequence[Thing]) -> N
             return
         left = max(BUDGET // max(view.report.accesses, 1), LEAST)
         for thing in worth:
-            subject = subject_of(view, thing, trial.uses)
+            subject = sound(functools.partial(subject_of, view, thing, trial.uses), None)
             if subject is None:
                 continue
-            repairs = repairs_of(subject, trial.uses, view.report.size)[:left]
+            repairs = sound(functools.partial(repairs_of, subject, trial.uses, view.report.size), [])[:left]
             left -= len(repairs)
             view.tried[thing.key] = tried(trial, Tried(thing, before, view.report.accesses, subject, trial.uses), subject, repairs)
         note_together(trial, view)
@@ -142,7 +145,7 @@ def tried(trial: Trial, found: Tried, subject: Subject, repairs: Sequence[Repair
     """What came of the repairs of an object."""
     best, found.many = trial.best(repairs), len(repairs)
     if found.mixed() and trial.uses:
-        found.instead = bytewise(subject, trial.uses, trial.layout[0])
+        found.instead = sound(functools.partial(bytewise, subject, trial.uses, trial.layout[0]), "give each a line of its own")
     if best is not None:
         found.repair, found.after = best[0], Counted(best[1].total, None)
         if found.is_saving():
