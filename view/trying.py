@@ -130,7 +130,8 @@ def try_all(view: View, predator: Predator | None, things: Sequence[Thing]) -> N
             subject = sound(functools.partial(subject_of, view, thing, trial.uses), None)
             if subject is None:
                 continue
-            repairs = sound(functools.partial(repairs_of, subject, trial.uses, view.report.size), [])[:left]
+            none: list[Repair] = []
+            repairs = sound(functools.partial(repairs_of, subject, trial.uses, view.report.size), none)[:left]
             left -= len(repairs)
             view.tried[thing.key] = tried(trial, Tried(thing, before, view.report.accesses, subject, trial.uses), subject, repairs)
         note_together(trial, view)

@@ -199,7 +199,8 @@ class Patched(Folder):
             ("int b, a[4][2], c; // a", "int b, a[4][2] ATTRIBUTE, c; // a"),
             ("std::atomic<int> a{0};", "std::atomic<int> a ATTRIBUTE{0};"),
         ):
-            self.assertEqual(self.patch(text, patches.AlignVariable(1, "a", 64)), wanted.replace("ATTRIBUTE", "__attribute__((aligned(64)))"))
+            found = self.patch(text, patches.AlignVariable(1, "a", 64))
+            self.assertEqual(found, wanted.replace("ATTRIBUTE", "__attribute__((aligned(64)))"))
         for text in ("int (*a)(void);", "MAKE(a)", "int b;"):
             self.assertRaises(patches.Unpatchable, self.patch, text, patches.AlignVariable(1, "a", 64))
 
@@ -215,13 +216,14 @@ class Patched(Folder):
             self.assertEqual(patches.OrderFields(None, "a", [], 64).by_position(text.split("\n")), wanted, text)
 
     def test_the_last_line_may_have_no_end(self):
-        self.assertTrue(patches.difference("a.c", "int a;", "int b;").endswith("-int a;\n\\ No newline at end of file\n+int b;\n\\ No newline at end of file\n"))
+        end = "\n\\ No newline at end of file\n"
+        self.assertTrue(patches.difference("a.c", "int a;", "int b;").endswith(f"-int a;{end}+int b;{end}"))
 
     @unittest.skipUnless(shutil.which("clang"), "clang isn't installed")
     def test_what_is_said_is_c_and_c_plus_plus(self):
         text = "struct __attribute__((aligned(64))) own_line { int value[21]; };\nstruct __attribute__((aligned(64))) a { int b; };\n"
-        text += "struct c { int d; int e[3] __attribute__((aligned(64))); };\nstatic int f __attribute__((aligned(64))) = 3;\nint g(void);\n"
-        text += "int g(void) { return f; }\n"
+        text += "struct c { int d; int e[3] __attribute__((aligned(64))); };\nstatic int f __attribute__((aligned(64))) = 3;\n"
+        text += "int g(void);\nint g(void) { return f; }\n"
         for language in ("c", "c++"):
             words = ["clang", "-Wall", "-Wextra", "-Werror", "-fsyntax-only", "-x", language, self.path("a", text)]
             subprocess.run(words, check=True)
