@@ -1,11 +1,12 @@
 """From a report to the source: `predator view ..`. docs/VIEW.md tells what it shows."""
 
+import functools
 import gc
 import io
 import os
 import sys
 import traceback
-from typing import TYPE_CHECKING
+from typing import TYPE_CHECKING, Callable
 
 sys.path.insert(0, os.path.dirname(os.path.abspath(__file__)))
 
@@ -14,6 +15,7 @@ from calls import HELP, OUTPUTS, TOP, Call, nearest  # noqa: E402
 from faults import Fault, plain  # noqa: E402
 from model import View, memory_of  # noqa: E402
 from naming import Naming  # noqa: E402
+from objects import Thing  # noqa: E402
 from pipes import fed, kept  # noqa: E402
 from program import Predator  # noqa: E402
 from recording import recorded, traced  # noqa: E402
@@ -119,6 +121,16 @@ def check_seen(view: View) -> None:
         check_name(name, view.naming)
 
 
+def trial_of(view: View, predator: Predator | None) -> Callable[[list[Thing]], None] | None:
+    """What tries the repairs of some objects once their misses are counted, or none where no type is known."""
+    program = view.naming.program
+    if program is None or program.dwarf is None:
+        return None
+    from trying import begin, try_all
+
+    return functools.partial(try_all, view, predator, reading=begin(view, predator))
+
+
 def look(call: Call) -> View:
     """All that is found."""
     program, sources = program_of(call)
@@ -137,16 +149,15 @@ def look(call: Call) -> View:
         call.program = program = sources = None
     memory = memory_of(call, predator)
     view = View(call, report, Naming(report, program, sources, call.options["type"], memory))
+    begun = trial_of(view, predator)
     view.count(predator)
     view.look_for_overflow(predator)
     view.arrange()
     check_seen(view)
     first = view.listed()[: call.number("top", TOP)]
     view.explain(predator, first)
-    if program is not None and program.dwarf is not None:
-        from trying import try_all
-
-        try_all(view, predator, first)
+    if begun:
+        begun(first)
     view.place(predator, first)
     view.note_idle()
     return view

@@ -291,8 +291,8 @@ def repairs_of(subject: Subject, uses: Uses, line: int) -> list[Repair]:
 
     for make in inner(subject, uses, line):
         add(make)
-    if subject.neighbours and not subject.is_blocks():
-        own = list(found)
+    if not subject.is_blocks():
+        own = list(found) if subject.neighbours else []
         add(lambda: alone([subject, *subject.neighbours], line))
         for it in own:
             add(lambda it=it: joined(it, alone(subject.neighbours, line), line))  # type: ignore[misc]

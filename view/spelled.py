@@ -3,6 +3,7 @@ in which each access has eight bytes."""
 
 import mmap
 import os
+import struct
 import tempfile
 from array import array
 from collections import Counter
@@ -11,6 +12,11 @@ from typing import Iterator, NamedTuple
 from program import Predator
 
 HEADER, ACCESS = 20, 8
+# The end of a part of a trace, with how many accesses it has.
+PART_END = struct.Struct("<BBBHIQQ")
+END, OF_PART = 6, 4
+# How much of a long trace is looked at for the best repair, where it has more than so many times that.
+PART, LONG = 1 << 19, 4
 # So many accesses are looked at in one piece: few behind another record, and more as long as none comes.
 FEW, MANY = 64, 1 << 13
 # Of more accesses than so many only every second, third .. piece is counted: who uses what is a guess, by which repairs are chosen.
@@ -40,15 +46,15 @@ class Use(NamedTuple):
 ByHart = dict[int, Use]
 
 
-def pieces(data: mmap.mmap) -> Iterator[bytes]:
-    """The accesses of a trace of version 1, in pieces, in order."""
+def pieces(data: mmap.mmap) -> Iterator[tuple[int, bytes]]:
+    """The accesses of a trace of version 1, in pieces, in order, each with where it begins."""
     place, many, end = HEADER, FEW, len(data)
     while place < end:
         piece = data[place : place + ACCESS * many]
         tags = piece[::ACCESS]
         good = len(tags) - len(tags.lstrip(b"\1\2"))
         if good:
-            yield piece[: ACCESS * good]
+            yield place, piece[: ACCESS * good]
         place += ACCESS * good
         if good == many:
             many = min(2 * many, MANY)
@@ -60,26 +66,32 @@ def pieces(data: mmap.mmap) -> Iterator[bytes]:
         many = FEW
 
 
-def counted(data: mmap.mmap) -> "Counter[int]":
+class Running:
     """How often each access is made while threads run: from the first access of another hart than the first one on, up to the last such
-    access."""
-    running: "Counter[int]" = Counter()
-    pending: "Counter[int]" = Counter()
-    first, has_begun, step = b"", False, len(data) // (ACCESS * ENOUGH) + 1
-    for at, piece in enumerate(pieces(data)):
-        # (a hart is below 256, and has its number in one byte)
-        harts = piece[1::ACCESS]
-        first = first or harts[:1]
-        low, high = 0, len(harts.rstrip(first))
-        if high and not has_begun:
-            low, has_begun = len(harts) - len(harts.lstrip(first)), True
-        if high:
-            running.update(pending)
-            pending.clear()
-        if has_begun and at % step == 0:
-            running.update(array("Q", piece[ACCESS * low : ACCESS * high]))
-            pending.update(array("Q", piece[ACCESS * high :]))
-    return running
+    access. `front` is the first part of a long trace, a trace too, or empty."""
+
+    def __init__(self, data: mmap.mmap) -> None:
+        self.counts: "Counter[int]" = Counter()
+        self.front = b""
+        pending: "Counter[int]" = Counter()
+        first, accesses, enough, step = b"", 0, 0, len(data) // (ACCESS * ENOUGH) + 1
+        for at, (place, piece) in enumerate(pieces(data)):
+            # (a hart is below 256, and has its number in one byte)
+            harts = piece[1::ACCESS]
+            first = first or harts[:1]
+            low, high = 0, len(harts.rstrip(first))
+            if high and not enough:
+                low = len(harts) - len(harts.lstrip(first))
+                enough = accesses + low + PART
+            accesses += len(harts)
+            if high:
+                self.counts.update(pending)
+                pending.clear()
+            if enough and at % step == 0:
+                self.counts.update(array("Q", piece[ACCESS * low : ACCESS * high]))
+                pending.update(array("Q", piece[ACCESS * high :]))
+            if enough and not self.front and accesses >= enough and len(data) > place + ACCESS * PART * LONG:
+                self.front = data[: place + len(piece)] + PART_END.pack(END, OF_PART, 0, 0, 0, 0, accesses)
 
 
 class Uses:
@@ -87,10 +99,11 @@ class Uses:
 
     def __init__(self, path: str) -> None:
         with open(path, "rb") as file, mmap.mmap(file.fileno(), 0, access=mmap.ACCESS_READ) as data:
-            running = counted(data)
+            running = Running(data)
+        self.front = running.front
         self.words: dict[int, ByHart] = {}
         self.cached: dict[int, ByHart] = {}
-        for key, much in running.items():
+        for key, much in running.counts.items():
             addr = key >> 24 & 0xFFFFFFFF
             self.note(addr & ~3, key, addr & 3, much)
 

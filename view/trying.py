@@ -3,9 +3,10 @@
 import concurrent.futures
 import contextlib
 import functools
+import itertools
 import os
 import tempfile
-from typing import Collection, Sequence, cast
+from typing import Collection, Iterator, Optional, Sequence, cast
 
 import advice
 from fields import sound
@@ -15,13 +16,14 @@ from objects import Thing
 from program import Predator, Refused, each_line, misses_under
 from repairs import Repair, bytewise, repairs_of
 from reports import Misses, Report
-from spelled import uses_of
+from spelled import Uses, uses_of
 from subjects import Subject, subject_of
 from tried import Counted, Tried
 
-# So many objects are tried, and so many accesses may be moved in all.
-OBJECTS, BUDGET = 5, 60_000_000
-LEAST = 2
+# So many objects are tried, of long traces fewer: about so many accesses are counted anew in all.
+OBJECTS, BUDGET = 5, 40_000_000
+# Repairs are about as good where they differ by less than one in so many of what can be saved.
+ABOUT = 50
 PAGE = 4096
 TOP = 1 << 32
 
@@ -45,64 +47,71 @@ def table(parts: Sequence[Part], base: int) -> str:
 
 
 class Trial:
-    """What repairs are tried with: the trace, and what it counts as it is."""
+    """What repairs are tried with. Of a long trace the first part of what threads do says which repair is the best, and the whole what that
+    comes to."""
 
-    def __init__(self, view: View, predator: Predator, trace: str, folder: str) -> None:
+    def __init__(self, view: View, predator: Predator, trace: str, front: bytes, folder: str) -> None:
         self.view, self.predator, self.trace, self.folder = view, predator, trace, folder
         self.layout = view.report.size, view.report.offset
         self.settings = os.path.join(folder, "settings")
         with open(self.settings, "w", encoding="ascii") as file:
             file.write("tracking = 1\nreport = 1\n")
-        self.uses = uses_of(predator, trace)
-        self.moves = 0
+        self.moves = itertools.count()
+        self.front, self.before = trace, missed(view.misses) if view.misses else 0
+        if front:
+            self.front = os.path.join(folder, "front")
+            with open(self.front, "wb") as part:
+                part.write(front)
+            self.before = missed(self.misses_of(self.front))
 
-    def moved(self, repair: Repair) -> str | None:
-        """The trace with the words of a repair where they would lie, or none where there is no room."""
+    def misses_of(self, trace: str) -> Misses:
+        return cast(Misses, self.predator.counted_of_file(trace, [misses_under(self.layout)])[0])
+
+    @contextlib.contextmanager
+    def moved(self, trace: str, repair: Repair) -> Iterator[str | None]:
+        """A trace with the words of a repair where they would lie, or none where there is no room. The file is lost at the end."""
         # (each word that is used has a cold miss)
         base = free(self.view.by_word.lines, repair.room) if self.view.by_word else None
         if base is None:
-            return None
-        self.moves += 1
-        names = [os.path.join(self.folder, f"{it}-{self.moves}") for it in ("table", "trace")]
-        with open(names[0], "w", encoding="ascii") as file:
+            yield None
+            return
+        number = next(self.moves)
+        of_table, out = (os.path.join(self.folder, f"{it}-{number}") for it in ("table", "trace"))
+        with open(of_table, "w", encoding="ascii") as file:
             file.write(table(repair.parts, base))
         try:
-            self.predator.text(["move", "--", self.trace, *names])
+            self.predator.text(["move", "--", trace, of_table, out])
         except Refused:
-            return None
-        return names[1]
-
-    def counted(self, repair: Repair) -> Misses | None:
-        """The misses of the moved trace, or none."""
-        trace = self.moved(repair)
-        if trace is None:
-            return None
+            yield None
+            return
         try:
-            return cast(Misses, self.predator.counted_of_file(trace, [misses_under(self.layout)])[0])
+            yield out
         finally:
-            os.unlink(trace)
+            os.unlink(out)
 
-    def by_rule(self, repair: Repair) -> int | None:
-        """What the report's rule counts in the moved trace."""
-        trace = self.moved(repair)
-        if trace is None:
-            return None
-        try:
-            report = self.predator.counted_of_file(trace, [each_line(self.layout, self.settings)])[0]
-        finally:
-            os.unlink(trace)
-        return sum(it.count for it in cast(Report, report).observed())
+    def tried(self, repair: Repair) -> int | None:
+        """The misses of a repair, as far as it is looked for the best one, or none."""
+        with self.moved(self.front, repair) as trace:
+            return missed(self.misses_of(trace)) if trace else None
 
-    def best(self, repairs: Sequence[Repair]) -> tuple[Repair, Misses] | None:
+    def counted(self, repair: Repair) -> Counted | None:
+        """What a repair comes to in the whole trace, or none."""
+        with self.moved(self.trace, repair) as trace:
+            if trace is None:
+                return None
+            misses, report = self.predator.counted_of_file(trace, [misses_under(self.layout), each_line(self.layout, self.settings)])
+            return Counted(cast(Misses, misses).total, sum(it.count for it in cast(Report, report).observed()))
+
+    def best(self, repairs: Sequence[Repair]) -> Repair | None:
         """The repair that leaves the fewest misses, and of several that are about as good the smallest."""
         with concurrent.futures.ThreadPoolExecutor(max_workers=min(4, os.cpu_count() or 1)) as pool:
-            counts = list(pool.map(self.counted, repairs))
+            counts = list(pool.map(self.tried, repairs))
         found = [(repair, own) for repair, own in zip(repairs, counts) if own is not None]
         if not found:
             return None
-        least = min(missed(it[1]) for it in found)
-        most = least + (max(missed(self.view.misses) - least, 0) // 50 if self.view.misses else 0)
-        return min((it for it in found if missed(it[1]) <= most), key=lambda it: it[0].room)
+        least = min(own for _, own in found)
+        most = least + max(self.before - least, 0) // ABOUT
+        return min((repair for repair, own in found if own <= most), key=lambda it: it.room)
 
 
 def missed(misses: Misses) -> int:
@@ -110,30 +119,47 @@ def missed(misses: Misses) -> int:
     return misses.total["useless"] + misses.total["useful"]
 
 
-def try_all(view: View, predator: Predator | None, things: Sequence[Thing]) -> None:
-    """Tries the repairs of the first objects, where the program can move words and the trace can be read again."""
+# Who uses the words of a trace, as it will be known; or none where no repair can be tried.
+Reading = Optional["concurrent.futures.Future[Uses | None]"]
+
+
+def begin(view: View, predator: Predator | None) -> Reading:
+    """Begins to read the trace, which goes on beside what the program counts."""
     trace = view.trace()
-    if predator is None or trace is None or view.misses is None or view.report.offset or not predator.has("move"):
+    if predator is None or trace is None or view.report.offset or not predator.has("move"):
+        return None
+    pool = concurrent.futures.ThreadPoolExecutor(max_workers=1)
+    try:
+        return pool.submit(read, predator, trace)
+    finally:
+        pool.shutdown(wait=False)
+
+
+def read(predator: Predator, trace: str) -> Uses | None:
+    with contextlib.suppress(Refused, OSError, ValueError):
+        return uses_of(predator, trace)
+    return None
+
+
+def try_all(view: View, predator: Predator | None, things: Sequence[Thing], reading: Reading) -> None:
+    """Tries the repairs of the first objects, where the program can move words and the trace can be read again."""
+    trace, uses = view.trace(), reading.result() if reading else None
+    if predator is None or trace is None or uses is None or view.misses is None:
         return
     rule = sum(it.count for it in view.each.observed()) if view.each else None
     before = Counted(view.misses.total, rule)
     view.tried = {it.key: Tried(it, before, view.report.accesses) for it in things}
-    worth = [it for it in things if not view.tried[it.key].is_rare() and is_worth(it, before)][:OBJECTS]
+    most = min(max(BUDGET // max(view.report.accesses, 1), 1), OBJECTS)
+    worth = [it for it in things if not view.tried[it.key].is_rare() and is_worth(it, before)][:most]
     if not worth:
         return
     with tempfile.TemporaryDirectory(prefix="predator-view-") as folder, contextlib.suppress(Refused):
-        trial = Trial(view, predator, trace, folder)
-        if trial.uses is None:
-            return
-        left = max(BUDGET // max(view.report.accesses, 1), LEAST)
+        trial = Trial(view, predator, trace, uses.front, folder)
         for thing in worth:
-            subject = sound(functools.partial(subject_of, view, thing, trial.uses), None)
-            if subject is None:
-                continue
-            none: list[Repair] = []
-            repairs = sound(functools.partial(repairs_of, subject, trial.uses, view.report.size), none)[:left]
-            left -= len(repairs)
-            view.tried[thing.key] = tried(trial, Tried(thing, before, view.report.accesses, subject, trial.uses), subject, repairs)
+            subject = sound(functools.partial(subject_of, view, thing, uses), None)
+            if subject is not None:
+                own = Tried(thing, before, view.report.accesses, subject, uses)
+                view.tried[thing.key] = tried(trial, own, subject, uses, view.report.size)
         note_together(trial, view)
 
 
@@ -142,15 +168,14 @@ def is_worth(thing: Thing, before: Counted) -> bool:
     return (thing.useless + thing.useful) * advice.LITTLE >= before.missed() > 0
 
 
-def tried(trial: Trial, found: Tried, subject: Subject, repairs: Sequence[Repair]) -> Tried:
+def tried(trial: Trial, found: Tried, subject: Subject, uses: Uses, line: int) -> Tried:
     """What came of the repairs of an object."""
-    best, found.many = trial.best(repairs), len(repairs)
-    if found.mixed() and trial.uses:
-        found.instead = sound(functools.partial(bytewise, subject, trial.uses, trial.layout[0]), "give each a line of its own")
-    if best is not None:
-        found.repair, found.after = best[0], Counted(best[1].total, None)
-        if found.is_saving():
-            found.after = Counted(best[1].total, trial.by_rule(best[0]))
+    none: list[Repair] = []
+    repairs = sound(functools.partial(repairs_of, subject, uses, line), none)
+    if found.mixed():
+        found.instead = sound(functools.partial(bytewise, subject, uses, line), "give each a line of its own")
+    found.repair, found.many = trial.best(repairs), len(repairs)
+    found.after = trial.counted(found.repair) if found.repair else None
     return found
 
 
@@ -166,4 +191,4 @@ def note_together(trial: Trial, view: View) -> None:
         room = rounded(room + own.room, view.report.size)
     counted = trial.counted(Repair("", parts, room, None)) if len(saving) > 1 else None
     if counted is not None:
-        view.notes.append(f"all that is to do, done together: {saving[0].before.beside(Counted(counted.total, None))}")
+        view.notes.append(f"all that is to do, done together: {saving[0].before.beside(counted)}")
