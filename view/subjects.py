@@ -163,7 +163,10 @@ def disjoint(ranges: Iterable[tuple[int, int]]) -> list[tuple[int, int]]:
 
 
 def subject_of(view: View, thing: Thing, uses: Uses) -> Subject | None:
-    """An object as it may be laid out anew, or none: what lies on a stack, or in no object, is nobody's declaration."""
+    """An object as it may be laid out anew, or none: what lies on a stack, in no object or in a library is nothing that the program
+    declares."""
+    if is_foreign(thing, view.naming):
+        return None
     if isinstance(thing.example, Symbol):
         found = of_symbol(view, thing, thing.example)
     elif isinstance(thing.example, Block) and not (thing.example.sites and thing.example.sites[0].name == OWN):

@@ -8,6 +8,7 @@ import sys
 import tempfile
 import unittest
 from types import SimpleNamespace
+from unittest import mock
 
 from calling import HERE, STAND_IN, TURNS, built, joined, view
 
@@ -20,7 +21,7 @@ from layouts import Change, Part, Shape, Unmovable, arrays_in, in_words, laid, m
 from repairs import Repair, groupings  # noqa: E402
 from spelled import Uses  # noqa: E402
 from subjects import UNUSED, Whose, whose  # noqa: E402
-from traces import Alloc, Symbol  # noqa: E402
+from traces import Alloc, Symbol, records  # noqa: E402
 from tried import Counted, Tried  # noqa: E402
 from trying import free, table  # noqa: E402
 
@@ -37,8 +38,8 @@ class Folder(unittest.TestCase):
                 file.write(text)
         return path
 
-    def uses(self, *accesses, records=()):
-        case = Case([Access(*it) for it in accesses], list(records), Ending("exit 0", 9, (0, 0, 0, 0)), 8, 16, 64, 100, 64, None)
+    def uses(self, *accesses, others=()):
+        case = Case([Access(*it) for it in accesses], list(others), Ending("exit 0", 9, (0, 0, 0, 0)), 8, 16, 64, 100, 64, None)
         return Uses(self.path("trace", trace_of(case)))
 
 
@@ -59,8 +60,8 @@ class Used(Folder):
 
     def test_other_records_lie_between(self):
         sites = (0x100, 0, 0, 0)
-        records = [(0, Symbol(1, 0x1000, 64, b"name")), (2, Alloc(0x2000, 16, sites)), (70, Alloc(0x3000, 16, sites))]
-        uses = self.uses(*([(0, W, 0x1000, 4), (1, R, 0x1004, 4)] * 100), records=records)
+        others = [(0, Symbol(1, 0x1000, 64, b"name")), (2, Alloc(0x2000, 16, sites)), (70, Alloc(0x3000, 16, sites))]
+        uses = self.uses(*([(0, W, 0x1000, 4), (1, R, 0x1004, 4)] * 100), others=others)
         self.assertEqual((uses.of(0x1000)[0].writes, uses.of(0x1004)[1].reads), (99, 100))
 
     def test_a_look_is_no_use(self):
@@ -68,6 +69,17 @@ class Used(Folder):
         self.assertEqual(whose(uses, 0x1000, 4), Whose("read", frozenset()))
         uses = self.uses(*[(1, W, 0x1000, 4), (2, R, 0x1000, 4)] * 40)
         self.assertEqual(whose(uses, 0x1000, 4), Whose("shared", frozenset({1})))
+
+    def test_the_front_of_a_long_trace(self):
+        accesses = [(0, W, 0x2000, 4)] * 9 + [(1, W, 0x1000, 4), (2, W, 0x1004, 4)] * 200
+        with mock.patch.multiple("spelled", PART=16, FEW=4, MANY=4):
+            front = self.uses(*accesses).front
+            self.assertEqual(self.uses(*accesses[:40]).front, b"")
+        self.assertEqual(self.uses(*accesses).front, b"")
+        own = list(records(front))
+        self.assertEqual(own, [(hart, addr, writes) for hart, writes, addr, _ in accesses[: len(own)]])
+        self.assertTrue(25 <= len(own) < 40)
+        self.assertEqual((front[-25], front[-24], int.from_bytes(front[-8:], "little")), (6, 4, len(own)))
 
     def test_bytes_of_a_word(self):
         uses = self.uses(*[(1, W, 0x1000, 1), (2, W, 0x1001, 1), (1, W, 0x1004, 4), (2, W, 0x1004, 4)] * 9)
