@@ -2,7 +2,7 @@
 
 from typing import Callable, Iterator, NamedTuple, Sequence
 
-from layouts import Array, Change, Member, Part, Record, Shape, Unmovable, arrays_in, in_words, laid, records_in, rounded
+from layouts import Array, Change, Member, Part, Record, Unmovable, arrays_in, in_words, laid, members_of, records_in, rounded
 from patches import AlignRecord, AlignVariable, Edit, OrderFields
 from spelled import Uses
 from subjects import Declared, Subject, Whose, declaration, patterns, spelled_record, users, whose
@@ -13,13 +13,24 @@ WRAPPER = "own_line"
 
 
 class Repair(NamedTuple):
-    """One way. The parts are words, and go to so many bytes behind the beginning of an area of `room` bytes; `edits` are none where the
-    change isn't one of declarations alone."""
+    """One way, or several together, each of which `hows` says. The parts are words, and go to so many bytes behind the beginning of an area
+    of `room` bytes; `edits` are none where the change isn't one of declarations alone. What changes in the types of the object is `change`,
+    or none; `others` are variables beside it that get lines of their own; `sizes` are those of the object before and after, or none."""
 
-    said: str
+    hows: list[str]
     parts: list[Part]
     room: int
     edits: list[Edit] | None
+    change: Change | None = None
+    others: tuple[Subject, ...] = ()
+    sizes: tuple[int, int] | None = None
+    hint: str = ""
+
+    def said(self) -> str:
+        """What to do, in a sentence."""
+        whole = ", and {} become {} in all".format(*self.sizes) if self.sizes and self.sizes[0] != self.sizes[1] else ""
+        own = self.hows[: len(self.hows) - bool(self.others)]
+        return "; and ".join(["; and ".join(own) + whole + self.hint, *self.hows[len(own) :]])
 
 
 def at(place: Declared | None) -> str:
@@ -54,11 +65,10 @@ def aligned_alloc(subject: Subject, line: int) -> str:
     return f", and make the blocks by `aligned_alloc({line}, ..)`" if subject.is_blocks() else ""
 
 
-def sizes(subject: Subject, shape: Shape, old: int, new: int, room: int) -> str:
-    """What becomes of the sizes of a type and of the object."""
-    whole = subject.size()
+def becomes(old: int, new: int, is_whole: bool) -> str:
+    """What becomes of the size of a type."""
     told = f"{old} bytes become {new}" if old != new else f"it keeps its {old} bytes"
-    return told if whole == old else f"{told} each, and {whole} become {room} in all"
+    return told if is_whole else f"{told} each"
 
 
 def element_apart(subject: Subject, array: Array, line: int) -> tuple[str, Change, list[Edit] | None]:
@@ -82,9 +92,9 @@ def elements(subject: Subject, array: Array, uses: Uses, line: int) -> Repair:
     """Each element of an array on lines of its own."""
     how, change, edits = element_apart(subject, array, line)
     parts, room = moved(subject, change)
-    wide = array.shape.size()
-    told = f"{how}: {sizes(subject, array.shape, wide, rounded(wide, line), room)}{neighbouring(array, uses)}"
-    return Repair(told, parts, room, edits)
+    wide, whole = array.shape.size(), subject.size()
+    told = [f"{how}: {becomes(wide, rounded(wide, line), whole == wide)}"]
+    return Repair(told, parts, room, edits, change, (), None if whole == wide else (whole, room), neighbouring(array, uses))
 
 
 def bytewise(subject: Subject, uses: Uses, line: int) -> str:
@@ -189,10 +199,11 @@ def fields(subject: Subject, record: Record, groups: list[list[Member]], found: 
     firsts = [f"`{own[0].name}`" for own in groups[1:]]
     behind = f"`{attribute(line)}` behind {', '.join(firsts[:-1])}{' and ' if len(firsts) > 1 else ''}{firsts[-1]}"
     what = f"`{keyword} {name}`" if name else f"the {keyword} of {subject.name}{record.path}"
-    old, new = record.shape.size(), laid(record.shape, change).size
+    old, new, whole = record.shape.size(), laid(record.shape, change).size, subject.size()
     said = f"put the fields of {what}{at(place)} in this order, with {behind}: {'; '.join(told)}{aligned_alloc(subject, line)}"
     edits: list[Edit] | None = [OrderFields(place, name, groups, line)] if place and not subject.is_blocks() else None
-    return Repair(f"{said}; {sizes(subject, record.shape, old, new, room)}", parts, room, edits)
+    how = [f"{said}; {becomes(old, new, whole == old)}"]
+    return Repair(how, parts, room, edits, change, (), None if whole == old else (whole, room))
 
 
 def alone(subjects: Sequence[Subject], line: int) -> Repair:
@@ -210,7 +221,7 @@ def alone(subjects: Sequence[Subject], line: int) -> Repair:
         edits = [*edits, AlignVariable(place, it.name, line)] if edits is not None and place else None
     names = ", ".join(told[:-1]) + (" and " if len(told) > 1 else "") + told[-1]
     how = f"`{attribute(line)}` behind {'the name of each' if len(told) > 1 else 'its name'}"
-    return Repair(f"give {names} lines of {'their' if len(told) > 1 else 'its'} own: {how}", in_words(parts), room, edits)
+    return Repair([f"give {names} lines of {'their' if len(told) > 1 else 'its'} own: {how}"], in_words(parts), room, edits)
 
 
 def blocks(subject: Subject, line: int) -> Repair:
@@ -221,7 +232,7 @@ def blocks(subject: Subject, line: int) -> Repair:
         parts.append(Part(begin, size, to))
         to = rounded(to + size, line)
     said = f"let no two of these blocks share a line: `aligned_alloc({line}, ..)`, with sizes that are multiples of {line}"
-    return Repair(said, in_words(parts), to, None)
+    return Repair([said], in_words(parts), to, None)
 
 
 def arenas(subject: Subject, uses: Uses, line: int) -> Repair | None:
@@ -238,16 +249,39 @@ def arenas(subject: Subject, uses: Uses, line: int) -> Repair | None:
     for words in found.values():
         parts += [Part(word, 4, to + 4 * at) for at, word in enumerate(words)]
         to = rounded(to + 4 * len(words), line)
-    how = f"give each thread an arena of its own, whose beginning and size are multiples of {line}"
-    return Repair(f"harts have words of their own in {subject.name}: {how}", in_words(parts), to, None)
+    if subject.is_blocks() or subject.shape is not None and subject.shape.dims():
+        how = f"give each thread an arena of its own, whose beginning and size are multiples of {line}"
+    else:
+        where = " on the type of its elements" if subject.shape is None else ""
+        how = f"give each hart's words lines of their own, by `{attribute(line)}`{where}"
+    return Repair([f"harts have words of their own in {subject.name}: {how}"], in_words(parts), to, None)
 
 
-def joined(first: Repair, second: Repair, line: int) -> Repair:
-    """Two repairs of different objects as one."""
-    base = rounded(first.room, line)
+def joined(first: Repair, others: Sequence[Subject], line: int) -> Repair:
+    """A repair of an object, and lines of their own for variables beside it."""
+    second, base = alone(others, line), rounded(first.room, line)
     parts = [*first.parts, *(Part(it.begin, it.size, it.to + base) for it in second.parts)]
     edits = None if first.edits is None or second.edits is None else [*first.edits, *second.edits]
-    return Repair(f"{first.said}; and {second.said}", sorted(parts), base + second.room, edits)
+    return first._replace(
+        hows=[*first.hows, *second.hows], parts=sorted(parts), room=base + second.room, edits=edits, others=tuple(others)
+    )
+
+
+def together(subject: Subject, first: Repair, second: Repair, line: int) -> Repair | None:
+    """Two repairs of an object as one, or none where these exclude each other."""
+    one, other = first.change, second.change
+    if one is None or other is None or {*one.parted} & {*other.parted} or second.others:
+        return None
+    change = Change(line)
+    change.aligned, change.wrapped, change.parted = one.aligned | other.aligned, one.wrapped | other.wrapped, {**one.parted, **other.parted}
+    try:
+        parts, room = moved(subject, change)
+    except Unmovable:
+        return None
+    edits = None if first.edits is None or second.edits is None else [*first.edits, *second.edits]
+    hows = first.hows[: len(first.hows) - bool(first.others)] + second.hows
+    found = Repair(hows, parts, room, edits, change, (), (subject.size(), room), first.hint or second.hint)
+    return joined(found, first.others, line) if first.others else found
 
 
 def inner(subject: Subject, uses: Uses, line: int) -> Iterator[Callable[[], Repair | None]]:
@@ -271,7 +305,7 @@ def inner(subject: Subject, uses: Uses, line: int) -> Iterator[Callable[[], Repa
         found = patterns(record.members, record.begins, uses)
         for way in groupings(record.members, found):
             yield lambda record=record, way=way, found=found: fields(subject, record, way, found, line)  # type: ignore[misc]
-    if shape.dims() and shape.element().size() < 4:
+    if shape.dims() and shape.element().size() < 4 or shape.record() is not None and members_of(shape.record()) is None:
         yield lambda: arenas(subject, uses, line)
 
 
@@ -295,5 +329,5 @@ def repairs_of(subject: Subject, uses: Uses, line: int) -> list[Repair]:
         own = list(found) if subject.neighbours else []
         add(lambda: alone([subject, *subject.neighbours], line))
         for it in own:
-            add(lambda it=it: joined(it, alone(subject.neighbours, line), line))  # type: ignore[misc]
+            add(lambda it=it: joined(it, subject.neighbours, line))  # type: ignore[misc]
     return found

@@ -80,7 +80,7 @@ class Tried:
         told = f"words can't tell: harts use different bytes of {', '.join(patterns(names))}, and misses are counted by whole words"
         how = f"{self.instead}, and look again"
         if self.is_saving() and self.repair and self.after:
-            return f"{self.repair.said}; counted so: {self.before.beside(self.after)}" + (f"; of the rest {told}: {how}" if names else "")
+            return f"{self.repair.said()}; counted so: {self.before.beside(self.after)}" + (f"; of the rest {told}: {how}" if names else "")
         return f"{told}; {how}" if names else self.nothing(name)
 
     def nothing(self, name: str) -> str:

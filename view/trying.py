@@ -14,7 +14,7 @@ from layouts import Part, rounded
 from model import View
 from objects import Thing
 from program import Predator, Refused, each_line, misses_under
-from repairs import Repair, bytewise, repairs_of
+from repairs import Repair, bytewise, repairs_of, together
 from reports import Misses, Report
 from spelled import Uses, uses_of
 from subjects import Subject, subject_of
@@ -24,6 +24,8 @@ from tried import Counted, Tried
 OBJECTS, BUDGET = 5, 40_000_000
 # Repairs are about as good where they differ by less than one in so many of what can be saved.
 ABOUT = 50
+# So many repairs of one object may be added to its first, as long as less than this part of its useless misses is saved.
+TOGETHER, ENOUGH = 3, 0.75
 PAGE = 4096
 TOP = 1 << 32
 
@@ -102,8 +104,8 @@ class Trial:
             misses, report = self.predator.counted_of_file(trace, [misses_under(self.layout), each_line(self.layout, self.settings)])
             return Counted(cast(Misses, misses).total, sum(it.count for it in cast(Report, report).observed()))
 
-    def best(self, repairs: Sequence[Repair]) -> Repair | None:
-        """The repair that leaves the fewest misses, and of several that are about as good the smallest."""
+    def best(self, repairs: Sequence[Repair]) -> tuple[Repair, int] | None:
+        """The repair that leaves the fewest misses, and of several that are about as good the smallest; with it what it leaves."""
         with concurrent.futures.ThreadPoolExecutor(max_workers=min(4, os.cpu_count() or 1)) as pool:
             counts = list(pool.map(self.tried, repairs))
         found = [(repair, own) for repair, own in zip(repairs, counts) if own is not None]
@@ -111,7 +113,21 @@ class Trial:
             return None
         least = min(own for _, own in found)
         most = least + max(self.before - least, 0) // ABOUT
-        return min((repair for repair, own in found if own <= most), key=lambda it: it.room)
+        return min((it for it in found if it[1] <= most), key=lambda it: it[0].room)
+
+    def best_of(self, subject: Subject, repairs: Sequence[Repair], useless: float) -> tuple[Repair | None, int]:
+        """The best repair, or several together where one leaves much of the useless misses, of which the object has a part. With it how
+        many were tried."""
+        found, many = self.best(repairs), len(repairs)
+        for _ in range(TOGETHER if found else 0):
+            if found is None or self.before - found[1] > ENOUGH * useless * self.before:
+                break
+            more = [it for one in repairs if (it := together(subject, found[0], one, self.layout[0])) and it.parts != found[0].parts]
+            better, many = self.best(more), many + len(more)
+            if better is None or found[1] - better[1] <= (self.before - found[1]) / ABOUT:
+                break
+            found = better
+        return (found[0] if found else None), many
 
 
 def missed(misses: Misses) -> int:
@@ -174,7 +190,8 @@ def tried(trial: Trial, found: Tried, subject: Subject, uses: Uses, line: int) -
     repairs = sound(functools.partial(repairs_of, subject, uses, line), none)
     if found.mixed():
         found.instead = sound(functools.partial(bytewise, subject, uses, line), "give each a line of its own")
-    found.repair, found.many = trial.best(repairs), len(repairs)
+    useless = found.thing.useless / max(found.before.missed(), 1)
+    found.repair, found.many = trial.best_of(subject, repairs, useless)
     found.after = trial.counted(found.repair) if found.repair else None
     return found
 
@@ -189,6 +206,6 @@ def note_together(trial: Trial, view: View) -> None:
             continue
         parts += [Part(one.begin, one.size, one.to + room) for one in own.parts]
         room = rounded(room + own.room, view.report.size)
-    counted = trial.counted(Repair("", parts, room, None)) if len(saving) > 1 else None
+    counted = trial.counted(Repair([], parts, room, None)) if len(saving) > 1 else None
     if counted is not None:
         view.notes.append(f"all that is to do, done together: {saving[0].before.beside(counted)}")

@@ -118,6 +118,9 @@ class Known(Following):
     def test_rows_of_a_grid(self):
         self.told("grid", "own_line { int32_t value[21]; };`", "or give neighbouring ones to one thread")
 
+    def test_several_arrays_of_one_struct(self):
+        self.told("sums", "each element of table.counts", "each element of table.sums", "each, and 64 become 576 in all")
+
     def test_bytes_of_a_word(self):
         found = self.start("bytes")
         for turns in (3, 1, 100):

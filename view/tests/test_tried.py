@@ -245,7 +245,8 @@ class Sentences(unittest.TestCase):
     def tried(self, useless, useful, accesses, after=None, many=1):
         found = Tried(SimpleNamespace(useless=useless, useful=useful), Counted({"useless": useless, "useful": useful}, 9), accesses)
         if after:
-            found.repair, found.after, found.many = Repair("do it", [], 64, None), Counted(dict(zip(("useless", "useful"), after)), 2), many
+            found.repair, found.many = Repair(["do it"], [], 64, None), many
+            found.after = Counted(dict(zip(("useless", "useful"), after)), 2)
         return found.sentence("queue", []) if found.knows() else None
 
     def test_what_was_counted(self):
