@@ -7,8 +7,8 @@ from patches import AlignRecord, AlignVariable, Edit, OrderFields
 from spelled import Uses
 from subjects import Declared, Subject, Whose, declaration, patterns, spelled_record, users, whose
 
-# So many ways to put fields in groups are tried of one record, and so many repairs of one object.
-GROUPINGS, MOST = 5, 12
+# So many repairs are tried of one object.
+MOST = 12
 WRAPPER = "own_line"
 
 
@@ -138,43 +138,56 @@ Key = tuple[object, ...]
 Pattern = tuple[Whose, ...]
 
 
+class Keys:
+    """The keys by which the fields of a record may be put in groups."""
+
+    def __init__(self, members: Sequence[Member], found: dict[str, Pattern]) -> None:
+        self.found = found
+        self.first: dict[Key, str] = {}
+        for it in members:
+            if self.kind(it) == "shared":
+                self.first.setdefault(self.harts(it), it.name)
+
+    def kind(self, it: Member) -> str:
+        kinds = {one.kind for one in self.found[it.name]} - {"none"}
+        return next((one for one in ("shared", "read", "own") if one in kinds), "none")
+
+    def harts(self, it: Member) -> Key:
+        return tuple(one.harts for one in self.found[it.name])
+
+    def alone(self, it: Member) -> Key:
+        """What harts share is alone; what they only read, and what each has for itself, is a group."""
+        return ("shared", it.name) if self.kind(it) == "shared" else (self.kind(it), *(self.harts(it) if self.kind(it) == "own" else ()))
+
+    def by_writer(self, it: Member) -> Key:
+        """The same, and what harts share by who writes it."""
+        return ("shared", *self.harts(it)) if self.kind(it) == "shared" else self.alone(it)
+
+    def together(self, it: Member) -> Key:
+        """The same, and all that harts share as one."""
+        return ("shared",) if self.kind(it) == "shared" else self.alone(it)
+
+    def with_writer(self, it: Member) -> Key:
+        """What harts share with what its writer has for itself."""
+        return ("of", *self.harts(it)) if self.kind(it) in ("shared", "own") else self.alone(it)
+
+    def with_first(self, it: Member) -> Key:
+        """What a hart has for itself with the first of what it writes for others."""
+        is_writers = self.kind(it) == "own" and self.harts(it) in self.first
+        return ("shared", self.first[self.harts(it)]) if is_writers else self.alone(it)
+
+
 def groupings(members: Sequence[Member], found: dict[str, Pattern]) -> list[list[list[Member]]]:
     """The ways to put the fields of a record in groups: those that are only read, each hart's own ones, and what harts share, alone, by who
     writes it, or with what the writer has for itself."""
-
-    def kind(it: Member) -> str:
-        kinds = {one.kind for one in found[it.name]} - {"none"}
-        return next((one for one in ("shared", "read", "own") if one in kinds), "none")
-
-    def harts(it: Member) -> Key:
-        return tuple(one.harts for one in found[it.name])
-
-    def alone(it: Member) -> Key:
-        return ("shared", it.name) if kind(it) == "shared" else (kind(it), *(harts(it) if kind(it) == "own" else ()))
-
-    def by_writer(it: Member) -> Key:
-        return ("shared", *harts(it)) if kind(it) == "shared" else alone(it)
-
-    def together(it: Member) -> Key:
-        return ("shared",) if kind(it) == "shared" else alone(it)
-
-    def with_writer(it: Member) -> Key:
-        return ("of", *harts(it)) if kind(it) in ("shared", "own") else alone(it)
-
-    first: dict[Key, str] = {}
-    for it in members:
-        if kind(it) == "shared":
-            first.setdefault(harts(it), it.name)
-
-    def with_first(it: Member) -> Key:
-        return ("shared", first[harts(it)]) if kind(it) == "own" and harts(it) in first else alone(it)
-
+    keys = Keys(members, found)
+    used, unused = ([it for it in members if (keys.kind(it) == "none") == is_unused] for is_unused in (False, True))
     ways: list[list[list[Member]]] = []
-    for key in (together, by_writer, with_writer, with_first, alone):
-        way = grouped([it for it in members if kind(it) != "none"], [it for it in members if kind(it) == "none"], key)
+    for key in (keys.together, keys.by_writer, keys.with_writer, keys.with_first, keys.alone):
+        way = grouped(used, unused, key)
         if len(way) > 1 and way not in ways:
             ways.append(way)
-    return ways[:GROUPINGS]
+    return ways
 
 
 def grouped(used: Sequence[Member], unused: Sequence[Member], key: Callable[[Member], Key]) -> list[list[Member]]:
