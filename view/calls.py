@@ -79,6 +79,8 @@ class Call:
         self.own: list[str] = []
         self.marks: list[str] = []
         self.given: list[str] = []
+        # Where the trace of a run may be written that no word names.
+        self.spare: str | None = None
         self.words, names = self.split(words[1:] if first in named else words)
         if "help" in self.options:
             return

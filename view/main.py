@@ -149,15 +149,15 @@ def look(call: Call) -> View:
         call.program = program = sources = None
     memory = memory_of(call, predator)
     view = View(call, report, Naming(report, program, sources, call.options["type"], memory))
-    begun = trial_of(view, predator)
+    trial = trial_of(view, predator)
     view.count(predator)
     view.look_for_overflow(predator)
     view.arrange()
     check_seen(view)
     first = view.listed()[: call.number("top", TOP)]
     view.explain(predator, first)
-    if begun:
-        begun(first)
+    if trial:
+        trial(first)
     view.place(predator, first)
     view.note_idle()
     return view

@@ -95,7 +95,7 @@ class View:
                 counted = (
                     predator.counted_of_file(trace, readers)
                     if trace
-                    else predator.counted_of_run([*self.call.words_to_run(), *self.call.own], readers)
+                    else predator.counted_of_run([*self.call.words_to_run(), *self.call.own], readers, self.call.spare)
                 )
             except Refused as refused:
                 self.notes.append(f"misses are unknown: {refused}")
@@ -127,7 +127,7 @@ class View:
 
     def trace(self) -> str | None:
         """The trace's file, where it is one that can be read again and again."""
-        path = self.call.subject if self.call.how == "replay" else self.call.value_of("--trace")
+        path = self.call.subject if self.call.how == "replay" else self.call.value_of("--trace") or self.call.spare
         return path if path and os.path.isfile(path) and not self.call.reads_once() else None
 
     def place(self, predator: Predator | None, things: Sequence[Thing]) -> None:

@@ -31,12 +31,12 @@ def parted(words: list[str], program: str) -> tuple[list[str], list[str]]:
 
 @contextlib.contextmanager
 def traced(call: Call) -> Iterator[None]:
-    """Has a guest's run write its trace to a file that is lost at the end, where the program can try repairs on it."""
+    """Has the run of a guest whose misses are counted write its trace to a file, which is lost at the end, where repairs can be tried."""
     if call.how != "run" or call.value_of("--trace") is not None or not Predator().has("move"):
         yield
         return
     with tempfile.TemporaryDirectory(prefix="predator-view-") as folder:
-        call.words = ["--trace", os.path.join(folder, "trace"), *call.words]
+        call.spare = os.path.join(folder, "trace")
         yield
 
 

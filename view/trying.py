@@ -159,6 +159,8 @@ def read(predator: Predator, trace: str) -> Uses | None:
 
 def try_all(view: View, predator: Predator | None, things: Sequence[Thing], reading: Reading) -> None:
     """Tries the repairs of the first objects, where the program can move words and the trace can be read again."""
+    # (a run's trace may be there only now)
+    reading = reading or begin(view, predator)
     trace, uses = view.trace(), reading.result() if reading else None
     if predator is None or trace is None or uses is None or view.misses is None:
         return
