@@ -130,6 +130,13 @@ class Known(Following):
             self.assertIn("struct __attribute__((aligned(64))) own_line { unsigned char value; };`, and look again", todo)
             self.assertNotIn("padding", todo)
 
+    @unittest.skipUnless(has(PROGRAM, "blame"), "the program isn't built, or has no blame")
+    def test_a_trace_that_has_its_instructions(self):
+        found = self.start("workers")
+        kept = self.look("workers.elf", "--trace", "trace", "--pcs")
+        self.assertIn("counted so: ", self.todo(found))
+        self.assertEqual(self.todo(kept), self.todo(found))
+
     def test_true_sharing(self):
         for name in ("adders", "handover"):
             found = self.start(name)
