@@ -36,14 +36,14 @@ _predator() {
         'misses') options="--size --shift" ;;
         'blame') options="--size --shift" ;;
         'explain') options="--settings --set --schedule" ;;
-        'view') options="--top --object --words --library --predicted --no-predicted --explain --type --sources --html --json --sarif --against --fail-above --by --program --back" ;;
+        'view') options="--top --object --words --library --predicted --no-predicted --explain --type --sources --html --json --sarif --against --fail-above --by --patch --program --back" ;;
         'campaign') options="--to --profile --cores --html --check" ;;
         'native') options="--built --quantum --all --marked --pcs --most --trace --table --report --settings --size --shift --mend --build" ;;
-        'view run') options="--top --object --words --library --predicted --no-predicted --explain --type --sources --html --json --sarif --against --fail-above --by --settings --set --schedule --trace --pcs --output" ;;
-        'view replay') options="--top --object --words --library --predicted --no-predicted --explain --type --sources --html --json --sarif --against --fail-above --by --program --back --settings --set --size --shift --save --resume" ;;
+        'view run') options="--top --object --words --library --predicted --no-predicted --explain --type --sources --html --json --sarif --against --fail-above --by --patch --settings --set --schedule --trace --pcs --output" ;;
+        'view replay') options="--top --object --words --library --predicted --no-predicted --explain --type --sources --html --json --sarif --against --fail-above --by --patch --program --back --settings --set --size --shift --save --resume" ;;
         'view sweep') options="--size --html" ;;
         'view caches') options="--shape --top --html" ;;
-        'view native') options="--top --object --words --library --predicted --no-predicted --explain --type --sources --html --json --sarif --against --fail-above --by --built --quantum --all --marked --most --settings --set --size --shift" ;;
+        'view native') options="--top --object --words --library --predicted --no-predicted --explain --type --sources --html --json --sarif --against --fail-above --by --patch --built --quantum --all --marked --most --settings --set --size --shift" ;;
     # (so far)
         *) return ;;
     esac

@@ -41,6 +41,7 @@ Options:
   --html F           writes a page to F; of one of these three options F may be `-`: standard output, in place of the screen
   --json F           writes all that was found to F, by view/schema.json
   --sarif F          writes the same for editors and code hosts, as SARIF 2.1.0
+  --patch F          writes the repairs that change declarations alone to F, for `patch -p1`; where the program has `move`
   --against OLD      tells what got better and worse than in OLD, which --json wrote, or a kept report
   --fail-above N     ends with 1 if an object has more than N useless misses, and with 3 if the run didn't end by exit 0, or a thread
                      didn't run since no hart was free
@@ -52,7 +53,7 @@ Status: 0 shown; 1 an object is above N; 2 refused, which standard error tells; 
 lacked a hart; 127 a package is missing, or the program. Colours are for terminals, unless NO_COLOR is set."""
 )
 # The options of view's own that have a value, and those that have none; `type` may come more than once.
-VALUES = ("top", "object", "html", "json", "sarif", "against", "fail-above", "by", "type", "program", "back", "sources", "explain")
+VALUES = ("patch", "top", "object", "html", "json", "sarif", "against", "fail-above", "by", "type", "program", "back", "sources", "explain")
 FLAGS = ("words", "predicted", "no-predicted", "library", "help")
 # Those that may come more than once, each of which is a list of texts.
 LISTS = ("type", "shape")
@@ -62,7 +63,7 @@ ALONE = {"sweep": ("html",), "caches": ("html", "shape", "top")}
 MARKS = ("all", "marked", "built", "pcs")
 RECORDS = ("--quantum", "--most")
 # What view writes.
-OUTPUTS = ("html", "json", "sarif")
+OUTPUTS = ("html", "json", "sarif", "patch")
 # How many objects the first screen shows, and how many of their lines are explained, where the call doesn't say.
 TOP, EXPLAIN = 10, 3
 
@@ -86,6 +87,8 @@ class Call:
         self.own: list[str] = []
         self.marks: list[str] = []
         self.given: list[str] = []
+        # Where the trace of a run may be written that no word names.
+        self.spare: str | None = None
         self.words, names = self.split(words[1:] if first in named else words)
         if "help" in self.options:
             return
@@ -228,7 +231,7 @@ class Call:
 
     def trace(self) -> str | None:
         """The trace's file, where it is one that is there and can be read again and again."""
-        path = self.subject if self.how == "replay" else self.value_of("--trace")
+        path = self.subject if self.how == "replay" else self.value_of("--trace") or self.spare
         return path if path and os.path.isfile(path) and not self.reads_once() else None
 
     def words_of_pipe(self) -> list[str]:

@@ -24,6 +24,7 @@ from unnamed import name_by_instructions
 
 if TYPE_CHECKING:
     from native import NativeProgram
+    from tried import Tried
 
 # The file and the line where something is declared or made.
 Declared = tuple[str, int]
@@ -64,6 +65,8 @@ class View:
         self.blame: Blame | None = None
         self.explained: dict[int, Takings] = {}
         self.placed: dict[Key, Placed] = {}
+        # (none where no repair can be tried)
+        self.tried: dict[Key, Tried] | None = None
         self.cached: dict[Key, Seen] = {}
         self.foreign: set[Key] = set()
         self.lacked = ""
@@ -89,7 +92,7 @@ class View:
             if passes is not None and self.call.trace():
                 counted = passes.told(readers)
             else:
-                counted = predator.counted_of_run([*self.call.words_to_run(), *self.call.own], readers)
+                counted = predator.counted_of_run([*self.call.words_to_run(), *self.call.own], readers, self.call.spare)
         except Refused as refused:
             self.notes.append(f"misses are unknown: {refused}")
             return
@@ -128,8 +131,9 @@ class View:
         trace, most = self.call.trace(), self.call.number("explain", EXPLAIN)
         if predator is None or trace is None or not predator.has("place"):
             return
-        # (what is to be left as it is has no use of it)
-        named = [(it, name) for it in things[:most] if not self.is_little(it) and (name := it.name_to_place()) is not None]
+        # (what repairs were counted for, or what is to be left as it is, has no use of it)
+        worth = [it for it in things[:most] if not self.known(it) and not self.is_little(it)]
+        named = [(it, name) for it in worth if (name := it.name_to_place()) is not None]
         placed_at = functools.partial(predator.placed, trace, size=self.report.size)
         with concurrent.futures.ThreadPoolExecutor(max_workers=min(4, os.cpu_count() or 1)) as pool:
             for (it, _), placed in zip(named, pool.map(placed_at, [name for _, name in named])):
@@ -293,8 +297,17 @@ class View:
         is_first = self.things[0] is thing or "object" in self.call.options
         return not is_first and 0 < (thing.useless + thing.useful) * advice.LITTLE < self.total()
 
+    def known(self, thing: Thing) -> "Tried | None":
+        """What came of the repairs of an object, where that says what to do."""
+        found = (self.tried or {}).get(thing.key)
+        return found if found is not None and found.knows() else None
+
     def advised(self, thing: Thing, words: list[Told]) -> str:
         """What to do about an object."""
+        tried = self.known(thing)
+        if tried:
+            mixed = [field_at(it, thing.example, self.naming) for it in tried.mixed()]
+            return tried.sentence(self.label(thing), list(dict.fromkeys(mixed)))
         if self.is_little(thing):
             return advice.little(thing, self.total())
         names = {key: self.label(self.all[key]) for key in thing.beside}

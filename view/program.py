@@ -84,16 +84,27 @@ class Predator:
         """What a reader tells of a trace."""
         return reader.told(self.text([*reader.words, "--", trace], reader.good, stderr=subprocess.DEVNULL))
 
-    def counted_of_run(self, words: list[str], readers: "Sequence[Reader]") -> list[Counted]:
-        """What readers tell of the trace of a run, which goes through pipes where the program can have it so, and else through a file."""
+    def all_counted_of_file(self, trace: str, readers: "Sequence[Reader]") -> list[Counted]:
+        """What readers tell of a trace, side by side."""
+        with concurrent.futures.ThreadPoolExecutor(max_workers=min(4, os.cpu_count() or 1)) as pool:
+            return list(pool.map(functools.partial(self.counted_of_file, trace), readers))
+
+    def counted_of_run(self, words: list[str], readers: "Sequence[Reader]", kept: str | None = None) -> list[Counted]:
+        """What readers tell of the trace of a run, which is written to a file if one is named. Else it goes through pipes where the program
+        can have it so, and else through a file that is lost."""
+        if kept is not None:
+            self.record(words, kept)
+            return self.all_counted_of_file(kept, readers)
         with contextlib.suppress(Refused, BrokenPipeError):
             return self.counted_by_pipes(words, readers)
         with tempfile.TemporaryDirectory(prefix="predator-view-") as folder:
             trace = os.path.join(folder, "trace")
-            # (what the program puts out was shown with its report)
-            self.text(with_trace([words[0], "--output", os.devnull, *words[1:]], trace), REPORTED, stderr=subprocess.PIPE)
-            with concurrent.futures.ThreadPoolExecutor(max_workers=min(4, os.cpu_count() or 1)) as pool:
-                return list(pool.map(functools.partial(self.counted_of_file, trace), readers))
+            self.record(words, trace)
+            return self.all_counted_of_file(trace, readers)
+
+    def record(self, words: list[str], trace: str) -> None:
+        """Has a run write its trace to a file. (What the program puts out was shown with its report.)"""
+        self.text(with_trace([words[0], "--output", os.devnull, *words[1:]], trace), REPORTED, stderr=subprocess.PIPE)
 
     def counted_by_pipes(self, words: list[str], readers: "Sequence[Reader]") -> list[Counted]:
         with concurrent.futures.ThreadPoolExecutor(max_workers=len(readers) + 1) as pool, contextlib.ExitStack() as open_ends:
