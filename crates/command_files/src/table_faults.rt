@@ -37,13 +37,17 @@ pub fn table_advice(alloc: Global, fault: TableFault) -> Result<String, AllocErr
     match fault {
         TableFault::TooLong => String::from_str(alloc, "a table has at most 1 MiB"),
         TableFault::BadLine(line) => {
-            format!(in alloc; "line {line} isn't FROM SIZE TO, as `0x11004 4 0x11040`, with one \
+            format!(in alloc;
+                "line {line} isn't FROM SIZE TO, as `0x11004 4 0x11040`, with one \
                 space between each two: multiples of 4, SIZE at least 4, FROM + SIZE and TO + SIZE \
-                at most 2^32, and FROM at or above the end of the range before it")
+                at most 2^32, and FROM at or above the end of the range before it"
+            )
         }
         TableFault::Overlap(line) => {
-            format!(in alloc; "the place that line {line} moves to and that of an earlier line \
-                have bytes in common: move it elsewhere")
+            format!(in alloc;
+                "the place that line {line} moves to and that of an earlier line \
+                have bytes in common: move it elsewhere"
+            )
         }
         TableFault::NoMemory => Err(AllocError),
     }
