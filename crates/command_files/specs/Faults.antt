@@ -1,5 +1,5 @@
 -- The lines of refusals and of faults of the outside.
-use Rattle.std.specs.Prelude.{ℕ, List, [], ◌++◌, codes}
+use Rattle.std.specs.Prelude.{ℕ, List, [], ◌++◌, codes, pos}
 use Rattle.program_files.specs.declared.fault.ElfFault.{ElfFault}
 use Rattle.program_files.specs.declared.fault.ElfFault.TheVariants as elf
 use Rattle.std.specs.Fmt.{decimal}
@@ -12,6 +12,9 @@ use Rattle.trace_format.specs.declared.fault.TraceFault.{TraceFault}
 use Rattle.trace_format.specs.declared.fault.TraceFault.TheVariants as trace
 use Rattle.placement.specs.declared.refusal.PlaceRefusal.{PlaceRefusal}
 use Rattle.placement.specs.declared.refusal.PlaceRefusal.TheVariants as place
+use Rattle.trace_files.specs.declared.table_fault.TableFault.{TableFault}
+use Rattle.trace_files.specs.declared.table_fault.TableFault.TheVariants as table
+use Rattle.base.specs.Addresses.{address_text}
 use Rattle.base.specs.PrintedNames.{name_text}
 use Rattle.command_line.specs.Words.{usage_text}
 use Rattle.command_files.specs.Texts.{line}
@@ -83,6 +86,17 @@ place_text place.NoObject = codes "NoObject"
 place_text place.TooLarge = codes "TooLarge"
 place_text place.NoRoom = codes "NoRoom"
 
+-- a fault of a line has its number
+abbrev pub table_text : TableFault → List ℕ
+table_text table.TooLong = codes "TooLong"
+table_text (table.BadLine n) = codes "BadLine " ++ decimal n
+table_text (table.Overlap n) = codes "Overlap " ++ decimal n
+table_text table.NoMemory = codes "NoMemory"
+
+-- an access in the way has its address
+abbrev pub occupied_text : ℕ → List ℕ
+occupied_text addr = codes "Occupied " ++ address_text (pos addr)
+
 abbrev pub fault_text : Status → List ℕ
 fault_text status.Done = []
 fault_text status.Usage = usage_text
@@ -99,3 +113,5 @@ fault_text status.Budget = []
 fault_text status.Deadlock = []
 fault_text status.Trapped = []
 fault_text (status.Place refused) = line (codes "predator: place " ++ place_text refused)
+fault_text (status.Table fault) = line (codes "predator: table " ++ table_text fault)
+fault_text (status.Occupied addr) = line (codes "predator: table " ++ occupied_text addr)

@@ -19,3 +19,5 @@ number_of status.Budget = 10
 number_of status.Deadlock = 11
 number_of status.Trapped = 12
 number_of (status.Place refusal) = 13
+number_of (status.Table fault) = 14
+number_of (status.Occupied addr) = 14

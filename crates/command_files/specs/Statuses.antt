@@ -11,6 +11,8 @@ use Rattle.settings.specs.declared.fault.SettingsFault.{SettingsFault}
 use Rattle.settings.specs.declared.fault.SettingsFault.TheVariants as settings
 use Rattle.shelf.specs.declared.shelf.ShelfError.{ShelfError}
 use Rattle.shelf.specs.declared.shelf.ShelfError.TheVariants as shelf
+use Rattle.trace_files.specs.declared.table_fault.TableFault.{TableFault}
+use Rattle.trace_files.specs.declared.table_fault.TableFault.TheVariants as table
 use Rattle.trace_format.specs.declared.fault.TraceFault.{TraceFault}
 use Rattle.trace_format.specs.declared.fault.TraceFault.TheVariants as trace
 use Rattle.command_files.specs.declared.status.StateFault.TheVariants as state
@@ -20,7 +22,7 @@ use Rattle.command_files.specs.declared.status.Status.TheVariants as status
 pub data Kind : Type 0 where
   -- the whole work was done, however the run of the program ended
   done : Kind
-  -- the words or a file were refused, or the place of an object
+  -- the words or a file were refused, the place of an object, or an access in the way
   refusal : Kind
   -- the outside failed: reading, writing or printing, or memory ran out
   read_fault : Kind
@@ -43,6 +45,8 @@ kind_of status.Budget = done
 kind_of status.Deadlock = done
 kind_of status.Trapped = done
 kind_of (status.Place refused) = refusal
+kind_of (status.Table fault) = refusal
+kind_of (status.Occupied addr) = refusal
 
 -- ---- lower faults: want of memory is a status of its own, whoever wanted it
 
@@ -56,6 +60,12 @@ status_of_schedule (schedule.BadLine line) = status.Schedule (schedule.BadLine l
 status_of_schedule (schedule.HartOutOfRange line) = status.Schedule (schedule.HartOutOfRange line)
 status_of_schedule (schedule.ZeroCount line) = status.Schedule (schedule.ZeroCount line)
 status_of_schedule schedule.NoMemory = status.NoMemory
+
+abbrev pub status_of_table : TableFault → Status
+status_of_table table.TooLong = status.Table table.TooLong
+status_of_table (table.BadLine line) = status.Table (table.BadLine line)
+status_of_table (table.Overlap line) = status.Table (table.Overlap line)
+status_of_table table.NoMemory = status.NoMemory
 
 abbrev pub status_of_settings : SettingsFault → Status
 status_of_settings settings.TooLong = status.Settings settings.TooLong
@@ -90,4 +100,5 @@ abbrev pub hides_no_memory : Status → Bool
 hides_no_memory (status.Schedule schedule.NoMemory) = true
 hides_no_memory (status.Settings settings.NoMemory) = true
 hides_no_memory (status.Trace trace.NoMemory) = true
+hides_no_memory (status.Table table.NoMemory) = true
 hides_no_memory s = false

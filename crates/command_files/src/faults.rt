@@ -10,6 +10,7 @@ use crate::schedule_faults::schedule_name;
 use crate::settings_faults::settings_name;
 use crate::state_faults::state_name;
 use crate::status::Status;
+use crate::table_faults::{occupied_name, table_name};
 use crate::trace_faults::trace_name;
 use command_line::USAGE;
 use std::alloc::{AllocError, Global};
@@ -60,6 +61,14 @@ pub fn fault_line(alloc: Global, status: &Status) -> Result<String, AllocError>
             line_of(alloc, "state", name.as_str())
         }
         Status::Place(refusal) => line_of(alloc, "place", place_name(*refusal)),
+        Status::Table(fault) => {
+            let name = table_name(alloc, *fault)?;
+            line_of(alloc, "table", name.as_str())
+        }
+        Status::Occupied(addr) => {
+            let name = occupied_name(alloc, *addr)?;
+            line_of(alloc, "table", name.as_str())
+        }
         Status::ReadFault => String::from_str(alloc, READ_FAULT_LINE),
         Status::WriteFault => String::from_str(alloc, WRITE_FAULT_LINE),
         Status::NoMemory => String::from_str(alloc, NO_MEMORY_LINE),

@@ -28,12 +28,13 @@ mod settings_file;
 mod start;
 mod state_faults;
 mod status;
+mod table_faults;
 mod trace_faults;
 
 pub use advice::{advice_on, advise};
 pub use faults::{NO_MEMORY_LINE, READ_FAULT_LINE, WRITE_FAULT_LINE, fault_line};
 pub use files::{Judge, read_judged};
-pub use files_read::{TraceToRead, file_to_look_at, trace_to_read};
+pub use files_read::{file_to_look_at, trace_to_read};
 pub use program_file::{PROGRAM_LIMIT, Program, judge_program};
 pub use saving::save;
 pub use settings_file::{native_layout, read_settings, thresholds_of};

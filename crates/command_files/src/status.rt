@@ -8,6 +8,7 @@ use placement::PlaceRefusal;
 use program_files::{ElfFault, PlaceFault};
 use settings::SettingsFault;
 use shelf::ShelfError;
+use trace_files::TableFault;
 use trace_format::TraceFault;
 
 /// Why a saved state isn't taken up again, or a trace doesn't go on from where the count of it
@@ -64,6 +65,10 @@ pub enum Status {
     Trapped,
     /// No place is told for an object, for this reason.
     Place(PlaceRefusal),
+    /// The table of moves has this fault, which is never want of memory.
+    Table(TableFault),
+    /// The access of this address is in no range of the table of moves, and lies in a place of it.
+    Occupied(u32),
 }
 
 impl Status {
@@ -86,6 +91,7 @@ impl Status {
             Status::Deadlock => 11,
             Status::Trapped => 12,
             Status::Place(_) => 13,
+            Status::Table(_) | Status::Occupied(_) => 14,
         }
     }
 }
@@ -130,6 +136,19 @@ impl From<PlaceRefusal> for Status {
 
     fn from(refusal: PlaceRefusal) -> Self {
         Status::Place(refusal)
+    }
+}
+
+impl From<TableFault> for Status {
+    ghost use Rattle.command_files.specs.Statuses.{status_of_table};
+
+    ghost from_gives = { λ fault s. s ≡ status_of_table fault };
+
+    fn from(fault: TableFault) -> Self {
+        match fault {
+            TableFault::NoMemory => Status::NoMemory,
+            fault => Status::Table(fault),
+        }
     }
 }
 

@@ -23,6 +23,7 @@ use Rattle.command_line.specs.Misses.{asked_of_misses}
 use Rattle.command_line.specs.Names.{are_apart}
 use Rattle.command_line.specs.Numbers.{number_of, number_or}
 use Rattle.command_line.specs.Place.{PlaceDemand, asked_of_place, place_app, place_of, place_with}
+use Rattle.command_line.specs.Relocate.{asked_of_move}
 use Rattle.command_line.specs.Replay.{asked_of_replay}
 use Rattle.command_line.specs.Run.{asked_of_run}
 use Rattle.command_line.specs.Split.{asked_of_split}
@@ -30,7 +31,7 @@ use Rattle.command_line.specs.Sweep.{SweepDemand, allowed_size, asked_of_sweep, 
 use Rattle.command_line.specs.Sweep.{size_in, sweep_app, sweep_of, sweep_with}
 use Rattle.command_line.specs.Words.{Demand, Named, asked_among, asked_of, blame, caches, check}
 use Rattle.command_line.specs.Words.{commands, convert, demand_of, explain, gen, inputs, misses}
-use Rattle.command_line.specs.Words.{outputs, place, replay, run, split, sweep, terms_of}
+use Rattle.command_line.specs.Words.{outputs, place, relocate, replay, run, split, sweep, terms_of}
 use Rattle.command_line.specs.Words.{with_names_apart}
 
 -- what a test lets through
@@ -132,9 +133,10 @@ each_bounded words =
     (also (mapped caches IsGood (asked_of_caches words) (λ d is. tt))
     (also (mapped place IsGood (asked_of_place words)
     (of_words (λ (d : PlaceDemand). IsGood (place d)) place_app place_of place_bounded words))
+    (also (mapped relocate IsGood (asked_of_move words) (λ d is. tt))
     (also (mapped misses IsGood (asked_of_misses words) (λ d is. tt))
     (also (mapped blame IsGood (asked_of_blame words) (λ d is. tt))
-    (also (mapped explain IsGood (asked_of_explain words) (λ d is. tt)) tt)))))))))))
+    (also (mapped explain IsGood (asked_of_explain words) (λ d is. tt)) tt))))))))))))
 
 pub words_bounded : (words : List Text) (d : Demand) → demand_of words ≡ Some d
     → (terms_of d).IsWithin

@@ -6,12 +6,15 @@ pub mod Check
 pub mod Convert
 pub mod Demands
 pub mod Explain
+pub mod FilesRead
 pub mod Gen
+pub mod Laws
 pub mod Layouts
 pub mod Misses
 pub mod Names
 pub mod Numbers
 pub mod Place
+pub mod Relocate
 pub mod Replay
 pub mod Run
 pub mod Set

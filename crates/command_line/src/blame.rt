@@ -1,23 +1,36 @@
 // The command `blame`.
-ghost use Rattle.std.specs.Prelude.{◌≡◌, IfOk, IfErr, Some, None};
-ghost use Rattle.command_line.specs.Blame.{asked_of_blame};
-ghost use Rattle.command_line.specs.Demands.{texts, UnlessMemory};
-ghost use Rattle.command_line.specs.Words.{IsBounded, given_apart, meaning, blame};
-
 use crate::demand::{Demand, WordsFault};
-use crate::trace_layout::read_layout_options;
+use crate::forms::Form;
+use crate::trace_layout::{layout_matches, layout_options};
+use clap::ArgMatches;
 use std::alloc::Global;
 
-// What the words of a `blame` ask for, the command's own name first.
-pub fn read_blame<'a>(alloc: Global, words: &'a [String]) -> Result<Demand<'a>, WordsFault<'a>>
-    ensures accepted { IfOk result (λ demand.
-        given_apart blame (asked_of_blame (texts words.now)) ≡ Some (meaning demand)) }
-    ensures refused { IfErr result (λ fault. UnlessMemory fault
-        (given_apart blame (asked_of_blame (texts words.now)) ≡ None)) }
-    ensures bounded { IfOk result IsBounded }
-{
-    match read_layout_options(alloc, "blame", words) {
-        Ok(options) => Ok(Demand::Blame(options)),
-        Err(fault) => Err(fault),
+/// The words of a `blame`.
+pub struct BlameForm;
+
+impl Form for BlameForm {
+    ghost use Rattle.std.specs.Prelude.{codes};
+    ghost use Rattle.command_line.specs.Blame.{asked_of_blame};
+    ghost use Rattle.command_line.specs.Laws.Asked.{given_asked};
+    ghost use Rattle.command_line.specs.TraceLayouts.{layout_app, layout_demand};
+    ghost use Rattle.command_line.specs.Words.{given_apart, blame};
+
+    ghost app = { layout_app (codes "blame") };
+
+    ghost of = { λ rows. given_apart blame (layout_demand rows) };
+
+    ghost asks = { λ words. given_apart blame (asked_of_blame words) };
+
+    fn matches<'a>(alloc: Global, words: &'a [String]) -> Result<ArgMatches<'a>, WordsFault<'a>> {
+        layout_matches(alloc, "blame", words)
     }
+
+    fn demand<'a>(matches: &ArgMatches<'a>) -> Result<Demand<'a>, WordsFault<'a>> {
+        match layout_options(matches) {
+            Ok(options) => Ok(Demand::Blame(options)),
+            Err(fault) => Err(fault),
+        }
+    }
+
+    ghost meant = { given_asked blame (layout_app (codes "blame")) layout_demand };
 }

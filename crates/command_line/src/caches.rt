@@ -1,12 +1,11 @@
 // The command `caches`.
-ghost use Rattle.std.specs.Prelude.{◌≡◌, IfOk, IfErr, Some, None, option_map};
+ghost use Rattle.std.specs.Prelude.{◌≡◌, option_map};
 ghost use Rattle.clap.specs.Words.{found_of, rows_of};
-ghost use Rattle.command_line.specs.Caches.{asked_of_caches, caches_meaning, caches_of, shape_at};
-ghost use Rattle.command_line.specs.Demands.{text_of, texts, UnlessMemory};
-ghost use Rattle.command_line.specs.Words.{IsBounded, given_apart, meaning, caches};
+ghost use Rattle.command_line.specs.Caches.{caches_meaning, caches_of, shape_at};
+ghost use Rattle.command_line.specs.Demands.{text_of};
 
 use crate::demand::{Demand, WordsFault};
-use crate::forms::{matches_of, value_of};
+use crate::forms::{Form, matches_of, value_of};
 use crate::layout::number;
 use crate::reason::Reason;
 use base::Shape;
@@ -63,40 +62,40 @@ fn options_in<'a>(matches: &ArgMatches<'a>) -> Option<CachesOptions<'a>>
     Some(CachesOptions { trace, shape })
 }
 
-// The same as a demand.
-fn demand_in<'a>(matches: &ArgMatches<'a>) -> Result<Demand<'a>, WordsFault<'a>>
-    ensures accepted { IfOk result (λ demand.
-        given_apart caches (caches_of (rows_of (found_of matches.now))) ≡ Some (meaning demand)) }
-    ensures refused { IfErr result (λ fault. UnlessMemory fault
-        (given_apart caches (caches_of (rows_of (found_of matches.now))) ≡ None)) }
-    ensures bounded { IfOk result IsBounded }
-{
-    match options_in(matches) {
-        Some(options) => Ok(Demand::Caches(options)),
-        None => Err(WordsFault::Usage(Reason::Shape {
-            size: value_of(matches, "size"),
-            sets: value_of(matches, "sets"),
-            ways: value_of(matches, "ways"),
-        })),
-    }
-}
+/// The words of a `caches`.
+pub struct CachesForm;
 
-// What the words of a `caches` ask for, the command's own name first.
-pub fn read_caches<'a>(alloc: Global, words: &'a [String]) -> Result<Demand<'a>, WordsFault<'a>>
-    ensures accepted { IfOk result (λ demand.
-        given_apart caches (asked_of_caches (texts words.now)) ≡ Some (meaning demand)) }
-    ensures refused { IfErr result (λ fault. UnlessMemory fault
-        (given_apart caches (asked_of_caches (texts words.now)) ≡ None)) }
-    ensures bounded { IfOk result IsBounded }
-{
-    match matches_of(
-        alloc,
-        "caches",
-        &["trace"],
-        &["size", "sets", "ways"],
-        words,
-    ) {
-        Ok(matches) => demand_in(&matches),
-        Err(fault) => Err(fault),
+impl Form for CachesForm {
+    ghost use Rattle.command_line.specs.Caches.{asked_of_caches, caches_app, caches_of};
+    ghost use Rattle.command_line.specs.Laws.Asked.{given_asked};
+    ghost use Rattle.command_line.specs.Words.{given_apart, caches};
+
+    ghost app = { caches_app };
+
+    ghost of = { λ rows. given_apart caches (caches_of rows) };
+
+    ghost asks = { λ words. given_apart caches (asked_of_caches words) };
+
+    fn matches<'a>(alloc: Global, words: &'a [String]) -> Result<ArgMatches<'a>, WordsFault<'a>> {
+        matches_of(
+            alloc,
+            "caches",
+            &["trace"],
+            &["size", "sets", "ways"],
+            words,
+        )
     }
+
+    fn demand<'a>(matches: &ArgMatches<'a>) -> Result<Demand<'a>, WordsFault<'a>> {
+        match options_in(matches) {
+            Some(options) => Ok(Demand::Caches(options)),
+            None => Err(WordsFault::Usage(Reason::Shape {
+                size: value_of(matches, "size"),
+                sets: value_of(matches, "sets"),
+                ways: value_of(matches, "ways"),
+            })),
+        }
+    }
+
+    ghost meant = { given_asked caches caches_app caches_of };
 }

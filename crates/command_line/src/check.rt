@@ -1,12 +1,10 @@
 // The command `check`.
-ghost use Rattle.std.specs.Prelude.{◌≡◌, IfOk, IfErr, Some, None, option_map};
+ghost use Rattle.std.specs.Prelude.{◌≡◌, option_map};
 ghost use Rattle.clap.specs.Words.{found_of, rows_of};
-ghost use Rattle.command_line.specs.Check.{asked_of_check, check_meaning, check_of};
-ghost use Rattle.command_line.specs.Demands.{texts, UnlessMemory};
-ghost use Rattle.command_line.specs.Words.{IsBounded, given_apart, meaning, check};
+ghost use Rattle.command_line.specs.Check.{check_meaning, check_of};
 
 use crate::demand::{Demand, WordsFault};
-use crate::forms::{matches_of, value_of};
+use crate::forms::{Form, matches_of, value_of};
 use crate::reason::Reason;
 use crate::set::{given_changes, wrong_changes};
 use clap::ArgMatches;
@@ -42,30 +40,30 @@ fn refusal<'a>(matches: &ArgMatches<'a>) -> Reason<'a> {
     wrong_changes(value_of(matches, "set")).unwrap_or(Reason::Missing("PROGRAM"))
 }
 
-// The same, with names apart.
-fn demand_in<'a>(matches: &ArgMatches<'a>) -> Result<Demand<'a>, WordsFault<'a>>
-    ensures accepted { IfOk result (λ demand.
-        given_apart check (check_of (rows_of (found_of matches.now))) ≡ Some (meaning demand)) }
-    ensures refused { IfErr result (λ fault. UnlessMemory fault
-        (given_apart check (check_of (rows_of (found_of matches.now))) ≡ None)) }
-    ensures bounded { IfOk result IsBounded }
-{
-    match options_in(matches) {
-        Some(options) => Ok(Demand::Check(options)),
-        None => Err(WordsFault::Usage(refusal(matches))),
-    }
-}
+/// The words of a `check`.
+pub struct CheckForm;
 
-// What the words of a `check` ask for, the command's own name first.
-pub fn read_check<'a>(alloc: Global, words: &'a [String]) -> Result<Demand<'a>, WordsFault<'a>>
-    ensures accepted { IfOk result (λ demand.
-        given_apart check (asked_of_check (texts words.now)) ≡ Some (meaning demand)) }
-    ensures refused { IfErr result (λ fault. UnlessMemory fault
-        (given_apart check (asked_of_check (texts words.now)) ≡ None)) }
-    ensures bounded { IfOk result IsBounded }
-{
-    match matches_of(alloc, "check", &["program"], &["settings", "set"], words) {
-        Ok(matches) => demand_in(&matches),
-        Err(fault) => Err(fault),
+impl Form for CheckForm {
+    ghost use Rattle.command_line.specs.Check.{asked_of_check, check_app, check_of};
+    ghost use Rattle.command_line.specs.Laws.Asked.{given_asked};
+    ghost use Rattle.command_line.specs.Words.{given_apart, check};
+
+    ghost app = { check_app };
+
+    ghost of = { λ rows. given_apart check (check_of rows) };
+
+    ghost asks = { λ words. given_apart check (asked_of_check words) };
+
+    fn matches<'a>(alloc: Global, words: &'a [String]) -> Result<ArgMatches<'a>, WordsFault<'a>> {
+        matches_of(alloc, "check", &["program"], &["settings", "set"], words)
     }
+
+    fn demand<'a>(matches: &ArgMatches<'a>) -> Result<Demand<'a>, WordsFault<'a>> {
+        match options_in(matches) {
+            Some(options) => Ok(Demand::Check(options)),
+            None => Err(WordsFault::Usage(refusal(matches))),
+        }
+    }
+
+    ghost meant = { given_asked check check_app check_of };
 }

@@ -1,14 +1,12 @@
 // The command `convert`.
-ghost use Rattle.std.specs.Prelude.{◌≡◌, IfOk, IfErr, Some, None, option_map};
+ghost use Rattle.std.specs.Prelude.{◌≡◌, option_map};
 ghost use Rattle.clap.specs.Words.{found_of, rows_of};
-ghost use Rattle.command_line.specs.Convert.{asked_of_convert, convert_inputs};
+ghost use Rattle.command_line.specs.Convert.{convert_inputs};
 ghost use Rattle.command_line.specs.Convert.{convert_meaning, convert_of, convert_outputs};
-ghost use Rattle.command_line.specs.Demands.{texts, UnlessMemory};
 ghost use Rattle.command_line.specs.Names.{are_apart};
-ghost use Rattle.command_line.specs.Words.{IsBounded, given_apart, meaning, convert};
 
 use crate::demand::{Demand, WordsFault};
-use crate::forms::{matches_of, value_of};
+use crate::forms::{Form, matches_of, value_of};
 use crate::reason::Reason;
 use clap::ArgMatches;
 use std::alloc::Global;
@@ -39,36 +37,36 @@ fn options_in<'a>(matches: &ArgMatches<'a>) -> Option<ConvertOptions<'a>>
     Some(ConvertOptions { trace, file })
 }
 
-// The same, with names apart.
-fn demand_in<'a>(matches: &ArgMatches<'a>) -> Result<Demand<'a>, WordsFault<'a>>
-    ensures accepted { IfOk result (λ demand.
-        given_apart convert (convert_of (rows_of (found_of matches.now))) ≡ Some (meaning demand)) }
-    ensures refused { IfErr result (λ fault. UnlessMemory fault
-        (given_apart convert (convert_of (rows_of (found_of matches.now))) ≡ None)) }
-    ensures bounded { IfOk result IsBounded }
-{
-    match options_in(matches) {
-        Some(options) => {
-            if has_names_apart(&options) {
-                Ok(Demand::Convert(options))
-            } else {
-                Err(WordsFault::Usage(Reason::SameName(options.file)))
-            }
-        }
-        None => Err(WordsFault::Usage(Reason::Missing("FILE"))),
-    }
-}
+/// The words of a `convert`.
+pub struct ConvertForm;
 
-// What the words of a `convert` ask for, the command's own name first.
-pub fn read_convert<'a>(alloc: Global, words: &'a [String]) -> Result<Demand<'a>, WordsFault<'a>>
-    ensures accepted { IfOk result (λ demand.
-        given_apart convert (asked_of_convert (texts words.now)) ≡ Some (meaning demand)) }
-    ensures refused { IfErr result (λ fault. UnlessMemory fault
-        (given_apart convert (asked_of_convert (texts words.now)) ≡ None)) }
-    ensures bounded { IfOk result IsBounded }
-{
-    match matches_of(alloc, "convert", &["trace", "file"], &[], words) {
-        Ok(matches) => demand_in(&matches),
-        Err(fault) => Err(fault),
+impl Form for ConvertForm {
+    ghost use Rattle.command_line.specs.Convert.{asked_of_convert, convert_app, convert_of};
+    ghost use Rattle.command_line.specs.Laws.Asked.{given_asked};
+    ghost use Rattle.command_line.specs.Words.{given_apart, convert};
+
+    ghost app = { convert_app };
+
+    ghost of = { λ rows. given_apart convert (convert_of rows) };
+
+    ghost asks = { λ words. given_apart convert (asked_of_convert words) };
+
+    fn matches<'a>(alloc: Global, words: &'a [String]) -> Result<ArgMatches<'a>, WordsFault<'a>> {
+        matches_of(alloc, "convert", &["trace", "file"], &[], words)
     }
+
+    fn demand<'a>(matches: &ArgMatches<'a>) -> Result<Demand<'a>, WordsFault<'a>> {
+        match options_in(matches) {
+            Some(options) => {
+                if has_names_apart(&options) {
+                    Ok(Demand::Convert(options))
+                } else {
+                    Err(WordsFault::Usage(Reason::SameName(options.file)))
+                }
+            }
+            None => Err(WordsFault::Usage(Reason::Missing("FILE"))),
+        }
+    }
+
+    ghost meant = { given_asked convert convert_app convert_of };
 }

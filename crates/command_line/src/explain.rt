@@ -1,17 +1,16 @@
 // The command `explain`.
-ghost use Rattle.std.specs.Prelude.{◌≡◌, ◌^◌, ◌%◌, IfOk, IfErr, Some, None, option_and_then};
+ghost use Rattle.std.specs.Prelude.{◌≡◌, ◌^◌, ◌%◌, option_and_then};
 ghost use Rattle.std.specs.Prelude.{option_map};
 ghost use Rattle.clap.specs.Words.{found_of, rows_of};
-ghost use Rattle.command_line.specs.Demands.{texts, text_of, UnlessMemory};
-ghost use Rattle.command_line.specs.Explain.{asked_of_explain, explain_meaning};
+ghost use Rattle.command_line.specs.Demands.{text_of};
+ghost use Rattle.command_line.specs.Explain.{explain_meaning};
 ghost use Rattle.command_line.specs.Explain.{explain_of};
 ghost use Rattle.command_line.specs.Layouts.{layout_at};
 ghost use Rattle.command_line.specs.Numbers.{address_of, below, number_of};
-ghost use Rattle.command_line.specs.Words.{IsBounded, explain, given_apart, meaning};
 
 use crate::address::address;
 use crate::demand::{Demand, WordsFault};
-use crate::forms::{matches_of, value_of};
+use crate::forms::{Form, matches_of, value_of};
 use crate::layout::{allowed_layout, number};
 use crate::reason::Reason;
 use crate::set::{given_changes, wrong_changes};
@@ -101,37 +100,36 @@ fn refusal<'a>(matches: &ArgMatches<'a>) -> Reason<'a> {
     })
 }
 
-// The same as a demand.
-fn demand_in<'a>(matches: &ArgMatches<'a>) -> Result<Demand<'a>, WordsFault<'a>>
-    ensures accepted { IfOk result (λ demand.
-        given_apart explain (explain_of (rows_of (found_of matches.now)))
-        ≡ Some (meaning demand)) }
-    ensures refused { IfErr result (λ fault. UnlessMemory fault
-        (given_apart explain (explain_of (rows_of (found_of matches.now))) ≡ None)) }
-    ensures bounded { IfOk result IsBounded }
-{
-    match options_in(matches) {
-        Some(options) => Ok(Demand::Explain(options)),
-        None => Err(WordsFault::Usage(refusal(matches))),
-    }
-}
+/// The words of an `explain`.
+pub struct ExplainForm;
 
-// What the words of an `explain` ask for, the command's own name first.
-pub fn read_explain<'a>(alloc: Global, words: &'a [String]) -> Result<Demand<'a>, WordsFault<'a>>
-    ensures accepted { IfOk result (λ demand.
-        given_apart explain (asked_of_explain (texts words.now)) ≡ Some (meaning demand)) }
-    ensures refused { IfErr result (λ fault. UnlessMemory fault
-        (given_apart explain (asked_of_explain (texts words.now)) ≡ None)) }
-    ensures bounded { IfOk result IsBounded }
-{
-    match matches_of(
-        alloc,
-        "explain",
-        &["program", "base", "size", "start"],
-        &["settings", "schedule", "set"],
-        words,
-    ) {
-        Ok(matches) => demand_in(&matches),
-        Err(fault) => Err(fault),
+impl Form for ExplainForm {
+    ghost use Rattle.command_line.specs.Explain.{asked_of_explain, explain_app, explain_of};
+    ghost use Rattle.command_line.specs.Laws.Asked.{given_asked};
+    ghost use Rattle.command_line.specs.Words.{given_apart, explain};
+
+    ghost app = { explain_app };
+
+    ghost of = { λ rows. given_apart explain (explain_of rows) };
+
+    ghost asks = { λ words. given_apart explain (asked_of_explain words) };
+
+    fn matches<'a>(alloc: Global, words: &'a [String]) -> Result<ArgMatches<'a>, WordsFault<'a>> {
+        matches_of(
+            alloc,
+            "explain",
+            &["program", "base", "size", "start"],
+            &["settings", "schedule", "set"],
+            words,
+        )
     }
+
+    fn demand<'a>(matches: &ArgMatches<'a>) -> Result<Demand<'a>, WordsFault<'a>> {
+        match options_in(matches) {
+            Some(options) => Ok(Demand::Explain(options)),
+            None => Err(WordsFault::Usage(refusal(matches))),
+        }
+    }
+
+    ghost meant = { given_asked explain explain_app explain_of };
 }

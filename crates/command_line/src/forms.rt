@@ -1,13 +1,15 @@
 // Commands and arguments as all of them are, and what `clap` makes of the words of one.
-ghost use Rattle.std.specs.Prelude.{◌≡◌, ◌≢◌, IfOk, IfErr, [], true};
+ghost use Rattle.std.specs.Prelude.{◌≡◌, ◌≢◌, IfOk, IfErr, List, [], None, Option, Some, true};
+ghost use Rattle.clap.specs.Words.{App, Row, Text};
 ghost use Rattle.clap.specs.Words.{app_of, fault_of, first_of, found_of, is_simple_and_free};
 ghost use Rattle.clap.specs.Words.{matches_of, rows_of};
 ghost use Rattle.command_line.specs.Apps.{form_app, plain_app, with_flag, with_option};
 ghost use Rattle.command_line.specs.Apps.{with_options, with_word, with_words};
-ghost use Rattle.command_line.specs.Asked.{is_flagged};
+ghost use Rattle.command_line.specs.Asked.{asked, is_flagged};
 ghost use Rattle.command_line.specs.Demands.{names_of, text_of, texts, UnlessMemory};
+ghost use Rattle.command_line.specs.Words.{Demand as Ask, IsBounded, meaning};
 
-use crate::demand::WordsFault;
+use crate::demand::{Demand, WordsFault};
 use crate::reason::Reason;
 use clap::error::ErrorKind;
 use clap::{Arg, ArgAction, ArgMatches, Command};
@@ -190,5 +192,49 @@ pub fn is_set(matches: &ArgMatches<'_>, name: &str) -> bool
     match value_of(matches, name) {
         Some(value) => value == "true",
         None => false,
+    }
+}
+
+/// The form of the words of a command: the arguments that it has, and what their values ask for.
+pub trait Form {
+    /// The command, as `clap` reads its words.
+    ghost app: { App };
+
+    /// What the values of its arguments ask for, unless they are refused.
+    ghost of: { List Row → Option Ask };
+
+    /// What words ask for, unless they are refused.
+    ghost asks: { List Text → Option Ask };
+
+    /// The values of its arguments in the words, the command's own name first.
+    fn matches<'a>(alloc: Global, words: &'a [String]) -> Result<ArgMatches<'a>, WordsFault<'a>>
+        ensures taken { IfOk result (λ matches. fault_of app (texts words.now) ≡ []) }
+        ensures rows { IfOk result (λ matches. rows_of (found_of matches)
+            ≡ matches_of app (texts words.now)) }
+        ensures refused { IfErr result (λ fault. UnlessMemory fault
+            (fault_of app (texts words.now) ≢ [])) };
+
+    /// What such values ask for.
+    fn demand<'a>(matches: &ArgMatches<'a>) -> Result<Demand<'a>, WordsFault<'a>>
+        ensures accepted { IfOk result (λ demand.
+            of (rows_of (found_of matches.now)) ≡ Some (meaning demand)) }
+        ensures refused { IfErr result (λ fault. UnlessMemory fault
+            (of (rows_of (found_of matches.now)) ≡ None)) }
+        ensures bounded { IfOk result IsBounded };
+
+    /// Words ask for what their values ask for, unless `clap` has a fault of them.
+    ghost meant: { (words : List Text) → asks words ≡ asked app of words };
+}
+
+/// What the words of a command of this form ask for, the command's own name first.
+pub fn read<'a, F: Form>(alloc: Global, words: &'a [String]) -> Result<Demand<'a>, WordsFault<'a>>
+    ensures accepted { IfOk result (λ demand. F.asks (texts words.now) ≡ Some (meaning demand)) }
+    ensures refused { IfErr result (λ fault. UnlessMemory fault
+        (F.asks (texts words.now) ≡ None)) }
+    ensures bounded { IfOk result IsBounded }
+{
+    match F::matches(alloc, words) {
+        Ok(matches) => F::demand(&matches),
+        Err(fault) => Err(fault),
     }
 }

@@ -1,13 +1,12 @@
 // The command `gen`.
-ghost use Rattle.std.specs.Prelude.{◌≡◌, ◌≤◌, ◌^◌, IfOk, IfErr, Some, None, option_map};
+ghost use Rattle.std.specs.Prelude.{◌≡◌, ◌≤◌, ◌^◌, option_map};
 ghost use Rattle.std.specs.Option.{IfSome};
 ghost use Rattle.clap.specs.Words.{found_of, rows_of};
-ghost use Rattle.command_line.specs.Gen.{asked_of_gen, count_in, gen_meaning, gen_of};
-ghost use Rattle.command_line.specs.Demands.{text_of, texts, UnlessMemory};
-ghost use Rattle.command_line.specs.Words.{IsBounded, given_apart, meaning, gen};
+ghost use Rattle.command_line.specs.Gen.{count_in, gen_meaning, gen_of};
+ghost use Rattle.command_line.specs.Demands.{text_of};
 
 use crate::demand::{Demand, WordsFault};
-use crate::forms::{matches_of, value_of};
+use crate::forms::{Form, matches_of, value_of};
 use crate::layout::number;
 use crate::reason::Reason;
 use clap::ArgMatches;
@@ -44,30 +43,30 @@ fn options_in<'a>(matches: &ArgMatches<'a>) -> Option<GenOptions<'a>>
     Some(GenOptions { count, file })
 }
 
-// The same, with names apart.
-fn demand_in<'a>(matches: &ArgMatches<'a>) -> Result<Demand<'a>, WordsFault<'a>>
-    ensures accepted { IfOk result (λ demand.
-        given_apart gen (gen_of (rows_of (found_of matches.now))) ≡ Some (meaning demand)) }
-    ensures refused { IfErr result (λ fault. UnlessMemory fault
-        (given_apart gen (gen_of (rows_of (found_of matches.now))) ≡ None)) }
-    ensures bounded { IfOk result IsBounded }
-{
-    match options_in(matches) {
-        Some(options) => Ok(Demand::Gen(options)),
-        None => Err(WordsFault::Usage(Reason::Count(value_of(matches, "count")))),
-    }
-}
+/// The words of a `gen`.
+pub struct GenForm;
 
-// What the words of a `gen` ask for, the command's own name first.
-pub fn read_gen<'a>(alloc: Global, words: &'a [String]) -> Result<Demand<'a>, WordsFault<'a>>
-    ensures accepted { IfOk result (λ demand.
-        given_apart gen (asked_of_gen (texts words.now)) ≡ Some (meaning demand)) }
-    ensures refused { IfErr result (λ fault. UnlessMemory fault
-        (given_apart gen (asked_of_gen (texts words.now)) ≡ None)) }
-    ensures bounded { IfOk result IsBounded }
-{
-    match matches_of(alloc, "gen", &["count", "file"], &[], words) {
-        Ok(matches) => demand_in(&matches),
-        Err(fault) => Err(fault),
+impl Form for GenForm {
+    ghost use Rattle.command_line.specs.Gen.{asked_of_gen, gen_app, gen_of};
+    ghost use Rattle.command_line.specs.Laws.Asked.{given_asked};
+    ghost use Rattle.command_line.specs.Words.{given_apart, gen};
+
+    ghost app = { gen_app };
+
+    ghost of = { λ rows. given_apart gen (gen_of rows) };
+
+    ghost asks = { λ words. given_apart gen (asked_of_gen words) };
+
+    fn matches<'a>(alloc: Global, words: &'a [String]) -> Result<ArgMatches<'a>, WordsFault<'a>> {
+        matches_of(alloc, "gen", &["count", "file"], &[], words)
     }
+
+    fn demand<'a>(matches: &ArgMatches<'a>) -> Result<Demand<'a>, WordsFault<'a>> {
+        match options_in(matches) {
+            Some(options) => Ok(Demand::Gen(options)),
+            None => Err(WordsFault::Usage(Reason::Count(value_of(matches, "count")))),
+        }
+    }
+
+    ghost meant = { given_asked gen gen_app gen_of };
 }

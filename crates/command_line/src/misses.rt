@@ -1,23 +1,36 @@
 // The command `misses`.
-ghost use Rattle.std.specs.Prelude.{◌≡◌, IfOk, IfErr, Some, None};
-ghost use Rattle.command_line.specs.Misses.{asked_of_misses};
-ghost use Rattle.command_line.specs.Demands.{texts, UnlessMemory};
-ghost use Rattle.command_line.specs.Words.{IsBounded, given_apart, meaning, misses};
-
 use crate::demand::{Demand, WordsFault};
-use crate::trace_layout::read_layout_options;
+use crate::forms::Form;
+use crate::trace_layout::{layout_matches, layout_options};
+use clap::ArgMatches;
 use std::alloc::Global;
 
-// What the words of a `misses` ask for, the command's own name first.
-pub fn read_misses<'a>(alloc: Global, words: &'a [String]) -> Result<Demand<'a>, WordsFault<'a>>
-    ensures accepted { IfOk result (λ demand.
-        given_apart misses (asked_of_misses (texts words.now)) ≡ Some (meaning demand)) }
-    ensures refused { IfErr result (λ fault. UnlessMemory fault
-        (given_apart misses (asked_of_misses (texts words.now)) ≡ None)) }
-    ensures bounded { IfOk result IsBounded }
-{
-    match read_layout_options(alloc, "misses", words) {
-        Ok(options) => Ok(Demand::Misses(options)),
-        Err(fault) => Err(fault),
+/// The words of a `misses`.
+pub struct MissesForm;
+
+impl Form for MissesForm {
+    ghost use Rattle.std.specs.Prelude.{codes};
+    ghost use Rattle.command_line.specs.Misses.{asked_of_misses};
+    ghost use Rattle.command_line.specs.Laws.Asked.{given_asked};
+    ghost use Rattle.command_line.specs.TraceLayouts.{layout_app, layout_demand};
+    ghost use Rattle.command_line.specs.Words.{given_apart, misses};
+
+    ghost app = { layout_app (codes "misses") };
+
+    ghost of = { λ rows. given_apart misses (layout_demand rows) };
+
+    ghost asks = { λ words. given_apart misses (asked_of_misses words) };
+
+    fn matches<'a>(alloc: Global, words: &'a [String]) -> Result<ArgMatches<'a>, WordsFault<'a>> {
+        layout_matches(alloc, "misses", words)
     }
+
+    fn demand<'a>(matches: &ArgMatches<'a>) -> Result<Demand<'a>, WordsFault<'a>> {
+        match layout_options(matches) {
+            Ok(options) => Ok(Demand::Misses(options)),
+            Err(fault) => Err(fault),
+        }
+    }
+
+    ghost meant = { given_asked misses (layout_app (codes "misses")) layout_demand };
 }

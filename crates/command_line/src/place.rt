@@ -1,15 +1,13 @@
 // The command `place`.
-ghost use Rattle.std.specs.Prelude.{◌≡◌, IfOk, IfErr, IsTrue, Some, None, option_map};
+ghost use Rattle.std.specs.Prelude.{◌≡◌, IsTrue, option_map};
 ghost use Rattle.std.specs.Option.{IfSome};
 ghost use Rattle.base.specs.Lines.{is_line_size};
 ghost use Rattle.clap.specs.Words.{found_of, rows_of};
-ghost use Rattle.command_line.specs.Demands.{texts, UnlessMemory};
-ghost use Rattle.command_line.specs.Place.{asked_of_place, place_meaning, place_of};
-ghost use Rattle.command_line.specs.Words.{IsBounded, given_apart, meaning, place};
+ghost use Rattle.command_line.specs.Place.{place_meaning, place_of};
 
 use crate::address::marked_address;
 use crate::demand::{Demand, WordsFault};
-use crate::forms::{matches_of, value_of};
+use crate::forms::{Form, matches_of, value_of};
 use crate::layout::given_size;
 use crate::reason::Reason;
 use clap::ArgMatches;
@@ -44,30 +42,30 @@ fn options_in<'a>(matches: &ArgMatches<'a>) -> Option<PlaceOptions<'a>>
     })
 }
 
-// The same as a demand.
-fn demand_in<'a>(matches: &ArgMatches<'a>) -> Result<Demand<'a>, WordsFault<'a>>
-    ensures accepted { IfOk result (λ demand.
-        given_apart place (place_of (rows_of (found_of matches.now))) ≡ Some (meaning demand)) }
-    ensures refused { IfErr result (λ fault. UnlessMemory fault
-        (given_apart place (place_of (rows_of (found_of matches.now))) ≡ None)) }
-    ensures bounded { IfOk result IsBounded }
-{
-    match options_in(matches) {
-        Some(options) => Ok(Demand::Place(options)),
-        None => Err(WordsFault::Usage(Reason::LineSize(value_of(matches, "size")))),
-    }
-}
+/// The words of a `place`.
+pub struct PlaceForm;
 
-// What the words of a `place` ask for, the command's own name first.
-pub fn read_place<'a>(alloc: Global, words: &'a [String]) -> Result<Demand<'a>, WordsFault<'a>>
-    ensures accepted { IfOk result (λ demand.
-        given_apart place (asked_of_place (texts words.now)) ≡ Some (meaning demand)) }
-    ensures refused { IfErr result (λ fault. UnlessMemory fault
-        (given_apart place (asked_of_place (texts words.now)) ≡ None)) }
-    ensures bounded { IfOk result IsBounded }
-{
-    match matches_of(alloc, "place", &["trace", "name"], &["size"], words) {
-        Ok(matches) => demand_in(&matches),
-        Err(fault) => Err(fault),
+impl Form for PlaceForm {
+    ghost use Rattle.command_line.specs.Place.{asked_of_place, place_app, place_of};
+    ghost use Rattle.command_line.specs.Laws.Asked.{given_asked};
+    ghost use Rattle.command_line.specs.Words.{given_apart, place};
+
+    ghost app = { place_app };
+
+    ghost of = { λ rows. given_apart place (place_of rows) };
+
+    ghost asks = { λ words. given_apart place (asked_of_place words) };
+
+    fn matches<'a>(alloc: Global, words: &'a [String]) -> Result<ArgMatches<'a>, WordsFault<'a>> {
+        matches_of(alloc, "place", &["trace", "name"], &["size"], words)
     }
+
+    fn demand<'a>(matches: &ArgMatches<'a>) -> Result<Demand<'a>, WordsFault<'a>> {
+        match options_in(matches) {
+            Some(options) => Ok(Demand::Place(options)),
+            None => Err(WordsFault::Usage(Reason::LineSize(value_of(matches, "size")))),
+        }
+    }
+
+    ghost meant = { given_asked place place_app place_of };
 }

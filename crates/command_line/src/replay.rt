@@ -1,14 +1,12 @@
 // The command `replay`.
-ghost use Rattle.std.specs.Prelude.{◌≡◌, IfOk, IfErr, Some, None, option_map};
+ghost use Rattle.std.specs.Prelude.{◌≡◌, option_map};
 ghost use Rattle.clap.specs.Words.{found_of, rows_of};
-ghost use Rattle.command_line.specs.Replay.{asked_of_replay, replay_inputs};
+ghost use Rattle.command_line.specs.Replay.{replay_inputs};
 ghost use Rattle.command_line.specs.Replay.{replay_meaning, replay_of, replay_outputs};
-ghost use Rattle.command_line.specs.Demands.{texts, UnlessMemory};
 ghost use Rattle.command_line.specs.Names.{are_apart, is_named};
-ghost use Rattle.command_line.specs.Words.{IsBounded, given_apart, meaning, replay};
 
 use crate::demand::{Demand, WordsFault};
-use crate::forms::{matches_of, value_of};
+use crate::forms::{Form, matches_of, value_of};
 use crate::layout::read_layout;
 use crate::names::is_given;
 use crate::reason::Reason;
@@ -79,42 +77,42 @@ fn refusal<'a>(matches: &ArgMatches<'a>) -> Reason<'a> {
     })
 }
 
-// The same, with names apart.
-fn demand_in<'a>(matches: &ArgMatches<'a>) -> Result<Demand<'a>, WordsFault<'a>>
-    ensures accepted { IfOk result (λ demand.
-        given_apart replay (replay_of (rows_of (found_of matches.now))) ≡ Some (meaning demand)) }
-    ensures refused { IfErr result (λ fault. UnlessMemory fault
-        (given_apart replay (replay_of (rows_of (found_of matches.now))) ≡ None)) }
-    ensures bounded { IfOk result IsBounded }
-{
-    match options_in(matches) {
-        Some(options) => {
-            if has_names_apart(&options) {
-                Ok(Demand::Replay(options))
-            } else {
-                Err(WordsFault::Usage(Reason::SameName(options.save.unwrap_or(options.trace))))
-            }
-        }
-        None => Err(WordsFault::Usage(refusal(matches))),
-    }
-}
+/// The words of a `replay`.
+pub struct ReplayForm;
 
-// What the words of a `replay` ask for, the command's own name first.
-pub fn read_replay<'a>(alloc: Global, words: &'a [String]) -> Result<Demand<'a>, WordsFault<'a>>
-    ensures accepted { IfOk result (λ demand.
-        given_apart replay (asked_of_replay (texts words.now)) ≡ Some (meaning demand)) }
-    ensures refused { IfErr result (λ fault. UnlessMemory fault
-        (given_apart replay (asked_of_replay (texts words.now)) ≡ None)) }
-    ensures bounded { IfOk result IsBounded }
-{
-    match matches_of(
-        alloc,
-        "replay",
-        &["trace"],
-        &["settings", "size", "shift", "save", "resume", "set"],
-        words,
-    ) {
-        Ok(matches) => demand_in(&matches),
-        Err(fault) => Err(fault),
+impl Form for ReplayForm {
+    ghost use Rattle.command_line.specs.Replay.{asked_of_replay, replay_app, replay_of};
+    ghost use Rattle.command_line.specs.Laws.Asked.{given_asked};
+    ghost use Rattle.command_line.specs.Words.{given_apart, replay};
+
+    ghost app = { replay_app };
+
+    ghost of = { λ rows. given_apart replay (replay_of rows) };
+
+    ghost asks = { λ words. given_apart replay (asked_of_replay words) };
+
+    fn matches<'a>(alloc: Global, words: &'a [String]) -> Result<ArgMatches<'a>, WordsFault<'a>> {
+        matches_of(
+            alloc,
+            "replay",
+            &["trace"],
+            &["settings", "size", "shift", "save", "resume", "set"],
+            words,
+        )
     }
+
+    fn demand<'a>(matches: &ArgMatches<'a>) -> Result<Demand<'a>, WordsFault<'a>> {
+        match options_in(matches) {
+            Some(options) => {
+                if has_names_apart(&options) {
+                    Ok(Demand::Replay(options))
+                } else {
+                    Err(WordsFault::Usage(Reason::SameName(options.save.unwrap_or(options.trace))))
+                }
+            }
+            None => Err(WordsFault::Usage(refusal(matches))),
+        }
+    }
+
+    ghost meant = { given_asked replay replay_app replay_of };
 }

@@ -1,14 +1,12 @@
 // The command `run`.
-ghost use Rattle.std.specs.Prelude.{◌≡◌, IfOk, IfErr, Some, None, option_map};
+ghost use Rattle.std.specs.Prelude.{◌≡◌, option_map};
 ghost use Rattle.clap.specs.Words.{found_of, rows_of};
-ghost use Rattle.command_line.specs.Run.{asked_of_run, lacks_trace, run_in, run_inputs};
-ghost use Rattle.command_line.specs.Run.{run_meaning, run_of, run_outputs};
-ghost use Rattle.command_line.specs.Demands.{texts, UnlessMemory};
+ghost use Rattle.command_line.specs.Run.{lacks_trace, run_in, run_inputs};
+ghost use Rattle.command_line.specs.Run.{run_meaning, run_outputs};
 ghost use Rattle.command_line.specs.Names.{are_apart, is_named};
-ghost use Rattle.command_line.specs.Words.{IsBounded, given_apart, meaning, run};
 
 use crate::demand::{Demand, WordsFault};
-use crate::forms::{is_set, matches_with_flag, value_of};
+use crate::forms::{Form, is_set, matches_with_flag, value_of};
 use crate::names::is_given;
 use crate::reason::Reason;
 use crate::set::{given_changes, wrong_changes};
@@ -100,45 +98,45 @@ fn refusal<'a>(matches: &ArgMatches<'a>) -> Reason<'a> {
     wrong_changes(value_of(matches, "set")).unwrap_or(Reason::Missing("PROGRAM"))
 }
 
-// The same, with names apart, and with a trace where pcs are asked for.
-fn demand_in<'a>(matches: &ArgMatches<'a>) -> Result<Demand<'a>, WordsFault<'a>>
-    ensures accepted { IfOk result (λ demand.
-        given_apart run (run_of (rows_of (found_of matches.now))) ≡ Some (meaning demand)) }
-    ensures refused { IfErr result (λ fault. UnlessMemory fault
-        (given_apart run (run_of (rows_of (found_of matches.now))) ≡ None)) }
-    ensures bounded { IfOk result IsBounded }
-{
-    match options_in(matches) {
-        Some(options) => {
-            if lacks_trace(&options) {
-                Err(WordsFault::Usage(Reason::NoTrace))
-            } else if has_names_apart(&options) {
-                Ok(Demand::Run(options))
-            } else {
-                Err(WordsFault::Usage(Reason::SameName(repeated(&options))))
-            }
-        }
-        None => Err(WordsFault::Usage(refusal(matches))),
-    }
-}
+/// The words of a `run`.
+pub struct RunForm;
 
-// What the words of a `run` ask for, the command's own name first.
-pub fn read_run<'a>(alloc: Global, words: &'a [String]) -> Result<Demand<'a>, WordsFault<'a>>
-    ensures accepted { IfOk result (λ demand.
-        given_apart run (asked_of_run (texts words.now)) ≡ Some (meaning demand)) }
-    ensures refused { IfErr result (λ fault. UnlessMemory fault
-        (given_apart run (asked_of_run (texts words.now)) ≡ None)) }
-    ensures bounded { IfOk result IsBounded }
-{
-    match matches_with_flag(
-        alloc,
-        "run",
-        &["program"],
-        &["settings", "schedule", "trace", "output", "set"],
-        "pcs",
-        words,
-    ) {
-        Ok(matches) => demand_in(&matches),
-        Err(fault) => Err(fault),
+impl Form for RunForm {
+    ghost use Rattle.command_line.specs.Run.{asked_of_run, run_app, run_of};
+    ghost use Rattle.command_line.specs.Laws.Asked.{given_asked};
+    ghost use Rattle.command_line.specs.Words.{given_apart, run};
+
+    ghost app = { run_app };
+
+    ghost of = { λ rows. given_apart run (run_of rows) };
+
+    ghost asks = { λ words. given_apart run (asked_of_run words) };
+
+    fn matches<'a>(alloc: Global, words: &'a [String]) -> Result<ArgMatches<'a>, WordsFault<'a>> {
+        matches_with_flag(
+            alloc,
+            "run",
+            &["program"],
+            &["settings", "schedule", "trace", "output", "set"],
+            "pcs",
+            words,
+        )
     }
+
+    fn demand<'a>(matches: &ArgMatches<'a>) -> Result<Demand<'a>, WordsFault<'a>> {
+        match options_in(matches) {
+            Some(options) => {
+                if lacks_trace(&options) {
+                    Err(WordsFault::Usage(Reason::NoTrace))
+                } else if has_names_apart(&options) {
+                    Ok(Demand::Run(options))
+                } else {
+                    Err(WordsFault::Usage(Reason::SameName(repeated(&options))))
+                }
+            }
+            None => Err(WordsFault::Usage(refusal(matches))),
+        }
+    }
+
+    ghost meant = { given_asked run run_app run_of };
 }

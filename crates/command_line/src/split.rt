@@ -1,14 +1,12 @@
 // The command `split`.
-ghost use Rattle.std.specs.Prelude.{◌≡◌, IfOk, IfErr, Some, None, option_map};
+ghost use Rattle.std.specs.Prelude.{◌≡◌, option_map};
 ghost use Rattle.clap.specs.Words.{found_of, rows_of};
-ghost use Rattle.command_line.specs.Demands.{texts, UnlessMemory};
 ghost use Rattle.command_line.specs.Names.{are_apart};
-ghost use Rattle.command_line.specs.Split.{asked_of_split, split_inputs, split_meaning};
+ghost use Rattle.command_line.specs.Split.{split_inputs, split_meaning};
 ghost use Rattle.command_line.specs.Split.{split_of, split_outputs};
-ghost use Rattle.command_line.specs.Words.{IsBounded, given_apart, meaning, split};
 
 use crate::demand::{Demand, WordsFault};
-use crate::forms::{matches_of, value_of};
+use crate::forms::{Form, matches_of, value_of};
 use crate::layout::number;
 use crate::reason::Reason;
 use clap::ArgMatches;
@@ -62,42 +60,42 @@ fn options_in<'a>(matches: &ArgMatches<'a>) -> Option<SplitOptions<'a>>
     })
 }
 
-// The same, with names apart.
-fn demand_in<'a>(matches: &ArgMatches<'a>) -> Result<Demand<'a>, WordsFault<'a>>
-    ensures accepted { IfOk result (λ demand.
-        given_apart split (split_of (rows_of (found_of matches.now))) ≡ Some (meaning demand)) }
-    ensures refused { IfErr result (λ fault. UnlessMemory fault
-        (given_apart split (split_of (rows_of (found_of matches.now))) ≡ None)) }
-    ensures bounded { IfOk result IsBounded }
-{
-    match options_in(matches) {
-        Some(options) => {
-            if has_names_apart(&options) {
-                Ok(Demand::Split(options))
-            } else {
-                Err(WordsFault::Usage(Reason::SameName(repeated(&options))))
-            }
-        }
-        None => Err(WordsFault::Usage(Reason::Place(value_of(matches, "at")))),
-    }
-}
+/// The words of a `split`.
+pub struct SplitForm;
 
-// What the words of a `split` ask for, the command's own name first.
-pub fn read_split<'a>(alloc: Global, words: &'a [String]) -> Result<Demand<'a>, WordsFault<'a>>
-    ensures accepted { IfOk result (λ demand.
-        given_apart split (asked_of_split (texts words.now)) ≡ Some (meaning demand)) }
-    ensures refused { IfErr result (λ fault. UnlessMemory fault
-        (given_apart split (asked_of_split (texts words.now)) ≡ None)) }
-    ensures bounded { IfOk result IsBounded }
-{
-    match matches_of(
-        alloc,
-        "split",
-        &["trace", "at", "first", "second"],
-        &[],
-        words,
-    ) {
-        Ok(matches) => demand_in(&matches),
-        Err(fault) => Err(fault),
+impl Form for SplitForm {
+    ghost use Rattle.command_line.specs.Split.{asked_of_split, split_app, split_of};
+    ghost use Rattle.command_line.specs.Laws.Asked.{given_asked};
+    ghost use Rattle.command_line.specs.Words.{given_apart, split};
+
+    ghost app = { split_app };
+
+    ghost of = { λ rows. given_apart split (split_of rows) };
+
+    ghost asks = { λ words. given_apart split (asked_of_split words) };
+
+    fn matches<'a>(alloc: Global, words: &'a [String]) -> Result<ArgMatches<'a>, WordsFault<'a>> {
+        matches_of(
+            alloc,
+            "split",
+            &["trace", "at", "first", "second"],
+            &[],
+            words,
+        )
     }
+
+    fn demand<'a>(matches: &ArgMatches<'a>) -> Result<Demand<'a>, WordsFault<'a>> {
+        match options_in(matches) {
+            Some(options) => {
+                if has_names_apart(&options) {
+                    Ok(Demand::Split(options))
+                } else {
+                    Err(WordsFault::Usage(Reason::SameName(repeated(&options))))
+                }
+            }
+            None => Err(WordsFault::Usage(Reason::Place(value_of(matches, "at")))),
+        }
+    }
+
+    ghost meant = { given_asked split split_app split_of };
 }

@@ -1,14 +1,13 @@
 // The command `sweep`.
-ghost use Rattle.std.specs.Prelude.{◌≡◌, IfOk, IfErr, IsTrue, Some, None, option_map};
+ghost use Rattle.std.specs.Prelude.{◌≡◌, IsTrue, option_map};
 ghost use Rattle.std.specs.Option.{IfSome};
 ghost use Rattle.clap.specs.Words.{found_of, rows_of};
-ghost use Rattle.command_line.specs.Demands.{text_of, texts, UnlessMemory};
-ghost use Rattle.command_line.specs.Sweep.{asked_of_sweep, is_swept_size, size_in};
+ghost use Rattle.command_line.specs.Demands.{text_of};
+ghost use Rattle.command_line.specs.Sweep.{is_swept_size, size_in};
 ghost use Rattle.command_line.specs.Sweep.{sweep_meaning, sweep_of};
-ghost use Rattle.command_line.specs.Words.{IsBounded, given_apart, meaning, sweep};
 
 use crate::demand::{Demand, WordsFault};
-use crate::forms::{matches_of, value_of};
+use crate::forms::{Form, matches_of, value_of};
 use crate::layout::number;
 use crate::reason::Reason;
 use clap::ArgMatches;
@@ -49,30 +48,30 @@ fn options_in<'a>(matches: &ArgMatches<'a>) -> Option<SweepOptions<'a>>
     Some(SweepOptions { trace, size })
 }
 
-// The same as a demand.
-fn demand_in<'a>(matches: &ArgMatches<'a>) -> Result<Demand<'a>, WordsFault<'a>>
-    ensures accepted { IfOk result (λ demand.
-        given_apart sweep (sweep_of (rows_of (found_of matches.now))) ≡ Some (meaning demand)) }
-    ensures refused { IfErr result (λ fault. UnlessMemory fault
-        (given_apart sweep (sweep_of (rows_of (found_of matches.now))) ≡ None)) }
-    ensures bounded { IfOk result IsBounded }
-{
-    match options_in(matches) {
-        Some(options) => Ok(Demand::Sweep(options)),
-        None => Err(WordsFault::Usage(Reason::SweptSize(value_of(matches, "size")))),
-    }
-}
+/// The words of a `sweep`.
+pub struct SweepForm;
 
-// What the words of a `sweep` ask for, the command's own name first.
-pub fn read_sweep<'a>(alloc: Global, words: &'a [String]) -> Result<Demand<'a>, WordsFault<'a>>
-    ensures accepted { IfOk result (λ demand.
-        given_apart sweep (asked_of_sweep (texts words.now)) ≡ Some (meaning demand)) }
-    ensures refused { IfErr result (λ fault. UnlessMemory fault
-        (given_apart sweep (asked_of_sweep (texts words.now)) ≡ None)) }
-    ensures bounded { IfOk result IsBounded }
-{
-    match matches_of(alloc, "sweep", &["trace"], &["size"], words) {
-        Ok(matches) => demand_in(&matches),
-        Err(fault) => Err(fault),
+impl Form for SweepForm {
+    ghost use Rattle.command_line.specs.Sweep.{asked_of_sweep, sweep_app, sweep_of};
+    ghost use Rattle.command_line.specs.Laws.Asked.{given_asked};
+    ghost use Rattle.command_line.specs.Words.{given_apart, sweep};
+
+    ghost app = { sweep_app };
+
+    ghost of = { λ rows. given_apart sweep (sweep_of rows) };
+
+    ghost asks = { λ words. given_apart sweep (asked_of_sweep words) };
+
+    fn matches<'a>(alloc: Global, words: &'a [String]) -> Result<ArgMatches<'a>, WordsFault<'a>> {
+        matches_of(alloc, "sweep", &["trace"], &["size"], words)
     }
+
+    fn demand<'a>(matches: &ArgMatches<'a>) -> Result<Demand<'a>, WordsFault<'a>> {
+        match options_in(matches) {
+            Some(options) => Ok(Demand::Sweep(options)),
+            None => Err(WordsFault::Usage(Reason::SweptSize(value_of(matches, "size")))),
+        }
+    }
+
+    ghost meant = { given_asked sweep sweep_app sweep_of };
 }

@@ -1,8 +1,8 @@
 // The words of a command that reads a trace under a layout of lines, as `misses` and `blame` do.
-ghost use Rattle.std.specs.Prelude.{◌≡◌, IfOk, IfErr, Some, None, option_map};
-ghost use Rattle.clap.specs.Words.{found_of, rows_of};
+ghost use Rattle.std.specs.Prelude.{◌≡◌, ◌≢◌, [], IfOk, IfErr, Some, None, option_map};
+ghost use Rattle.clap.specs.Words.{fault_of, found_of, matches_of, rows_of};
 ghost use Rattle.command_line.specs.Demands.{texts, UnlessMemory};
-ghost use Rattle.command_line.specs.TraceLayouts.{asked_with_layout, layout_demand, layout_meaning};
+ghost use Rattle.command_line.specs.TraceLayouts.{layout_app, layout_demand, layout_meaning};
 
 use crate::demand::WordsFault;
 use crate::forms::{matches_of, value_of};
@@ -32,7 +32,7 @@ fn options_in<'a>(matches: &ArgMatches<'a>) -> Option<LayoutOptions<'a>>
 }
 
 // The same, or why they are refused.
-fn options_or_fault<'a>(matches: &ArgMatches<'a>) -> Result<LayoutOptions<'a>, WordsFault<'a>>
+pub fn layout_options<'a>(matches: &ArgMatches<'a>) -> Result<LayoutOptions<'a>, WordsFault<'a>>
     ensures accepted { IfOk result (λ options.
         layout_demand (rows_of (found_of matches.now)) ≡ Some (layout_meaning options)) }
     ensures refused { IfErr result (λ fault. UnlessMemory fault
@@ -47,19 +47,18 @@ fn options_or_fault<'a>(matches: &ArgMatches<'a>) -> Result<LayoutOptions<'a>, W
     }
 }
 
-// What the words of the command of a name ask for, the name first.
-pub fn read_layout_options<'a>(
+// What `clap` makes of the words for the command of a name.
+pub fn layout_matches<'a>(
     alloc: Global,
     name: &'a str,
     words: &'a [String],
-) -> Result<LayoutOptions<'a>, WordsFault<'a>>
-    ensures accepted { IfOk result (λ options.
-        asked_with_layout name.entry.now (texts words.now) ≡ Some (layout_meaning options)) }
+) -> Result<ArgMatches<'a>, WordsFault<'a>>
+    ensures taken { IfOk result (λ matches. fault_of (layout_app name.entry.now) (texts words.now)
+        ≡ []) }
+    ensures rows { IfOk result (λ matches. rows_of (found_of matches)
+        ≡ matches_of (layout_app name.entry.now) (texts words.now)) }
     ensures refused { IfErr result (λ fault. UnlessMemory fault
-        (asked_with_layout name.entry.now (texts words.now) ≡ None)) }
+        (fault_of (layout_app name.entry.now) (texts words.now) ≢ [])) }
 {
-    match matches_of(alloc, name, &["trace"], &["size", "shift"], words) {
-        Ok(matches) => options_or_fault(&matches),
-        Err(fault) => Err(fault),
-    }
+    matches_of(alloc, name, &["trace"], &["size", "shift"], words)
 }

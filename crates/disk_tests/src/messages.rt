@@ -8,6 +8,7 @@ use program_files::ElfFault;
 use settings::{Key, SettingsFault};
 use std::alloc::{AllocError, Global};
 use std::test::Fail;
+use trace_files::TableFault;
 use trace_format::TraceFault;
 
 // What is wrong with the words of a line, nothing where they are taken.
@@ -32,7 +33,7 @@ const SHAPE_3: &str = "'--size 64 --sets 3 --ways 8' is no shape of caches: --si
     two from 4 to 1024, --sets one from 1 to 1024, --ways from 1 to 64, and sets times ways at \
     most 4096";
 
-const WRONG_WORDS: [(&str, &str); 44] = [
+const WRONG_WORDS: [(&str, &str); 45] = [
     ("", "the command is missing; see predator --help"),
     ("reply t", "'reply' is no command; see predator --help"),
     ("run p --fast=1", "unexpected argument '--fast' found"),
@@ -107,6 +108,10 @@ const WRONG_WORDS: [(&str, &str); 44] = [
     (
         "convert t t",
         "'t' stands twice; each file that is written wants its own name",
+    ),
+    (
+        "move t m m",
+        "'m' stands twice; each file that is written wants its own name",
     ),
     (
         "explain p 2 64 0",
@@ -189,7 +194,7 @@ fn the_wrong_word_is_named(rt: HostRuntime) -> Result<(), Fail> {
     Ok(())
 }
 
-const ADVICE: [(Status, &str); 11] = [
+const ADVICE: [(Status, &str); 13] = [
     (
         Status::Elf(ElfFault::BadFlags),
         "it has compressed instructions, floating-point registers or RV32E's registers: compile \
@@ -242,6 +247,16 @@ const ADVICE: [(Status, &str); 11] = [
     (
         Status::Place(PlaceRefusal::TooLarge),
         "an object that is placed has at most 16 MiB",
+    ),
+    (
+        Status::Table(TableFault::Overlap(3)),
+        "the place that line 3 moves to and that of an earlier line have bytes in common: move it \
+            elsewhere",
+    ),
+    (
+        Status::Occupied(0x1000),
+        "an access at this address isn't moved, and others would be moved to where it is: give \
+            them another place, or give this address a line of its own",
     ),
 ];
 

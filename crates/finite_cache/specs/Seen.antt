@@ -1,10 +1,11 @@
 -- What caches have seen of the records of a trace.
-use Rattle.std.specs.Prelude.{◌≡◌, ℕ, ◌+◌, List, ◌++◌, length}
+use Rattle.std.specs.Prelude.{◌≡◌, ℕ, ◌+◌, Bool, false, List, ◌++◌, length}
 use Rattle.sharing_rules.specs.AccessLists.{AccessList}
 use Rattle.trace_format.specs.Rules.{touches_in}
 use Rattle.trace_format.specs.declared.record.TraceRecord.{TraceRecord}
+use Rattle.trace_format.specs.declared.record.TraceRecord.TheVariants as records
 use Rattle.base.specs.Shapes.{CacheShape}
-use Rattle.finite_cache.specs.Kept.{Kept, StandsFor}
+use Rattle.finite_cache.specs.Kept.{Kept, StandsFor, wants_memory}
 use Rattle.finite_cache.specs.Texts.{caches_text}
 
 -- from what was kept first, what is kept now came by these records
@@ -19,6 +20,11 @@ pub record HasSeen (begun now : Kept) (items : List TraceRecord) : Type 0 where
 -- its first access has this position
 abbrev pub begins_at : Kept → ℕ → Type 0
 begins_at begun first = begun.position ≡ first
+
+-- whether a record may want memory: an access that may
+abbrev pub record_wants_memory : Kept → TraceRecord → Bool
+record_wants_memory k (records.Touch a pc) = wants_memory k.shape k.parts a
+record_wants_memory k _ = false
 
 -- the text of caches of a shape that saw some records
 unfoldable pub caches_of_records : CacheShape → List TraceRecord → List ℕ

@@ -1,8 +1,9 @@
 // Caches see the accesses of a trace.
-ghost use Rattle.std.specs.Prelude.{◌≤◌, OnOk};
+ghost use Rattle.std.specs.Prelude.{◌≤◌, IsFalse, IsOk, OnOk};
 ghost use Rattle.trace_format.specs.Reading.{counted_after};
 ghost use Rattle.trace_format.specs.Rules.{last_position};
 ghost use Rattle.finite_cache.specs.Laws.Seen.{SeesNext};
+ghost use Rattle.finite_cache.specs.Seen.{record_wants_memory};
 
 use crate::caches::Caches;
 use base::NoMemory;
@@ -13,7 +14,8 @@ use trace_passes::Observer;
 #[inline]
 fn see(caches: &mut Caches, item: &TraceRecord) -> Result<(), NoMemory>
     requires { counted_after caches.old.position item.now ≤ last_position }
-    ensures { OnOk result (SeesNext caches.old caches.new item.now) }
+    ensures next { OnOk result (SeesNext caches.old caches.new item.now) }
+    ensures known { IsFalse (record_wants_memory caches.old item.now) → IsOk result }
 {
     match item {
         TraceRecord::Touch(access, _) => caches.on_access(access),
@@ -25,9 +27,12 @@ fn see(caches: &mut Caches, item: &TraceRecord) -> Result<(), NoMemory>
 }
 
 impl Observer for Caches {
-    ghost use Rattle.finite_cache.specs.Seen.{HasSeen, begins_at};
+    ghost use Rattle.std.specs.Prelude.{IsFalse};
+    ghost use Rattle.finite_cache.specs.Seen.{HasSeen, begins_at, record_wants_memory};
 
     ghost given = { HasSeen };
+
+    ghost known = { λ k item. IsFalse (record_wants_memory k item) };
 
     ghost begins = { begins_at };
 

@@ -2,9 +2,9 @@
 use Rattle.std.proofs.Common.{◌≡◌, ℕ, zero, suc, ◌<◌, ◌≤◌, Bool, true, false, Option, Some, None}
 use Rattle.std.proofs.Common.{refl, sym, ap, ◌∙◌, arith, inl, inr}
 use Rattle.std.proofs.Common.{subst, true≢false}
-use Rattle.std.specs.Prelude.{MatchOption, if◌then◌else◌}
+use Rattle.std.specs.Prelude.{MatchOption, if◌then◌else◌, nat_lt, not, ◌&&◌}
 use Rattle.std.specs.Option.{option_or}
-use Rattle.std.proofs.lemmas.Bool.{cases_Bool, cases_eq}
+use Rattle.std.proofs.lemmas.Bool.{cases_Bool, cases_eq, ltb-true}
 use Rattle.std.proofs.lemmas.Option.{none-some}
 use Rattle.std.proofs.lemmas.Bool.Decides.{nat_tests}
 use Rattle.guest.specs.Heaps.{Heap, can_stand, IsLeastPlace, HasNoPlace}
@@ -12,7 +12,8 @@ use Rattle.guest.specs.Heaps.{after_alloc}
 use Rattle.guest.specs.LeastPlaces.{least_below, least_place}
 use Rattle.guest.specs.Configs.{Config, value_in}
 use Rattle.guest.specs.GuestCalls.{RunTurn, block_answered, allocated, alloc_turn}
-use Rattle.guest.specs.Turns.{chosen, makes_block}
+use Rattle.guest.specs.Notes.{is_noted}
+use Rattle.guest.specs.Turns.{chosen, wants_memory}
 
 below-none : (p : ℕ → Bool) (n : ℕ) → ((i : ℕ) → i < n → p i ≡ false) → least_below p n ≡ None
 below-none p zero none = refl
@@ -85,14 +86,22 @@ least-none h size none = λ q.
       | inr fails ↦ fails
     ]
 
-no-block : (hart size : ℕ) (o : Option ℕ) (c : Config) → makes_block (block_answered hart size o c)
-    ≡ false → o ≡ None
-no-block hart size None c h = refl
-no-block hart size (Some place) c h = absurd (true≢false h)
+-- a block of the heap is no noted one
+of-heap : (n : ℕ) (x b : Bool) → b ≡ nat_lt n n → not (b && x) ≡ true
+of-heap n x false is = refl
+of-heap n x true is = absurd (omega (arith, ltb-true n n (sym is)))
 
--- a call that makes no block is one whose heap has no place
+no-block : (hart size : ℕ) (o : Option ℕ) (c : Config)
+    → wants_memory c (block_answered hart size o c) ≡ false → o ≡ None
+no-block hart size None c h = refl
+no-block hart size (Some place) c h =
+    absurd (true≢false
+    (sym (of-heap c.notes.made (is_noted c.notes place) (nat_lt c.notes.made c.notes.made) refl)
+    ∙ h))
+
+-- a call that wants no memory is one whose heap has no place
 pub unmade-block : (hart size : ℕ) (c : Config) → size ≡ value_in c hart 10
-    → makes_block (alloc_turn hart (chosen c)) ≡ false → HasNoPlace c.heap size
+    → wants_memory c (alloc_turn hart (chosen c)) ≡ false → HasNoPlace c.heap size
 unmade-block hart size c asked h =
     rw asked
     (least-none c.heap (value_in c hart 10)

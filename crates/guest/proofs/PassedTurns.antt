@@ -17,7 +17,7 @@ use Rattle.guest.specs.declared.turn.Turn.TheVariants.{Ran, Ended}
 use Rattle.guest.specs.declared.turn.Event.TheVariants.{Quiet}
 use Rattle.guest.specs.Configs.{Config, Fits}
 use Rattle.guest.specs.GuestCalls.{RunEvent, quiet, touch, alloc, free, output, ran}
-use Rattle.guest.specs.Turns.{AreTurns, makes_block, turn_of}
+use Rattle.guest.specs.Turns.{AreTurns, turn_of, wants_memory}
 use Rattle.guest.specs.Runs.{ended_run, ending_with, led_by, led_with, rest_with, run_of}
 use Rattle.guest.specs.Runs.{touch_in, touches_in}
 use Rattle.guest.specs.SeenTurns.{AreOfHarts, AreTouches, ComesTo, CountsOn, HasPassed, IsLedTo}
@@ -220,7 +220,7 @@ pub record Taken (s : Setup) (until : ℕ) (c d : Config) (touches : List Touche
   pub turn : IfOk r
       (λ t. (x : Config) × HasPassed s until touches c x × (turn_seen t d ≡ turn_of s x))
   pub passed : OnErr r (HasPassed s until touches c d)
-  pub settled : OnErr r (IsTrue (makes_block (turn_of s d)))
+  pub settled : OnErr r (IsTrue (wants_memory d (turn_of s d)))
 
 refused_settled : (b : Bool) → (IsFalse b → false ≡ true) → IsTrue b
 refused_settled true h = refl
@@ -229,14 +229,14 @@ refused_settled false h = h refl
 pub taken : (s : Setup) (until : ℕ) (c x d : Config) (touches : List Touched)
     (r : Result Turn NoMemory) → Passing s until c x touches
     → IfOk r (λ t. turn_seen t d ≡ turn_of s x) → OnErr r (d ≡ x)
-    → (IsFalse (makes_block (turn_of s x)) → IsOk r)
+    → (IsFalse (wants_memory x (turn_of s x)) → IsOk r)
     → Taken s until c d touches r
 taken s until c x d touches (Ok t) before turn same settled =
     record { turn = (x, before.so_far, turn); passed = tt; settled = tt }
 taken s until c x d touches (Err e) before turn same settled = record {
   turn = tt;
   passed = subst (HasPassed s until touches c) (sym same) before.so_far;
-  settled = rw same (refused_settled (makes_block (turn_of s x)) settled);
+  settled = rw same (refused_settled (wants_memory x (turn_of s x)) settled);
 }
 
 pub quiet_answer : (s : Setup) (x d : Config) (r : Result Turn NoMemory)

@@ -1,5 +1,5 @@
 -- One turn of a guest: it is judged whether the run is over, and else a hart makes one step.
-use Rattle.std.specs.Prelude.{◌≡◌, ℕ, ◌+◌, Bool, true, false, if◌then◌else◌, nat_lt}
+use Rattle.std.specs.Prelude.{◌≡◌, ℕ, ◌+◌, Bool, false, not, ◌&&◌, if◌then◌else◌, nat_lt}
 use Rattle.std.specs.Prelude.{List, [], ◌∷◌, map}
 use Rattle.std.specs.Prelude.{Option, None, Some, slice_set}
 use Rattle.base.specs.Touch.{Touch}
@@ -15,6 +15,7 @@ use Rattle.guest.specs.declared.setup.Setup.{Setup}
 use Rattle.guest.specs.Configs.{Config, state_of, noted, counted}
 use Rattle.guest.specs.GuestCalls.{RunEvent, quiet, touch, alloc, free, output, RunTurn, ran, over}
 use Rattle.guest.specs.GuestCalls.{quietly, call_turn}
+use Rattle.guest.specs.Notes.{Noted, is_noted}
 
 -- what a step of a hart sees, and the configuration that the step leaves
 abbrev pub machine_of : ℕ → Config → Machine
@@ -78,14 +79,17 @@ AreTurns s [] c d = c ≡ d
 AreTurns s (e ∷ events) c d =
     (x : Config) × (turn_of s c ≡ ran e x) × AreTurns s events x d
 
--- whether a turn makes a block, which no turn does that ends the run
-abbrev pub is_block : RunEvent → Bool
-is_block quiet = false
-is_block (touch a pc) = false
-is_block (alloc at size sites) = true
-is_block (free at) = false
-is_block (output at bytes) = false
+-- whether an event is a block for which memory may be wanted, with what was noted before and behind
+-- it: all but one that is noted where a noted block lives
+abbrev pub is_new_block : Noted → Noted → RunEvent → Bool
+is_new_block before behind quiet = false
+is_new_block before behind (touch a pc) = false
+is_new_block before behind (alloc at size sites) =
+    not (nat_lt before.made behind.made && is_noted before at)
+is_new_block before behind (free at) = false
+is_new_block before behind (output at bytes) = false
 
-abbrev pub makes_block : RunTurn → Bool
-makes_block (ran e c) = is_block e
-makes_block (over o c) = false
+-- whether a turn from a configuration may want memory, which none does that ends the run
+abbrev pub wants_memory : Config → RunTurn → Bool
+wants_memory c (ran e d) = is_new_block c.notes d.notes e
+wants_memory c (over o d) = false

@@ -4,7 +4,7 @@ ghost use Rattle.std.specs.Prelude.{IsOk, OnErr, IsFalse, IsTrue, IfSome, IsSome
 ghost use Rattle.rv32_hart.specs.Space.{AllMapped, bytes_at};
 ghost use Rattle.guest.specs.LeastPlaces.{heap_over};
 ghost use Rattle.guest.specs.Configs.{first_config};
-ghost use Rattle.guest.specs.Turns.{makes_block, turn_of};
+ghost use Rattle.guest.specs.Turns.{turn_of, wants_memory};
 ghost use Rattle.guest.specs.Runs.{IsShort, rest_of};
 ghost use Rattle.guest.specs.SeenTurns.{AreOfHarts, ComesTo, Counts, CountsOn, IsLedTo, IsSeen};
 ghost use Rattle.guest.specs.SeenTurns.{IsWithin, MakesAccess, begun_with, ending_after, turn_seen};
@@ -107,9 +107,9 @@ impl Guest {
     ///
     /// Once it has answered `Ended` it answers the same again, and all stays.
     ///
-    /// NoMemory comes only at a turn that makes a block of the heap, or notes another one: at no
-    /// exit, deadlock or end of the budget, and only where the hart that is next is at the call and
-    /// isn't refused. It leaves the guest as it was, its schedule included.
+    /// NoMemory comes only at a turn that makes a block of the heap, or notes another one where no
+    /// noted block lives: at no exit, deadlock or end of the budget, and only where the hart that is
+    /// next is at the call and isn't refused. It leaves the guest as it was, its schedule included.
     #[inline]
     pub fn step(&mut self) -> Result<Turn, NoMemory>
         // the turn of the definition, and the configuration that it gives
@@ -127,10 +127,10 @@ impl Guest {
         ensures within { IsWithin self.new }
         ensures seen { IfOk result (λ turn. IsSeen self.new.setup.harts turn self.new.config) }
         ensures refused { OnErr result (self.new ≡ self.old) }
-        // only a turn that makes a block takes memory, so none where the run ends or is at the end
-        // of its budget
-        ensures settled { IsFalse (makes_block (turn_of self.old.setup self.old.config))
-            → IsOk result }
+        // only a turn that makes a new block takes memory, so none where the run ends or is at the
+        // end of its budget
+        ensures settled { IsFalse (wants_memory self.old.config
+            (turn_of self.old.setup self.old.config)) → IsOk result }
     {
         match self.ending {
             Some(ending) => Ok(Turn::Ended(ending.outcome)),
@@ -185,9 +185,9 @@ impl Guest {
         ensures refused { OnErr result
             (IsLedTo (rest_of self.old) touches.new (rest_of self.new)) }
         ensures going { OnErr result (self.new.ending ≡ None) }
-        // only a turn that makes a block takes memory, and the guest is at one
+        // only a turn that makes a new block takes memory, and the guest is at one
         ensures settled { OnErr result
-            (IsTrue (makes_block (turn_of self.new.setup self.new.config))) }
+            (IsTrue (wants_memory self.new.config (turn_of self.new.setup self.new.config))) }
     {
         touches.clear();
         match self.ending {

@@ -5,7 +5,7 @@ ghost use Rattle.std.specs.Bool.{OnTrue};
 ghost use Rattle.rv32_hart.specs.Space.{AllMapped};
 ghost use Rattle.guest.specs.ThreadCalls.{lowest_free};
 ghost use Rattle.guest.specs.Configs.{CanStep, answered, calls_of, counted, value_in};
-ghost use Rattle.guest.specs.Turns.{IsNext, chosen, makes_block};
+ghost use Rattle.guest.specs.Turns.{IsNext, chosen, wants_memory};
 ghost use Rattle.guest.specs.GuestCalls.{alloc, alloc_turn, are_mapped, block_answered};
 ghost use Rattle.guest.specs.GuestCalls.{block_turn, call_turn, note_fault, ran, unblock_turn};
 ghost use Rattle.guest.specs.GuestCalls.{exit_group_turn, exit_turn, free_turn, join_turn, minus};
@@ -281,8 +281,8 @@ impl Configuration {
             (chosen (config_of self.old))) }
         ensures seen { IfOk result (λ turn. (harts : ℕ) → IsSeen harts turn (config_of self.new)) }
         ensures refused { OnErr result (config_of self.new ≡ config_of self.old) }
-        ensures settled { IsFalse (makes_block (alloc_turn hart (chosen (config_of self.old))))
-            → IsOk result }
+        ensures settled { IsFalse (wants_memory (config_of self.old)
+            (alloc_turn hart (chosen (config_of self.old)))) → IsOk result }
     {
         let size = self.value_in(hart, A0);
         match self.heap.alloc(size) {
@@ -340,8 +340,8 @@ impl Configuration {
             (chosen (config_of self.old))) }
         ensures seen { IfOk result (λ turn. (harts : ℕ) → IsSeen harts turn (config_of self.new)) }
         ensures refused { OnErr result (config_of self.new ≡ config_of self.old) }
-        ensures settled { IsFalse (makes_block (block_turn hart (chosen (config_of self.old))))
-            → IsOk result }
+        ensures settled { IsFalse (wants_memory (config_of self.old)
+            (block_turn hart (chosen (config_of self.old)))) → IsOk result }
     {
         let addr = self.value_in(hart, A0);
         let size = self.value_in(hart, A1);
@@ -443,8 +443,8 @@ impl Configuration {
         }
     }
 
-    /// The call of a hart that is at an ECALL, with its turn. Only a call that makes a block takes
-    /// memory, and it does so before the hart has its turn.
+    /// The call of a hart that is at an ECALL, with its turn. Only a call that makes a new block
+    /// takes memory, and it does so before the hart has its turn.
     ///
     /// NoMemory leaves all as it was.
     pub fn call(&mut self, setup: &Setup, hart: Hart) -> Result<Turn, NoMemory>
@@ -456,8 +456,8 @@ impl Configuration {
             (chosen (config_of self.old))) }
         ensures seen { IfOk result (λ turn. (harts : ℕ) → IsSeen harts turn (config_of self.new)) }
         ensures refused { OnErr result (config_of self.new ≡ config_of self.old) }
-        ensures settled { IsFalse
-            (makes_block (call_turn setup.now hart (chosen (config_of self.old)))) → IsOk result }
+        ensures settled { IsFalse (wants_memory (config_of self.old)
+            (call_turn setup.now hart (chosen (config_of self.old)))) → IsOk result }
     {
         match self.value_in(hart, A7) {
             MAKE_BLOCK => self.make_block(hart),

@@ -1,5 +1,5 @@
 // The blocks that a guest notes.
-ghost use Rattle.std.specs.Prelude.{◌≡◌, ◌≤◌, ◌<◌, ◌↔◌, IsTrue, OnOk, OnErr, if◌then◌else◌};
+ghost use Rattle.std.specs.Prelude.{◌≡◌, ◌≤◌, ◌<◌, ◌↔◌, IsOk, IsTrue, OnOk, OnErr, if◌then◌else◌};
 ghost use Rattle.guest.specs.Notes.{most_noted, none_noted, after_noting, after_dying, is_noted};
 
 use base::NoMemory;
@@ -52,6 +52,7 @@ impl NotedBlocks {
         requires { self.old.made < most_noted }
         ensures noted { OnOk result (self.new ≡ after_noting self.old addr) }
         ensures refused { OnErr result (self.new ≡ self.old) }
+        ensures known { IsTrue (is_noted self.old addr) → IsOk result }
     {
         self.live.insert(addr)?;
         self.made += 1;

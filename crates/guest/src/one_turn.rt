@@ -10,8 +10,8 @@ ghost use Rattle.guest.specs.Configs.{CanStep, Config, Fits, counted, noted};
 ghost use Rattle.guest.specs.GuestCalls.{over, quiet, ran};
 ghost use Rattle.guest.specs.Runs.{ending_with};
 ghost use Rattle.guest.specs.OwnSteps.{IsAt};
-ghost use Rattle.guest.specs.Turns.{IsNext, chosen, hart_turn, made, makes_block};
-ghost use Rattle.guest.specs.Turns.{runnable_in, turn_of};
+ghost use Rattle.guest.specs.Turns.{IsNext, chosen, hart_turn, made};
+ghost use Rattle.guest.specs.Turns.{runnable_in, turn_of, wants_memory};
 ghost use Rattle.guest.specs.ConfigInside.{config_of};
 ghost use Rattle.guest.specs.declared.setup.Setup.{Setup};
 ghost use Rattle.guest.specs.SeenTurns.{AreOfHarts, HasPassed, IsEndOf, IsSeen, MakesAccess};
@@ -116,8 +116,8 @@ impl Configuration {
         ensures seen { IfOk result
             (λ turn. IsSeen (length self.old.threads) turn (config_of self.new)) }
         ensures refused { OnErr result (config_of self.new ≡ config_of self.old) }
-        ensures settled { IsFalse
-            (makes_block (hart_turn setup.now hart (chosen (config_of self.old)))) → IsOk result }
+        ensures settled { IsFalse (wants_memory (config_of self.old)
+            (hart_turn setup.now hart (chosen (config_of self.old)))) → IsOk result }
     {
         let pc = self.pc(hart);
         let state = &mut self.states[usize::from(hart.number())];
@@ -174,8 +174,8 @@ impl Configuration {
         ensures fits { Fits setup.now.harts (config_of self.new) }
         ensures seen { IfOk result (λ turn. IsSeen setup.now.harts turn (config_of self.new)) }
         ensures refused { OnErr result (config_of self.new ≡ config_of self.old) }
-        ensures settled { IsFalse (makes_block (turn_of setup.now (config_of self.old)))
-            → IsOk result }
+        ensures settled { IsFalse (wants_memory (config_of self.old)
+            (turn_of setup.now (config_of self.old))) → IsOk result }
     {
         let hart = match self.next_hart() {
             Some(hart) => hart,
@@ -212,7 +212,7 @@ impl Configuration {
         ensures passed { OnErr result
             (HasPassed setup.now until touches.new (config_of self.old) (config_of self.new)) }
         ensures settled { OnErr result
-            (IsTrue (makes_block (turn_of setup.now (config_of self.new)))) }
+            (IsTrue (wants_memory (config_of self.new) (turn_of setup.now (config_of self.new)))) }
         ensures paused { result ≡ Ok (Turn.Ran Event.Quiet) → until ≤ self.new.steps }
         ensures room { IfOk result (λ turn. MakesAccess turn → self.new.steps < until
             → 256 ≤ length touches.new) }

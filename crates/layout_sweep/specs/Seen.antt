@@ -3,8 +3,10 @@ use Rattle.std.specs.Prelude.{◌≡◌, ℕ, ◌+◌, List, [], ◌∷◌, ◌+
 use Rattle.sharing_rules.specs.AccessLists.{AccessList}
 use Rattle.trace_format.specs.Rules.{touches_in}
 use Rattle.trace_format.specs.declared.record.TraceRecord.{TraceRecord}
+use Rattle.trace_format.specs.declared.record.TraceRecord.TheVariants as records
 use Rattle.layout_sweep.specs.Standing.{StandsFor}
 use Rattle.layout_sweep.specs.Texts.{sweep_text}
+use Rattle.layout_sweep.specs.Windows.{IsFirstWrite}
 use Rattle.layout_sweep.specs.declared.sweep.Sweep.{Sweep}
 
 -- from what it was first, it came to what it is by these records
@@ -24,6 +26,16 @@ abbrev pub SweepsNext : Sweep → Sweep → TraceRecord → Type 0
 SweepsNext old new item =
     (begun : Sweep) (items : List TraceRecord)
     → HasSwept begun old items → HasSwept begun new (items ++ item ∷ [])
+
+-- a record behind these accesses that may want memory under lines of n bytes: the first write of a
+-- line of some shift
+abbrev pub WantsMemory : ℕ → AccessList → TraceRecord → Type 0
+WantsMemory n t (records.Touch a pc) = IsFirstWrite n t a
+WantsMemory n t _ = ⊥
+
+-- one that wants none, by a list that the sweep stands for
+abbrev pub NeedsNone : Sweep → TraceRecord → Type 0
+NeedsNone s item = (t : AccessList) × StandsFor t s × (WantsMemory s.size t item → ⊥)
 
 -- the text of a list of records, under every shift of a size
 abbrev pub sweep_of_records : ℕ → List TraceRecord → List ℕ

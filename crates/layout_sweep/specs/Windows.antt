@@ -6,7 +6,7 @@ use Rattle.std.specs.List.{list_any}
 use Rattle.base.specs.Lines.{Grid}
 use Rattle.base.specs.Touch.{Touch, is_write}
 use Rattle.sharing_rules.specs.AccessLists.{AccessList, writes_to}
-use Rattle.sharing_rules.specs.Lines.{Line, is_inside, line_at}
+use Rattle.sharing_rules.specs.Lines.{Line, is_inside, line_at, native_grid}
 use Rattle.sharing_rules.specs.Tracks.{Traced, track_of}
 use Rattle.layout_sweep.specs.Histories.{finds_another, history_after}
 use Rattle.layout_sweep.specs.declared.window.Window.{Window}
@@ -53,3 +53,8 @@ pub record IsFirstWrite (n : ℕ) (t : AccessList) (a : Touch) : Type 0 where
   pub shift : ℕ
   pub within : shift < n / 4
   pub first : IsFalse (list_any (writes_to (is_inside (line_at (shifted_grid n shift) a.addr))) t)
+
+-- an access that is the first write of its line, where lines of n bytes begin at their multiples
+pub record BeginsLine (n : ℕ) (t : AccessList) (a : Touch) : Type 0 where
+  pub write : IsTrue (is_write a.kind)
+  pub first : IsFalse (list_any (writes_to (is_inside (line_at (native_grid n) a.addr))) t)

@@ -1,11 +1,11 @@
 // The lines of one layout.
 ghost use Rattle.std.specs.Prelude.{◌≡◌, ◌≢◌, ℕ, ◌+◌, ◌%◌, ◌<◌, ◌≤◌, ◌^◌, [], ◌∷◌, ◌++◌, vec_len};
-ghost use Rattle.std.specs.Prelude.{IsTrue, OnOk, if◌then◌else◌};
+ghost use Rattle.std.specs.Prelude.{IsTrue, OnErr, OnOk, if◌then◌else◌};
 ghost use Rattle.base.specs.Lines.{line_number};
 ghost use Rattle.base.specs.Touch.{is_write};
 ghost use Rattle.sharing_rules.specs.AccessLists.{AccessList};
 ghost use Rattle.layout_sweep.specs.Pages.{has_window, window_at, window_in};
-ghost use Rattle.layout_sweep.specs.Windows.{takes, window_after, window_of};
+ghost use Rattle.layout_sweep.specs.Windows.{BeginsLine, takes, window_after, window_of};
 
 use crate::pages::{PAGE_WINDOWS, Page, has_page, make_page};
 use base::{Access, NoMemory};
@@ -118,14 +118,16 @@ impl LineCounts {
         self.total
     }
 
-    /// Makes what an access needs. It takes memory only for a write, and NoMemory leaves every
-    /// meaning as it was.
+    /// Makes what an access needs. It takes memory only for the first write of a line, and NoMemory
+    /// leaves every meaning as it was.
     #[inline(always)]
     pub fn make_room(&mut self, access: Access) -> Result<(), NoMemory>
         ensures room { OnOk result (CanNote self.new access) }
         ensures size { self.new.size ≡ self.old.size }
         ensures total { self.new.total ≡ self.old.total }
         ensures same { (t : AccessList) → HasCounted t self.old → HasCounted t self.new }
+        ensures known { (t : AccessList) → HasCounted t self.old
+            → OnErr result (BeginsLine self.old.size t access) }
     {
         if access.kind().is_write() {
             let line = number_of(self.size, access.addr());

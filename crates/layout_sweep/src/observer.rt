@@ -1,8 +1,10 @@
 // A sweep sees the records of a trace.
-ghost use Rattle.std.specs.Prelude.{◌≤◌, OnOk};
+ghost use Rattle.std.specs.Prelude.{◌≤◌, OnErr, OnOk};
+ghost use Rattle.sharing_rules.specs.AccessLists.{AccessList};
 ghost use Rattle.trace_format.specs.Reading.{counted_after};
 ghost use Rattle.trace_format.specs.Rules.{last_position};
-ghost use Rattle.layout_sweep.specs.Seen.{SweepsNext};
+ghost use Rattle.layout_sweep.specs.Seen.{SweepsNext, WantsMemory};
+ghost use Rattle.layout_sweep.specs.Standing.{StandsFor};
 
 use crate::one_access::see;
 use crate::sweep::Sweep;
@@ -14,7 +16,9 @@ use trace_passes::Observer;
 #[inline]
 fn note_record(sweep: &mut Sweep, item: &TraceRecord) -> Result<(), NoMemory>
     requires { counted_after sweep.old.position item.now ≤ last_position }
-    ensures { OnOk result (SweepsNext sweep.old sweep.new item.now) }
+    ensures next { OnOk result (SweepsNext sweep.old sweep.new item.now) }
+    ensures known { (t : AccessList) → StandsFor t sweep.old
+        → OnErr result (WantsMemory sweep.old.size t item.now) }
 {
     match item {
         TraceRecord::Touch(access, _) => see(sweep, *access),
@@ -23,9 +27,11 @@ fn note_record(sweep: &mut Sweep, item: &TraceRecord) -> Result<(), NoMemory>
 }
 
 impl Observer for Sweep {
-    ghost use Rattle.layout_sweep.specs.Seen.{HasSwept, begins_at};
+    ghost use Rattle.layout_sweep.specs.Seen.{HasSwept, NeedsNone, begins_at};
 
     ghost given = { HasSwept };
+
+    ghost known = { NeedsNone };
 
     ghost begins = { begins_at };
 

@@ -3,6 +3,7 @@ pub mod Fits
 pub mod Kept
 pub mod Laws
 pub mod Misses
+pub mod Placed
 pub mod Rows
 pub mod Seen
 pub mod Texts

@@ -1,14 +1,13 @@
 -- What trace records show of the misses of each line, and what stands in memory.
-use Rattle.std.specs.Prelude.{◌≡◌, ℕ, ◌+◌, List, [], ◌∷◌, ◌++◌, length}
-use Rattle.base.specs.Lines.{Grid}
-use Rattle.misses.specs.Kept.{Kept, StandsFor, kept_of, note_access}
+use Rattle.std.specs.Prelude.{◌≡◌, ℕ, ◌+◌, Bool, false, not, ◌||◌, List, [], ◌∷◌, ◌++◌, length}
+use Rattle.base.specs.Lines.{Grid, line_number}
+use Rattle.misses.specs.Kept.{Kept, StandsFor, has_come_to, kept_of, note_access}
 use Rattle.objects.specs.Objects.{no_objects}
 use Rattle.sharing_rules.specs.AccessLists.{AccessList}
 use Rattle.trace_format.specs.Rules.{touches_in}
 use Rattle.trace_format.specs.declared.record.TraceRecord.{TraceRecord}
 use Rattle.trace_format.specs.declared.record.TraceRecord.TheVariants as records
-use Rattle.trace_passes.specs.Lives.{objects_after}
-use Rattle.trace_passes.specs.Lives.{objects_noted}
+use Rattle.trace_passes.specs.Lives.{objects_after, objects_noted, objects_want_memory}
 use Rattle.misses.specs.declared.observer.MissSightings.{MissSightings}
 
 -- before the first record
@@ -26,6 +25,16 @@ missed s item = record {
   misses = misses_noted s.misses item;
   objects = objects_noted s.objects item s.misses.position;
 }
+
+-- whether a record may want memory: an access by a hart that is new to its line, and a record for
+-- which the objects may
+abbrev pub misses_want_memory : Kept → TraceRecord → Bool
+misses_want_memory k (records.Touch a pc) =
+    not (has_come_to k.lines (line_number k.grid.size k.grid.offset a.addr) a.hart)
+misses_want_memory k _ = false
+
+abbrev pub wants_memory : MissSightings → TraceRecord → Bool
+wants_memory s item = misses_want_memory s.misses item || objects_want_memory s.objects item
 
 -- from what was seen first, what is seen now came by these records
 pub record HasMissed (begun now : MissSightings) (items : List TraceRecord) : Type 0 where

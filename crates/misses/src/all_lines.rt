@@ -1,16 +1,18 @@
 // The misses of all lines.
 ghost use Rattle.std.specs.Prelude.{◌≡◌, ◌/◌, ◌<◌, ◌≤◌, ◌^◌, ◌∷◌, ◌++◌, [], length, OnOk};
 ghost use Rattle.std.specs.Prelude.{OnErr, IfOk, IfSome, IsOk, IsSome, IsTrue, slice_get, nat_eq};
-ghost use Rattle.std.specs.Prelude.{option_map};
+ghost use Rattle.std.specs.Prelude.{eqb, is_some, option_map};
+ghost use Rattle.std.specs.Map.{lookup};
 ghost use Rattle.indexmap.specs.IndexMap.{insert_entry, set_value_at, values};
 ghost use Rattle.base.specs.Lines.{line_number};
 ghost use Rattle.sharing_rules.specs.AccessLists.{AccessList};
 ghost use Rattle.sharing_rules.specs.Lines.{word_place};
 ghost use Rattle.misses.specs.Fits.{AreFit};
-ghost use Rattle.misses.specs.Kept.{StandsFor, blank_line, cost_in, cost_of, kept_of};
+ghost use Rattle.misses.specs.Kept.{LineEntry, StandsFor, blank_line, cost_in, cost_of, kept_of};
 ghost use Rattle.misses.specs.Kept.{has_come, has_come_to, note_access, note_line};
 
 use crate::line_misses::{Cost, Costs, Counts, LineMisses};
+use crate::recent::Recent;
 use base::{Access, Layout, NoMemory};
 use indexmap::IndexMap;
 use sharing_rules::CacheLine;
@@ -34,6 +36,7 @@ pub struct Misses {
     position: u64,
     totals: Counts,
     lines: IndexMap<u64, LineMisses>,
+    recent: Recent,
 }
 
 impl Model for Misses {
@@ -56,6 +59,7 @@ impl Model for Misses {
 }
 
 // Notes an access in the line at an index.
+#[inline(always)]
 fn note_known(
     lines: &mut IndexMap<u64, LineMisses>,
     index: usize,
@@ -84,6 +88,7 @@ fn note_known(
 }
 
 // Notes the first access of a line of so many words.
+#[inline(never)]
 fn note_new(
     lines: &mut IndexMap<u64, LineMisses>,
     number: u64,
@@ -113,9 +118,49 @@ fn note_new(
     }
 }
 
+// Whether the line of a number is at an index.
+#[inline(always)]
+fn is_at(lines: &IndexMap<u64, LineMisses>, index: usize, number: u64) -> bool
+    ensures index { IsTrue result → (l : LineEntry)
+        → insert_entry nat_eq lines.now.entries number l
+        ≡ set_value_at lines.now.entries index l }
+    ensures value { IsTrue result → slice_get (values lines.now) index
+        ≡ lookup (eqb number) lines.now.entries }
+    ensures found { IsTrue result → IsTrue (is_some (lookup (eqb number) lines.now.entries)) }
+{
+    if lines.len() <= index {
+        return false;
+    }
+    match lines.get_index(index) {
+        Some((key, _)) => *key == number,
+        None => false,
+    }
+}
+
+// Where a line is, if it was accessed: first the place is looked at where it may be.
+#[inline(always)]
+fn find(lines: &IndexMap<u64, LineMisses>, recent: &mut Recent, number: u64) -> Option<usize>
+    ensures index { IfSome result (λ i. (l : LineEntry)
+        → insert_entry nat_eq lines.now.entries number l ≡ set_value_at lines.now.entries i l) }
+    ensures value { IfSome result (λ i. slice_get (values lines.now) i
+        ≡ lookup (eqb number) lines.now.entries) }
+    ensures found { is_some result ≡ is_some (lookup (eqb number) lines.now.entries) }
+{
+    let guess = recent.guess(number);
+    if is_at(lines, guess, number) {
+        return Some(guess);
+    }
+    let index = lines.get_index_of(&number);
+    if let Some(index) = index {
+        recent.keep(number, index);
+    }
+    index
+}
+
 // Notes an access of a line.
 fn note_in(
     lines: &mut IndexMap<u64, LineMisses>,
+    recent: &mut Recent,
     line: CacheLine,
     position: u64,
     access: &Access,
@@ -132,7 +177,7 @@ fn note_in(
 {
     let number = line.number();
     let place = line.word_place(access.addr());
-    match lines.get_index_of(&number) {
+    match find(lines, recent, number) {
         Some(index) => note_known(lines, index, position, place, access),
         None => note_new(lines, number, line.word_count(), position, place, access),
     }
@@ -154,6 +199,7 @@ impl Misses {
                 needed: 0,
             },
             lines: IndexMap::new(alloc),
+            recent: Recent::new(alloc),
         }
     }
 
@@ -224,7 +270,13 @@ impl Misses {
     {
         let number = self.layout.number_of(access.addr());
         let line = CacheLine::numbered(self.layout, number);
-        let cost = match note_in(&mut self.lines, line, self.position, access) {
+        let cost = match note_in(
+            &mut self.lines,
+            &mut self.recent,
+            line,
+            self.position,
+            access,
+        ) {
             Ok(cost) => cost,
             Err(fault) => return Err(fault),
         };

@@ -14,9 +14,11 @@
 #![tactic(auto)]
 
 mod all_lines;
+mod hart_table;
 mod laws;
 mod line_misses;
 mod observer;
+mod recent;
 mod text;
 
 pub use all_lines::{Misses, Row};

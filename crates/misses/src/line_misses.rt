@@ -6,8 +6,8 @@ ghost use Rattle.misses.specs.Kept.{misses_now, needs_now, note_line};
 ghost use Rattle.misses.specs.Fits.{IsFew};
 ghost use Rattle.misses.specs.Kept.{visits_after, visits_of};
 
+use crate::hart_table::HartTable;
 use base::{Access, Kind, NoMemory};
-use indexmap::IndexMap;
 use std::alloc::Global;
 use std::marker::Model;
 
@@ -55,7 +55,7 @@ pub struct Costs {
 pub struct LineMisses {
     written: u64,
     words: Vec<LastWrite>,
-    harts: IndexMap<u16, Visits>,
+    harts: HartTable,
     counts: Counts,
 }
 
@@ -67,7 +67,7 @@ impl Model for LineMisses {
     ghost view = { λ l. record {
       written = l.written;
       words = l.words.items;
-      harts = l.harts.entries;
+      harts = l.harts;
       counts = l.counts;
     } };
 }
@@ -147,7 +147,7 @@ impl LineMisses {
         Ok(LineMisses {
             written: 0,
             words: blank_words(alloc, words)?,
-            harts: IndexMap::new(alloc),
+            harts: HartTable::new(alloc),
             counts: Counts {
                 cold: 0,
                 misses: 0,
@@ -161,19 +161,6 @@ impl LineMisses {
         ensures { result ≡ self.now.counts }
     {
         self.counts
-    }
-
-    // What is kept of a hart.
-    fn visits(&self, hart: u16) -> Visits
-        ensures { result ≡ visits_of self.now.harts hart }
-    {
-        match self.harts.get(&hart) {
-            Some(visits) => *visits,
-            None => Visits {
-                accessed: 0,
-                loaded: 0,
-            },
-        }
     }
 
     // What an access by a hart with these visits costs.
@@ -208,6 +195,7 @@ impl LineMisses {
     /// Notes the access at a position, to the word at a place of the line, and says what it costs.
     /// It takes memory where its hart comes for the first time; where there is none, nothing
     /// changes.
+    #[inline(always)]
     pub(crate) fn note(
         &mut self,
         position: u64,
@@ -223,11 +211,11 @@ impl LineMisses {
         ensures known { IsTrue (has_come self.old access.now.hart) → IsOk result }
     {
         let hart = access.hart().number();
-        let visits = self.visits(hart);
+        let visits = self.harts.visits(hart);
         let cost = self.cost(visits, place, hart);
-        match self.harts.insert(hart, visits.after(cost.needed, position)) {
-            Ok(_) => {}
-            Err(_) => return Err(NoMemory),
+        match self.harts.put(hart, visits.after(cost.needed, position)) {
+            Ok(()) => {}
+            Err(fault) => return Err(fault),
         }
         self.counts = self.counts.after(cost);
         match access.kind() {

@@ -1,11 +1,11 @@
 // The misses of each line and a table of objects, which see the records of a trace one after the
 // other.
-ghost use Rattle.std.specs.Prelude.{◌≡◌, ◌∷◌, ◌++◌, ◌≤◌, [], IfOk, List, OnOk};
+ghost use Rattle.std.specs.Prelude.{◌≡◌, ◌∷◌, ◌++◌, ◌≤◌, [], IfOk, IsFalse, IsOk, List, OnOk};
 ghost use Rattle.base.specs.Lines.{Grid};
 ghost use Rattle.misses.specs.Kept.{StandsFor};
 ghost use Rattle.sharing_rules.specs.AccessLists.{AccessList};
 ghost use Rattle.misses.specs.Seen.{HasMissed, MissesNext, missed, misses_noted};
-ghost use Rattle.misses.specs.Seen.{nothing_missed};
+ghost use Rattle.misses.specs.Seen.{misses_want_memory, nothing_missed, wants_memory};
 ghost use Rattle.misses.specs.Texts.{misses_of_records};
 ghost use Rattle.trace_format.specs.Reading.{counted_after};
 ghost use Rattle.trace_format.specs.Rules.{last_position, touches_in};
@@ -36,6 +36,7 @@ fn note_miss(misses: &mut Misses, item: &TraceRecord) -> Result<(), NoMemory>
     ensures noted { OnOk result (misses.new ≡ misses_noted misses.old item.now) }
     ensures stands { (t : AccessList) → StandsFor t misses.old
         → OnOk result (StandsFor (t ++ touches_in (item.now ∷ [])) misses.new) }
+    ensures known { IsFalse (misses_want_memory misses.old item.now) → IsOk result }
 {
     match item {
         TraceRecord::Touch(access, _) => misses.on_access(access),
@@ -68,6 +69,9 @@ impl MissSightings {
         ensures stands { (t : AccessList) → StandsFor t self.old.misses
             → OnOk result (StandsFor (t ++ touches_in (item.now ∷ [])) self.new.misses) }
         ensures seen { OnOk result (MissesNext self.old self.new item.now) }
+        // what takes none: an access by a hart that came to its line before, a free, a symbol that
+        // is dropped, an end
+        ensures known { IsFalse (wants_memory self.old item.now) → IsOk result }
     {
         let position = self.misses.position();
         match note_miss(&mut self.misses, item) {
@@ -94,9 +98,12 @@ impl MissSightings {
 }
 
 impl Observer for MissSightings {
-    ghost use Rattle.misses.specs.Seen.{HasMissed, misses_begin_at};
+    ghost use Rattle.std.specs.Prelude.{IsFalse};
+    ghost use Rattle.misses.specs.Seen.{HasMissed, misses_begin_at, wants_memory};
 
     ghost given = { HasMissed };
+
+    ghost known = { λ s item. IsFalse (wants_memory s item) };
 
     ghost begins = { misses_begin_at };
 

@@ -1,11 +1,14 @@
 -- What is known of an object after records of a trace, by each pass over it.
-use Rattle.std.specs.Prelude.{◌≡◌, ℕ, ◌+◌, nat_lt, List, [], ◌∷◌, ◌++◌, length, Option, slice_get}
+use Rattle.std.specs.Prelude.{◌≡◌, ℕ, ◌+◌, ◌⊎◌, nat_lt, List, [], ◌∷◌, ◌++◌, length, Option, slice_get}
 use Rattle.std.specs.Option.{option_map_or}
+use Rattle.base.specs.Touch.{Touch}
 use Rattle.sharing_rules.specs.AccessLists.{AccessList}
 use Rattle.trace_format.specs.Rules.{touches_in}
 use Rattle.trace_format.specs.declared.record.TraceRecord.{TraceRecord}
+use Rattle.trace_format.specs.declared.record.TraceRecord.TheVariants as records
 use Rattle.layout_sweep.specs.Standing.{HasCounted}
-use Rattle.placement.specs.Plans.{moved_list}
+use Rattle.layout_sweep.specs.Windows.{BeginsLine}
+use Rattle.placement.specs.Plans.{Planned, moved, moved_list}
 use Rattle.placement.specs.Recounts.{many_count}
 use Rattle.placement.specs.Sought.{blocks_made_at, symbols_named}
 use Rattle.placement.specs.Words.{Owned, owned_of}
@@ -44,6 +47,20 @@ pub record RecountsFor (t : AccessList) (r : Recount) : Type 0 where
   pub before : HasCounted t r.before
   pub after : HasCounted (moved_list r.plan t) r.after
   pub many : r.many ≡ many_count r.size r.plan t
+
+-- an access behind these that is the first write of its line, where it is or where it is moved:
+-- only such a one may want memory
+abbrev pub BeginsEither : ℕ → Planned → AccessList → Touch → Touch → Type 0
+BeginsEither n p t a there = BeginsLine n t a ⊎ BeginsLine n (moved_list p t) there
+
+-- the same of a record
+abbrev pub WantsMemory : ℕ → Planned → AccessList → TraceRecord → Type 0
+WantsMemory n p t (records.Touch a pc) = BeginsEither n p t a (moved p a)
+WantsMemory n p t _ = ⊥
+
+-- one that wants none, by a list that was counted
+abbrev pub NeedsNone : Recount → TraceRecord → Type 0
+NeedsNone r item = (t : AccessList) × RecountsFor t r × (WantsMemory r.size r.plan t item → ⊥)
 
 -- from what it was first, it came to what it is by these records
 pub record HasRecounted (begun now : Recount) (items : List TraceRecord) : Type 0 where

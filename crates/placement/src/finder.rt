@@ -182,6 +182,8 @@ impl Observer for Finder {
 
     ghost given = { HasSought };
 
+    ghost known = { λ _ _. Unit {0} };
+
     fn note(&mut self, item: &TraceRecord) -> Result<(), NoMemory> {
         self.note_item(item);
         Ok(())

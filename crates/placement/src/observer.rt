@@ -1,8 +1,9 @@
 // The owners of an object's words see the records of a trace, and so does a recount.
-ghost use Rattle.std.specs.Prelude.{◌≤◌, OnOk};
+ghost use Rattle.std.specs.Prelude.{◌≤◌, OnErr, OnOk};
+ghost use Rattle.sharing_rules.specs.AccessLists.{AccessList};
 ghost use Rattle.trace_format.specs.Reading.{counted_after};
 ghost use Rattle.trace_format.specs.Rules.{last_position};
-ghost use Rattle.placement.specs.Passing.{OwnsNext, RecountsNext};
+ghost use Rattle.placement.specs.Passing.{OwnsNext, RecountsFor, RecountsNext, WantsMemory};
 
 use crate::owners::Owners;
 use crate::recount::Recount;
@@ -29,6 +30,8 @@ impl Observer for Owners {
 
     ghost given = { HasOwned };
 
+    ghost known = { λ _ _. Unit {0} };
+
     #[inline]
     fn note(&mut self, item: &TraceRecord) -> Result<(), NoMemory> {
         note_record(self, item);
@@ -40,7 +43,9 @@ impl Observer for Owners {
 #[inline]
 fn recount_record(recount: &mut Recount, item: &TraceRecord) -> Result<(), NoMemory>
     requires { counted_after recount.old.position item.now ≤ last_position }
-    ensures { OnOk result (RecountsNext recount.old recount.new item.now) }
+    ensures next { OnOk result (RecountsNext recount.old recount.new item.now) }
+    ensures known { (t : AccessList) → RecountsFor t recount.old
+        → OnErr result (WantsMemory recount.old.size recount.old.plan t item.now) }
 {
     match item {
         TraceRecord::Touch(access, _) => recount.note(*access),
@@ -49,9 +54,11 @@ fn recount_record(recount: &mut Recount, item: &TraceRecord) -> Result<(), NoMem
 }
 
 impl Observer for Recount {
-    ghost use Rattle.placement.specs.Passing.{HasRecounted, begins_at};
+    ghost use Rattle.placement.specs.Passing.{HasRecounted, NeedsNone, begins_at};
 
     ghost given = { HasRecounted };
+
+    ghost known = { NeedsNone };
 
     ghost begins = { begins_at };
 

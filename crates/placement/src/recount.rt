@@ -79,7 +79,7 @@ fn count_many(many: &mut u64, taken: bool, plan: &Plan, size: u32, addr: u32)
 
 impl Recount {
     ghost use Rattle.layout_sweep.specs.Standing.{CanNote};
-    ghost use Rattle.placement.specs.Passing.{HasRecounted, RecountsFor, begins_at};
+    ghost use Rattle.placement.specs.Passing.{BeginsEither, HasRecounted, RecountsFor, begins_at};
     ghost use Rattle.placement.specs.Texts.{sums_of};
 
     /// No access so far, under lines of a power of two from 4 to 1024 bytes.
@@ -136,6 +136,8 @@ impl Recount {
         ensures position { self.new.position ≡ self.old.position }
         ensures size { self.new.size ≡ self.old.size }
         ensures plan { self.new.plan ≡ self.old.plan }
+        ensures known { (t : AccessList) → RecountsFor t self.old
+            → OnErr result (BeginsEither self.old.size self.old.plan t access there) }
     {
         match self.before.make_room(access) {
             Ok(()) => self.after.make_room(there),
@@ -162,8 +164,8 @@ impl Recount {
         count_many(&mut self.many, taken, &self.plan, self.size, there.addr());
     }
 
-    /// Counts the next access, before position 2^40. It takes memory only for a write. NoMemory
-    /// leaves every meaning as it was.
+    /// Counts the next access, before position 2^40. It takes memory only for the first write of its
+    /// line, here or there. NoMemory leaves every meaning as it was.
     #[inline]
     pub fn note(&mut self, access: Access) -> Result<(), NoMemory>
         requires { self.old.position < 2 ^ 40 }
@@ -175,6 +177,9 @@ impl Recount {
         ensures same { OnErr result (self.new.position ≡ self.old.position) }
         ensures size { self.new.size ≡ self.old.size }
         ensures plan { self.new.plan ≡ self.old.plan }
+        ensures known { (t : AccessList) → RecountsFor t self.old
+            → OnErr result (BeginsEither self.old.size self.old.plan t access
+            (moved self.old.plan access)) }
     {
         let there = self.plan.moved(access);
         match self.make_room(access, there) {

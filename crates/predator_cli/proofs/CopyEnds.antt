@@ -31,9 +31,10 @@ use Rattle.command_files.specs.declared.status.Status.TheVariants as status
 use Rattle.command_files.specs.Laws.Readings.{none_alone, refused_stopped}
 use Rattle.shelf.specs.Laws.Told.{goes_map, told, told_both, told_map}
 use Rattle.predator_cli.specs.Answer.{answer_of}
-use Rattle.predator_cli.specs.Commands.{RepeatsReport, is_copy, readings_of, work_of}
+use Rattle.predator_cli.specs.Commands.{RepeatsReport, manner_of, readings_of, work_of}
 use Rattle.predator_cli.specs.Convert.{convert_text}
 use Rattle.predator_cli.specs.Copies.{copied_reading, copy_of, copy_with}
+use Rattle.predator_cli.specs.Manners.{Manner, judged_first, read_again}
 use Rattle.predator_cli.specs.Meets.{EndsAs, HasFailed as HasFailedBy, IsFaulty, IsPrintable}
 use Rattle.predator_cli.specs.Meets.{IsQuiet, IsWorked}
 use Rattle.predator_cli.specs.Parts.{SplitRepeats}
@@ -43,6 +44,7 @@ use Rattle.predator_cli.specs.TraceFaults.{status_of_copy, status_of_refusal}
 use Rattle.predator_cli.specs.Written.{AreSame, OnlyAt, StaysAtReadFault, StaysAtRefusal, Writes}
 use Rattle.predator_cli.proofs.Ends.{own_outputs, stopped_faulty}
 use Rattle.predator_cli.proofs.FaultEnds.{starved}
+use Rattle.predator_cli.proofs.Manners.{first_accepted}
 use Rattle.predator_cli.proofs.Standing.{same_stands}
 use Rattle.predator_cli.proofs.TraceFiles.{refusal_cases}
 use Rattle.predator_cli.proofs.WriteEnds.{IsToWrite, names_in, or_false, written_worked}
@@ -83,7 +85,7 @@ pub record IsCopying (d : Demand) (name : List ℕ) (text : Trace → List ℕ)
   pub reads : readings_of d ≡ copied_reading name ∷ []
   pub works : (files : Files) → work_of d files ≡ copy_of text outputs name files
   pub named : (t : Trace) → names_in (outputs t) ≡ outputs_of d
-  pub copies : is_copy d ≡ true
+  pub copies : manner_of d ≡ read_again
   pub again : (files : Files) → RepeatsReport d files
 
 pub is_convert : (d : ConvertDemand) → IsCopying (convert d) d.trace convert_text
@@ -183,8 +185,10 @@ module _ (d : Demand) (name : List ℕ) (text : Trace → List ℕ) (outputs : T
         (told_map b.held (λ files e. ap (option_map status_of_refusal) e) (failed.refused r refl))
         read.faults read.only in
         stopped_faulty d a b (status_of_refusal r)
+        (subst (λ (m : Manner). IsStopped (judged_first m (readings_of d)) a b
+        (status_of_refusal r)) (sym copying.copies)
         (subst (λ (l : List Reading). IsStopped l a b (status_of_refusal r))
-        (sym copying.reads) stopped)
+        (sym copying.reads) stopped))
 
     module _ (fault : CopyFault) (failed : HasFailed name (outputs_of d) outputs a b fault) where
       part : Told b.held (λ files. Goes a.written b.written
@@ -209,7 +213,7 @@ module _ (d : Demand) (name : List ℕ) (text : Trace → List ℕ) (outputs : T
       changed_faulty s judged none other unwritten =
           let none_failed : HasFailedBy (Some d) a b refusal = quiet other unwritten in
           let writes : Writes (Some d) a b refusal =
-          subst (λ copies. StaysAtRefusal copies b.held a.written b.written) (sym copying.copies)
+          subst (λ m. StaysAtRefusal m (Some d) b.held a.written b.written) (sym copying.copies)
           (untold (λ files. Goes a.written b.written AreSame) b.held none) in
           record {
             fault = λ e. let k : refusal ≡ done = sym judged.kind ∙ e in cc;
@@ -247,7 +251,7 @@ module _ (d : Demand) (name : List ℕ) (text : Trace → List ℕ) (outputs : T
                   (λ e. let no : ReadFault ≡ WriteFault = sym is ∙ e in cc);
             };
             printable = told b.held (λ files. inr (inr (inl (refl, fails files))));
-            writes = subst (λ copies. StaysAtReadFault copies (Some d) b.held a.written b.written)
+            writes = subst (λ m. StaysAtReadFault m (Some d) b.held a.written b.written)
                 (sym copying.copies) part;
             only = only;
             held = failed.stopped.held_stay;
@@ -261,7 +265,8 @@ module _ (d : Demand) (name : List ℕ) (text : Trace → List ℕ) (outputs : T
           (failed.stopped.cause.write_failed is) in
           record {
             fault = λ e. cc;
-            ends = told_map b.held accepts (failed.accepted is);
+            ends = told_map b.held (λ files none. first_accepted (manner_of d) (readings_of d) files
+                (accepts files none)) (failed.accepted is);
             usage = λ u. cc;
             refuses = λ u. cc;
             memory = refl;

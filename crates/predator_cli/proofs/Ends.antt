@@ -1,5 +1,5 @@
 -- How a command ends that did its work, and one whose words or files were not read.
-use Rattle.std.proofs.Common.{◌≡◌, ◌≢◌, ℕ, Bool, true, false, List, [], Option, Some, None}
+use Rattle.std.proofs.Common.{◌≡◌, ◌≢◌, ℕ, false, List, [], Option, Some, None}
 use Rattle.std.proofs.Common.{sym, ◌∙◌, ap, refl, inl, inr}
 use Rattle.shelf.specs.Shelf.{Files, Narrows, Outside, Told, Goes, Rose, OnlyPrints, OnlyReads}
 use Rattle.shelf.specs.Shelf.{Adds}
@@ -15,16 +15,19 @@ use Rattle.command_files.specs.declared.status.Status.TheVariants as status
 use Rattle.shelf.specs.Laws.Files.{none_begun}
 use Rattle.shelf.specs.Laws.Told.{goes_same, narrows_by, narrows_same, narrows_then, only_none}
 use Rattle.shelf.specs.Laws.Told.{told, told_both, told_map, told_same}
-use Rattle.predator_cli.specs.Commands.{RepeatsReport, readings_of, work_of}
+use Rattle.predator_cli.specs.Commands.{RepeatsReport, first_readings_of, manner_of, readings_of}
+use Rattle.predator_cli.specs.Commands.{work_of}
+use Rattle.predator_cli.specs.Manners.{Manner, judged_before, read_again, read_along}
 use Rattle.predator_cli.specs.Written.{AreSame, StandsInPart}
 use Rattle.predator_cli.specs.Written.{StaysAtReadFault, StaysAtRefusal, Writes}
 use Rattle.predator_cli.specs.Again.{WhereDone}
-use Rattle.predator_cli.specs.Answer.{answer_of, are_copies, outputs}
+use Rattle.predator_cli.specs.Answer.{answer_of, outputs}
 use Rattle.predator_cli.specs.Meets.{EndsAs, HasFailed, IsAnswered, IsCaused, IsFaulty}
 use Rattle.predator_cli.specs.Meets.{IsQuiet, IsWorked, Meets}
 use Rattle.predator_cli.specs.Meets.{Prints, ReadsInPeace}
 use Rattle.predator_cli.proofs.Standing.{only_same_names}
 use Rattle.predator_cli.proofs.FaultEnds.{quiet_after, starved, whole_later}
+use Rattle.predator_cli.proofs.Manners.{all_stopped, first_accepted, first_refused}
 
 -- ---- the command's own text
 
@@ -106,6 +109,8 @@ no_memory_hidden status.Budget kind = refl
 no_memory_hidden status.Deadlock kind = refl
 no_memory_hidden status.Trapped kind = refl
 no_memory_hidden (status.Place refused) kind = refl
+no_memory_hidden (status.Table fault) kind = let k : refusal ≡ done = kind in cc
+no_memory_hidden (status.Occupied addr) kind = refl
 
 no_usage : (s : Status) → kind_of s ≡ done → s ≡ status.Usage → ⊥
 no_usage s kind u = let k : kind_of status.Usage ≡ done = ap kind_of (sym u) ∙ kind in cc
@@ -171,8 +176,9 @@ finish_failed demand a b d s text worked only rose printed =
     let part : AddsFront a.printed d.printed text = rw (← worked.printed) printed in
     let quiet = quiet_after a b d only worked.quiet in
     record {
-      ends = told_same (λ files. first_refusal (readings_of demand) files ≡ None) b.held d.held
-          only.held worked.accepts;
+      ends = told_same (λ files. first_refusal (first_readings_of demand) files ≡ None) b.held
+          d.held only.held (told_map b.held (λ files none. first_accepted (manner_of demand)
+          (readings_of demand) files none) worked.accepts);
       usage = λ u. cc;
       refuses = λ r. cc;
       memory = refl;
@@ -290,14 +296,25 @@ part_same asked held o =
     told held (λ files. goes_same _ o (λ before. none_begun (answer_of asked files).outputs before
     before (λ name. refl)))
 
-refused_same : (copies : Bool) (held o : Option Files) → StaysAtRefusal copies held o o
-refused_same false held o = goes_same AreSame o (λ before name. refl)
-refused_same true held o = told held (λ files. goes_same AreSame o (λ before name. refl))
+-- so at a refusal that leaves nothing
+refused_same : (m : Manner) (asked : Option Demand) (held o : Option Files)
+    → Told held (λ files. (answer_of asked files).outputs ≡ []) → StaysAtRefusal m asked held o o
+refused_same judged_before asked held o none = goes_same AreSame o (λ before name. refl)
+refused_same read_again asked held o none =
+    told held (λ files. goes_same AreSame o (λ before name. refl))
+refused_same (read_along left) asked held o none =
+    told_map held (λ files is. goes_same (AreWhole (answer_of asked files).outputs) o
+    (λ names. all_same files names is)) none
+  where
+    all_same : (files names : Files) → (answer_of asked files).outputs ≡ []
+        → AreWhole (answer_of asked files).outputs names names
+    all_same files names is = rw is (λ name. refl)
 
-unread_same : (copies : Bool) (asked : Option Demand) (held o : Option Files)
-    → StaysAtReadFault copies asked held o o
-unread_same false asked held o = goes_same AreSame o (λ before name. refl)
-unread_same true asked held o = part_same asked held o
+unread_same : (m : Manner) (asked : Option Demand) (held o : Option Files)
+    → StaysAtReadFault m asked held o o
+unread_same judged_before asked held o = goes_same AreSame o (λ before name. refl)
+unread_same read_again asked held o = part_same asked held o
+unread_same (read_along left) asked held o = part_same asked held o
 
 -- memory ran out
 pub memory_faulty : (asked : Option Demand) (a b : Outside) → b.read_faults ≡ a.read_faults
@@ -312,9 +329,10 @@ pub words_unread : (asked : Option Demand) (a : Outside) → IsFaulty asked a a 
 words_unread asked a = memory_faulty asked a a refl (only_none a)
 
 refused_answer : (demand : Demand) (files : Files) (s : Status)
-    → first_refusal (readings_of demand) files ≡ Some s
+    → first_refusal (first_readings_of demand) files ≡ Some s
     → answer_of (Some demand) files ≡ refused_with s
-refused_answer demand files s is = rw is refl
+refused_answer demand files s is =
+    first_refused (manner_of demand) (readings_of demand) (work_of demand) files s is
 
 -- a refusal is the answer
 pub refusal_faulty : (demand : Demand) (a b : Outside) (s : Status) → kind_of s ≡ refusal
@@ -349,8 +367,16 @@ refusal_faulty demand a b s kind words memory refused peace only = record {
     failed_so : HasFailed (Some demand) a b (kind_of s)
     failed_so = rw kind quiet
 
+    nothing_left : (files : Files) → answer_of (Some demand) files ≡ refused_with s
+        → (answer_of (Some demand) files).outputs ≡ []
+    nothing_left files is = ap (λ (w : Work). w.outputs) is
+
+    none_left : Told b.held (λ files. (answer_of (Some demand) files).outputs ≡ [])
+    none_left = told_map b.held (λ files is. nothing_left files is) refused
+
     stays : Writes (Some demand) a b refusal
-    stays = rw only.written (refused_same (are_copies (Some demand)) b.held a.written)
+    stays = rw only.written
+        (refused_same (manner_of demand) (Some demand) b.held a.written none_left)
 
     writes_so : Writes (Some demand) a b (kind_of s)
     writes_so = rw kind stays
@@ -358,7 +384,7 @@ refusal_faulty demand a b s kind words memory refused peace only = record {
 -- a file is refused
 file_faulty : (demand : Demand) (a b : Outside) (s : Status) → kind_of s ≡ refusal
     → s ≢ status.Usage → hides_no_memory s ≡ false
-    → Told b.held (λ files. first_refusal (readings_of demand) files ≡ Some s)
+    → Told b.held (λ files. first_refusal (first_readings_of demand) files ≡ Some s)
     → b.read_faults ≡ a.read_faults → OnlyReads a b → IsFaulty (Some demand) a b s
 file_faulty demand a b s kind words memory refused peace only =
     refusal_faulty demand a b s kind words memory
@@ -377,7 +403,7 @@ reading_faulty demand a b stopped = record {
   failed = record { reads = stopped.why.0; writes = stopped.only.write_faults };
   printable = told_map b.held (λ files fails. inr (inr (inl (refl, fails)))) stopped.why.1;
   writes = rw stopped.only.written
-      (unread_same (are_copies (Some demand)) (Some demand) b.held a.written);
+      (unread_same (manner_of demand) (Some demand) b.held a.written);
   only = only_same_names (outputs (Some demand)) a b stopped.only.written;
   held = stopped.only.held;
   printed = stopped.only.printed;
@@ -385,7 +411,7 @@ reading_faulty demand a b stopped = record {
 }
 
 pub stopped_faulty : (demand : Demand) (a b : Outside) (s : Status)
-    → IsStopped (readings_of demand) a b s → IsFaulty (Some demand) a b s
+    → IsStopped (first_readings_of demand) a b s → IsFaulty (Some demand) a b s
 stopped_faulty demand a b status.Done stopped = absurd stopped.why
 stopped_faulty demand a b status.Usage stopped = absurd (stopped.words refl)
 stopped_faulty demand a b (status.Elf fault) stopped = file_faulty demand a b
@@ -406,7 +432,9 @@ stopped_faulty demand a b status.NoPcs stopped = file_faulty demand a b
 stopped_faulty demand a b (status.State fault) stopped = file_faulty demand a b
     (status.State fault) refl stopped.words stopped.memory
     stopped.why.0 stopped.why.1 stopped.only
-stopped_faulty demand a b status.ReadFault stopped = reading_faulty demand a b stopped
+stopped_faulty demand a b status.ReadFault stopped =
+    reading_faulty demand a b
+    (all_stopped (manner_of demand) (readings_of demand) a b status.ReadFault stopped)
 stopped_faulty demand a b status.WriteFault stopped = absurd stopped.why
 stopped_faulty demand a b status.NoMemory stopped = memory_faulty (Some demand) a b stopped.why
     stopped.only
@@ -415,4 +443,10 @@ stopped_faulty demand a b status.Deadlock stopped = absurd stopped.why
 stopped_faulty demand a b status.Trapped stopped = absurd stopped.why
 stopped_faulty demand a b (status.Place refused) stopped = file_faulty demand a b
     (status.Place refused) refl stopped.words stopped.memory
+    stopped.why.0 stopped.why.1 stopped.only
+stopped_faulty demand a b (status.Table fault) stopped = file_faulty demand a b
+    (status.Table fault) refl stopped.words stopped.memory
+    stopped.why.0 stopped.why.1 stopped.only
+stopped_faulty demand a b (status.Occupied addr) stopped = file_faulty demand a b
+    (status.Occupied addr) refl stopped.words stopped.memory
     stopped.why.0 stopped.why.1 stopped.only

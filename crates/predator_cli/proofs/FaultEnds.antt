@@ -1,5 +1,5 @@
 -- How a command ends by a fault: what it has done stands after the line of the fault is printed.
-use Rattle.std.proofs.Common.{◌≡◌, ◌≢◌, ℕ, ◌≤◌, Bool, true, false, List, Option, Some, None}
+use Rattle.std.proofs.Common.{◌≡◌, ◌≢◌, ℕ, ◌≤◌, List, Option, Some, None}
 use Rattle.std.proofs.Common.{◌∙◌, refl, inl, inr}
 use Rattle.shelf.specs.Shelf.{Files, Narrows, Outside, Told, Goes, OnlyPrints}
 use Rattle.shelf.specs.Shelf.{AddsFront}
@@ -16,7 +16,8 @@ use Rattle.predator_cli.specs.Commands.{RepeatsReport}
 use Rattle.predator_cli.specs.Written.{AreSame, OnlyAt, StandsInPart, StandsWhole}
 use Rattle.predator_cli.specs.Written.{StaysAtReadFault, StaysAtRefusal, Writes}
 use Rattle.predator_cli.specs.Again.{WhereDone}
-use Rattle.predator_cli.specs.Answer.{answer_of, are_copies, outputs}
+use Rattle.predator_cli.specs.Answer.{answer_of, manner_in, outputs}
+use Rattle.predator_cli.specs.Manners.{Manner, judged_before, read_again, read_along}
 use Rattle.predator_cli.specs.Meets.{EndsAs, HasFailed, IsCaused, IsFaulty}
 use Rattle.predator_cli.specs.Meets.{IsPrintable, IsQuiet, Meets, Printed}
 use Rattle.predator_cli.specs.Meets.{Prints, RanOutAlone, ReadsInPeace}
@@ -136,20 +137,6 @@ same_later : (asked : Option Demand) (a b : Outside) → Goes a.written b.writte
 same_later asked a b goes = told b.held (λ files. same_stands (answer_of asked files).outputs
     a.written b.written goes)
 
-refused_later : (copies : Bool) (asked : Option Demand) (a b : Outside)
-    → StaysAtRefusal copies b.held a.written b.written
-    → Writes asked a b no_memory
-refused_later false asked a b writes = same_later asked a b writes
-refused_later true asked a b writes =
-    told_map b.held (λ files goes. same_stands (answer_of asked files).outputs a.written b.written
-    goes) writes
-
-unread_later : (copies : Bool) (asked : Option Demand) (a b : Outside)
-    → StaysAtReadFault copies asked b.held a.written b.written
-    → Writes asked a b no_memory
-unread_later false asked a b writes = same_later asked a b writes
-unread_later true asked a b writes = writes
-
 pub whole_later : (asked : Option Demand) (a b : Outside)
     → StandsWhole asked b.held a.written b.written
     → StandsInPart asked b.held a.written b.written
@@ -159,11 +146,27 @@ whole_later asked a b whole =
     (λ before now is. whole_stands (answer_of asked files).outputs before now is) goes)
     whole
 
+refused_later : (m : Manner) (asked : Option Demand) (a b : Outside)
+    → StaysAtRefusal m asked b.held a.written b.written
+    → Writes asked a b no_memory
+refused_later judged_before asked a b writes = same_later asked a b writes
+refused_later read_again asked a b writes =
+    told_map b.held (λ files goes. same_stands (answer_of asked files).outputs a.written b.written
+    goes) writes
+refused_later (read_along left) asked a b writes = whole_later asked a b writes
+
+unread_later : (m : Manner) (asked : Option Demand) (a b : Outside)
+    → StaysAtReadFault m asked b.held a.written b.written
+    → Writes asked a b no_memory
+unread_later judged_before asked a b writes = same_later asked a b writes
+unread_later read_again asked a b writes = writes
+unread_later (read_along left) asked a b writes = writes
+
 writes_later : (asked : Option Demand) (a b : Outside) (k : Kind) → (k ≡ done → ⊥)
     → Writes asked a b k → Writes asked a b no_memory
 writes_later asked a b done n writes = absurd (n refl)
-writes_later asked a b refusal n writes = refused_later (are_copies asked) asked a b writes
-writes_later asked a b read_fault n writes = unread_later (are_copies asked) asked a b writes
+writes_later asked a b refusal n writes = refused_later (manner_in asked) asked a b writes
+writes_later asked a b read_fault n writes = unread_later (manner_in asked) asked a b writes
 writes_later asked a b write_fault n (inl cut) = cut.1
 writes_later asked a b write_fault n (inr whole) = whole_later asked a b whole.2
 writes_later asked a b no_memory n writes = writes

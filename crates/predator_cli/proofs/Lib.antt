@@ -10,6 +10,8 @@ pub mod GoOnAnswers
 pub mod GoOnLaws
 pub mod GoodLaws
 pub mod ListedCounts
+pub mod Manners
+pub mod MoveEnds
 pub mod OnDiskLaws
 pub mod PartLaws
 pub mod PlaceApart
@@ -19,7 +21,6 @@ pub mod ReplayLaws
 pub mod RunEnds
 pub mod RunLaws
 pub mod SitedRuns
-pub mod Sizes
 pub mod Sound
 pub mod SpelledAgain
 pub mod Standing

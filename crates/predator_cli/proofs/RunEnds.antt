@@ -1,16 +1,15 @@
 -- What a run leaves in its files, and how the command ends after it.
-use Rattle.std.proofs.Common.{◌≡◌, ℕ, List, [], ◌∷◌, ◌++◌, Option, Some, None, Ok, Bool, true}
-use Rattle.std.proofs.Common.{false, refl, sym, ap, subst, ◌∙◌, inl, inr}
-use Rattle.std.proofs.Common.{not, ◌&&◌, unwrap_or, Result, Err}
+use Rattle.std.proofs.Common.{◌≡◌, ℕ, List, [], ◌∷◌, ◌++◌, Option, Some, None, Ok, true}
+use Rattle.std.proofs.Common.{refl, sym, ap, subst, ◌∙◌, inl, inr}
+use Rattle.std.proofs.Common.{unwrap_or, Result, Err}
 use Rattle.std.specs.Prelude.{IfOk}
 use Rattle.std.proofs.lemmas.Bool.{cases_Bool}
 use Rattle.std.proofs.lemmas.Option.{none-some, same_Some}
 use Rattle.std.proofs.lemmas.Slice.Eq.{bytes_eq-Decides}
 use Rattle.std.specs.Option.{option_and_then, option_map}
-use Rattle.std.specs.Str.{bytes_eq}
 use Rattle.shelf.specs.Shelf.{Files, Outside, Told, content}
 use Rattle.shelf.specs.declared.shelf.ShelfError.{ShelfError}
-use Rattle.command_line.specs.Names.{are_apart, given, is_named}
+use Rattle.command_line.specs.Names.{are_apart, given}
 use Rattle.command_line.specs.Demands.{text_of}
 use Rattle.command_line.specs.Replay.{ReplayDemand}
 use Rattle.command_line.specs.Run.{RunDemand, run_meaning, run_outputs}
@@ -28,7 +27,7 @@ use Rattle.trace_format.specs.declared.record.TraceRecord.{TraceRecord}
 use Rattle.trace_format.specs.declared.record.Version.{Version}
 use Rattle.trace_passes.specs.Passes.{Trace, refusal_of, spell_trace, trace_of}
 use Rattle.shelf.specs.Files.{AreCut, AreWritten, Output, bytes_for}
-use Rattle.shelf.specs.OnTheirWay.{AreApart, IsNew}
+use Rattle.shelf.specs.OnTheirWay.{AreApart}
 use Rattle.run_recorder.specs.Recorded.{IsKept, names_of, outputs_for, trace_for}
 use Rattle.run_recorder.specs.declared.run_file.Content.TheVariants as Content
 use Rattle.run_recorder.specs.declared.run_file.RunFile.{RunFile}
@@ -58,7 +57,7 @@ use Rattle.predator_cli.specs.TraceFaults.{status_of_refusal}
 use Rattle.predator_cli.proofs.Ends.{accepted_answer}
 use Rattle.predator_cli.proofs.SitedRuns.{demand_sited, demand_text}
 use Rattle.predator_cli.proofs.SpelledAgain.{spelled_again, spelled_wanted}
-use Rattle.predator_cli.proofs.WriteEnds.{IsToWrite, names_in, or_false, still_to_write}
+use Rattle.predator_cli.proofs.WriteEnds.{IsToWrite, names_in, still_to_write}
 use Rattle.predator_cli.proofs.WriteEnds.{writing_cut}
 use Rattle.predator_cli.proofs.WriteEnds.{written_worked}
 
@@ -107,36 +106,6 @@ files_left options v harts symbols r = left_so options.trace options.output
 
 -- ---- the names that the words give
 
-not_true : (b c : Bool) → (not b && c) ≡ true → b ≡ false
-not_true true c e = cc
-not_true false c e = refl
-
-new_name : (name : List ℕ) (names rest : List (List ℕ)) → is_named name (names ++ rest) ≡ false
-    → IsNew name names
-new_name name [] rest not_so = tt
-new_name name (n ∷ names) rest not_so =
-    let both = or_false (bytes_eq name n) (is_named name (names ++ rest)) not_so in (
-      λ same. let so : bytes_eq name n ≡ true = (bytes_eq-Decides name n).1 (sym same) in
-          let no : true ≡ false = sym so ∙ both.0
-          in cc,
-      new_name name names rest both.1,
-    )
-
-and_true : (b c : Bool) → (b && c) ≡ true → (b ≡ true) × (c ≡ true)
-and_true true c e = (refl, e)
-and_true false c e = cc
-
-names_apart : (outputs inputs : List (List ℕ)) → are_apart outputs inputs ≡ true → AreApart outputs
-names_apart [] inputs apart = tt
-names_apart (n ∷ outputs) inputs apart =
-    let none : is_named n (outputs ++ inputs) ≡ false = not_true (is_named n (outputs ++ inputs))
-    (are_apart outputs inputs) apart in (
-      new_name n outputs inputs none,
-      names_apart outputs inputs (and_true (not (is_named n (outputs ++ inputs)))
-          (are_apart outputs inputs)
-          apart).1,
-    )
-
 kept_apart : (x d : Demand) → with_names_apart x ≡ Some d → are_apart (outputs_of d) (inputs_of d)
     ≡ true
 kept_apart x d is =
@@ -165,11 +134,6 @@ pub all_apart : (words : List (List ℕ)) (r : Result code.Demand WordsFault)
     → IsReadAs (demand_of words) r → IfOk r HasNamesApart
 all_apart words (Ok d) is = read_apart words d is
 all_apart words (Err fault) is = tt
-
--- and so the outputs of a run have two names
-pub run_apart : (d : RunDemand) → are_apart (outputs_of (run d)) (inputs_of (run d)) ≡ true
-    → AreApart (run_outputs d)
-run_apart d apart = names_apart (run_outputs d) (inputs_of (run d)) apart
 
 -- ---- how the command ends
 

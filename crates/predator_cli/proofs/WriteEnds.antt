@@ -19,10 +19,11 @@ use Rattle.shelf.specs.Laws.Files.{BegunInOrder-others}
 use Rattle.shelf.specs.Laws.Told.{goes_map, told, told_both, told_map, told_still}
 use Rattle.predator_cli.specs.Written.{OnlyAt}
 use Rattle.predator_cli.specs.Answer.{answer_of}
-use Rattle.predator_cli.specs.Commands.{RepeatsReport, readings_of, work_of}
+use Rattle.predator_cli.specs.Commands.{RepeatsReport, manner_of, readings_of, work_of}
 use Rattle.predator_cli.specs.Meets.{IsFaulty, IsWorked}
 use Rattle.predator_cli.proofs.Ends.{own_outputs}
 use Rattle.predator_cli.proofs.FaultEnds.{starved}
+use Rattle.predator_cli.proofs.Manners.{first_accepted}
 use Rattle.predator_cli.proofs.Standing.{whole_stands}
 
 -- ---- names
@@ -144,7 +145,8 @@ writing_cut d w a b Failed ready cut =
     (rose_among w.outputs a.write_faults b.write_faults (cut.cause.failed refl)) in
     record {
       fault = λ e. cc;
-      ends = ready.accepts;
+      ends = told_map b.held (λ files none. first_accepted (manner_of d) (readings_of d) files none)
+          ready.accepts;
       usage = λ u. cc;
       refuses = λ u. cc;
       memory = refl;

@@ -1,8 +1,9 @@
 -- What a command is to the top call, and the table of the commands, a row each. The names of the
 -- files that a command writes stand in the table of its words, in `command_line`.
-use Rattle.std.specs.Prelude.{Bool, true, false, List, Option, Some, None}
+use Rattle.std.specs.Prelude.{List, Option, Some, None}
 use Rattle.command_line.specs.Words.{Demand, replay, check, run, split, gen, convert, sweep}
-use Rattle.command_line.specs.Words.{caches, place, misses, blame, explain}
+use Rattle.command_line.specs.Words.{caches, place, relocate, misses, blame, explain}
+use Rattle.shelf.specs.Files.{Output}
 use Rattle.shelf.specs.Shelf.{Files}
 use Rattle.command_files.specs.Readings.{Reading}
 use Rattle.command_files.specs.Works.{Work}
@@ -15,10 +16,13 @@ use Rattle.predator_cli.specs.Convert.{convert_readings, convert_work}
 use Rattle.predator_cli.specs.Explain.{as_run, explain_readings, explain_work}
 use Rattle.predator_cli.specs.Gen.{gen_readings, gen_work}
 use Rattle.predator_cli.specs.ListedCounts.{TellsListedCount}
+use Rattle.predator_cli.specs.Manners.{Manner, judged_before, judged_first, left_of, read_again}
+use Rattle.predator_cli.specs.Manners.{read_along}
 use Rattle.predator_cli.specs.Misses.{misses_readings, misses_work}
 use Rattle.predator_cli.specs.Parts.{SplitRepeats}
 use Rattle.predator_cli.specs.Place.{place_readings, place_work}
 use Rattle.predator_cli.specs.Recounts.{ReplayIsRecounted, RunIsRecounted}
+use Rattle.predator_cli.specs.Relocate.{MoveRepeats, move_left, move_readings, move_work}
 use Rattle.predator_cli.specs.Replay.{replay_readings, replay_work}
 use Rattle.predator_cli.specs.Run.{RunStaysWithin, run_readings, run_work}
 use Rattle.predator_cli.specs.Split.{split_readings, split_work}
@@ -30,8 +34,8 @@ pub record Command : Type 1 where
   pub readings : List Reading
   -- what it gives where none of them is refused
   pub work : Files → Work
-  -- it reads its trace a second time, once its outputs are begun
-  pub is_copy : Bool
+  -- when it begins to write, and what a refusal leaves then
+  pub manner : Manner
   -- what other commands repeat of it or of its files, or tell alike, once its work is done
   pub repeats : Files → Type 0
   -- it makes at most as many steps as its budget has
@@ -45,14 +49,14 @@ abbrev pub plain : List Reading → (Files → Work) → Command
 plain readings work = record {
   readings = readings;
   work = work;
-  is_copy = false;
+  manner = judged_before;
   repeats = λ files. Unit {0};
   within = λ files. Unit {0};
   recounts = λ files. Unit {0};
 }
 
 abbrev pub copy : List Reading → (Files → Work) → Command
-copy readings work = record (plain readings work) { is_copy = true }
+copy readings work = record (plain readings work) { manner = read_again }
 
 abbrev pub command_of : Demand → Command
 command_of (run demand) = record (plain (run_readings demand) (run_work demand)) {
@@ -75,6 +79,11 @@ command_of (place demand) =
     record (plain (place_readings demand) (place_work demand)) {
       recounts = PlaceKeepsApart demand;
     }
+command_of (relocate demand) =
+    record (plain (move_readings demand) (move_work demand)) {
+      manner = read_along (move_left demand);
+      repeats = MoveRepeats demand;
+    }
 command_of (misses demand) = plain (misses_readings demand) (misses_work demand)
 command_of (blame demand) = plain (blame_readings demand) (blame_work demand)
 command_of (explain demand) =
@@ -91,8 +100,16 @@ readings_of demand = (command_of demand).readings
 abbrev pub work_of : Demand → Files → Work
 work_of demand = (command_of demand).work
 
-abbrev pub is_copy : Demand → Bool
-is_copy demand = (command_of demand).is_copy
+abbrev pub manner_of : Demand → Manner
+manner_of demand = (command_of demand).manner
+
+-- the files that are judged before it writes
+abbrev pub first_readings_of : Demand → List Reading
+first_readings_of demand = judged_first (manner_of demand) (readings_of demand)
+
+-- the outputs that a refusal leaves
+abbrev pub leaves : Demand → Files → List Output
+leaves demand = left_of (manner_of demand) (readings_of demand)
 
 abbrev pub RepeatsReport : Demand → Files → Type 0
 RepeatsReport demand = (command_of demand).repeats

@@ -12,17 +12,17 @@ use Rattle.command_files.specs.declared.status.Status.{Status}
 use Rattle.command_files.specs.declared.status.Status.TheVariants as status
 use Rattle.predator_cli.specs.Commands.{RepeatsReport, readings_of, work_of}
 use Rattle.predator_cli.specs.Written.{OnlyAt, Writes}
-use Rattle.predator_cli.specs.Answer.{answer_of, files_of, inputs, outputs}
+use Rattle.predator_cli.specs.Answer.{answer_of, files_of, first_files_of, inputs, outputs}
 use Rattle.predator_cli.specs.Again.{WhereDone}
 
 -- It ends as the answer says, or by a fault of the outside: of reading, before which no file is
--- refused, or of the command's own work, before which none is refused at all.
+-- refused, or of the command's own work, before which none is refused that is judged before it.
 abbrev pub EndsAs : Option Demand → Files → Outside → Outside → Kind → Status → Type 0
 EndsAs asked files old new done s = (answer_of asked files).status ≡ s
 EndsAs asked files old new refusal s = (answer_of asked files).status ≡ s
 EndsAs asked files old new read_fault s = FailsInOrder (files_of asked) files old.read_faults
     new.read_faults
-EndsAs asked files old new write_fault s = first_refusal (files_of asked) files ≡ None
+EndsAs asked files old new write_fault s = first_refusal (first_files_of asked) files ≡ None
 EndsAs asked files old new no_memory s = Unit {0}
 
 -- no number of faults of reading or of writing rose

@@ -1,4 +1,6 @@
--- The status of each end of a trace that is passed or copied.
+-- The status of each end of a trace that is passed, copied or moved.
+use Rattle.trace_files.specs.declared.move_fault.MoveFault.{MoveFault}
+use Rattle.trace_files.specs.declared.move_fault.MoveFault.TheVariants as moves
 use Rattle.trace_files.specs.declared.copy_fault.CopyFault.{CopyFault}
 use Rattle.trace_files.specs.declared.copy_fault.CopyFault.TheVariants as copies
 use Rattle.trace_passes.specs.declared.passes.PassFault.{PassFault}
@@ -30,3 +32,11 @@ status_of_copy (copies.Changed r) = status_of_refusal r
 status_of_copy copies.ReadFault = status.ReadFault
 status_of_copy copies.WriteFault = status.WriteFault
 status_of_copy copies.NoMemory = status.NoMemory
+
+-- or it is refused, or has an access in the way, once the moved trace is begun
+abbrev pub status_of_move : MoveFault → Status
+status_of_move (moves.Refused r) = status_of_refusal r
+status_of_move (moves.Occupied addr) = status.Occupied addr
+status_of_move moves.ReadFault = status.ReadFault
+status_of_move moves.WriteFault = status.WriteFault
+status_of_move moves.NoMemory = status.NoMemory

@@ -1,5 +1,5 @@
 -- What stands in the files that a command writes, at each end.
-use Rattle.std.specs.Prelude.{◌≡◌, ◌⊎◌, ℕ, List, Option, Bool, true, false}
+use Rattle.std.specs.Prelude.{◌≡◌, ◌⊎◌, ℕ, List, Option, false}
 use Rattle.std.specs.List.{list_any}
 use Rattle.std.specs.Str.{bytes_eq}
 use Rattle.shelf.specs.Shelf.{Files, Goes, Outside, Rose, Told}
@@ -7,7 +7,8 @@ use Rattle.command_line.specs.Words.{Demand}
 use Rattle.shelf.specs.Files.{AreWhole, BegunInOrder}
 use Rattle.command_files.specs.Readings.{RoseAt}
 use Rattle.command_files.specs.Statuses.{Kind, done, refusal, read_fault, write_fault, no_memory}
-use Rattle.predator_cli.specs.Answer.{answer_of, are_copies, outputs}
+use Rattle.predator_cli.specs.Answer.{answer_of, manner_in, outputs}
+use Rattle.predator_cli.specs.Manners.{Manner, judged_before, read_again, read_along}
 
 -- each file is as it was
 abbrev pub AreSame : Files → Files → Type 0
@@ -25,16 +26,21 @@ StandsWhole asked held before now =
     Told held (λ files. Goes before now (AreWhole (answer_of asked files).outputs))
 
 -- At a refusal each file is as it was. Copies whose trace is refused only as it is read again may
--- stand in part; where it is told what is held no trace is, for both readings gave its bytes.
-abbrev pub StaysAtRefusal : Bool → Option Files → Option Files → Option Files → Type 0
-StaysAtRefusal false held before now = Goes before now AreSame
-StaysAtRefusal true held before now = Told held (λ files. Goes before now AreSame)
-
--- at a fault of reading too, but that of copies, whose trace may be read again then
-abbrev pub StaysAtReadFault : Bool → Option Demand → Option Files → Option Files → Option Files
+-- stand in part; where it is told what is held no trace is, for both readings gave its bytes. What is
+-- written as the trace is read is all that the answer leaves of it.
+abbrev pub StaysAtRefusal : Manner → Option Demand → Option Files → Option Files → Option Files
     → Type 0
-StaysAtReadFault false asked held before now = Goes before now AreSame
-StaysAtReadFault true asked held before now = StandsInPart asked held before now
+StaysAtRefusal judged_before asked held before now = Goes before now AreSame
+StaysAtRefusal read_again asked held before now = Told held (λ files. Goes before now AreSame)
+StaysAtRefusal (read_along left) asked held before now = StandsWhole asked held before now
+
+-- At a fault of reading too, but that of copies, whose trace may be read again then, and of what is
+-- written as the trace is read.
+abbrev pub StaysAtReadFault : Manner → Option Demand → Option Files → Option Files → Option Files
+    → Type 0
+StaysAtReadFault judged_before asked held before now = Goes before now AreSame
+StaysAtReadFault read_again asked held before now = StandsInPart asked held before now
+StaysAtReadFault (read_along left) asked held before now = StandsInPart asked held before now
 
 -- At a fault of writing the writing of an output failed, and the outputs may stand in part; or
 -- printing failed and no writing did, and every output is whole.
@@ -46,14 +52,14 @@ StandsAtWriteFault asked old new =
     × StandsWhole asked new.held old.written new.written)
 
 -- Every output is whole where the work is done and where its text isn't printed, every file is as
--- it was at a refusal and at a fault of reading but of copies, and the outputs may stand in part
--- where writing one failed and at want of memory.
+-- it was at a refusal and at a fault of reading but of copies and of what is written as the trace is
+-- read, and the outputs may stand in part where writing one failed and at want of memory.
 abbrev pub Writes : Option Demand → Outside → Outside → Kind → Type 0
 Writes asked old new done = StandsWhole asked new.held old.written new.written
 Writes asked old new refusal =
-    StaysAtRefusal (are_copies asked) new.held old.written new.written
+    StaysAtRefusal (manner_in asked) asked new.held old.written new.written
 Writes asked old new read_fault =
-    StaysAtReadFault (are_copies asked) asked new.held old.written new.written
+    StaysAtReadFault (manner_in asked) asked new.held old.written new.written
 Writes asked old new write_fault = StandsAtWriteFault asked old new
 Writes asked old new no_memory = StandsInPart asked new.held old.written new.written
 

@@ -12,24 +12,26 @@ ghost use Rattle.predator_cli.specs.Commands.{StaysWithinBudget};
 ghost use Rattle.predator_cli.specs.Written.{OnlyAt, Writes};
 ghost use Rattle.shelf.specs.Shelf.{Files, Narrows, Told};
 
-use crate::blame::blame;
 use crate::check::check;
 use crate::convert::convert;
+use crate::counter::count;
 use crate::endings::{refuse, refuse_words};
 use crate::explain::explain;
 use crate::generate::generate;
 use crate::place::place;
+use crate::relocate::relocate;
 use crate::replay::replay;
 use crate::run::run;
 use crate::split::split;
-use crate::sweep::sweep;
-use crate::tell_caches::tell_caches;
-use crate::tell_misses::tell_misses;
 use command_files::Status;
-use command_line::{Demand, WordsFault, read_words};
+use command_line::{Demand, WordsFault, read_words, what_is_asked_is_bounded};
+use finite_cache::Caches;
 use guest::runs_are_short;
+use layout_sweep::Sweep;
+use misses::MissSightings;
 use shelf::Shelf;
 use std::alloc::Global;
+use takings::Blame;
 use trace_passes::a_trace_is_its_spelling;
 
 /// Does what is asked for.
@@ -46,11 +48,17 @@ pub fn obey<S: Shelf>(alloc: Global, demand: &Demand<'_>, shelf: &mut S) -> Stat
         Demand::Split(options) => split(alloc, options, shelf),
         Demand::Gen(options) => generate(alloc, options, shelf),
         Demand::Convert(options) => convert(alloc, options, shelf),
-        Demand::Sweep(options) => sweep(alloc, options, shelf),
-        Demand::Caches(options) => tell_caches(alloc, options, shelf),
+        Demand::Sweep(options) => count::<S, Sweep>(alloc, shelf, options.trace, options.size),
+        Demand::Caches(options) => count::<S, Caches>(alloc, shelf, options.trace, options.shape),
         Demand::Place(options) => place(alloc, options, shelf),
-        Demand::Misses(options) => tell_misses(alloc, options, shelf),
-        Demand::Blame(options) => blame(alloc, options, shelf),
+        Demand::Move(options) => relocate(alloc, options, shelf),
+        Demand::Misses(options) => count::<S, MissSightings>(
+            alloc,
+            shelf,
+            options.trace,
+            options.layout,
+        ),
+        Demand::Blame(options) => count::<S, Blame>(alloc, shelf, options.trace, options.layout),
         Demand::Explain(options) => explain(alloc, options, shelf),
     }
 }
@@ -73,7 +81,8 @@ fn obey_words<S: Shelf>(alloc: Global, words: &[String], shelf: &mut S) -> Statu
 /// the settings, the saved state, the trace or the program, the schedule. The status is `Usage`
 /// exactly where the words are refused, and else the first refusal of a file, if there is one.
 /// `ReadFault` comes only where reading a named file failed in this call and no file before it is
-/// refused, `WriteFault` only where printing or writing a named file failed and none is refused,
+/// refused, `WriteFault` only where printing or writing a named file failed and none is refused that
+/// is judged before anything is written,
 /// and `NoMemory` where memory ran out, before such a fault or as the line of one was printed.
 /// Where the work is done nothing failed. The settings are those of the file that is named, or the
 /// usual ones, with the numbers of `--set` in the place of theirs; they are judged by themselves
@@ -89,7 +98,11 @@ fn obey_words<S: Shelf>(alloc: Global, words: &[String], shelf: &mut S) -> Statu
 /// lines come to. `split` cuts a trace in two before one of its accesses, and prints how many
 /// accesses each half has; `convert` writes a trace in the other version, and prints which
 /// version that is and how many accesses there are. Both read a trace of at most 2^44 bytes to
-/// its end and judge it, and write under their names as they read it again. `sweep`, `caches`,
+/// its end and judge it, and write under their names as they read it again. `move` reads a table of
+/// at most 1 MiB, of ranges and their places, and writes a trace with its accesses moved so as it
+/// reads that once; it prints how many accesses there are and how many are moved. Its status is
+/// `Table` where the table is refused, and `Occupied` where no range has the address of an access
+/// and a place has. `sweep`, `caches`,
 /// `misses` and `blame` pass over a whole trace: `sweep` prints what every shift of a line size
 /// counts, `caches` how many of each line's invalidations are left in private caches of a shape,
 /// `misses` what the sharing of each of its lines costs, and `blame` which instructions and which
@@ -136,7 +149,9 @@ pub fn predator<S: Shelf>(alloc: Global, words: &[String], shelf: &mut S) -> Sta
     // risen. Where writing one failed and at want of memory the first of them, in their order, are
     // begun and each is a front of its bytes, and the others are as they were; all are as they were
     // at each other end. Copies may stand so at a fault of reading too, for their trace is read
-    // twice; and where it isn't told still what is held, also at a refusal.
+    // twice; and where it isn't told still what is held, also at a refusal. A moved trace is
+    // written as the trace is read: at a fault of reading it may stand so too, and at a refusal of
+    // the trace it has all records before that.
     ensures writes { Writes (demand_of (texts words.now))
         (S.outside shelf.old) (S.outside shelf.new) (kind_of result) }
     // Where a run is done, the replay of the trace that it wrote, under the same settings and
@@ -144,7 +159,9 @@ pub fn predator<S: Shelf>(alloc: Global, words: &[String], shelf: &mut S) -> Sta
     // replays of its halves, one behind the other, give what the replay of the whole gives, and
     // so do those of more parts. Where `explain` is done, and a run of the same program under
     // the same settings and schedule lists a line with the base, the size and the start that it
-    // was asked about, the count that it prints is the one that is listed.
+    // was asked about, the count that it prints is the one that is listed. Where a move is done,
+    // its file is read as the trace with its accesses moved, whose list is the moved list of the
+    // trace's.
     ensures again { Told (S.outside shelf.new).held
         (λ files. WhereDone RepeatsReport (demand_of (texts words.now)) files (kind_of result)) }
     // The run that is asked for, by `run` or by `explain`, makes at most as many steps as its budget
@@ -169,5 +186,6 @@ pub fn predator<S: Shelf>(alloc: Global, words: &[String], shelf: &mut S) -> Sta
 {
     runs_are_short();
     a_trace_is_its_spelling();
+    what_is_asked_is_bounded();
     obey_words(alloc, words, shelf)
 }

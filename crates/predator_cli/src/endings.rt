@@ -6,7 +6,7 @@ ghost use Rattle.command_files.specs.Faults.{fault_text};
 ghost use Rattle.command_files.specs.Statuses.{kind_of, done};
 ghost use Rattle.command_files.specs.Readings.{IsStopped};
 ghost use Rattle.predator_cli.specs.Meets.{IsAnswered, IsFaulty, IsWorked, Meets};
-ghost use Rattle.predator_cli.specs.Commands.{readings_of};
+ghost use Rattle.predator_cli.specs.Commands.{first_readings_of};
 
 use command_files::{NO_MEMORY_LINE, READ_FAULT_LINE, Status, WRITE_FAULT_LINE, fault_line};
 use command_line::USAGE;
@@ -51,10 +51,10 @@ pub fn refuse_words<S: Shelf>(shelf: &mut S) -> Status
     print_fault(shelf, Status::Usage, USAGE)
 }
 
-/// Ends where the reading of a command's files stopped.
+/// Ends where the reading of the files stopped that a command judges before it writes.
 pub fn stop<S: Shelf>(alloc: Global, shelf: &mut S, status: Status) -> Status
     ensures { (demand : Demand) (old : Outside)
-        → IsStopped (readings_of demand) old (S.outside shelf.old) status
+        → IsStopped (first_readings_of demand) old (S.outside shelf.old) status
         → Meets (Some demand) old (S.outside shelf.new) result }
 {
     refuse(alloc, shelf, status)

@@ -1,11 +1,11 @@
-// How a command ends where a trace isn't passed or copied.
+// How a command ends where a trace isn't passed, copied or moved.
 ghost use Rattle.std.specs.Prelude.{◌≡◌};
-ghost use Rattle.predator_cli.specs.TraceFaults.{status_of_copy, status_of_pass};
+ghost use Rattle.predator_cli.specs.TraceFaults.{status_of_copy, status_of_move, status_of_pass};
 ghost use Rattle.predator_cli.specs.TraceFaults.{status_of_refusal};
 
 use command_files::{StateFault, Status};
 use saved_state::HARTS_PLACE;
-use trace_files::CopyFault;
+use trace_files::{CopyFault, MoveFault};
 use trace_passes::{PassFault, Refusal};
 
 /// The status of a trace that is refused.
@@ -42,5 +42,18 @@ pub fn status_of_copy(fault: CopyFault) -> Status
         CopyFault::ReadFault => Status::ReadFault,
         CopyFault::WriteFault => Status::WriteFault,
         CopyFault::NoMemory => Status::NoMemory,
+    }
+}
+
+/// The status of a trace whose accesses aren't moved.
+pub fn status_of_move(fault: MoveFault) -> Status
+    ensures { result ≡ status_of_move fault }
+{
+    match fault {
+        MoveFault::Refused(refusal) => status_of_refusal(refusal),
+        MoveFault::Occupied(addr) => Status::Occupied(addr),
+        MoveFault::ReadFault => Status::ReadFault,
+        MoveFault::WriteFault => Status::WriteFault,
+        MoveFault::NoMemory => Status::NoMemory,
     }
 }

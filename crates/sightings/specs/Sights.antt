@@ -1,16 +1,14 @@
 -- What is seen of trace records: what the accesses show, and what stands in memory.
-use Rattle.std.specs.Prelude.{ℕ, List, [], ◌∷◌, Bool, true, false, not}
-use Rattle.std.specs.List.{list_any}
+use Rattle.std.specs.Prelude.{ℕ, List, [], ◌∷◌, Bool}
 use Rattle.base.specs.Levels.{Levels}
 use Rattle.base.specs.Lines.{Grid}
 use Rattle.base.specs.declared.ending.Ending.{Ending}
 use Rattle.objects.specs.Objects.{Objects, no_objects}
-use Rattle.objects.specs.Symbols.{is_in_place_of, kept_symbol}
 use Rattle.detector.specs.Watch.{Watch, nothing_seen, takes_memory, watched}
 use Rattle.report.specs.Reports.{report_lines}
 use Rattle.report.specs.Shown.{listed_tracks}
 use Rattle.base.specs.TextLines.{text_of}
-use Rattle.trace_passes.specs.Lives.{objects_noted}
+use Rattle.trace_passes.specs.Lives.{objects_noted, objects_want_memory}
 use Rattle.trace_format.specs.declared.record.TraceRecord.{TraceRecord}
 use Rattle.trace_format.specs.declared.record.TraceRecord.TheVariants as records
 
@@ -48,8 +46,4 @@ report_of_sighted ending s =
 -- whether a record may want memory
 abbrev pub wants_memory : Sighted → TraceRecord → Bool
 wants_memory s (records.Touch a pc) = takes_memory s.watch a
-wants_memory s (records.Alloc addr size sites) = true
-wants_memory s (records.Free addr) = false
-wants_memory s (records.Symbol kind addr size name) =
-    not (list_any (is_in_place_of (kept_symbol kind addr size name)) s.objects.symbols)
-wants_memory s (records.End e) = false
+wants_memory s item = objects_want_memory s.objects item

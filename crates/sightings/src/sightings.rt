@@ -214,9 +214,13 @@ impl Sightings {
 }
 
 impl Observer for Sightings {
+    ghost use Rattle.std.specs.Prelude.{IsFalse};
     ghost use Rattle.sightings.specs.Seen.{HasSeen, begins_at};
+    ghost use Rattle.sightings.specs.Sights.{wants_memory};
 
     ghost given = { HasSeen };
+
+    ghost known = { λ s item. IsFalse (wants_memory s item) };
 
     ghost begins = { begins_at };
 

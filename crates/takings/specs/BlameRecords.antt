@@ -1,5 +1,5 @@
 -- What the records of a trace show of the takings of all lines.
-use Rattle.std.specs.Prelude.{◌≡◌, ℕ, ◌+◌, List, [], ◌∷◌, ◌++◌, length, Option, Some, None}
+use Rattle.std.specs.Prelude.{◌≡◌, ℕ, ◌+◌, Bool, false, List, [], ◌∷◌, ◌++◌, length, Option, Some, None}
 use Rattle.std.specs.List.{filter_map}
 use Rattle.std.specs.Option.{unwrap_or}
 use Rattle.base.specs.Lines.{Grid}
@@ -8,7 +8,7 @@ use Rattle.trace_format.specs.Rules.{touches_in}
 use Rattle.trace_format.specs.declared.record.TraceRecord.{TraceRecord}
 use Rattle.trace_format.specs.declared.record.TraceRecord.TheVariants as records
 use Rattle.takings.specs.declared.sited.Sited.{Sited}
-use Rattle.takings.specs.BlameKept.{Blamed, StandsFor}
+use Rattle.takings.specs.BlameKept.{Blamed, StandsFor, wants_memory}
 use Rattle.takings.specs.BlameText.{blame_text}
 
 -- an access with its pc, which is 0 where it has none: each access of a trace of version 3 has one
@@ -41,6 +41,11 @@ abbrev pub BlamesNext : Blamed → Blamed → TraceRecord → Type 0
 BlamesNext old new item =
     (begun : Blamed) (items : List TraceRecord)
     → HasBlamed begun old items → HasBlamed begun new (items ++ item ∷ [])
+
+-- whether a record may want memory: an access that may
+abbrev pub record_wants_memory : Blamed → TraceRecord → Bool
+record_wants_memory k (records.Touch a pc) = wants_memory k (sited_by a pc)
+record_wants_memory k _ = false
 
 -- the text of a list of records, under a layout
 unfoldable pub blame_of_records : Grid → List TraceRecord → List ℕ

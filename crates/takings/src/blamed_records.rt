@@ -1,6 +1,6 @@
 // The takings of all lines, as the records of a trace show them one after the other.
-ghost use Rattle.std.specs.Prelude.{◌≤◌, OnOk};
-ghost use Rattle.takings.specs.BlameRecords.{BlamesNext};
+ghost use Rattle.std.specs.Prelude.{◌≤◌, IsFalse, IsOk, OnOk};
+ghost use Rattle.takings.specs.BlameRecords.{BlamesNext, record_wants_memory};
 ghost use Rattle.trace_format.specs.Reading.{counted_after};
 ghost use Rattle.trace_format.specs.Rules.{last_position};
 
@@ -13,7 +13,8 @@ use trace_passes::Observer;
 #[inline]
 fn see(blame: &mut Blame, item: &TraceRecord) -> Result<(), NoMemory>
     requires { counted_after blame.old.position item.now ≤ last_position }
-    ensures { OnOk result (BlamesNext blame.old blame.new item.now) }
+    ensures next { OnOk result (BlamesNext blame.old blame.new item.now) }
+    ensures known { IsFalse (record_wants_memory blame.old item.now) → IsOk result }
 {
     match item {
         TraceRecord::Touch(access, pc) => blame.on_access(access, pc.unwrap_or(0)),
@@ -22,9 +23,12 @@ fn see(blame: &mut Blame, item: &TraceRecord) -> Result<(), NoMemory>
 }
 
 impl Observer for Blame {
-    ghost use Rattle.takings.specs.BlameRecords.{HasBlamed, blame_begins_at};
+    ghost use Rattle.std.specs.Prelude.{IsFalse};
+    ghost use Rattle.takings.specs.BlameRecords.{HasBlamed, blame_begins_at, record_wants_memory};
 
     ghost given = { HasBlamed };
+
+    ghost known = { λ k item. IsFalse (record_wants_memory k item) };
 
     ghost begins = { blame_begins_at };
 

@@ -1,8 +1,8 @@
 // Command lines as users write them, each against what it asks for.
 use base::Layout;
 use command_line::{
-    CheckOptions, ConvertOptions, Demand, GenOptions, LayoutOptions, PlaceOptions, ReplayOptions,
-    RunOptions, SplitOptions, WordsFault, read_words,
+    CheckOptions, ConvertOptions, Demand, GenOptions, LayoutOptions, MoveOptions, PlaceOptions,
+    ReplayOptions, RunOptions, SplitOptions, WordsFault, read_words,
 };
 use settings::Changes;
 use std::alloc::{AllocError, Global};
@@ -166,7 +166,7 @@ fn reads_runs(rt: HostRuntime) -> Result<(), Fail> {
     all_answer(&rt, rt.alloc(), &RUNS)
 }
 
-const OTHERS: [(&str, Answer<'static>); 4] = [
+const OTHERS: [(&str, Answer<'static>); 6] = [
     (
         "check --settings s p",
         Some(Demand::Check(CheckOptions {
@@ -189,6 +189,22 @@ const OTHERS: [(&str, Answer<'static>); 4] = [
             at: 18_446_744_073_709_551_615,
             first: "a",
             second: "",
+        })),
+    ),
+    (
+        "move t m f",
+        Some(Demand::Move(MoveOptions {
+            trace: "t",
+            table: "m",
+            file: "f",
+        })),
+    ),
+    (
+        "move -- - -m f",
+        Some(Demand::Move(MoveOptions {
+            trace: "-",
+            table: "-m",
+            file: "f",
         })),
     ),
     (
@@ -361,7 +377,7 @@ fn reads_traces_under_layouts(rt: HostRuntime) -> Result<(), Fail> {
     Ok(())
 }
 
-const REFUSED: [&str; 77] = [
+const REFUSED: [&str; 83] = [
     // other words
     "replay",
     "replay a b",
@@ -389,6 +405,12 @@ const REFUSED: [&str; 77] = [
     "place t",
     "place t x y",
     "place t x --shift 4",
+    "move",
+    "move t m",
+    "move t m f g",
+    "move t m f --size 64",
+    "move t m t",
+    "move t m m",
     "misses",
     "blame",
     "blame t u",

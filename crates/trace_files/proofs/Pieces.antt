@@ -39,7 +39,7 @@ pub all_behind : {A : Type 0} (P : A → Type 0) (xs ys : List A) → All P (xs 
 all_behind P [] ys is = is
 all_behind P (x ∷ xs) ys is = all_behind P xs ys (All-tail P x (xs ++ ys) is)
 
-writable_in : (p : Option ReadSoFar) (e : Option Ending) (items : List TraceRecord)
+pub writable_in : (p : Option ReadSoFar) (e : Option Ending) (items : List TraceRecord)
     → IsSoFar p e items → All IsWritable items
 writable_in None e items is = subst (All IsWritable) (sym is.0) (All-nil IsWritable)
 writable_in (Some p) None items is = is.0.writable

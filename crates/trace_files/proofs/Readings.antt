@@ -49,7 +49,7 @@ first_still o n name seen narrow first =
     × ((reading_of (content files name)).0 ≡ seen ++ more)) o n narrow first
 
 -- the records of a front are the first ones
-front_first : (file bytes : List ℕ) → IsFront file bytes
+pub front_first : (file bytes : List ℕ) → IsFront file bytes
     → (more : List TraceRecord) × ((reading_of file).0 ≡ (reading_of bytes).0 ++ more)
 front_first file bytes front =
     let rest = drop (length bytes) file in

@@ -43,7 +43,7 @@ none_for (o ∷ outputs) name new =
       | inr is ↦ rw is (none_for outputs name new.1)
     ]
 
-others_stay : (outputs : List Output) (before now : Outside) → Goes before.written now.written
+pub others_stay : (outputs : List Output) (before now : Outside) → Goes before.written now.written
     (BegunInOrder outputs)
     → Goes before.written now.written (λ old new. (n : List ℕ) → IsNew n (output_names outputs)
     → new n ≡ old n)

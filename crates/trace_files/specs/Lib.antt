@@ -3,4 +3,10 @@ pub mod Copying
 pub mod Halves
 pub mod Laws
 pub mod Made
+pub mod Movers
+pub mod Moves
+pub mod Moving
+pub mod Numerals
 pub mod OneTrace
+pub mod Rows
+pub mod Tables

@@ -25,7 +25,7 @@ use trace_format::{TraceFault, TraceRecord};
 use trace_passes::{Cursor, Observer, Passed, Refusal, Wanted, pass};
 
 // Any trace will do.
-fn any() -> Wanted
+pub(crate) fn any() -> Wanted
     ensures { result ≡ any }
 {
     Wanted {
@@ -41,6 +41,8 @@ struct Unseeing;
 
 impl Observer for Unseeing {
     ghost given = { λ _ _ _. Unit {0} };
+
+    ghost known = { λ _ _. Unit {0} };
 
     fn note(&mut self, _item: &TraceRecord) -> Result<(), NoMemory> {
         Ok(())

@@ -5,3 +5,4 @@ pub mod Going
 pub mod Notes
 pub mod Pieces
 pub mod Spelled
+pub mod Stopping

@@ -11,6 +11,7 @@ use Rattle.trace_format.specs.declared.fault.TraceFault.TheVariants as faults
 use Rattle.trace_format.specs.declared.read_so_far.ReadSoFar.{ReadSoFar}
 use Rattle.trace_format.specs.declared.record.Header.{Header}
 use Rattle.trace_format.specs.declared.record.Version.{Version}
+use Rattle.trace_format.specs.declared.record.Version.TheVariants.{One, Two, Three}
 use Rattle.trace_format.specs.declared.record.TraceRecord.{TraceRecord}
 use Rattle.std.specs.Option.{option_or}
 use Rattle.base.specs.declared.ending.Ending.{Ending}
@@ -116,6 +117,61 @@ long_enough n m stops long =
       | inl short ↦ let few = stops short in absurd (omega (arith, few, long))
       | inr le ↦ le
     ]
+
+-- a magic or a header is never refused as a fault of the trace
+by_harts : (b : Bool) (fault : TraceFault)
+    → cond b None (Some refusals.Harts) ≡ Some (refusals.Trace fault) → ⊥
+by_harts true fault e = absurd cc
+by_harts false fault e = absurd cc
+
+harts_no_trace : (w : Option ℕ) (harts : ℕ) (fault : TraceFault)
+    → harts_refusal w harts ≡ Some (refusals.Trace fault) → ⊥
+harts_no_trace None harts fault e = absurd cc
+harts_no_trace (Some n) harts fault e = by_harts (eqb harts n) fault e
+
+by_first_test : (b : Bool) (saved first : ℕ) (fault : TraceFault)
+    → cond b None (Some (refusals.Position saved first)) ≡ Some (refusals.Trace fault) → ⊥
+by_first_test true saved first fault e = absurd cc
+by_first_test false saved first fault e = absurd cc
+
+first_no_trace : (w : Option ℕ) (first : ℕ) (fault : TraceFault)
+    → first_refusal w first ≡ Some (refusals.Trace fault) → ⊥
+first_no_trace None first fault e = absurd cc
+first_no_trace (Some n) first fault e = by_first_test (eqb first n) n first fault e
+
+either_no_trace : (a b : Option Refusal) (fault : TraceFault)
+    → (a ≡ Some (refusals.Trace fault) → ⊥) → (b ≡ Some (refusals.Trace fault) → ⊥)
+    → option_or a b ≡ Some (refusals.Trace fault) → ⊥
+either_no_trace None b fault left right e = right e
+either_no_trace (Some x) b fault left right e = left e
+
+header_no_trace : (w : Wanted) (h : Option Header) (fault : TraceFault)
+    → header_refusal w h ≡ Some (refusals.Trace fault) → ⊥
+header_no_trace w None fault e = absurd cc
+header_no_trace w (Some h) fault e =
+    either_no_trace (harts_refusal w.harts h.harts) (first_refusal w.first h.first) fault
+    (harts_no_trace w.harts h.harts fault) (first_no_trace w.first h.first fault) e
+
+version_no_trace : (pcs : Bool) (v : Option Version) (fault : TraceFault)
+    → version_refusal pcs v ≡ Some (refusals.Trace fault) → ⊥
+version_no_trace false v fault e = absurd cc
+version_no_trace true None fault e = absurd cc
+version_no_trace true (Some One) fault e = absurd cc
+version_no_trace true (Some Two) fault e = absurd cc
+version_no_trace true (Some Three) fault e = absurd cc
+
+pub no_trace_front : (w : Wanted) (v : Option Version) (h : Option Header) (fault : TraceFault)
+    → option_or (version_refusal w.pcs v) (header_refusal w h) ≡ Some (refusals.Trace fault) → ⊥
+no_trace_front w v h fault e =
+    either_no_trace (version_refusal w.pcs v) (header_refusal w h) fault
+    (version_no_trace w.pcs v fault) (header_no_trace w h fault) e
+
+pub trace_alone : (w : Wanted) (h : Option Header) (told : Option Refusal) (fault wrong : TraceFault)
+    → told ≡ header_refusal w h → unwrap_or told (refusals.Trace fault) ≡ refusals.Trace wrong
+    → fault ≡ wrong
+trace_alone w h None fault wrong is e = cc
+trace_alone w h (Some x) fault wrong is e =
+    absurd (header_no_trace w h wrong (sym is ∙ ap (λ (y : Refusal). Some y) e))
 
 module _ (old new : Reading) (piece : List ℕ) (after : List TraceRecord)
     (on : ReadsOn old piece new [] after) where

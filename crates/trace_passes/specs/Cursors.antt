@@ -1,14 +1,18 @@
 -- How far a named trace is read, piece after piece, and what stands at its end.
 use Rattle.std.specs.Prelude.{◌≡◌, ℕ, ◌+◌, ◌-◌, ◌<◌, ◌≤◌, List, ◌++◌, length, Option, Some}
-use Rattle.std.specs.Prelude.{None, true}
+use Rattle.std.specs.Prelude.{None, option_map, true}
 use Rattle.shelf.specs.Shelf.{Files, Told, content}
 use Rattle.shelf.specs.Fetch.{IsFront}
 use Rattle.trace_format.specs.declared.read_so_far.ReadSoFar.{ReadSoFar}
 use Rattle.trace_format.specs.declared.record.TraceRecord.{TraceRecord}
+use Rattle.trace_format.specs.declared.fault.TraceFault.{TraceFault}
+use Rattle.trace_format.specs.declared.record.Header.{Header}
+use Rattle.trace_format.specs.declared.record.Version.{Version}
 use Rattle.trace_format.specs.declared.record.Version.TheVariants.{Three}
 use Rattle.trace_format.specs.Reading.{Reading, reading_of}
 use Rattle.trace_format.specs.Rules.{IsGoodHeader, longest_trace}
 use Rattle.trace_passes.specs.declared.passes.Passed.{Passed}
+use Rattle.trace_passes.specs.declared.wanted.Refusal.{Refusal}
 use Rattle.trace_passes.specs.declared.wanted.Wanted.{Wanted}
 use Rattle.trace_passes.specs.Passes.{IsWanted, head_of, header_refusal, pcs_refusal, refusal_of}
 use Rattle.trace_passes.specs.Passes.{trace_of, trace_with}
@@ -29,6 +33,18 @@ pub record StopsAtMagic (w : Wanted) (bytes piece : List ℕ) : Type 0 where
   pub sited : pcs_refusal w bytes ≡ None
   pub stops : w.pcs ≡ true → length bytes < magic_length
       → length bytes + length piece ≤ magic_length
+
+-- the version and the header, once the header is accepted
+abbrev pub version_and_header : Option ReadSoFar → Option (Version × Header)
+version_and_header progress = option_map (λ p. (p.version, p.header)) progress
+
+-- The bytes have this fault, and the records that became whole in them came behind those of the
+-- first ones.
+pub record StopsIn (all bytes : List ℕ) (fault : TraceFault) (now : Reading)
+    (items : List TraceRecord) : Type 0 where
+  pub reading : now ≡ (reading_of all).1
+  pub fault_there : now.fault ≡ Some fault
+  pub records : (reading_of all).0 ≡ (reading_of bytes).0 ++ items
 
 -- what is given of a header that was accepted
 pub record IsHeadOf (progress : Option ReadSoFar) (passed : Passed) : Type 0 where
@@ -79,3 +95,14 @@ pub record HasEnded (held : Option Files) (name : List ℕ) (w : Wanted) (bytes 
   pub wanted : IsWanted w passed.header
   pub sited : w.pcs ≡ true → passed.version ≡ Three
   pub accepted : refusal_of w bytes ≡ None
+
+-- These bytes are all of the name's, where these are told, and are refused so. The cursor holds the
+-- records that became whole in them behind those before, and knows their header.
+pub record HasStopped (held : Option Files) (name : List ℕ) (w : Wanted) (bytes : List ℕ)
+    (refusal : Refusal) (now : Reached) : Type 0 where
+  pub all : List ℕ
+  pub behind : (more : List ℕ) × (all ≡ bytes ++ more)
+  pub whole : Told held (λ files. all ≡ content files name)
+  pub refused : refusal_of w all ≡ Some refusal
+  pub reading : now.reading ≡ (reading_of all).1
+  pub records : (reading_of all).0 ≡ (reading_of bytes).0 ++ now.items

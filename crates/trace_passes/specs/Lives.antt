@@ -1,12 +1,12 @@
 -- The objects of a list of trace records: the symbols, and the blocks with their lives. A record
 -- comes at a position: as many accesses are before it.
 use Rattle.std.specs.Prelude.{ℕ, List, [], ◌∷◌, ◌++◌, map, Bool, false, ◌==◌, if◌then◌else◌}
-use Rattle.std.specs.Prelude.{Option, Some, None, is_none}
-use Rattle.std.specs.List.{filter_map}
+use Rattle.std.specs.Prelude.{Option, Some, None, is_none, not, true}
+use Rattle.std.specs.List.{filter_map, list_any}
 use Rattle.objects.specs.declared.block.Block.{Block}
 use Rattle.objects.specs.Blocks.{blocks_after_alloc, blocks_after_free, newborn}
 use Rattle.objects.specs.Objects.{Objects, no_objects}
-use Rattle.objects.specs.Symbols.{Symbol, kept_symbol, symbols_of}
+use Rattle.objects.specs.Symbols.{Symbol, is_in_place_of, kept_symbol, symbols_of}
 use Rattle.trace_format.specs.Reading.{counted_after}
 use Rattle.trace_format.specs.declared.record.TraceRecord.{TraceRecord}
 use Rattle.trace_format.specs.declared.record.TraceRecord.TheVariants as records
@@ -69,3 +69,13 @@ objects_noted o (records.Free addr) position =
 objects_noted o (records.Symbol kind addr size name) position =
     record o { symbols = symbols_of (o.symbols ++ kept_symbol kind addr size name ∷ []) }
 objects_noted o _ position = o
+
+-- whether a record may want memory for the objects: one that makes a block, and a symbol that isn't
+-- dropped
+abbrev pub objects_want_memory : Objects → TraceRecord → Bool
+objects_want_memory o (records.Touch a pc) = false
+objects_want_memory o (records.Alloc addr size sites) = true
+objects_want_memory o (records.Free addr) = false
+objects_want_memory o (records.Symbol kind addr size name) =
+    not (list_any (is_in_place_of (kept_symbol kind addr size name)) o.symbols)
+objects_want_memory o (records.End e) = false

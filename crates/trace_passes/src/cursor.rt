@@ -3,10 +3,12 @@ ghost use Rattle.std.specs.Prelude.{◌≡◌, ◌≢◌, ◌++◌, ◌+◌, ◌
 ghost use Rattle.std.specs.Prelude.{None, Some, unwrap_or, Ok, Err, IfOk, OnOk};
 ghost use Rattle.std.specs.Io.{ReadsAtMost};
 ghost use Rattle.shelf.specs.Shelf.{content, HasCauseAt, OnlyReads, Reads, Told};
+ghost use Rattle.trace_format.specs.declared.fault.TraceFault.{TraceFault as Fault};
 ghost use Rattle.trace_format.specs.declared.fault.TraceFault.TheVariants as trace_faults;
 ghost use Rattle.trace_format.specs.Reading.{ending_of, reading_of};
 ghost use Rattle.trace_passes.specs.Cursors.{GoesOn, HasCome, HasEnded, IsHeadOf, IsRead};
-ghost use Rattle.trace_passes.specs.Cursors.{bytes_left, magic_length, StopsAtMagic};
+ghost use Rattle.trace_passes.specs.Cursors.{HasStopped, StopsAtMagic, StopsIn, bytes_left};
+ghost use Rattle.trace_passes.specs.Cursors.{magic_length, version_and_header};
 ghost use Rattle.trace_passes.specs.Passes.{HasPassCause, refusal_of, trace_refusal};
 ghost use Rattle.trace_passes.specs.declared.passes.Passed.{Passed as Parts};
 ghost use Rattle.trace_passes.specs.declared.wanted.Refusal.{Refusal as Refused};
@@ -16,7 +18,7 @@ use crate::{PassFault, Passed, Refusal, Wanted};
 use shelf::{Shelf, ShelfError};
 use std::alloc::{AllocError, Global};
 use std::marker::Model;
-use trace_format::{TraceFault, TraceReader, TraceRecord};
+use trace_format::{Header, TraceFault, TraceReader, TraceRecord, Version};
 
 // The most bytes that are asked for at once. The records of a piece are held together, so that a
 // small piece keeps them few.
@@ -112,6 +114,9 @@ fn take_piece(
         → (bytes more : List ℕ) → reader.old ≡ (reading_of bytes).1
         → StopsAtMagic wanted.now bytes piece.now
         → refusal_of wanted.now ((bytes ++ piece.now) ++ more) ≡ Some refusal }
+    ensures stopped { (fault : Fault) → result ≡ Err (PassFault.Refused (refusals.Trace fault))
+        → (bytes : List ℕ) → reader.old ≡ (reading_of bytes).1
+        → StopsIn (bytes ++ piece.now) bytes fault reader.new items.new.items }
     ensures memory { result ≢ Err (PassFault.Refused (refusals.Trace trace_faults.NoMemory)) }
     ensures quiet { result ≢ Err PassFault.ReadFault }
 {
@@ -179,12 +184,22 @@ impl Cursor {
         &self.items
     }
 
+    /// The version and the header, None exactly before the header's 20 bytes were accepted.
+    pub fn head(&self) -> Option<(Version, Header)>
+        ensures { result ≡ version_and_header self.now.reading.progress }
+    {
+        match (self.reader.version(), self.reader.header()) {
+            (Some(version), Some(header)) => Some((version, header)),
+            _ => None,
+        }
+    }
+
     /// Reads the next piece of a name, of at most 16 KiB, and judges the header once it is
     /// accepted. Where pcs are wanted, the first 8 bytes are read and judged before any byte behind
     /// them is asked for. None stands for more records, and the trace's parts for its end.
     ///
-    /// The condition is that the bytes so far are read without a fault. At an error nothing is said
-    /// of the cursor.
+    /// The condition is that the bytes so far are read without a fault. At a fault of the trace the
+    /// cursor has the records before it; at any other error nothing is said of the cursor.
     pub fn advance<S: Shelf>(
         &mut self,
         shelf: &mut S,
@@ -208,6 +223,12 @@ impl Cursor {
         // It is that of some bytes, also where none are told.
         ensures found { (refusal : Refused) → result ≡ Err (PassFault.Refused refusal)
             → (bytes : List ℕ) × (refusal_of wanted.now bytes ≡ Some refusal) }
+        // At a fault of the trace it has read all that the bytes say.
+        ensures stopped { (fault : Fault)
+            → result ≡ Err (PassFault.Refused (refusals.Trace fault)) → (bytes : List ℕ)
+            → HasCome (S.outside shelf.old).held name.now wanted.now bytes self.old
+            → HasStopped (S.outside shelf.new).held name.now wanted.now bytes
+            (refusals.Trace fault) self.new }
         ensures memory { result ≢ Err (PassFault.Refused (refusals.Trace trace_faults.NoMemory)) }
         ensures cause { HasPassCause name.now (S.outside shelf.old) (S.outside shelf.new) result }
         ensures only { OnlyReads (S.outside shelf.old) (S.outside shelf.new) }

@@ -1,19 +1,20 @@
 // A table of objects, which sees the records of a trace one after the other.
-ghost use Rattle.std.specs.Prelude.{◌≡◌, OnOk};
-ghost use Rattle.trace_passes.specs.Lives.{objects_noted};
+ghost use Rattle.std.specs.Prelude.{◌≡◌, IsFalse, IsOk, OnOk};
+ghost use Rattle.trace_passes.specs.Lives.{objects_noted, objects_want_memory};
 
 use base::NoMemory;
 use objects::ObjectTable;
 use trace_format::TraceRecord;
 
-/// Notes a record that comes at a position, where it is one of an object. At NoMemory nothing is
-/// said of the table.
+/// Notes a record that comes at a position, where it is one of an object. It takes memory for a
+/// block, and for a symbol that isn't dropped. At NoMemory nothing is said of the table.
 pub fn note_object(
     objects: &mut ObjectTable,
     position: u64,
     item: &TraceRecord,
 ) -> Result<(), NoMemory>
-    ensures { OnOk result (objects.new ≡ objects_noted objects.old item.now position) }
+    ensures noted { OnOk result (objects.new ≡ objects_noted objects.old item.now position) }
+    ensures known { IsFalse (objects_want_memory objects.old item.now) → IsOk result }
 {
     match item {
         TraceRecord::Touch(_, _) => Ok(()),

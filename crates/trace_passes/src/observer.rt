@@ -1,5 +1,5 @@
 // Who sees the records of a trace.
-ghost use Rattle.std.specs.Prelude.{ℕ, List, [], ◌∷◌, ◌++◌, OnOk};
+ghost use Rattle.std.specs.Prelude.{ℕ, List, [], ◌∷◌, ◌++◌, IsOk, OnOk};
 ghost use Rattle.trace_format.specs.declared.record.TraceRecord.{TraceRecord as Record};
 ghost use Rattle.trace_format.specs.Rules.{IsWritable};
 ghost use Rattle.trace_passes.specs.Rooms.{HasRoom};
@@ -15,6 +15,9 @@ pub trait Observer {
     /// That the first access that it sees may have this position.
     ghost begins: { Self → ℕ → Type 0 } = { λ _ _. Unit {0} };
 
+    /// That a record needs no memory.
+    ghost known: { Self → Record → Type 0 } = { λ _ _. ⊥ };
+
     /// Sees one record more. The end record is the last one. Want of memory ends the pass.
     fn note(&mut self, item: &TraceRecord) -> Result<(), NoMemory>
         // The record may be written again.
@@ -23,5 +26,6 @@ pub trait Observer {
         // than a trace may have.
         requires room { HasRoom begins given self.old (item.now ∷ []) }
         ensures given { OnOk result ((begun : Self) (seen : List Record) → given begun self.old seen
-            → given begun self.new (seen ++ item.now ∷ [])) };
+            → given begun self.new (seen ++ item.now ∷ [])) }
+        ensures known { known self.old item.now → IsOk result };
 }

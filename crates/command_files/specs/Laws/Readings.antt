@@ -30,7 +30,7 @@ none_later : (x y : Option Status) → option_or x y ≡ None → y ≡ None
 none_later None y is = is
 none_later (Some r) y is = absurd (none-some r (sym is))
 
-refused_first : (s1 s2 : List Reading) (files : Files) (s : Status)
+pub refused_first : (s1 s2 : List Reading) (files : Files) (s : Status)
     → first_refusal s1 files ≡ Some s
     → first_refusal (s1 ++ s2) files ≡ Some s
 refused_first [] s2 files s is = absurd (none-some s is)
@@ -43,6 +43,14 @@ pub passed : (s1 s2 : List Reading) (files : Files) → first_refusal s1 files �
 passed [] s2 files none = refl
 passed (x ∷ s1) s2 files none = rw (none_first (x.refusal files) (first_refusal s1 files) none)
     (passed s1 s2 files (none_later (x.refusal files) (first_refusal s1 files) none))
+
+pub accepted_first : (s1 s2 : List Reading) (files : Files) → first_refusal (s1 ++ s2) files ≡ None
+    → first_refusal s1 files ≡ None
+accepted_first [] s2 files none = refl
+accepted_first (x ∷ s1) s2 files none =
+    rw (none_first (x.refusal files) (first_refusal (s1 ++ s2) files) none)
+    (accepted_first s1 s2 files
+    (none_later (x.refusal files) (first_refusal (s1 ++ s2) files) none))
 
 -- a name before some, if there is one, changes nothing of those behind it
 rose_kept : (n : Option (List ℕ)) (l m : List (List ℕ)) (before now : List ℕ → ℕ)

@@ -9,9 +9,10 @@ use Rattle.std.proofs.lemmas.Nat.{div-add-mod', mod-mul-add}
 use Rattle.std.proofs.lemmas.Option.{none-some, same_Some, slice_get_past}
 use Rattle.std.specs.Prelude.{option_map, slice_get}
 use Rattle.std.specs.List.{list_any}
+use Rattle.base.specs.Lines.{line_number}
 use Rattle.base.specs.Touch.{Touch, is_write}
 use Rattle.sharing_rules.specs.AccessLists.{writes_to}
-use Rattle.sharing_rules.specs.Lines.{is_inside}
+use Rattle.sharing_rules.specs.Lines.{is_inside, native_line}
 use Rattle.sharing_rules.specs.Places.{below}
 use Rattle.sharing_rules.specs.Laws.Lists.{length-below, same_by_get, slice_cases}
 use Rattle.sharing_rules.specs.Laws.Lists.{slice_get-map-below}
@@ -21,8 +22,8 @@ use Rattle.layout_sweep.specs.Laws.Lines.{IsWhole, window-holds, window-lacks, w
 use Rattle.layout_sweep.specs.Laws.Windows.{blank-unwritten, window-noted, window-stays}
 use Rattle.layout_sweep.specs.Pages.{HasBlank}
 use Rattle.layout_sweep.specs.Laws.Least.{within_list}
-use Rattle.layout_sweep.specs.Windows.{IsFirstWrite, takes, window_after, window_line}
-use Rattle.layout_sweep.specs.Windows.{window_of}
+use Rattle.layout_sweep.specs.Windows.{BeginsLine, IsFirstWrite, blank_window, takes}
+use Rattle.layout_sweep.specs.Windows.{window_after, window_line, window_of}
 use Rattle.layout_sweep.specs.declared.counts.Swept.{Swept}
 use Rattle.layout_sweep.specs.declared.window.Window.{Window}
 
@@ -178,3 +179,13 @@ first-write n w t a old whole word stands writes blank =
       first = subst (λ l. list_any (writes_to (is_inside l)) t ≡ false) line
           (blank-unwritten (window_line n q) t (sym (stands q) ∙ blank.blank));
     }
+
+-- the same of one line
+pub line-begins : (n k : ℕ) (t : List Touch) (a : Touch) (w : Window) → k ≡ line_number n 0 a.addr
+    → w ≡ window_of (native_line n k) t → is_write a.kind ≡ true → w ≡ blank_window
+    → BeginsLine n t a
+line-begins n k t a w line stands writes blank = record {
+  write = writes;
+  first = blank-unwritten (native_line n (line_number n 0 a.addr)) t
+      (ap (λ (j : ℕ). window_of (native_line n j) t) (sym line) ∙ sym stands ∙ blank);
+}

@@ -35,14 +35,15 @@ insert_entry-first (e ∷ es) r (suc i) l within here none =
     rw other (ap (λ xs. e ∷ xs) (insert_entry-first es r i l (omega (arith, within)) here
     (λ k lt. none (suc k) (omega (arith, lt)))))
 
-insert_entry-at : (es : List (ℕ × LineEntry)) (r i : ℕ) (l : LineEntry)
+pub insert_entry-at : (es : List (ℕ × LineEntry)) (r i : ℕ) (l : LineEntry)
     → position (eqb r) (keys_of es) ≡ Some i → insert_entry nat_eq es r l ≡ set_value_at es i l
 insert_entry-at es r i l e =
     let at = position-Some (eqb r) (keys_of es) i 0 e in insert_entry-first es r i l at.0 at.1 at.2
 
 -- what a known line's entry becomes
 known-noted : {E : Type 0} (result : Result Cost E) (es new : List (ℕ × LineEntry))
-    (r i n p place : ℕ) (a : Touch) → position (eqb r) (keys_of es) ≡ Some i
+    (r i n p place : ℕ) (a : Touch)
+    → ((l : LineEntry) → insert_entry nat_eq es r l ≡ set_value_at es i l)
     → slice_get (values_of es) i ≡ lookup (eqb r) es → true ≡ is_some (lookup (eqb r) es)
     → OnOk result (IfSome (slice_get (values_of es) i)
     (λ l. new ≡ set_value_at es i (note_line l p place a)))
@@ -54,12 +55,12 @@ known-noted (Ok cost) es new r i n p place a at value found noted =
       | inr some ↦
           let there : slice_get (values_of es) i ≡ Some some.0 = value ∙ some.1 in
           let set : new ≡ set_value_at es i (note_line some.0 p place a) = rw there at noted in
-          rw some.1 (set ∙ sym (insert_entry-at es r i (note_line some.0 p place a) at))
+          rw some.1 (set ∙ sym (at (note_line some.0 p place a)))
     ]
 
 pub known-noted-as : {E : Type 0} (result : Result Cost E) (es new : List (ℕ × LineEntry))
     (r q i n p place at : ℕ) (a : Touch) → q ≡ r → at ≡ place
-    → position (eqb q) (keys_of es) ≡ Some i
+    → ((l : LineEntry) → insert_entry nat_eq es q l ≡ set_value_at es i l)
     → slice_get (values_of es) i ≡ lookup (eqb q) es → true ≡ is_some (lookup (eqb q) es)
     → OnOk result (IfSome (slice_get (values_of es) i)
     (λ l. new ≡ set_value_at es i (note_line l p at a)))

@@ -18,7 +18,7 @@ returns-in-Some-clause-noted c =
     c.args.position (word_place c.args.line c.args.access.now.addr) c.word_place-place.result
     c.args.access.now c.number-number.ensures.value
     (c.word_place-place.ensures ∙ ap (word_place c.args.line) c.addr.ensures)
-    (sym c.in-Some.ensures.index) c.in-Some.ensures.value c.in-Some.ensures.found
+    c.in-Some.ensures.index c.in-Some.ensures.value c.in-Some.ensures.found
     c.note_known.ensures.noted
 
 pub returns-in-Some-clause-told : goal.returns-in-Some-clause-told

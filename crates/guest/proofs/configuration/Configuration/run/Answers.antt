@@ -1,7 +1,6 @@
 use Rattle.std.proofs.Common.{◌∙◌, ap, arith, refl}
-use Rattle.guest.specs.GuestCalls.{RunTurn}
 use Rattle.guest.specs.ConfigInside.{config_of}
-use Rattle.guest.specs.Turns.{chosen, makes_block}
+use Rattle.guest.specs.Turns.{chosen, wants_memory}
 use Rattle.guest.proofs.TurnAnswers.{if_ok-map, on_ok-if}
 use Rattle.guest.proofs.AtCall.{called}
 use Rattle.guest.proofs.CallFits.{fits_called, fits_chosen}
@@ -38,7 +37,7 @@ returns-in-Call-clause-fits c =
 pub returns-in-Call-clause-settled : goal.returns-in-Call-clause-settled
 returns-in-Call-clause-settled c = λ h.
     c.call.ensures.settled
-    (ap (λ (t : RunTurn). makes_block t)
+    (ap (wants_memory (config_of c.args.self.now))
     (called c.args.setup.now c.args.hart c.from.result (chosen (config_of c.args.self.now))
     c.index_mut-state.result.now c.step.new.state
     c.step.new.memory c.step.new.held _

@@ -3,7 +3,7 @@ use Rattle.std.specs.Prelude.{IfOk, OnErr}
 use Rattle.guest.specs.Configs.{Fits}
 use Rattle.guest.specs.GuestCalls.{RunTurn, call_turn, quiet, ran}
 use Rattle.guest.specs.ConfigInside.{config_of}
-use Rattle.guest.specs.Turns.{chosen, makes_block, turn_of}
+use Rattle.guest.specs.Turns.{chosen, turn_of, wants_memory}
 use Rattle.guest.specs.SeenTurns.{event_of, turn_seen}
 use Rattle.guest.specs.declared.turn.Touched.{Touched as ATouched}
 use Rattle.rv32_hart.specs.Effect.{machine}
@@ -122,7 +122,7 @@ call_taken c before =
     (config_of c.go_ahead.new.self) (config_of c.call-answer.new.self) c.go_ahead.new.touches
     c.call-answer.result before (call_made c) (call_left c)
     (λ no_block. c.call-answer.ensures.settled
-    (ap (λ (t : RunTurn). makes_block t) (call_at c _ refl) ∙ no_block))
+    (ap (wants_memory (config_of c.go_ahead.new.self)) (call_at c _ refl) ∙ no_block))
 
 -- ---- the loop
 

@@ -1,7 +1,6 @@
 use Rattle.std.proofs.Common.{◌∙◌, ap}
-use Rattle.guest.specs.GuestCalls.{RunTurn}
 use Rattle.guest.specs.ConfigInside.{config_of}
-use Rattle.guest.specs.Turns.{makes_block}
+use Rattle.guest.specs.Turns.{wants_memory}
 use Rattle.guest.proofs.TurnAnswers.{fits-either, if_ok-map}
 use Rattle.guest.proofs.configuration.Configuration.turn.Goals as goal
 
@@ -18,4 +17,4 @@ returns-clause-fits c =
 pub returns-clause-settled : goal.returns-clause-settled
 returns-clause-settled c = λ h.
     c.run.ensures.settled
-    (ap (λ (t : RunTurn). makes_block t) (c.is_spent.ensures.turn c.if-is_spent.false) ∙ h)
+    (ap (wants_memory (config_of c.args.self.now)) (c.is_spent.ensures.turn c.if-is_spent.false) ∙ h)

@@ -5,7 +5,7 @@ pub returns-in-Ok-clause-noted : goal.returns-in-Ok-clause-noted
 returns-in-Ok-clause-noted c =
     both_noted c.note_object.result c.args.self.now c.note_miss.new.misses
     c.note_object.new.objects c.args.item.now c.in-Ok.ensures.noted
-    (rw c.position-position.ensures at c.note_object.ensures)
+    (rw c.position-position.ensures at c.note_object.ensures.noted)
 
 pub returns-in-Ok-clause-stands : goal.returns-in-Ok-clause-stands
 returns-in-Ok-clause-stands c = λ t stood.
@@ -15,4 +15,4 @@ pub returns-in-Ok-clause-seen : goal.returns-in-Ok-clause-seen
 returns-in-Ok-clause-seen c =
     both_seen c.note_object.result c.args.self.now c.note_miss.new.misses
     c.note_object.new.objects c.args.item.now c.in-Ok.ensures.noted
-    (rw c.position-position.ensures at c.note_object.ensures) (λ t stood. c.in-Ok.ensures.stands t stood)
+    (rw c.position-position.ensures at c.note_object.ensures.noted) (λ t stood. c.in-Ok.ensures.stands t stood)

@@ -5,12 +5,14 @@ use Rattle.shelf.specs.Fetch.{IsFront}
 use Rattle.shelf.specs.Laws.Told.{told_both}
 use Rattle.trace_format.specs.Reading.{reading_of}
 use Rattle.trace_format.specs.Rules.{longest_trace}
-use Rattle.trace_passes.specs.Cursors.{HasCome, HasEnded, IsRead, Reached, StopsAtMagic}
+use Rattle.trace_passes.specs.declared.wanted.Refusal.TheVariants as refusals
+use Rattle.trace_passes.specs.Cursors.{HasCome, HasEnded, IsRead, Reached, StopsAtMagic, StopsIn}
 use Rattle.trace_passes.specs.Passes.{refusal_of}
 use Rattle.trace_passes.proofs.Fronts.{at_most, come_still, falls, given_back, longer_front}
 use Rattle.trace_passes.proofs.Fronts.{next_come}
 use Rattle.trace_passes.proofs.Fronts.{refused_file, stops_there, whole_front}
 use Rattle.trace_passes.proofs.Closings.{ended, refused_end}
+use Rattle.trace_passes.proofs.Stopping.{stopped_end, stopped_piece}
 use Rattle.trace_passes.proofs.cursor.Cursor.advance.Goals as goal
 
 pub returns-then-count-eq0-clause-ended : goal.returns-then-count-eq0-clause-ended
@@ -166,3 +168,62 @@ returns-clause-fewer g c = λ same.
     subst (λ (n : ℕ). longest_trace - (c.self.inside.at + c.in_ok-count.count) < longest_trace - n)
     (ap (λ (r : Reached). r.count) c.self.view_is)
     (falls c.self.inside.at c.in_ok-count.count c.if-count-eq0.false low)
+
+pub returns-in_err-end_of-clause-stopped : goal.returns-in_err-end_of-clause-stopped
+returns-in_err-end_of-clause-stopped g c = λ fault same bytes reached.
+    let held = (g.S.Shelf.outside c.fetch.new.shelf).held in
+    let came = subst (HasCome (g.S.Shelf.outside c.args.shelf.now).held c.args.name.now
+    c.args.wanted.now bytes) (sym c.self.view_is) reached in
+    let come = come_still _ held _ _ _ _ c.in_ok-count.ensures.only.held came in
+    let into = c.fetch.new.piece in
+    let size : length c.self.inside.piece.items ≡ c.self.inside.piece.len = omega arith in
+    let some : 0 < length into = omega (arith, c.deref_mut.ensures.len, size, come.room) in
+    let none : c.in_ok-count.count ≡ 0 = c.if-count-eq0.true in
+    let name = c.args.name.now in
+    let whole : Told held (λ files. bytes ≡ content files name) =
+    told_both held (λ files. whole_front (content files name) bytes into c.self.inside.at
+    c.in_ok-count.count come.size none some) come.front c.in_ok-count.ensures.bytes in
+    let was_err = c.in_err-end_of.was in
+    let handed_on = rw same at c.from_residual-in_err-end_of.ensures.1 in
+    stopped_end held name bytes c.args.wanted.now (refusals.Trace fault) _ whole come.read
+    c.clear.ensures.items (c.end_of.ensures.refused (refusals.Trace fault) (cc))
+
+pub returns-in_err-take_piece-clause-stopped : goal.returns-in_err-take_piece-clause-stopped
+returns-in_err-take_piece-clause-stopped g c = λ fault same bytes reached.
+    let into = c.fetch.new.piece in
+    let was = c.self.inside.piece.items in
+    let lent : length into ≡ c.self.inside.piece.len = omega (arith, c.deref_mut.ensures.len) in
+    let size : length was ≡ c.self.inside.piece.len = omega arith in
+    let back = given_back c.self.inside.piece.len into was lent size in
+    let held = (g.S.Shelf.outside c.fetch.new.shelf).held in
+    let name = c.args.name.now in
+    let came = subst (HasCome (g.S.Shelf.outside c.args.shelf.now).held name c.args.wanted.now
+    bytes) (sym c.self.view_is) reached in
+    let come = come_still _ held _ _ _ _ c.in_ok-count.ensures.only.held came in
+    let at = c.self.inside.at in
+    let count = c.in_ok-count.count in
+    let fits : count ≤ length into = omega (arith, c.in_ok-count.ensures.bound) in
+    let front : Told held (λ files. IsFront (content files name) (bytes ++ take count into)) =
+    told_both held (λ files. longer_front (content files name) bytes into at count come.size fits)
+    come.front c.in_ok-count.ensures.bytes in
+    let was_err = c.in_err-take_piece.was in
+    let handed_on = rw same at c.from_residual-in_err-take_piece.ensures.1 in
+    let w = c.args.wanted.now in
+    let stops : StopsAtMagic w bytes (take count into) =
+    stops_there w bytes into at count come.size fits come.read.sited
+    (c.in_ok-count.ensures.magic) in
+    let refusal = refusals.Trace fault in
+    let refused : (more : List ℕ) → refusal_of w ((bytes ++ take count into) ++ more)
+    ≡ Some refusal =
+    λ more. subst (λ (xs : List ℕ). StopsAtMagic w bytes (take count xs)
+    → refusal_of w ((bytes ++ take count xs) ++ more) ≡ Some refusal)
+    (c.deref.ensures.value ∙ back) (c.take_piece.ensures.refused refusal
+    (cc) bytes more come.read.reading) stops in
+    let reader = c.take_piece.new.reader in
+    let items = c.take_piece.new.items.items in
+    let in_it : StopsIn (bytes ++ take count into) bytes fault reader items =
+    subst (λ (xs : List ℕ). StopsIn (bytes ++ take count xs) bytes fault reader items)
+    (c.deref.ensures.value ∙ back) (c.take_piece.ensures.stopped fault (cc) bytes
+    come.read.reading) in
+    stopped_piece held name bytes (bytes ++ take count into) (take count into) w fault _ refl front
+    in_it refused

@@ -14,19 +14,15 @@ overflow_add-self c =
     let more = touches_in-more room.seen c.args.item.now in
     omega (arith, one, more, room.room, room.given_so_far, room.begins_there)
 
-pub returns-in-Touch : goal.returns-in-Touch
-returns-in-Touch c = record {
-  given = λ begun seen was.
-      let one = ap (counted_after (length (touches_in seen))) c.in-Touch.is in
-      omega (arith, one, was, touches_in-more seen c.args.item.now);
-}
+pub returns-in-Touch-clause-given : goal.returns-in-Touch-clause-given
+returns-in-Touch-clause-given c = λ begun seen was.
+    let one = ap (counted_after (length (touches_in seen))) c.in-Touch.is in
+    omega (arith, one, was, touches_in-more seen c.args.item.now)
 
-pub returns-in-End : goal.returns-in-End
-returns-in-End c = record {
-  given = λ begun seen was.
-      let same = ap (counted_after (length (touches_in seen))) c.in-End.is in
-      omega (arith, same, was, touches_in-more seen c.args.item.now);
-}
+pub returns-in-End-clause-given : goal.returns-in-End-clause-given
+returns-in-End-clause-given c = λ begun seen was.
+    let same = ap (counted_after (length (touches_in seen))) c.in-End.is in
+    omega (arith, same, was, touches_in-more seen c.args.item.now)
 
 other : (n : ℕ) (item : TraceRecord) → ((a : Touch) (pc : Option ℕ) → item ≡ records.Touch a pc → ⊥)
     → counted_after n item ≡ n
@@ -36,9 +32,7 @@ other n (records.Free addr) not = refl
 other n (records.Symbol kind addr size name) not = refl
 other n (records.End e) not = refl
 
-pub returns-in_default : goal.returns-in_default
-returns-in_default c = record {
-  given = λ begun seen was.
-      let same = other (length (touches_in seen)) c.args.item.now c.in_default.not-Touch in
-      omega (arith, same, was, touches_in-more seen c.args.item.now);
-}
+pub returns-in_default-clause-given : goal.returns-in_default-clause-given
+returns-in_default-clause-given c = λ begun seen was.
+    let same = other (length (touches_in seen)) c.args.item.now c.in_default.not-Touch in
+    omega (arith, same, was, touches_in-more seen c.args.item.now)

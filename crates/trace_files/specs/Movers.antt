@@ -1,0 +1,123 @@
+-- How far a trace is moved, in the clauses of this crate's own functions.
+use Rattle.std.specs.Prelude.{◌≡◌, ℕ, ◌<◌, ◌^◌, false, List, [], ◌++◌, length, Option, Some, None}
+use Rattle.std.specs.Prelude.{is_some}
+use Rattle.std.specs.List.{list_any}
+use Rattle.std.specs.Option.{IfSome}
+use Rattle.shelf.specs.declared.shelf.ShelfError.{ShelfError}
+use Rattle.shelf.specs.declared.shelf.ShelfError.TheVariants as errors
+use Rattle.shelf.specs.Files.{AreCut, AreWritten}
+use Rattle.shelf.specs.OnTheirWay.{IsOutputs}
+use Rattle.shelf.specs.Shelf.{Outside}
+use Rattle.trace_format.specs.declared.record.Header.{Header}
+use Rattle.trace_format.specs.declared.record.TraceRecord.{TraceRecord}
+use Rattle.trace_format.specs.declared.record.Version.{Version}
+use Rattle.trace_format.specs.Rules.{IsGoodHeader, touches_in}
+use Rattle.trace_format.specs.Spelling.{nothing_before}
+use Rattle.trace_format.specs.Writing.{before_behind}
+use Rattle.trace_files.specs.declared.move_fault.MoveFault.{MoveFault}
+use Rattle.trace_files.specs.declared.move_fault.MoveFault.TheVariants as faults
+use Rattle.trace_files.specs.declared.move_row.Move.{Move}
+use Rattle.trace_files.specs.declared.mover.Mover.{Mover}
+use Rattle.trace_files.specs.Moves.{count_moved}
+use Rattle.trace_files.specs.Moving.{before_the_first, first_in_the_way, is_in_the_way}
+use Rattle.trace_files.specs.Moving.{moved_items, moved_so_far}
+
+-- These records were put with their accesses moved, none of which is in the way, into the file that
+-- the header began; without a header nothing is begun.
+pub record HasMoved (table : List Move) (name : List ℕ) (m : Mover)
+    (head : Option (Version × Header)) (seen : List TraceRecord) (before now : Outside) : Type 0
+  where
+    pub named : m.name.now ≡ name
+    pub outputs : IsOutputs m.files (moved_so_far table name head seen) before now
+    pub begun : m.begun ≡ is_some head
+    pub writer : IfSome head (λ h. m.writer
+        ≡ record { version = h.0; before = before_behind nothing_before (moved_items table seen) })
+    pub free : list_any (is_in_the_way table) seen ≡ false
+    pub moved : m.moved ≡ count_moved table (touches_in seen)
+
+-- more records may be put, of fewer accesses than can be counted
+pub record MayPut (table : List Move) (m : Mover) (more : List TraceRecord) (now : Outside) : Type 0
+  where
+    pub name : List ℕ
+    pub head : Version × Header
+    pub seen : List TraceRecord
+    pub before : Outside
+    pub has : HasMoved table name m (Some head) seen before now
+    pub room : length (touches_in (seen ++ more)) < 2 ^ 63
+
+-- ---- where it gives up
+
+-- The file was cut as these records were put, which are the first of all and free.
+pub record IsCutAt (table : List Move) (name : List ℕ) (head : Option (Version × Header))
+    (all : List TraceRecord) (before now : Outside) (error : ShelfError) : Type 0 where
+  pub put : List TraceRecord
+  pub more : List TraceRecord
+  pub free : list_any (is_in_the_way table) put ≡ false
+  pub first : all ≡ put ++ more
+  pub cut : AreCut (moved_so_far table name head put) before now error
+
+-- An access of these records is in the way, and the file has all that is before it.
+pub record IsOccupied (table : List Move) (name : List ℕ) (head : Option (Version × Header))
+    (all : List TraceRecord) (before now : Outside) (addr : ℕ) : Type 0 where
+  pub first : first_in_the_way table all ≡ Some addr
+  pub written : AreWritten (moved_so_far table name head (before_the_first table all)) before now
+  pub cut : IsCutAt table name head all before now errors.NoMemory
+
+-- what is known where these records were to be put, and a fault came
+abbrev pub StopsAt : List Move → List ℕ → Option (Version × Header) → List TraceRecord → Outside
+    → Outside → MoveFault → Type 0
+StopsAt table name head all before now (faults.Occupied addr) =
+    IsOccupied table name head all before now addr
+StopsAt table name head all before now faults.WriteFault =
+    IsCutAt table name head all before now errors.Failed
+StopsAt table name head all before now faults.NoMemory =
+    IsCutAt table name head all before now errors.NoMemory
+StopsAt table name head all before now faults.ReadFault = ⊥
+StopsAt table name head all before now (faults.Refused refusal) = ⊥
+
+abbrev pub write_fault : ShelfError → MoveFault
+write_fault errors.Failed = faults.WriteFault
+write_fault errors.NoMemory = faults.NoMemory
+
+-- ---- the header
+
+-- How the header that is known once more records came follows what was known: it stays, and before
+-- it is known no record comes.
+abbrev pub Follows : Option (Version × Header) → List TraceRecord → Option (Version × Header)
+    → List TraceRecord → Type 0
+Follows None seen None more = (seen ≡ []) × (more ≡ [])
+Follows None seen (Some head) more = seen ≡ []
+Follows (Some known) seen None more = ⊥
+Follows (Some known) seen (Some head) more = known ≡ head
+
+-- some records were put, and more may be once their header is known
+pub record MayTake (table : List Move) (m : Mover) (head : Option (Version × Header))
+    (more : List TraceRecord) (now : Outside) : Type 0 where
+  pub name : List ℕ
+  pub known : Option (Version × Header)
+  pub seen : List TraceRecord
+  pub before : Outside
+  pub has : HasMoved table name m known seen before now
+  pub follows : Follows known seen head more
+  pub room : length (touches_in (seen ++ more)) < 2 ^ 63
+  pub good : IfSome head (λ h. IsGoodHeader h.1)
+
+-- All records were put, none of which is in the way, and are written.
+pub record IsAllWritten (table : List Move) (name : List ℕ) (head : Option (Version × Header))
+    (all : List TraceRecord) (before now : Outside) : Type 0 where
+  pub free : list_any (is_in_the_way table) all ≡ false
+  pub written : AreWritten (moved_so_far table name head all) before now
+  pub cut : IsCutAt table name head all before now errors.NoMemory
+
+-- the same where a trace ends that is refused, once its records were put
+abbrev pub EndsAt : List Move → List ℕ → Option (Version × Header) → List TraceRecord → Outside
+    → Outside → MoveFault → Type 0
+EndsAt table name head all before now (faults.Refused refusal) =
+    IsAllWritten table name head all before now
+EndsAt table name head all before now (faults.Occupied addr) =
+    IsOccupied table name head all before now addr
+EndsAt table name head all before now faults.WriteFault =
+    IsCutAt table name head all before now errors.Failed
+EndsAt table name head all before now faults.NoMemory =
+    IsCutAt table name head all before now errors.NoMemory
+EndsAt table name head all before now faults.ReadFault = ⊥

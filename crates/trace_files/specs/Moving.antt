@@ -1,0 +1,123 @@
+-- Which trace a table makes of another one, and what is written where it gives up.
+use Rattle.std.specs.Prelude.{◌≡◌, ◌≢◌, ℕ, ◌≤◌, List, [], map, Bool, false, not, length}
+use Rattle.std.specs.Prelude.{find, Option, Some, None, option_map}
+use Rattle.std.specs.Option.{option_map_or}
+use Rattle.std.specs.List.{take_while}
+use Rattle.shelf.specs.Files.{Output, AreWritten, BegunInOrder, one_file}
+use Rattle.shelf.specs.Shelf.{Files, Goes, Narrows, Outside, Rose, Told, content}
+use Rattle.trace_format.specs.declared.record.Header.{Header}
+use Rattle.trace_format.specs.declared.record.Version.{Version}
+use Rattle.trace_format.specs.declared.record.TraceRecord.{TraceRecord}
+use Rattle.trace_format.specs.declared.record.TraceRecord.TheVariants as records
+use Rattle.trace_format.specs.Reading.{reading_of}
+use Rattle.trace_format.specs.Rules.{touches_in}
+use Rattle.trace_format.specs.Writing.{begun_with}
+use Rattle.trace_passes.specs.Cursors.{version_and_header}
+use Rattle.trace_passes.specs.Passes.{Trace, refusal_of, spell_trace}
+use Rattle.trace_files.specs.declared.move_fault.MoveFault.{MoveFault}
+use Rattle.trace_files.specs.declared.move_fault.MoveFault.TheVariants.{Refused, Occupied}
+use Rattle.trace_files.specs.declared.move_fault.MoveFault.TheVariants.{ReadFault, WriteFault}
+use Rattle.trace_files.specs.declared.relocation.Moved.{Moved}
+use Rattle.trace_files.specs.Copies.{any}
+use Rattle.trace_files.specs.Moves.{IsFree, count_moved, is_taken, moved_in}
+use Rattle.trace_files.specs.declared.move_row.Move.{Move}
+
+-- ---- the records
+
+-- a record with its access moved, and any other as it is
+abbrev pub moved_item : List Move → TraceRecord → TraceRecord
+moved_item table (records.Touch a pc) = records.Touch (moved_in table a) pc
+moved_item table item = item
+
+abbrev pub moved_items : List Move → List TraceRecord → List TraceRecord
+moved_items table items = map (moved_item table) items
+
+-- the trace with its accesses moved
+abbrev pub moved : List Move → Trace → Trace
+moved table t = record t { items = moved_items table t.items }
+
+-- an access that stays, where one may go
+abbrev pub is_in_the_way : List Move → TraceRecord → Bool
+is_in_the_way table (records.Touch a pc) = is_taken table a.addr
+is_in_the_way table _ = false
+
+-- the address of the first such access
+abbrev pub addr_of : TraceRecord → ℕ
+addr_of (records.Touch a pc) = a.addr
+addr_of _ = 0
+
+abbrev pub first_in_the_way : List Move → List TraceRecord → Option ℕ
+first_in_the_way table items = option_map addr_of (find (is_in_the_way table) items)
+
+-- the records before it, all where there is none
+abbrev pub before_the_first : List Move → List TraceRecord → List TraceRecord
+before_the_first table items = take_while (λ item. not (is_in_the_way table item)) items
+
+-- ---- any bytes
+
+-- the file of a name as far as it is written: none before a header is accepted; then the header,
+-- and these records with the accesses moved
+abbrev pub moved_so_far : List Move → List ℕ → Option (Version × Header) → List TraceRecord
+    → List Output
+moved_so_far table name None seen = []
+moved_so_far table name (Some head) seen =
+    one_file name (begun_with head.0 head.1 (moved_items table seen))
+
+-- What is written of bytes: their header, once it is accepted, and the records that are read before
+-- an access is in the way.
+abbrev pub written_of : List Move → List ℕ → List ℕ → List Output
+written_of table name bytes =
+    let now = reading_of bytes in
+    moved_so_far table name (version_and_header now.1.progress) (before_the_first table now.0)
+
+-- how they are refused: for the first access in the way among the records that are read, else as
+-- they are no trace
+abbrev pub fault_of : List Move → List ℕ → Option MoveFault
+fault_of table bytes =
+    option_map_or (λ addr. Some (Occupied addr)) (first_in_the_way table (reading_of bytes).0)
+    (option_map Refused (refusal_of any bytes))
+
+-- ---- what the call says
+
+-- the file of a whole trace
+abbrev pub moving : List Move → List ℕ → Trace → List Output
+moving table name t = one_file name (spell_trace (moved table t))
+
+-- no access of the trace is in the way, and so many there are, and are moved
+pub record IsCounted (table : List Move) (made : Moved) (t : Trace) : Type 0 where
+  pub free : IsFree table (touches_in t.items)
+  pub accesses : made.accesses ≡ length (touches_in t.items)
+  pub moved : made.moved ≡ count_moved table (touches_in t.items)
+
+-- No number of faults falls. Those of reading the trace rose at a fault of reading, those of writing
+-- the file at a fault of writing, and else they stay.
+pub record HasMoveCause (name file : List ℕ) (before now : Outside) (fault : MoveFault) : Type 0
+  where
+    pub reads : (n : List ℕ) → before.read_faults n ≤ now.read_faults n
+    pub writes : (n : List ℕ) → before.write_faults n ≤ now.write_faults n
+    pub read_failed : fault ≡ ReadFault → Rose (before.read_faults name) (now.read_faults name)
+    pub write_failed : fault ≡ WriteFault → Rose (before.write_faults file) (now.write_faults file)
+    pub read_quiet : fault ≢ ReadFault → now.read_faults ≡ before.read_faults
+    pub write_quiet : fault ≢ WriteFault → now.write_faults ≡ before.write_faults
+
+-- It gave up. The file is a front of what is written of the bytes, where these are told, and each
+-- other file is as it was; it is known who is the cause.
+pub record HasGivenUp (held : Option Files) (name file : List ℕ) (table : List Move)
+    (before now : Outside) (fault : MoveFault) : Type 0 where
+  pub fronts : Told held (λ files. Goes before.written now.written
+      (BegunInOrder (written_of table file (content files name))))
+  pub others : Goes before.written now.written
+      (λ old new. (n : List ℕ) → n ≢ file → new n ≡ old n)
+  pub cause : HasMoveCause name file before now fault
+  pub held_stay : Narrows before.held now.held
+  pub printed : now.printed ≡ before.printed
+  pub print_faults : now.print_faults ≡ before.print_faults
+
+-- The bytes are refused so, and all is written that is written of them; they are the held ones of
+-- the name, where these are told.
+pub record IsRefused (held : Option Files) (name file : List ℕ) (table : List Move)
+    (before now : Outside) (fault : MoveFault) : Type 0 where
+  pub bytes : List ℕ
+  pub whole : Told held (λ files. bytes ≡ content files name)
+  pub refused : fault_of table bytes ≡ Some fault
+  pub written : AreWritten (written_of table file bytes) before now
