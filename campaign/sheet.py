@@ -6,13 +6,15 @@ import shlex
 from collections import Counter
 from typing import Iterator, NamedTuple, Sequence
 
-from drawing import Given, strip, templates
+from drawing import Given, bar, strip, templates
 from folder import Record
 from table import Family, Part, Under, families, ordered, settings_of, weight
 
 HERE = os.path.dirname(os.path.abspath(__file__))
 # So many strips are drawn, outcomes and failures told, and letters of a name shown: a page stays below 2 MB.
 STRIPS, LOUD, NAME = 160, 24, 160
+# So many objects are shown side by side, and under so many programs and settings.
+ROWS, COLUMNS = 24, 12
 
 
 def short(name: str) -> str:
@@ -69,12 +71,17 @@ class Shown(NamedTuple):
     row: Record
 
 
+def where(under: Under) -> str:
+    """Of which lines a row is."""
+    _, (size, shift), kind = under
+    return f"lines of {size} bytes" + (f" at offset {shift}" if shift else "") + ("" if kind == "observed" else f", predicted ({kind})")
+
+
 def row(campaign: Record, shown: Shown, seeds: Sequence[int]) -> Given:
     """An object under some settings, and its strip."""
     under, name, family, told = shown
     counts, useless = ([family.seeds.get(seed, (seed, None, None))[at] for seed in seeds] for at in (1, 2))
-    (size, shift), kind = under[1], under[2]
-    layout = f"lines of {size} bytes" + (f" at offset {shift}" if shift else "") + ("" if kind == "observed" else f", predicted ({kind})")
+    layout = where(under)
     said = f"{short(name)}, {layout}: useless misses {numbers(told['useless'])} (least, middle, greatest), count {numbers(told['count'])}"
     return {
         "object": short(name),
@@ -83,11 +90,36 @@ def row(campaign: Record, shown: Shown, seeds: Sequence[int]) -> Given:
         "listed": told["listed"],
         "useless": numbers(told["useless"]),
         "count": numbers(told["count"]),
+        "greatest": [numbers([told[it][2]]) for it in ("useless", "count")],
         "worst": told["worst"],
         "command": command_of(campaign, under[0], told["worst"]),
         "told": f"{said}; listed in {told['listed']} of {len(seeds)} seeds; the worst is seed {told['worst']}",
         "picture": strip(useless, counts, seeds.index(told["worst"])),
     }
+
+
+def side_by_side(campaign: Record, found: Sequence[Shown]) -> Given:
+    """Of each object the greatest numbers of any seed under each program and settings, with a bar: a row's bars have one scale, and are of
+    useless misses where these are known."""
+    groups = range(len(campaign["groups"]))[:COLUMNS]
+    rows: dict[tuple[object, ...], dict[int, Shown]] = {}
+    for it in found:
+        rows.setdefault((it.name, *it.under[1:]), {})[it.under[0]] = it
+    made = []
+    for own in list(rows.values())[:ROWS]:
+        first = next(iter(own.values()))
+        of = "useless" if any(it.row["useless"][2] is not None for it in own.values()) else "count"
+        most = max(it.row[of][2] or 0 for it in own.values())
+        cells = [greatest(own[it].row, of, most) if it in own else None for it in groups]
+        made.append({"object": short(first.name), "where": where(first.under), "of": of, "cells": cells})
+    left = {"rows": len(rows) - len(made), "groups": len(campaign["groups"]) - len(groups)}
+    return {"heads": [short(name_of(campaign, it)) for it in groups], "rows": made, "left": left}
+
+
+def greatest(told: Record, of: str, most: int) -> Given:
+    """The greatest numbers of a row, and one of them as a bar."""
+    much = told[of][2] or 0
+    return {"useless": numbers([told["useless"][2]]), "count": numbers([told["count"][2]]), "bar": bar(much, much, most)}
 
 
 def title_of(campaign: Record, part: Part, first: Shown | None, objects: int) -> str:
@@ -123,6 +155,7 @@ def sheet(campaign: Record, part: Part, missing: Sequence[str]) -> str:
             title=title_of(campaign, part, found[0] if found else None, objects),
             loud=loud(campaign, part, missing),
             runs=len(part.runs),
+            beside=side_by_side(campaign, found) if len(campaign["groups"]) > 1 and found else None,
             groups=groups,
             more=len(found) - len(drawn),
         )

@@ -85,6 +85,14 @@ def found_in(campaign: Record, part: Part, by_lines: bool) -> tuple[list[Row], l
     return numbers, first, rows
 
 
+def folded(rows: Iterable[Row]) -> list[Row]:
+    """Rows of a program that differ by their quantum alone as one."""
+    found: dict[Row, list[str]] = {}
+    for name, quantum, *rest in rows:
+        found.setdefault((name, *rest), []).append(quantum)
+    return [(name, ", ".join(own), *rest) for (name, *rest), own in found.items()]
+
+
 def renew_page(campaign: Record, part: Part) -> None:
     sys.path.append(os.path.join(HERE, "..", "guest", "studies"))
     import report  # (only here, since a campaign elsewhere has no page of studies)
@@ -105,7 +113,7 @@ def renew_page(campaign: Record, part: Part) -> None:
         "in half or more",
         "in a tenth or fewer",
     ]
-    parts = {"usual": report.table(heads, map(of_quantum, numbers))}
+    parts = {"usual": report.table(heads, folded(map(of_quantum, numbers)))}
     heads = ["Program", "`quantum`", "Object", "Usual count", "Seeds", "least", "middle", "greatest", "Seed of the greatest"]
     for name, found in (("worst", first), ("apart", rows)):
         named = [(*it[:2], f"`{it[2]}`", *it[3:]) for it in map(of_quantum, found)]

@@ -11,8 +11,10 @@ from reports import Placed
 SELDOM = 20
 # An object behind the first one with fewer than one in so many of the run's misses is to be left as it is.
 LITTLE = 100
-# So many fields are named; the rest are a number.
+# So many names are told where not each of them matters; the rest are a number.
 NAMED = 4
+# A word of which one in so many accesses writes isn't read only.
+STEADY = 100
 # So many misses of a word, or fewer, are looks at the start and the end.
 LOOKS = 2
 # Turns of more steps than this, and at least so many misses on one line, and it is said that short turns may show more.
@@ -21,9 +23,14 @@ SHORT, MANY = 10, 50
 INDEX, PACKED = re.compile(r"\[\d+(?:\.\.\d+)?\]"), re.compile(r"\[\d+\.\.\d+\]")
 
 
-# What tells the type of an array's elements, in backquotes, or nothing.
+# What tells how each element of an array gets lines of its own, as code, or nothing.
 Element = Callable[[str], str]
-SHARED = "shared"
+SHARED, READ = "shared", "only read"
+
+
+def attribute(line: int) -> str:
+    """What aligns a type, a field or a variable, in C and in C++."""
+    return f"__attribute__((aligned({line})))"
 
 
 class Whose(NamedTuple):
@@ -48,8 +55,11 @@ def listing(own: Iterable[str]) -> str:
     """Some names in a row, and how many more there are."""
     names = patterns(own)
     more = len(names) - NAMED
-    if more > 1:
-        return ", ".join(names[:NAMED]) + f" and {more} more"
+    return ", ".join(names[:NAMED]) + f" and {more} more" if more > 1 else all_of(names)
+
+
+def all_of(names: Sequence[str]) -> str:
+    """All of some names in a row."""
     return ", ".join(names[:-1]) + " and " + names[-1] if len(names) > 1 else "".join(names)
 
 
@@ -97,17 +107,30 @@ def groups(words: Iterable[Told]) -> Groups:
             found.setdefault(Whose(SHARED, INDEX.sub("[..]", it.whole())), []).append(it)
         elif it.hart != "many":
             found.setdefault(Whose(f"hart {it.hart}", ""), []).append(it)
-        elif it.writes:
+        elif it.writes * STEADY > it.reads:
             found.setdefault(Whose("one hart", it.whole()), []).append(it)
+        else:
+            found.setdefault(Whose(READ, ""), []).append(it)
     return found
+
+
+def is_fought(found: Groups) -> bool:
+    """Whether words of some groups take lines from each other: one of them is written."""
+    return len(found) > 1 and any(key.whose != READ and any(it.writes for it in own) for key, own in found.items())
 
 
 def told(key: Whose, words: Sequence[Told], size: int, element: Element) -> str:
     """A group of words, and whose it is; of an array whose elements each belong apart, how."""
     array = array_of(words) if key.whose == SHARED and (is_waited_for(words) or all(map(is_packed, words))) else None
     if not array:
-        return f"{listing(it.whole() for it in words)} ({key.whose})"
-    return f"each element of {array} (shared; `alignas({size})` on {element(array) or 'the type of an element'})"
+        names = patterns(it.whole() for it in words)
+        return f"{listing(names) if names[0][:1] == '+' else all_of(names)} ({key.whose})"
+    return f"each element of {array} (shared; by {by_type(array, size, element)})"
+
+
+def by_type(array: str, size: int, element: Element) -> str:
+    """How each element of an array gets lines of its own."""
+    return element(array) or f"`{attribute(size)}` on its type"
 
 
 def lines(words: Iterable[Told]) -> list[list[Told]]:
@@ -119,8 +142,9 @@ def lines(words: Iterable[Told]) -> list[list[Told]]:
 
 
 def fought(own: list[Told]) -> list[Told]:
-    """The words of the first line that has words of several harts."""
-    return next((it for it in lines(own) if len(groups(it)) > 1), own and lines(own)[0])
+    """The words of the lines on which several harts' words are, or of the first line."""
+    found = [it for line in lines(own) if is_fought(groups(line)) for it in line]
+    return found or (own and lines(own)[0])
 
 
 def naming_fields(words: Sequence[Told], thing: Thing) -> str:
@@ -135,7 +159,7 @@ def is_untyped(words: Iterable[Told], thing: Thing) -> bool:
 
 def in_pieces(words: Sequence[Told], thing: Thing, size: int) -> str:
     """What to do about memory without a type of which each hart has pieces."""
-    how = f"`alignas({size})` on the type of its elements" + (
+    how = f"`{attribute(size)}` on the type of its elements" + (
         f" and `aligned_alloc({size}, ..)`" if isinstance(thing.key, OfBlocks) else ""
     )
     rounded = f"in an arena by rounding up where its pieces begin, and their sizes, to multiples of {size}"
@@ -147,28 +171,26 @@ def is_raw(words: Sequence[Told], thing: Thing) -> bool:
     """Whether an object is memory without a type, or bytes, of which each hart has its own."""
     own = groups(words)
     is_plain = is_untyped(words, thing) or all(PACKED.search(it.name) for it in words)
-    return len(own) > 1 and all(key.whose != SHARED for key in own) and is_plain
+    return is_fought(own) and all(key.whose != SHARED for key in own) and is_plain
 
 
 def groups_apart(own: Sequence[Told], thing: Thing, size: int, element: Element) -> str:
     """Which words of a line belong apart."""
     found = groups(own)
     if len(found) > 2 and not any(it.element for it in own) and all(key.whose != SHARED for key in found):
-        how = f"with `alignas({size})` on the type of its elements"
+        how = f"with `{attribute(size)}` on the type of its elements"
         return f"harts have words of their own in {thing.name}: give each hart's words lines of their own, {how}"
     if len(found) < 2:
-        return f"begin {thing.name} on a line of its own, with `alignas({size})`"
-    first = [told(key, it, size, element) for key, it in found.items()][: NAMED + 1]
-    more = len(found) - len(first)
-    listed = "; ".join(first) + (f"; and {more} more" if more else "")
-    return f"these belong apart, with `alignas({size})` before each: {listed}{naming_fields(own, thing)}"
+        return f"begin {thing.name} on a line of its own, with `{attribute(size)}` behind its name"
+    listed = "; ".join(told(key, it, size, element) for key, it in found.items())
+    return f"these belong apart, with `{attribute(size)}` behind the first of each: {listed}{naming_fields(own, thing)}"
 
 
 def apart(words: Iterable[Told], thing: Thing, size: int, element: Element) -> str:
     """Which of an object's words belong apart; `element` tells the type of an array's elements."""
     own = [it for it in words if it.key == thing.key]
     if isinstance(thing.key, OfStack):
-        return f"other harts use variables of this stack: `alignas({size})` on these, or a place of their own"
+        return f"other harts use variables of this stack: `{attribute(size)}` on these, or a place of their own"
     if isinstance(thing.key, OfBlocks) and any(len({it.begin for it in line}) > 1 for line in lines(own)):
         how = (
             f"`aligned_alloc({size}, ..)`, with sizes that are multiples of {size}, or {size} bytes more for each, and its start rounded up"
@@ -180,7 +202,7 @@ def apart(words: Iterable[Told], thing: Thing, size: int, element: Element) -> s
     written = [it for it in own if it.writes]
     array = array_of(written) if written else None
     if array is not None:
-        return f"give each element of {array or 'it'} lines of its own: `alignas({size})` on {element(array) or 'the type of an element'}"
+        return f"give each element of {array or 'it'} lines of its own by {by_type(array, size, element)}"
     return groups_apart(own, thing, size, element)
 
 
@@ -279,6 +301,17 @@ def written_most(words: Iterable[Told]) -> str:
     return listing(it.whole() for it in sorted(words, key=lambda it: -it.writes))
 
 
+def parted(words: Sequence[Told], thing: Thing, names: Mapping[Key, str], size: int, element: Element) -> str:
+    """What belongs apart: an object and those beside it, and its own words where these fight with each other."""
+    beside = neighbours(words, thing, names)
+    if not beside:
+        return apart(words, thing, size, element)
+    both = f"{all_of([thing.name, *beside])} share lines: put `{attribute(size)}` behind the name of each"
+    own = [it for it in words if it.key == thing.key]
+    within = not isinstance(thing.key, OfStack) and any(is_fought(groups(it)) for it in lines(own))
+    return f"{both}; and {apart(words, thing, size, element)}" if within else both
+
+
 def sentence(
     thing: Thing, words: Sequence[Told], names: Mapping[Key, str], size: int, is_counted: bool, element: Element, turns: int = 0
 ) -> str:
@@ -293,11 +326,7 @@ def sentence(
     own, truth = [it for it in words if is_shared(it) and it.key == thing.key], is_true(thing, is_counted)
     if truth and (not is_counted or thing.useless * SELDOM < thing.useful):
         return truly(thing, words, own, is_counted) + in_turns(thing, words, turns)
-    beside = neighbours(words, thing, names)
-    if beside:
-        what = f"{thing.name} and {listing(beside)} share lines: put `alignas({size})` on each"
-    else:
-        what = apart(words, thing, size, element)
+    what = parted(words, thing, names, size, element)
     if not is_counted:
         return what
     saved, packed = f"this saves up to {thing.useless} of {total} misses", bytewise(own)

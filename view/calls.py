@@ -12,7 +12,7 @@ from settings import ASKED, BARE, KEYS, OPTIONS, WRITTEN
 USAGE = """usage: predator view run PROGRAM [options of run] [OPTIONS] [-- WORD ..]
        predator view replay TRACE [options of replay] [--program PROGRAM] [OPTIONS]
        predator view native PROGRAM [options of native] [OPTIONS] [-- WORD ..]
-       predator view sweep TRACE --size N [--html F]
+       predator view sweep TRACE --size N [--top N] [--html F]
        predator view caches TRACE [--shape 64x64x8 ..] [--top N] [--html F]
        predator view REPORT [--program PROGRAM] [OPTIONS]          (the report - is standard input)
        predator view FILE ..          (a program or a trace: as run, native or replay, by what the file is)"""
@@ -29,11 +29,14 @@ Options:
   --top N            shows N objects (10)
   --object NAME      shows this object alone, and those that share lines with it
   --words            lists the words of each object's lines with their fields, and all instructions that fight over the worst one
+                     (of a trace above 80 MB words and predicted lines are counted with this or an output file alone)
   --library          shows the objects of the C library and of the kernel too, which are one line else
   --predicted        counts and shows all predicted lines, those too that say nothing more
   --no-predicted     counts and shows none
   --explain N        looks for the instructions that fight over the worst lines of the first N objects (3), each by a run; 0 for none. A
                      trace that has its instructions tells those of all objects
+  --latency NS       what a line takes from one core to another, in nanoseconds, for the bound on the time (140); 0 for no bound, which
+                     saves a run
   --type SITE=TYPE   what the blocks of a call site hold, as arena.c:78=node; a type, or a variable that points to one
   --sources DIR      where the sources are, if they moved
   --shape SHAPE      for `view caches`: a shape of caches, as 64x16x2 for 16 sets of 2 lines of 64 bytes; may come more than once, and
@@ -41,6 +44,7 @@ Options:
   --html F           writes a page to F; of one of these three options F may be `-`: standard output, in place of the screen
   --json F           writes all that was found to F, by view/schema.json
   --sarif F          writes the same for editors and code hosts, as SARIF 2.1.0
+  --patch F          writes the repairs that change declarations alone to F, for `patch -p1`; where the program has `move`
   --against OLD      tells what got better and worse than in OLD, which --json wrote, or a kept report
   --fail-above N     ends with 1 if an object has more than N useless misses, and with 3 if the run didn't end by exit 0, or a thread
                      didn't run since no hart was free
@@ -52,17 +56,20 @@ Status: 0 shown; 1 an object is above N; 2 refused, which standard error tells; 
 lacked a hart; 127 a package is missing, or the program. Colours are for terminals, unless NO_COLOR is set."""
 )
 # The options of view's own that have a value, and those that have none; `type` may come more than once.
-VALUES = ("top", "object", "html", "json", "sarif", "against", "fail-above", "by", "type", "program", "back", "sources", "explain")
+VALUES = (
+    *("patch", "top", "object", "html", "json", "sarif", "against", "fail-above", "by", "type", "program", "back", "sources", "explain"),
+    "latency",
+)
 FLAGS = ("words", "predicted", "no-predicted", "library", "help")
 # Those that may come more than once, each of which is a list of texts.
 LISTS = ("type", "shape")
 # Those that what counts a trace alone takes.
-ALONE = {"sweep": ("html",), "caches": ("html", "shape", "top")}
+ALONE = {"sweep": ("html", "top"), "caches": ("html", "shape", "top")}
 # Options of `predator native` that have no value, and those that have one.
 MARKS = ("all", "marked", "built", "pcs")
 RECORDS = ("--quantum", "--most")
 # What view writes.
-OUTPUTS = ("html", "json", "sarif")
+OUTPUTS = ("html", "json", "sarif", "patch")
 # How many objects the first screen shows, and how many of their lines are explained, where the call doesn't say.
 TOP, EXPLAIN = 10, 3
 
@@ -86,6 +93,8 @@ class Call:
         self.own: list[str] = []
         self.marks: list[str] = []
         self.given: list[str] = []
+        # Where the trace of a run may be written that no word names.
+        self.spare: str | None = None
         self.words, names = self.split(words[1:] if first in named else words)
         if "help" in self.options:
             return
@@ -162,7 +171,7 @@ class Call:
     def judge(self) -> None:
         """Refuses values that an option can't have."""
         self.judge_alone()
-        for name in ("top", "fail-above", "explain"):
+        for name in ("top", "fail-above", "explain", "latency"):
             value = self.options.get(name, "0")
             if not re.fullmatch("[0-9]{1,18}", value):
                 raise Fault(f"'--{name}' is a number, and not '{value}'")
@@ -179,6 +188,8 @@ class Call:
             raise Fault("'--type' wants the types of a program: '--program' names it")
         if self.how in ("run", "native") and "program" in self.options:
             raise Fault("'--program' is for a trace or a report: the program that is run is named already")
+        if "latency" in self.options and self.how != "run":
+            raise Fault("'--latency' is for `view run`: the bound on the time is that of another run of the program")
         if "sources" in self.options and not os.path.isdir(self.options["sources"]):
             raise Fault(f"'--sources' is a folder, and '{self.options['sources']}' is none")
         if "back" in self.options and (self.how in ("run", "native") or "program" in self.options):
@@ -228,7 +239,7 @@ class Call:
 
     def trace(self) -> str | None:
         """The trace's file, where it is one that is there and can be read again and again."""
-        path = self.subject if self.how == "replay" else self.value_of("--trace")
+        path = self.subject if self.how == "replay" else self.value_of("--trace") or self.spare
         return path if path and os.path.isfile(path) and not self.reads_once() else None
 
     def words_of_pipe(self) -> list[str]:

@@ -138,8 +138,9 @@ def row(before: Record | None, after: Record | None, by: str) -> str:
     """What became of an object."""
     if before is None or after is None:
         one = before or after or {}
-        useful = f" useless and {one['useful']} useful" if one.get("useful") and by == "useless" else ""
-        return f"gone: {one[by]}{useful} before" if before else f"new: {one[by]}{useful}"
+        numbers = [f"{one[it]} {it}" for it in ("useless", "useful") if one.get(it)]
+        told = " and ".join(numbers) if by == "useless" and numbers and one.get("useful") else one[by]
+        return f"gone: {told} before" if before else f"new: {told}"
     told = change(before[by], after[by])
     if by == "useless" and before["useful"] != after["useful"]:
         told += f"; useful {change(before['useful'], after['useful'])}"

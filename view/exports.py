@@ -5,13 +5,16 @@ import os
 import urllib.parse
 from typing import Any
 
+from bands import STEP
 from calls import TOP
+from instructions import kind_of
 from keys import Key
 from model import View
 from naming import shown
 from objects import Spot, Thing, Told
 from predicted import Foretold
 from reports import Block, Site
+from worth import latency_of
 
 # What is written, as `json` has it.
 Record = dict[str, Any]
@@ -67,6 +70,33 @@ def word(it: Told, own: Key) -> Record:
     }
 
 
+def rounded(value: float | None) -> float | None:
+    return None if value is None else round(value, 4)
+
+
+def time_of(view: View) -> Record:
+    """What the misses may be worth in time."""
+    worth, total = view.worth, view.misses.total["useless"] if view.misses else 0
+    found = worth.find()
+    return {
+        "by": worth.unit(),
+        "rate": rounded(worth.rate(total)),
+        "band": worth.band(total),
+        "latency": latency_of(view.call),
+        "step": STEP,
+        "alternating": {"steps": found.steps, "useless": found.misses.total["useless"]} if found else None,
+        "most": rounded(worth.at_most()),
+    }
+
+
+def repaired(view: View, it: Thing) -> Record | None:
+    """What was counted of the whole run with the repair that is named, or none where none is."""
+    tried = view.known(it)
+    if tried is None or tried.after is None or not tried.is_saving():
+        return None
+    return {"useless": tried.after.total["useless"], "useful": tried.after.total["useful"], "count": tried.after.rule}
+
+
 def thing(view: View, it: Thing) -> Record:
     seen = view.seen(it)
     explained, worst = seen.explained, seen.worst()
@@ -80,14 +110,25 @@ def thing(view: View, it: Thing) -> Record:
         "count": it.count,
         "lives": len(it.lives),
         "beside": [view.all[key].name for key in it.beside],
+        "rate": rounded(view.worth.rate(it.useless)),
+        "band": view.worth.band(it.useless),
+        "most": rounded(view.worth.at_most(it)),
+        "takings": view.takings(it),
         "declared": {"file": seen.declared[0], "line": seen.declared[1]} if seen.declared else None,
         "sites": [site(view, one) for one in it.example.sites] if isinstance(it.example, Block) else [],
         "todo": seen.todo,
+        "repaired": repaired(view, it),
         "worst": worst.name if worst else None,
         "lines": [line(spot, view.report.size) for spot in it.spots],
         "words": [word(one, it.key) for one in seen.words],
         "fights": [
-            {"taker": instruction(view, one.taker), "victim": instruction(view, one.victim), "taken": one.taken, "same": one.same}
+            {
+                "taker": instruction(view, one.taker),
+                "victim": instruction(view, one.victim),
+                "taken": one.taken,
+                "same": one.same,
+                "kind": kind_of(one, view.does),
+            }
             for one in seen.fights()[:8]
         ],
         "harts": [{"from": a, "to": b, "taken": taken} for (a, b), taken in (sorted(explained.harts.items()) if explained else [])],
@@ -123,6 +164,7 @@ def record(view: View) -> Record:
         "layout": {"size": report.size, "offset": report.offset},
         "thresholds": dict(zip(("tracking", "prediction", "report"), (None if it == "none" else int(it) for it in report.thresholds))),
         "total": view.misses.total if view.misses else None,
+        "time": time_of(view),
         "objects": [thing(view, it) for it in view.chosen()],
         "predicted": [foretold(view, it) for it in view.foretold()],
         "notes": view.notes,

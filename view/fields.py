@@ -190,7 +190,7 @@ def elements(die: Die, low: int, high: int) -> Iterator[tuple[str, int, int, Die
     total = 1
     for it in dims:
         total *= it or 2**32
-    for at in range(low // wide, min((high + wide - 1) // wide, total, low // wide + MOST)):
+    for at in range(max(low // wide, 0), min((high + wide - 1) // wide, total, low // wide + MOST)):
         indices: list[int] = []
         left = at
         for it in reversed(dims[1:]):

@@ -1,26 +1,30 @@
 """From a report to the source: `predator view ..`. docs/VIEW.md tells what it shows."""
 
+import functools
 import gc
 import io
 import os
 import sys
 import traceback
-from typing import TYPE_CHECKING
+from typing import TYPE_CHECKING, Callable
 
 sys.path.insert(0, os.path.dirname(os.path.abspath(__file__)))
 
 import compare  # noqa: E402
+import worth  # noqa: E402
 from calls import ALONE, HELP, OUTPUTS, TOP, Call, nearest  # noqa: E402
 from faults import Fault, plain  # noqa: E402
 from model import View, memory_of  # noqa: E402
 from naming import Naming  # noqa: E402
-from passes import Passes, begun  # noqa: E402
+from objects import Thing  # noqa: E402
+from passes import Passes, begun, is_brief  # noqa: E402
 from pipes import fed, kept  # noqa: E402
 from program import Predator  # noqa: E402
-from recording import recorded  # noqa: E402
+from recording import recorded, traced  # noqa: E402
 from reports import Report, Symbol  # noqa: E402
 from screen import Paint, screen  # noqa: E402
 from source_lines import Sources  # noqa: E402
+from worth import Worth  # noqa: E402
 
 if TYPE_CHECKING:
     from fields import Program
@@ -129,6 +133,16 @@ def check_seen(view: View) -> None:
         check_name(name, view.naming)
 
 
+def trial_of(view: View, predator: Predator | None) -> Callable[[list[Thing]], None] | None:
+    """What tries the repairs of some objects once their misses are counted, or none where no type is known or the trace is too long."""
+    program = view.naming.program
+    if program is None or program.dwarf is None or is_brief(view.call):
+        return None
+    from trying import begin, try_all
+
+    return functools.partial(try_all, view, predator, reading=begin(view, predator))
+
+
 def look(call: Call) -> View:
     """All that is found."""
     if "html" in call.options:
@@ -152,12 +166,23 @@ def found(call: Call, predator: Predator | None, passes: Passes | None) -> View:
         call.program = program = sources = None
     memory = memory_of(call, predator, native_of(program))
     view = View(call, report, Naming(report, program, sources, call.options["type"], memory))
+    view.worth = Worth(view, worth.begin(call, predator, (report.size, report.offset)))
+    trial = trial_of(view, predator)
     view.count(predator, passes)
     view.look_for_overflow(predator)
+    if report.outcome in ("deadlock", "budget"):
+        from waiting import note_waiting
+
+        note_waiting(view, predator)
     view.arrange()
     check_seen(view)
     first = view.listed()[: call.number("top", TOP)]
     view.explain(predator, first)
+    first = view.listed()[: call.number("top", TOP)]
+    if trial:
+        trial(first)
+        view.rank_tried(first)
+        first = view.listed()[: len(first)]
     view.place(predator, first)
     view.note_idle()
     return view
@@ -228,6 +253,10 @@ def keep_inputs(call: Call) -> None:
 def outputs(view: View) -> None:
     """Writes the files that the call names."""
     options = view.call.options
+    if "patch" in options:
+        from mending import patch_text
+
+        write(options["patch"], patch_text(view))
     if "json" in options:
         from exports import json_text
 
@@ -249,7 +278,7 @@ def show(call: Call) -> int:
         return show_alone(call)
     # (before --json writes to the same file)
     old = compare.loaded(call.options["against"], call) if "against" in call.options else None
-    with kept(call), recorded(call):
+    with kept(call), recorded(call), traced(call):
         view = look(call)
         outputs(view)
         if all(call.options.get(it) != "-" for it in OUTPUTS):

@@ -11,19 +11,22 @@ from typing import TYPE_CHECKING, Iterable, Sequence, cast
 import advice
 from calls import EXPLAIN, Call
 from keys import Key, OfBlocks, OfMemory, OfSymbol, order_of
+from instructions import Does, is_read, kinds_of, of_program, weight
 from kinds import has_pcs
 from library import is_foreign
 from naming import Memory, Naming, shown
 from objects import Spot, Thing, Told, field_at, things_of, words_of, worst_word
 from overflow import Overflow, last_of_file, last_of_run, overflow
-from passes import Layout, Passes, first_readers, is_blamed
+from passes import Layout, Passes, first_readers, is_blamed, is_brief
 from predicted import Foretold, judged, worth_counting
 from program import Predator, Refused, misses_under, setting, stacks
 from reports import Blame, Block, Explained, Misses, Pair, Placed, Report, Symbol, Takings
-from unnamed import name_by_instructions
+from unnamed import name_by_instructions, together
+from worth import Worth
 
 if TYPE_CHECKING:
     from native import NativeProgram
+    from tried import Tried
 
 # The file and the line where something is declared or made.
 Declared = tuple[str, int]
@@ -64,11 +67,16 @@ class View:
         self.blame: Blame | None = None
         self.explained: dict[int, Takings] = {}
         self.placed: dict[Key, Placed] = {}
+        # (none where no repair can be tried)
+        self.tried: dict[Key, Tried] | None = None
         self.cached: dict[Key, Seen] = {}
         self.foreign: set[Key] = set()
         self.lacked = ""
         self.label_counts: Counter[str] | None = None
         self.overflow: Overflow | None = None
+        # (what it may be worth in time, once that is looked for)
+        self.worth = Worth(self, None)
+        self.does: dict[int, Does] = {}
 
     def count(self, predator: Predator | None, passes: Passes | None) -> None:
         """Has the misses counted, under the report's layout, for each word, and under the layouts of predicted lines."""
@@ -83,13 +91,14 @@ class View:
                 "a trace from a pipe can be read once, so its misses, and places for its objects, are unknown: write it to a file for these"
             )
             return
-        own, foreseen, blamed = (self.report.size, self.report.offset), self.foreseen_layouts(), is_blamed(self.call, predator)
-        readers = [*first_readers(own, blamed), *map(misses_under, foreseen)]
+        brief, foreseen = is_brief(self.call), self.foreseen_layouts()
+        asked = first_readers((self.report.size, self.report.offset), is_blamed(self.call, predator), brief)
+        readers = [*asked.values(), *map(misses_under, foreseen)]
         try:
             if passes is not None and self.call.trace():
                 counted = passes.told(readers)
             else:
-                counted = predator.counted_of_run([*self.call.words_to_run(), *self.call.own], readers)
+                counted = predator.counted_of_run([*self.call.words_to_run(), *self.call.own], readers, self.call.spare)
         except Refused as refused:
             self.notes.append(f"misses are unknown: {refused}")
             return
@@ -97,14 +106,17 @@ class View:
             self.notes.append("the trace is a part of what the report counts, so its misses are unknown")
             return
         self.note_lacked(predator)
-        self.by_word, self.misses, self.each = cast(Misses, counted[0]), cast(Misses, counted[1]), cast(Report, counted[2])
-        self.blame = cast(Blame, counted[3]) if blamed else None
-        self.by_layout = dict(zip(foreseen, cast(list[Misses], counted[len(readers) - len(foreseen) :])))
+        told = dict(zip(asked, counted))
+        self.by_word, self.misses = cast("Misses | None", told.get("words")), cast(Misses, told["lines"])
+        self.each, self.blame = cast("Report | None", told.get("each")), cast("Blame | None", told.get("blame"))
+        self.by_layout = dict(zip(foreseen, cast(list[Misses], counted[len(asked) :])))
+        if brief:
+            self.notes.append("of a long trace no repair is tried, and no predicted line or single word counted, unless `--words` asks")
 
     def foreseen_layouts(self) -> list[Layout]:
         """The layouts of the predicted lines whose misses are counted."""
         options = self.call.options
-        return [] if "no-predicted" in options else worth_counting(self.report, self.naming, "predicted" in options)
+        return [] if "no-predicted" in options or is_brief(self.call) else worth_counting(self.report, self.naming, "predicted" in options)
 
     def note_lacked(self, predator: Predator) -> None:
         """Notes that a thread never ran since no hart was free."""
@@ -126,10 +138,11 @@ class View:
     def place(self, predator: Predator | None, things: Sequence[Thing]) -> None:
         """Has a placement of the first objects counted, where the trace is a file that can be read again and again."""
         trace, most = self.call.trace(), self.call.number("explain", EXPLAIN)
-        if predator is None or trace is None or not predator.has("place"):
+        if predator is None or trace is None or not predator.has("place") or is_brief(self.call):
             return
-        # (what is to be left as it is has no use of it)
-        named = [(it, name) for it in things[:most] if not self.is_little(it) and (name := it.name_to_place()) is not None]
+        # (what repairs were counted for, or what is to be left as it is, has no use of it)
+        worth = [it for it in things[:most] if not self.known(it) and not self.is_little(it)]
+        named = [(it, name) for it in worth if (name := it.name_to_place()) is not None]
         placed_at = functools.partial(predator.placed, trace, size=self.report.size)
         with concurrent.futures.ThreadPoolExecutor(max_workers=min(4, os.cpu_count() or 1)) as pool:
             for (it, _), placed in zip(named, pool.map(placed_at, [name for _, name in named])):
@@ -148,7 +161,9 @@ class View:
         self.rank()
         if self.blame:
             name_by_instructions(self.things, self.blame, self.naming)
-        self.keys = keys_over_builds(self.all.values(), self.naming)
+            self.all.update(together(self.things))
+            self.things = sorted(dict.fromkeys(self.all[it.key] for it in self.things), key=Thing.rank)
+        self.keys = keys_over_builds(dict.fromkeys(self.all.values()), self.naming)
         self.predicted = [] if "no-predicted" in self.call.options else judged(self.report, self.misses, self.by_layout, self.naming)
         for line in self.predicted:
             for key, example in line.keys.items():
@@ -165,11 +180,31 @@ class View:
             # (two words that are missed as often are of one field, or brought by one load)
             if addr % 8 != 4 or addr - 4 not in words or words[addr - 4].useful != word.useful:
                 needed[(addr - offset) // size * size + offset] += word.useful
-        for it in self.things if self.by_word else ():
-            missed = [(spot.missed.useless, spot.missed.useful, needed[spot.base]) for spot in it.spots if spot.missed]
-            it.saves = sum(max(0, min(useless, useless + useful - own)) for useless, useful, own in missed)
+        for it in self.things if self.by_word or self.blame else ():
+            missed = [(spot.missed.useless, spot.missed.useful, spot.base) for spot in it.spots if spot.missed]
+            if self.by_word:
+                it.saves = sum(max(0, min(useless, useless + useful - needed[base])) for useless, useful, base in missed)
+            else:
+                it.saves = sum(min(useless, self.taken_for_nothing(base)) for useless, _, base in missed if useless)
         self.things.sort(key=Thing.rank)
         self.foreign = {it.key for it in self.things if is_foreign(it, self.naming)}
+
+    def taken_for_nothing(self, base: int) -> int:
+        """How often a line is taken for another word than the one for which it was there."""
+        found = self.blame.takings(base) if self.blame else None
+        return sum(it.taken - it.same for it in found.pairs) if found else 0
+
+    def rank_tried(self, first: Sequence[Thing]) -> None:
+        """Puts the first objects in order by what their repairs were counted to save."""
+        if self.tried is None:
+            return
+        places = {it.key: at for at, it in enumerate(sorted(first, key=lambda it: -self.saved(it)))}
+        self.things.sort(key=lambda it: places.get(it.key, len(places)))
+
+    def saved(self, thing: Thing) -> int:
+        """How many misses the best repair of an object saves, as far as that was counted; what words can't tell isn't."""
+        found = (self.tried or {}).get(thing.key)
+        return found.saved() if found is not None and found.after is not None and not found.mixed() else thing.saves
 
     def chosen(self) -> list[Thing]:
         """The objects that the call wants to see."""
@@ -193,7 +228,7 @@ class View:
         """An object's name, and what tells it from others of the same one: the line that an inlined function was called from, or an
         address."""
         if self.label_counts is None:
-            self.label_counts = Counter(name for it in self.all.values() for name in {it.name, it.name + self.caller(it)})
+            self.label_counts = Counter(name for it in dict.fromkeys(self.all.values()) for name in {it.name, it.name + self.caller(it)})
         if self.label_counts[thing.name] < 2:
             return thing.name
         if isinstance(thing.example, Block) and thing.example.sites:
@@ -236,6 +271,30 @@ class View:
             self.explain_by_runs(predator, program, things[:most])
         shown = None if "words" in self.call.options else 8
         self.naming.prepare({at for it in self.explained.values() for pair in it.pairs[:shown] for at in pair[:2]})
+        if self.naming.program is not None:
+            self.does = of_program(self.naming.program, {at for it in self.explained.values() for pair in it.pairs for at in pair[:2]})
+            self.put_dear_first()
+
+    def put_dear_first(self) -> None:
+        """Puts those objects whose worst lines are explained in the order of what they save, where a taking for which no instruction waits
+        counts less."""
+        own = [at for at, it in enumerate(self.things) if it.worst().base in self.explained]
+        ranked = sorted((self.things[at] for at in own), key=lambda it: (-it.saves * self.weight(it), it.rank()))
+        for at, it in zip(own, ranked):
+            self.things[at] = it
+
+    def weight(self, thing: Thing) -> float:
+        return weight(self.takings(thing) or {}, self.is_read(thing))
+
+    def is_read(self, thing: Thing) -> bool:
+        """Whether an object's worst line is loaded from, as far as its words are told."""
+        line = thing.worst().told()
+        return line is None or is_read(line.words())
+
+    def takings(self, thing: Thing) -> dict[str, int] | None:
+        """How many takings of each kind an object's worst line has, or none where it isn't explained."""
+        found = self.explained.get(thing.worst().base)
+        return kinds_of(found.pairs, self.does) if found else None
 
     def explain_by_runs(self, predator: Predator, program: str, things: Sequence[Thing]) -> None:
         spots = [spot for spot in (it.worst() for it in things) if spot.base >= 0]
@@ -293,8 +352,17 @@ class View:
         is_first = self.things[0] is thing or "object" in self.call.options
         return not is_first and 0 < (thing.useless + thing.useful) * advice.LITTLE < self.total()
 
+    def known(self, thing: Thing) -> "Tried | None":
+        """What came of the repairs of an object, where that says what to do."""
+        found = (self.tried or {}).get(thing.key)
+        return found if found is not None and found.knows() else None
+
     def advised(self, thing: Thing, words: list[Told]) -> str:
         """What to do about an object."""
+        tried = self.known(thing)
+        if tried:
+            mixed = [field_at(it, thing.example, self.naming) for it in tried.mixed()]
+            return tried.sentence(self.label(thing), list(dict.fromkeys(mixed)))
         if self.is_little(thing):
             return advice.little(thing, self.total())
         names = {key: self.label(self.all[key]) for key in thing.beside}
@@ -314,7 +382,7 @@ class View:
         return max([self.report.size, *sizes])
 
     def element(self, thing: Thing) -> advice.Element:
-        """A function that tells the type of the elements of an array in an object, in backquotes, or nothing."""
+        """A function that tells how each element of an array in an object gets lines of its own, as code, or nothing."""
 
         def told(array: str) -> str:
             if self.naming.program is None:
@@ -324,17 +392,16 @@ class View:
             return sound(lambda: of_array(array), "")
 
         def of_array(array: str) -> str:
-            from fields import RECORDS, at_path, bare, element_of, type_name
+            from fields import at_path, element_of
+            from layouts import Shape
+            from repairs import own_lines
 
             program, is_block = self.naming.program, isinstance(thing.example, Block)
             variable = program.variable(thing.example.addr) if program and isinstance(thing.example, Symbol) else None
             whole = variable.type if variable else self.naming.type_of_block(thing.example) if isinstance(thing.example, Block) else None
             of = at_path(whole, array.removeprefix(thing.name)) if whole is not None else None
             of = element_of(of) if element_of(of) is not None else (of if is_block else None)
-            if of is None:
-                return ""
-            name = self.naming.names.note(type_name(of))
-            return f"`{name}`" if bare(of).tag in RECORDS else f"a struct around each `{name}`"
+            return own_lines(Shape(of), self.align_to(thing)) if of is not None else ""
 
         return told
 

@@ -1,12 +1,13 @@
 """What objects, words and instructions are called: by the program's debug information where it is there, and else by the report."""
 
 import os
+import re
 from typing import TYPE_CHECKING, Any, Iterable, NamedTuple, Sequence, Union
 
 from keys import Key, OfBlocks, OfFile, OfMemory, OfPlace, OfStack, OfSymbol
 from mangled import Names
 from reports import Block, Report, Site, Symbol
-from source_lines import Sources
+from source_lines import Place, Sources
 
 if TYPE_CHECKING:
     # (which are read where a program is named alone: they want pyelftools)
@@ -42,6 +43,10 @@ BEGUN = (
     *("libc.so.", "ld-linux", "std::rt::lang_start"),
     *("std::sys::backtrace::__rust_begin_short_backtrace", "std::sys_common::backtrace::__rust_begin_short"),
 )
+
+
+# Where the headers of C++ and the library of Rust are: what is inlined from there says little.
+LIBRARIES = re.compile(r"/include/c\+\+/|/lib/gcc/|/rustc/[0-9a-f]+/library/")
 
 
 class Memory:
@@ -137,11 +142,17 @@ class Naming:
         place = self.sources.place(site.addr) if self.sources else None
         return self.names.note(place.function) if place and place.function else self.called(site)
 
+    def own_frames(self, addr: int) -> list[Place]:
+        """The functions inlined at an instruction, the innermost first, from the first on that isn't of a language's own library."""
+        frames = self.sources.frames(addr) if self.sources else []
+        first = next((at for at, it in enumerate(frames) if it.file and not LIBRARIES.search(it.file)), 0)
+        return frames[first:]
+
     def instruction(self, addr: int) -> str:
         """An instruction's line in the source and its function, or its address."""
-        sources = self.sources
-        place = sources.place(addr) if sources else None
-        names = [self.names.note(it.function) for it in sources.frames(addr) if it.function] if sources else []
+        sources, frames = self.sources, self.own_frames(addr)
+        place = next((it for it in frames if it.file and it.line), None)
+        names = [self.readable(it.function) for it in frames if it.function]
         near = sources.near(addr) if sources and place is None else None
         told = place.short() if place else f"near {near.short()}" if near else self.library(addr) or f"0x{addr:08x}"
         return f"{told} ({' < '.join(names[:2])})" if names else told
@@ -149,7 +160,7 @@ class Naming:
     def frame(self, addr: int) -> str:
         """The function whose frame an instruction runs in, which isn't inlined, or an empty text."""
         frames = self.sources.frames(addr) if self.sources else []
-        return self.names.note(frames[-1].function) if frames and frames[-1].function else ""
+        return self.readable(frames[-1].function) if frames and frames[-1].function else ""
 
     def chain(self, sites: Sequence[Site]) -> list[Site]:
         """The sites of a block from the one that wants it on: without the allocator's own, and without where harts begin."""

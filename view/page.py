@@ -5,6 +5,7 @@ from typing import Iterator, Sequence
 
 from calls import TOP
 from drawing import Given, templates
+from instructions import told
 from keys import Key, OfBlocks
 from model import Seen, View
 from library import row_of
@@ -134,6 +135,8 @@ def thing(view: View, it: Thing) -> Given:
         "beside": [view.label(view.all[key]) for key in it.beside],
         "worst": worst.whole() if worst else "",
         "fight": [view.naming.instruction(at) for at in (fight.taker, fight.victim)] if fight else [],
+        "takings": told(view.takings(it) or {}, view.is_read(it)),
+        "worth": view.worth.told(it),
         "declared": "{}:{}".format(*seen.declared) if seen.declared else "",
         "todo": in_code(seen.todo),
         "rows": [row(one, seen, view.report.size) for one in drawn],
@@ -203,6 +206,7 @@ def page(view: View) -> str:
             report=view.report,
             next_step=next_step(view),
             total=view.misses.total if view.misses else None,
+            worth=view.worth.total(),
             notes=view.notes,
             objects=objects,
             more=max(0, len(chosen) - top),

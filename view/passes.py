@@ -3,15 +3,17 @@
 import concurrent.futures
 import contextlib
 import os
-from typing import Iterator, Sequence
+from typing import Iterable, Iterator, Sequence
 
-from calls import EXPLAIN, Call
+from calls import EXPLAIN, OUTPUTS, Call
 from kinds import has_pcs
 from program import Counted, Predator, Reader, blame_under, each_line, misses_under, setting
 
 # The size of a layout's lines, and its offset; that of lines of a word each.
 Layout = tuple[int, int]
 WORD = (4, 0)
+# A trace of more bytes than so many is long: a first screen has what a pass for lines tells, and the rest if it is asked for.
+LONG = 80_000_000
 
 
 class Passes:
@@ -22,7 +24,7 @@ class Passes:
         self.pool = concurrent.futures.ThreadPoolExecutor(max_workers=min(4, os.cpu_count() or 1))
         self.made: dict[tuple[str, ...], concurrent.futures.Future[Counted]] = {}
 
-    def begin(self, readers: Sequence[Reader]) -> None:
+    def begin(self, readers: Iterable[Reader]) -> None:
         for it in readers:
             key = tuple(it.words)
             if key not in self.made:
@@ -34,10 +36,19 @@ class Passes:
         return [self.made[tuple(it.words)].result() for it in readers]
 
 
-def first_readers(layout: Layout, is_blamed: bool) -> list[Reader]:
-    """What is asked of each trace, the longest first: the misses of words and of lines, each line that was ever taken, and by what."""
-    readers = [misses_under(WORD), misses_under(layout), each_line(layout)]
-    return readers + ([blame_under(layout)] if is_blamed else [])
+def first_readers(layout: Layout, is_blamed: bool, is_brief: bool = False) -> dict[str, Reader]:
+    """What is asked of each trace, the longest first: the misses of words and of lines, each line that was ever taken, and by what. In
+    brief the last stands for the misses of words where it is known."""
+    asked = {"words": misses_under(WORD), "lines": misses_under(layout), "each": each_line(layout), "blame": blame_under(layout)}
+    left_out = {"each", "words" if is_blamed else ""} if is_brief else set()
+    return {name: it for name, it in asked.items() if name not in left_out and (is_blamed or name != "blame")}
+
+
+def is_brief(call: Call) -> bool:
+    """Whether the trace is long, and nothing is asked for but a first screen."""
+    trace = call.trace() if call.how == "replay" else None
+    asked = call.options.keys() & {"words", "predicted", "against", *OUTPUTS}
+    return trace is not None and not asked and os.path.getsize(trace) > LONG
 
 
 def is_blamed(call: Call, predator: Predator) -> bool:
@@ -63,7 +74,7 @@ def begun(call: Call, predator: Predator | None) -> Iterator[Passes | None]:
     try:
         # (the trace of a run is yet to be written)
         if call.how == "replay" and call.trace() and layout and predator.has("misses"):
-            passes.begin(first_readers(layout, is_blamed(call, predator)))
+            passes.begin(first_readers(layout, is_blamed(call, predator), is_brief(call)).values())
         yield passes
     finally:
         passes.pool.shutdown(cancel_futures=True)

@@ -2,6 +2,7 @@
 
 import contextlib
 import os
+import shutil
 import sys
 import tempfile
 import threading
@@ -38,6 +39,16 @@ def feed(source: BinaryIO, give: int) -> None:
             left = memoryview(piece)
             while left:
                 left = left[pipe.write(left) :]
+
+
+@contextlib.contextmanager
+def whole(path: str) -> Iterator[str]:
+    """A copy of what can be read once, in a file that is gone afterwards."""
+    with tempfile.TemporaryDirectory(prefix="predator-view-") as folder:
+        own = os.path.join(folder, "whole")
+        with fed(path) as take, open(os.dup(take), "rb") as source, open(own, "wb") as file:
+            shutil.copyfileobj(source, file, PIECE)
+        yield own
 
 
 def is_pipe(path: str) -> bool:

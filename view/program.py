@@ -41,12 +41,14 @@ class Predator:
     def __init__(self) -> None:
         self.command = launcher()
         self.known: set[str] | None = None
+        self.found: str | None = None
         # (what the run said whose trace was counted)
         self.said = ""
 
     def text(self, words: Sequence[str | bytes], good: Sequence[int] = (0,), **how: Any) -> str:
         """What a call prints, which must end with one of these statuses."""
-        ran = subprocess.run([self.command, *words], stdout=subprocess.PIPE, stdin=how.pop("stdin", subprocess.DEVNULL), **how)
+        command = how.pop("command", self.command)
+        ran = subprocess.run([command, *words], stdout=subprocess.PIPE, stdin=how.pop("stdin", subprocess.DEVNULL), **how)
         text = ran.stdout.decode("latin-1")
         if ran.stderr:
             self.said = ran.stderr.decode("utf-8", "replace")
@@ -56,6 +58,21 @@ class Predator:
                 said += f" ({ran.stderr.decode('utf-8', 'replace').strip().rpartition(chr(10))[2].removeprefix('predator: ')})"
             raise Refused(f"`predator {words[0]!s}` was refused: {said.removeprefix('predator: ')}")
         return text
+
+    def direct(self) -> str:
+        """The program without its launcher, which a first screen calls dozens of times; or the launcher where that doesn't know it."""
+        if self.found is None:
+            path = os.environ.get("PREDATOR_PROGRAM") or ("" if os.environ.get("PREDATOR_TRY") else self.where())
+            self.found = path if os.access(path, os.X_OK) else self.command
+        return self.found
+
+    def where(self) -> str:
+        ran = subprocess.run([self.command, "--where"], stdout=subprocess.PIPE, stderr=subprocess.DEVNULL, stdin=subprocess.DEVNULL)
+        return os.fsdecode(ran.stdout).rstrip("\n")
+
+    def told(self, words: Sequence[str | bytes], good: Sequence[int] = (0,), **how: Any) -> str:
+        """What a call prints that reads or writes traces alone, and of whose faults nothing is said."""
+        return self.text(words, good, command=self.direct(), stderr=subprocess.DEVNULL, **how)
 
     def has(self, command: str) -> bool:
         """Whether the program knows a command, by its lines of usage."""
@@ -75,27 +92,52 @@ class Predator:
     def placed(self, trace: str, name: str | bytes, size: int) -> Placed | None:
         """Where `place` puts an object's words apart by their harts, or none where it has no such object or room."""
         try:
-            text = self.text(["place", "--size", str(size), "--", trace, name], stderr=subprocess.DEVNULL)
+            text = self.told(["place", "--size", str(size), "--", trace, name])
         except Refused:
             return None
         return Placed(text)
 
     def counted_of_file(self, trace: str, reader: "Reader") -> Counted:
         """What a reader tells of a trace."""
-        return reader.told(self.text([*reader.words, "--", trace], reader.good, stderr=subprocess.DEVNULL))
+        return reader.told(self.told([*reader.words, "--", trace], reader.good))
 
-    def counted_of_run(self, words: list[str], readers: "Sequence[Reader]") -> list[Counted]:
-        """What readers tell of the trace of a run, which goes through pipes where the program can have it so, and else through a file."""
+    def all_counted_of_file(self, trace: str, readers: "Sequence[Reader]") -> list[Counted]:
+        """What readers tell of a trace, side by side."""
+        with concurrent.futures.ThreadPoolExecutor(max_workers=min(4, os.cpu_count() or 1)) as pool:
+            return list(pool.map(functools.partial(self.counted_of_file, trace), readers))
+
+    def counted_of_run(self, words: list[str], readers: "Sequence[Reader]", kept: str | None = None) -> list[Counted]:
+        """What readers tell of the trace of a run, which is written to a file if one is named. Else it goes through pipes where the program
+        can have it so, and else through a file that is lost."""
+        if kept is not None:
+            self.record(words, kept)
+            return self.all_counted_of_file(kept, readers)
         with contextlib.suppress(Refused, BrokenPipeError):
             return self.counted_by_pipes(words, readers)
         with tempfile.TemporaryDirectory(prefix="predator-view-") as folder:
             trace = os.path.join(folder, "trace")
-            # (what the program puts out was shown with its report)
-            self.text(with_trace([words[0], "--output", os.devnull, *words[1:]], trace), REPORTED, stderr=subprocess.PIPE)
-            with concurrent.futures.ThreadPoolExecutor(max_workers=min(4, os.cpu_count() or 1)) as pool:
-                return list(pool.map(functools.partial(self.counted_of_file, trace), readers))
+            self.record(words, trace)
+            return self.all_counted_of_file(trace, readers)
+
+    def record(self, words: list[str], trace: str) -> None:
+        """Has a run write its trace to a file. (What the program puts out was shown with its report.)"""
+        self.text(with_trace([words[0], "--output", os.devnull, *words[1:]], trace), REPORTED, stderr=subprocess.PIPE)
 
     def counted_by_pipes(self, words: list[str], readers: "Sequence[Reader]") -> list[Counted]:
+        return self.run_by_pipes(words, readers)[1]
+
+    def run_by_pipes(self, words: list[str], readers: "Sequence[Reader]", is_told: bool = True) -> tuple[str, list[Counted]]:
+        """The report of a run, and what readers tell of its trace; what it says on standard error is kept only if that is told."""
+        said = subprocess.PIPE if is_told else subprocess.DEVNULL
+        return self.read_output(lambda name: with_trace(words, name), readers, good=REPORTED, stderr=said)
+
+    def counted_of_move(self, trace: str, table: str, readers: "Sequence[Reader]") -> list[Counted]:
+        """What readers tell of a trace whose words have moved by a table, which is written nowhere."""
+        words = ["move", "--", trace, table]
+        return self.read_output(lambda name: [*words, name], readers, command=self.direct(), stderr=subprocess.DEVNULL)[1]
+
+    def read_output(self, words: Callable[[str], list[str]], readers: "Sequence[Reader]", **how: Any) -> tuple[str, list[Counted]]:
+        """What a call prints, and what readers tell of the trace that it writes; its words are made of the trace's name."""
         with concurrent.futures.ThreadPoolExecutor(max_workers=len(readers) + 1) as pool, contextlib.ExitStack() as open_ends:
             mains: list[Any] = []
             counts = []
@@ -107,16 +149,16 @@ class Predator:
             copying = threading.Thread(target=copy, args=(take, mains))
             copying.start()
             try:
-                self.text(with_trace(words, f"/dev/fd/{give}"), REPORTED, pass_fds=(give,), stderr=subprocess.PIPE)
+                text = self.text(words(f"/dev/fd/{give}"), pass_fds=(give,), **how)
             finally:
                 os.close(give)
                 copying.join()
                 open_ends.close()
-        return [it.result() for it in counts]
+        return text, [it.result() for it in counts]
 
     def count_from(self, take: int, reader: "Reader") -> Counted:
         with open(take, "rb", 0) as trace:
-            return reader.told(self.text([*reader.words, "-"], reader.good, stdin=trace, stderr=subprocess.DEVNULL))
+            return reader.told(self.told([*reader.words, "-"], reader.good, stdin=trace))
 
 
 class Reader(NamedTuple):

@@ -52,6 +52,17 @@ def marks_of(call: Call) -> list[str]:
 
 
 @contextlib.contextmanager
+def traced(call: Call) -> Iterator[None]:
+    """Has the run of a guest whose misses are counted write its trace to a file, which is lost at the end, where repairs can be tried."""
+    if call.how != "run" or call.value_of("--trace") is not None or not Predator().has("move"):
+        yield
+        return
+    with tempfile.TemporaryDirectory(prefix="predator-view-") as folder:
+        call.spare = os.path.join(folder, "trace")
+        yield
+
+
+@contextlib.contextmanager
 def recorded(call: Call) -> Iterator[None]:
     """Records the program of a call, where it is one of this machine, and has the call name its trace as long as that is there. What the
     program prints goes to standard error; its status is the trace's outcome."""

@@ -5,9 +5,10 @@ import sys
 import textwrap
 from typing import Iterator, Sequence, TextIO
 
-from advice import listing
+from advice import attribute, listing
 from calls import TOP
 from faults import plain
+from instructions import ATOMIC, LOAD, STORE, UNKNOWN, kind_of, told
 from keys import OfBlocks
 from library import row_of
 from model import View
@@ -16,6 +17,10 @@ from overflow import is_strange
 from predicted import UNCOUNTED, Foretold, inside, together
 
 BOLD, RED, DIM, END = "1", "1;31", "2", "0"
+# A miss takes about a hundred times as long as an access: those of one in so many take a hundredth of the time.
+RARE = 10_000
+# How a pair takes a line.
+BY = {ATOMIC: "; by an atomic instruction", LOAD: "; from a load", STORE: "; a store over a store", UNKNOWN: ""}
 
 
 class Paint:
@@ -28,7 +33,7 @@ class Paint:
         return f"\033[{code}m{text}\033[{END}m" if self.is_on else text
 
 
-def outcome(view: View, paint: Paint) -> Iterator[str]:
+def outcome(view: View, paint: Paint, width: int) -> Iterator[str]:
     """How the run ended: loudly where that isn't exit 0."""
     report, naming = view.report, view.naming
     told = report.outcome
@@ -42,6 +47,10 @@ def outcome(view: View, paint: Paint) -> Iterator[str]:
     if view.misses:
         total = view.misses.total
         yield f"misses: {total['useless']} useless, {total['useful']} useful, {total['cold']} cold"
+        yield from fold(f"time: {view.worth.total()}", "", "      ", width)
+        # (for a run the line above says it)
+        if not report.steps and 0 < view.total() * RARE < report.accesses:
+            yield f"nothing here is worth doing: fewer than one access in {RARE:,} misses what another hart has taken"
 
 
 def next_step(view: View) -> str:
@@ -93,7 +102,13 @@ def row(view: View, place: int, thing: Thing, paint: Paint, width: int) -> Itera
     for fight in seen.fights()[: None if "words" in view.call.options else 1]:
         one, other = (view.naming.instruction(it) for it in fight[:2])
         took = counted(fight.taken, "time") + (f", {fight.same} of them for the same word" if fight.same else ", never for the same word")
-        yield from fold(short(f"fighting     {other} takes the line from {one}, {took}"), " " * 8, " " * 21, width)
+        kind = BY[kind_of(fight, view.does)]
+        yield from fold(short(f"fighting     {other} takes the line from {one}, {took}{kind}"), " " * 8, " " * 21, width)
+    taken, worth = told(view.takings(thing) or {}, view.is_read(thing)), view.worth.told(thing)
+    if taken:
+        yield from fold(f"takings      {taken}", " " * 8, " " * 21, width)
+    if worth:
+        yield from fold(f"in time      {worth}", " " * 8, " " * 21, width)
     yield from fold(short(f"to do        {seen.todo}"), " " * 8, " " * 21, width)
 
 
@@ -140,7 +155,8 @@ def prediction(view: View, group: Sequence[Foretold]) -> str:
     else:
         seen = inside([it.line for it in group], view.misses)
         much = f"{sum(it.useless or 0 for it in group)} useless misses, {seen} as it lies"
-    return f"{what}: with {how}, {much}" + (f" (folded: {first.why})" if first.why else f"; `alignas({size})` keeps apart what meets there")
+    apart = f"; `{attribute(size)}` keeps apart what meets there"
+    return f"{what}: with {how}, {much}" + (f" (folded: {first.why})" if first.why else apart)
 
 
 def predictions(view: View, paint: Paint, width: int) -> Iterator[str]:
@@ -159,7 +175,7 @@ def predictions(view: View, paint: Paint, width: int) -> Iterator[str]:
 
 def screen(view: View, paint: Paint, width: int = 110) -> Iterator[str]:
     """The whole screen, as lines."""
-    yield from outcome(view, paint)
+    yield from outcome(view, paint, width)
     for it in view.notes:
         yield from fold(f"note: {it}", "", "      ", width)
     chosen, top = view.listed(), view.call.number("top", TOP)

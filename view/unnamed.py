@@ -2,13 +2,14 @@
 
 from typing import Iterable, Sequence
 
-from keys import OfMemory, OfStack
+from keys import Key, OfMemory, OfStack
 from naming import OWN, Naming
 from objects import Thing
 from reports import Blame, Block, Takings
 
 # So many objects are named so, the worst first, each by so many instructions.
 MOST, NAMED = 100, 2
+USED = "memory used at"
 # A block of so many bytes may be one that pieces are cut from.
 ARENA = 1024
 
@@ -39,13 +40,30 @@ def name(thing: Thing, pcs: Sequence[int], naming: Naming) -> None:
     if isinstance(thing.key, OfStack):
         thing.name += f", used in {listing(functions)}" if functions else ""
     elif not isinstance(it, Block):
-        thing.name = f"memory used at {users}"
+        thing.name = f"{USED} {users}"
     elif not it.sites:
         thing.name = f"block used at {users}"
     elif len(functions) > 1:
         # (the elements of an array are mostly used by one function, and what an arena hands out by several)
         thing.name = thing.name.replace("block made", f"block of {it.size:,} made", 1)
         thing.note = f" (an arena: the instructions that use it are {users})"
+
+
+def together(things: Sequence[Thing]) -> dict[Key, Thing]:
+    """The objects by their keys: pages that the same instructions use are one, which has the lines of all."""
+    first: dict[str, Thing] = {}
+    found: dict[Key, Thing] = {}
+    for it in things:
+        own = first.setdefault(it.name, it) if isinstance(it.key, OfMemory) and it.name.startswith(USED) else it
+        found[it.key] = own
+        if own is it:
+            continue
+        for spot in it.spots:
+            own.add(spot)
+        own.saves += it.saves
+        own.beside += it.beside
+        own.first = []
+    return found
 
 
 def name_by_instructions(things: Iterable[Thing], blame: Blame, naming: Naming) -> None:

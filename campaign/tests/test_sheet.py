@@ -50,6 +50,21 @@ class Sheets(unittest.TestCase):
         # Ticks for the two seeds that list it, and none for the third.
         self.assertIn('<path class="ink" d="M6 62v5M18 62v5"/><path d="M14 -7h8l-4 6z"/>', text)
         self.assertNotIn('class="loud"', text)
+        # What nobody counted is no 0, and one setting stands beside no other.
+        self.assertEqual(re.findall(r'<text x="40" y="\d+">(.*?)</text>', text), ["-", "250"])
+        self.assertNotIn("Side by side", text)
+
+    def test_settings_and_builds_are_side_by_side(self):
+        part = Part()
+        for group, count in ((0, 120), (2, 60)):
+            part.note(group, record(1, [symbol(0x11000, count, 5)]), Memory())
+        text = self.page(part, {"quantum": 1}, {"quantum": 10}, {"quantum": 100})
+        beside = text[text.index("Side by side") : text.index("<h2>one, quantum=1")]
+        cells = re.findall(r'<td data-of="(.*?)">(?:<svg.*?</svg>|<span class="soft">)(.*?)</(?:td|span)>', beside)
+        of = ["one, quantum=1", "one, quantum=10", "one, quantum=100"]
+        self.assertEqual(re.findall(r"<th>(.*?)</th>", beside), ["object", *of])
+        self.assertEqual(cells, [*zip(of, ["- useless<br>count 120", "not seen", "- useless<br>count 60"])])
+        self.assertEqual(re.findall(r'<path class="down" stroke-width="8" d="M0 5h(\d+)"', beside), ["110", "55"])
 
     def test_what_went_wrong_is_first(self):
         bad = record(2, [symbol(0x11000, 120, 5)])
@@ -74,7 +89,8 @@ class Sheets(unittest.TestCase):
                 seen = [(seed, None if seed % 7 == 0 else 100 + seed * at % 977, seed * 31 % 1009) for seed in seeds]
                 part.lines[group, LAYOUT, "observed", At("at", 64 * at)] = {(f"object{at}" + "x" * 1000, 0): 1}, seen
         text = self.page(part, *({"quantum": it + 1} for it in range(10)))
-        self.assertEqual(text.count("<svg"), sheet.STRIPS)
+        self.assertEqual(text.count('<svg role="img"'), sheet.STRIPS)
+        self.assertEqual(text.count('<svg class="beside"'), 10 * 17)
         self.assertIn(f"{170 - sheet.STRIPS} more rows are in objects.tsv", text)
         self.assertIn("80 seeds a column", text)
         self.assertLess(len(text.encode()), 2_000_000)

@@ -25,7 +25,9 @@ def has(program, *commands):
 
 
 def view(*words, program=STAND_IN, lacks="", cwd=None, **more):
-    """The status of a call, what it printed and what it said."""
+    """The status of a call, what it printed and what it said. A run in turns of one step is made only where the call asks for its bound."""
+    if words[:1] == ("run",) and not any(it.startswith("--latency") for it in words):
+        words = ("run", "--latency=0", *words[1:])
     own = {"PREDATOR_PROGRAM": program, "STAND_IN_LACKS": lacks, "PREDATOR_BUILD": "no", **more}
     command = [os.path.join(TOP, "bin", "predator"), "view", *words]
     ran = subprocess.run(command, capture_output=True, encoding="utf-8", env={**os.environ, **own}, cwd=cwd, stdin=subprocess.DEVNULL)

@@ -1,7 +1,8 @@
 #!/usr/bin/python3
 """Stands for the proved program in the tests of view, where that isn't built: `run`, `replay`, `misses`, `explain`, `sweep` and `check`
 of small programs and traces, by machine.py and the judges of tools/. STAND_IN_LACKS names commands that it hasn't, and `pipes` if it
-reads none; STAND_IN_PUTS is what a program puts out, and STAND_IN_SAYS what each run says on standard error beside it."""
+reads none; with `move` in STAND_IN_HAS it has that too. STAND_IN_PUTS is what a program puts out, and STAND_IN_SAYS what each run says on
+standard error beside it."""
 
 import os
 import struct
@@ -13,12 +14,14 @@ sys.path[:0] = [HERE, os.path.join(HERE, "..", "..", "tools")]
 
 import bounded  # noqa: E402
 import judge_report  # noqa: E402
+import moving  # noqa: E402
 import recount_blame  # noqa: E402
 import recount_misses  # noqa: E402
 import recount_place  # noqa: E402
 import traces  # noqa: E402
 
 LACKS = os.environ.get("STAND_IN_LACKS", "").split()
+HAS_MOVE = "move" in os.environ.get("STAND_IN_HAS", "").split()
 USUAL = {"harts": 8, "memory": 1 << 24, "stack": 1 << 16, "tracking": 16, "report": 100, "quantum": 100, "budget": 10**8, "line": 64}
 USAGE = {
     "run": "PROGRAM [--settings F] [--schedule F] [--trace F] [--pcs] [--output F]",
@@ -28,6 +31,7 @@ USAGE = {
     "blame": "TRACE [--size N] [--shift N]",
     "explain": "PROGRAM BASE SIZE START [--settings F] [--schedule F]",
     "place": "TRACE NAME [--size N]",
+    "move": "TRACE TABLE FILE",
     "sweep": "TRACE --size N",
     "caches": "TRACE --size N --sets S --ways W",
 }
@@ -213,11 +217,13 @@ def caches(names, options):
 
 
 def main(words):
-    known = {name: told for name, told in USAGE.items() if name not in LACKS}
+    known = {name: told for name, told in USAGE.items() if name not in LACKS and (name != "move" or HAS_MOVE)}
     works = {it.__name__: it for it in (run, replay, check, misses, blame, explain, place, sweep, caches)}
     if not words or words[0] not in known:
         print(*(f"usage: predator {name} {told}" for name, told in known.items()), sep="\n")
         return 1
+    if words[0] == "move":
+        return moving.told(words_of(words[1:])[0])
     try:
         lines = list(works[words[0]](*words_of(words[1:])))
     except UnicodeEncodeError:

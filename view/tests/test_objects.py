@@ -84,6 +84,7 @@ class Compared(unittest.TestCase):
         self.assertEqual(compare.row(made(3, 9), made(3, 9), "useless"), "the same")
         self.assertEqual(compare.row(made(3, 9), None, "useless"), "gone: 3 before")
         self.assertEqual(compare.row(None, made(3, 9, useful=2), "useless"), "new: 3 useless and 2 useful")
+        self.assertEqual(compare.row(None, made(0, 9, useful=2), "useless"), "new: 2 useful")
         told = "less: 300 before, 0 now; useful more: 1 before, 900 now"
         self.assertEqual(compare.row(made(300, 9, useful=1), made(0, 9, useful=900), "useless"), told)
 
@@ -99,6 +100,7 @@ class Compared(unittest.TestCase):
 
 
 LOCK = OfSymbol("symbol", "lock", 0x1000)
+ALIGNED = "`__attribute__((aligned(64)))`"
 
 
 def used(name, at, useful, kind=WordKind(True, False), hart="many"):
@@ -107,11 +109,14 @@ def used(name, at, useful, kind=WordKind(True, False), hart="many"):
 
 
 class Advised(unittest.TestCase):
-    def todo(self, *words, useless=0, useful=300, turns=100):
+    def thing(self, useless, useful):
         thing = Thing(LOCK, Symbol("lock", 0x1000, 64))
         thing.name, thing.useless, thing.useful = "lock", useless, useful
         thing.spots.append(Spot(0x1000, None, SimpleNamespace(useless=useless, useful=useful)))
-        return advice.sentence(thing, words, {}, 64, True, lambda _: "", turns)
+        return thing
+
+    def todo(self, *words, useless=0, useful=300, turns=100):
+        return advice.sentence(self.thing(useless, useful), words, {}, 64, True, lambda _: "", turns)
 
     def test_several_fields_in_a_word(self):
         state, flags = used("lock.state", 0, 200), used("lock.ready, .done", 4, 40, WordKind(True, True))
@@ -128,7 +133,7 @@ class Advised(unittest.TestCase):
     def test_a_field_of_eight_bytes_is_one(self):
         words = [used("lock.sum", 0, 90), used("lock.sum+4", 4, 90), used("lock.own", 8, 0, hart="1"), used("lock.own+4", 12, 0, hart="1")]
         told = self.todo(*words, useless=200, useful=90)
-        self.assertIn("before each: lock.sum (shared); lock.own (hart 1)", told)
+        self.assertIn("behind the first of each: lock.sum (shared); lock.own (hart 1)", told)
         self.assertNotIn("+4", told)
         self.assertIn("the sharing of lock.sum is true", self.todo(*words[:2]))
         # (each load brings both of its words)
@@ -153,6 +158,23 @@ class Advised(unittest.TestCase):
         self.assertEqual((told.name, told.kind), ("0x0100ffc0, 64 below its top", WordKind(False, False)))
         self.assertNotIn("several fields", view.seen(view.things[0]).todo)
 
+    def test_all_groups_are_told(self):
+        shared = [used(f"lock.{it}", 4 * at, 90) for at, it in enumerate("abcdefg")]
+        read = [used(name, at, 0)._replace(reads=900, writes=writes) for name, at, writes in (("lock.room", 28, 0), ("lock.size", 32, 3))]
+        told = self.todo(*shared, *read, useless=200, useful=90)
+        self.assertIn("lock.f (shared); lock.g (shared); lock.size and lock.room (only read)", told)
+        self.assertNotIn(" more;", told)
+        # (what is only read fights with nobody)
+        self.assertIn("begin lock on a line of its own", self.todo(*read, useless=200))
+
+    def test_an_object_that_fights_with_itself_and_others(self):
+        words = [used("lock.a", 0, 90), used("lock.b", 4, 90), used("near", 8, 0, hart="1")._replace(key=OfSymbol("symbol", "near", 8))]
+        thing = self.thing(200, 90)
+        told = advice.sentence(thing, words, {words[2].key: "near"}, 64, True, lambda _: "")
+        self.assertIn(f"lock and near share lines: put {ALIGNED} behind the name of each; and these belong apart", told)
+        self.assertIn("lock.a (shared); lock.b (shared)", told)
+        self.assertNotIn("belong apart", advice.sentence(thing, words[1:], {words[2].key: "near"}, 64, True, lambda _: ""))
+
 
 class Objects(unittest.TestCase):
     def test_a_line_of_two_variables_is_told_once(self):
@@ -164,7 +186,7 @@ class Objects(unittest.TestCase):
         view = view_of([*rows, word(0x1000, 1, 50, "hart 0"), word(0x1004, 9, 80, "hart 1")])
         (thing,) = view.things
         self.assertEqual((thing.name, thing.count, [view.name_of(it) for it in thing.beside]), ("tail", 200, ["head"]))
-        self.assertEqual(view.seen(thing).todo, "tail and head share lines: put `alignas(64)` on each")
+        self.assertEqual(view.seen(thing).todo, f"tail and head share lines: put {ALIGNED} behind the name of each")
         self.assertIn("head", view.names_of(thing))
 
     def test_lines_that_only_have_misses_count(self):
@@ -240,7 +262,8 @@ class Objects(unittest.TestCase):
         (thing,) = view.things
         self.assertEqual((thing.name, thing.count, thing.useless), ("b", 0, 500))
         self.assertEqual([(it.name, it.reads, it.writes, it.hart) for it in view.seen(thing).words], [("a", 9, 1, "0"), ("b", 30, 40, "1")])
-        self.assertEqual(view.seen(thing).todo, "b and a share lines: put `alignas(64)` on each; this saves up to 500 of 501 misses")
+        told = f"b and a share lines: put {ALIGNED} behind the name of each; this saves up to 500 of 501 misses"
+        self.assertEqual(view.seen(thing).todo, told)
 
     def test_one_row_for_a_call_site_that_makes_and_frees(self):
         rows = []

@@ -21,7 +21,7 @@ class Screens(Shown):
         status, text, said = view("run", built("ring.elf"), *TURNS)
         self.assertEqual((status, said), (0, ""))
         self.shows(text, "1 298 0 284 1 stats", "worst field stats[2].seen[0].high")
-        self.shows(text, "give each element of stats lines of its own: `alignas(64)` on `struct stats`")
+        self.shows(text, "give each element of stats lines of its own by `struct __attribute__((aligned(64))) stats` (ring.c:24)")
         self.shows(text, "ring.c:34 (note < consumer) takes the line from ring.c:34 (note < producer), 142 times, never for the same word")
         self.shows(text, "2 44 314 331 2 ring", "314 of 358 misses bring what another hart wrote")
 
@@ -248,7 +248,7 @@ class Pipes(Shown):
             _, whole, _ = view("replay", trace, program=self.program)
             self.shows(whole, "1 298 0 284 1 stats")
             # (settings and schedules that are pipes serve each run)
-            text = self.call(f"$view run {built('ring.elf')} --settings <(echo quantum = 3) --explain 1", trace)
+            text = self.call(f"$view run {built('ring.elf')} --settings <(echo quantum = 3) --explain 1 --latency=0", trace)
             self.assertEqual(text, view("run", built("ring.elf"), *TURNS, "--explain", "1", program=self.program)[1])
 
 
@@ -279,7 +279,9 @@ class Repairs(Shown):
     def test_shards_and_packed_slots(self):
         _, text, _ = view("run", built("shards.elf"), *TURNS, "--explain", "0")
         self.shows(
-            text, "give each element of shards lines of its own: `alignas(64)` on `struct shard`; this saves up to 2147 of 2147 misses"
+            text,
+            "give each element of shards lines of its own by `struct __attribute__((aligned(64))) shard` (shards.c:13)",
+            "this saves up to 2147 of 2147 misses",
         )
         _, text, _ = view("run", built("anderson.elf"), *TURNS, "--explain", "0")
         self.shows(text, "1 478 98 184 1 lock", "give each element of lock.slots lines of its own", "the sharing of guarded is true")
@@ -292,7 +294,7 @@ class Repairs(Shown):
             text,
             "1 408 458 284 1 lock",
             "worst field lock.slots[4..7].is_free",
-            "each element of lock.slots (shared; `alignas(64)` on `struct slot`)",
+            "each element of lock.slots (shared; by `struct __attribute__((aligned(64))) slot`",
         )
         self.shows(
             text, "this saves up to 408 of 866 misses, or more: several fields or elements lie in a word of lock.slots[4..7].is_free"
@@ -313,7 +315,7 @@ class Repairs(Shown):
         self.shows(
             text,
             "1 872 1 591 1 block made at pieces.c:41 < main",
-            "in an array by `alignas(64)` on the type of its elements and `aligned_alloc(64, ..)`",
+            "in an array by `__attribute__((aligned(64)))` on the type of its elements and `aligned_alloc(64, ..)`",
         )
         self.shows(
             text,

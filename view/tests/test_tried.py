@@ -1,0 +1,308 @@
+"""Repairs that are tried before they are named: whose words are, where they would lie, and what is said of it."""
+
+import os
+import re
+import shutil
+import subprocess
+import sys
+import tempfile
+import unittest
+from types import SimpleNamespace
+from unittest import mock
+
+from calling import HERE, STAND_IN, TURNS, built, joined, view
+
+sys.path[:0] = [os.path.dirname(HERE), os.path.join(HERE, "..", "..", "tools")]
+
+import patches  # noqa: E402
+from fields import Program  # noqa: E402
+from judge_report import Access, Case, Ending, trace_of  # noqa: E402
+from layouts import Change, Part, Shape, Unmovable, arrays_in, in_words, laid, members_of  # noqa: E402
+from repairs import Repair, groupings  # noqa: E402
+from spelled import Uses  # noqa: E402
+from subjects import UNUSED, Whose, whose  # noqa: E402
+from traces import Alloc, Symbol, records  # noqa: E402
+from tried import Counted, Tried  # noqa: E402
+from trying import free, table, together_of  # noqa: E402
+
+
+class Folder(unittest.TestCase):
+    def setUp(self):
+        self.folder = tempfile.mkdtemp()
+        self.addCleanup(shutil.rmtree, self.folder)
+
+    def path(self, name, text=None):
+        path = os.path.join(self.folder, name)
+        if text is not None:
+            with open(path, "wb" if isinstance(text, bytes) else "w") as file:
+                file.write(text)
+        return path
+
+    def uses(self, *accesses, others=()):
+        case = Case([Access(*it) for it in accesses], list(others), Ending("exit 0", 9, (0, 0, 0, 0)), 8, 16, 64, 100, 64, None)
+        return Uses(self.path("trace", trace_of(case)))
+
+
+W, R = True, False
+
+
+class Used(Folder):
+    def test_only_what_is_done_while_threads_run_counts(self):
+        before, after = [(0, W, 0x1000, 4)] * 50, [(0, R, 0x1000, 4)] * 50
+        uses = self.uses(*before, (1, W, 0x1000, 4), (1, R, 0x1000, 4), (0, W, 0x2000, 4), (1, W, 0x1000, 4), *after)
+        self.assertEqual({hart: tuple(it) for hart, it in uses.of(0x1000).items()}, {1: (1, 2, 15)})
+        self.assertEqual(list(uses.of(0x2000)), [0])
+        self.assertEqual(whose(uses, 0x1000, 4), Whose("own", frozenset({1})))
+        self.assertEqual(whose(uses, 0x3000, 64), UNUSED)
+
+    def test_one_hart_alone_is_no_thread(self):
+        self.assertEqual(self.uses(*[(0, W, 0x1000, 4)] * 9).words, {})
+
+    def test_other_records_lie_between(self):
+        sites = (0x100, 0, 0, 0)
+        others = [(0, Symbol(1, 0x1000, 64, b"name")), (2, Alloc(0x2000, 16, sites)), (70, Alloc(0x3000, 16, sites))]
+        uses = self.uses(*([(0, W, 0x1000, 4), (1, R, 0x1004, 4)] * 100), others=others)
+        self.assertEqual((uses.of(0x1000)[0].writes, uses.of(0x1004)[1].reads), (99, 100))
+
+    def test_a_look_is_no_use(self):
+        uses = self.uses((1, W, 0x1000, 4), *[(2, R, 0x1000, 4)] * 300, *[(3, R, 0x1000, 4)] * 300)
+        self.assertEqual(whose(uses, 0x1000, 4), Whose("read", frozenset()))
+        uses = self.uses(*[(1, W, 0x1000, 4), (2, R, 0x1000, 4)] * 40)
+        self.assertEqual(whose(uses, 0x1000, 4), Whose("shared", frozenset({1})))
+
+    def test_the_front_of_a_long_trace(self):
+        accesses = [(0, W, 0x2000, 4)] * 9 + [(1, W, 0x1000, 4), (2, W, 0x1004, 4)] * 200
+        with mock.patch.multiple("spelled", PART=16, FEW=4, MANY=4):
+            front = self.uses(*accesses).front
+            self.assertEqual(self.uses(*accesses[:40]).front, b"")
+        self.assertEqual(self.uses(*accesses).front, b"")
+        own = list(records(front))
+        self.assertEqual(own, [(hart, addr, writes) for hart, writes, addr, _ in accesses[: len(own)]])
+        self.assertTrue(25 <= len(own) < 40)
+        self.assertEqual((front[-25], front[-24], int.from_bytes(front[-8:], "little")), (6, 4, len(own)))
+
+    def test_bytes_of_a_word(self):
+        uses = self.uses(*[(1, W, 0x1000, 1), (2, W, 0x1001, 1), (1, W, 0x1004, 4), (2, W, 0x1004, 4)] * 9)
+        self.assertEqual([uses.is_mixed(it) for it in (0x1000, 0x1004)], [True, False])
+
+    def test_free_places(self):
+        self.assertEqual(list(free([0x1000, 0x12FFC], 64)), [0xC0000000, 0x80000000, 0x40000000, 0x13000, 0])
+        self.assertEqual(list(free([0, 0x5000, 0x40000FFC, 0x80000000, 0xC0001000, 0xFFFFFFFC], 0x4000)), [0x1000])
+        self.assertEqual(list(free(range(0, 1 << 32, 4096), 4096)), [])
+        self.assertEqual(table([Part(8, 4, 64), Part(4, 4, 0)], 0x1000), "0x4 4 0x1000\n0x8 4 0x1040\n")
+
+
+SOURCE = """#include <stdint.h>
+union value { uint64_t whole; uint32_t half[2]; };
+struct inner { char tag; uint32_t count; };
+struct all {
+    uint32_t first;
+    union value value; // what is kept
+    /* a number */
+    uint64_t sum;
+    struct inner inner[3];
+    void *next;
+    char marks[4];
+    uint32_t last;
+};
+struct all all[4];
+int32_t grid[6][21];
+struct odd { unsigned a : 3, b : 5; };
+struct odd odd;
+int main(void) { return all[0].first + grid[0][0] + odd.a; }
+"""
+
+
+@unittest.skipUnless(shutil.which("clang") and shutil.which("llvm-dwarfdump"), "clang or llvm isn't installed")
+class LaidOut(Folder):
+    def program(self, text):
+        source, out = self.path("all.c", text), self.path("all")
+        subprocess.run(["clang", "-g", "-gdwarf-4", "-O0", source, "-o", out], check=True)
+        return Program(out)
+
+    def test_as_the_compiler_lays_it_out(self):
+        shape = Shape(self.program(SOURCE).type_named("struct all"))
+        record = shape.record()
+        members = {it.name: it for it in members_of(record)}
+        # (a number of eight bytes is one field, and so is a union)
+        self.assertEqual([*members], ["first", "value", "sum", "inner", "next", "marks", "last"])
+        groups = [[members[it] for it in own] for own in (("sum", "first"), ("inner", "value", "marks"), ("next", "last"))]
+        change = Change(64)
+        change.parted[record.offset] = groups
+        found = laid(shape, change)
+        place = SimpleNamespace(file=self.path("all.c"), line=4)
+        edits = [patches.OrderFields(place, "all", groups, 64)]
+        ((_, (_, text)),) = patches.applied(edits, patches.text_of).items()
+        after = Shape(self.program(text).type_named("struct all"))
+        self.assertEqual(found.size, after.size())
+        wanted = {members[it.name].begin: it.begin for it in members_of(after.record())}
+        self.assertEqual({it.begin: it.to for it in found.parts if it.begin in wanted}, wanted)
+        self.assertIn("/* a number */\n    uint64_t sum;\n", text)
+
+    def test_elements_that_fill_lines(self):
+        program = self.program(SOURCE)
+        variable = next(it for it in self.variables(program) if it.name == "all")
+        change = Change(64)
+        change.aligned.add(Shape(program.type_named("struct all")).record().offset)
+        found = laid(Shape(variable.type), change)
+        text = SOURCE.replace("struct all {", "struct __attribute__((aligned(64))) all {")
+        self.assertEqual(found.size, Shape(next(it for it in self.variables(self.program(text)) if it.name == "all").type).size())
+
+    def variables(self, program):
+        program.scan()
+        return program.variables.values()
+
+    def test_rows(self):
+        program = self.program(SOURCE)
+        grid = Shape(next(it for it in self.variables(program) if it.name == "grid").type)
+        first = next(arrays_in(grid, [0]))
+        self.assertEqual((first.path, first.shape.size(), first.begins[:3]), ("[]", 84, [0, 84, 168]))
+        change = Change(64)
+        change.wrapped.add("[]")
+        self.assertEqual(laid(grid, change).size, 6 * 128)
+        self.assertIsNone(members_of(Shape(program.type_named("struct odd")).record()))
+
+    def test_words(self):
+        self.assertEqual(in_words([Part(0, 4, 64), Part(4, 2, 68), Part(8, 4, 0)]), [Part(0, 8, 64), Part(8, 4, 0)])
+        for parts in ([Part(0, 1, 0), Part(1, 1, 64)], [Part(0, 4, 2)], [Part(0, 2, 0), Part(2, 2, 66)]):
+            self.assertRaises(Unmovable, in_words, parts)
+
+    def test_several_repairs(self):
+        first, second = Repair([], [Part(8, 8, 0), Part(32, 4, 64)], 128, None), Repair([], [Part(0, 36, 0), Part(40, 4, 64)], 128, None)
+        parts = [Part(0, 8, 128), Part(8, 8, 0), Part(16, 16, 144), Part(32, 4, 64), Part(40, 4, 192)]
+        self.assertEqual(together_of([first, second], 64), Repair([], parts, 256, None))
+        self.assertEqual(together_of([first, first], 64).parts, first.parts)
+
+
+class Grouped(unittest.TestCase):
+    def ways(self, **found):
+        members = [SimpleNamespace(name=it) for it in found]
+        return [[[it.name for it in own] for own in way] for way in groupings(members, {it: (own,) for it, own in found.items()})]
+
+    def test_groups_of_fields(self):
+        def shared(*harts):
+            return Whose("shared", frozenset(harts))
+
+        own, other, read = Whose("own", frozenset({1})), Whose("own", frozenset({2})), Whose("read", frozenset())
+        ways = self.ways(head=shared(1), tail=shared(2), seen_tail=own, seen_head=other, room=read, name=UNUSED)
+        self.assertIn([["head", "seen_tail"], ["tail", "seen_head"], ["room", "name"]], ways)
+        self.assertIn([["head", "tail"], ["seen_tail"], ["seen_head"], ["room", "name"]], ways)
+        self.assertIn([["head"], ["tail"], ["seen_tail"], ["seen_head"], ["room", "name"]], ways)
+        self.assertEqual(self.ways(a=own, b=own, c=UNUSED), [])
+        self.assertEqual(self.ways(setting=read, counter=shared(1, 2)), [[["setting"], ["counter"]]])
+
+
+class Patched(Folder):
+    def patch(self, text, *edits):
+        path = self.path("a.c", text)
+        return patches.applied([it._replace(place=SimpleNamespace(file=path, line=it.place)) for it in edits], patches.text_of)[path][1]
+
+    def test_records(self):
+        for text, name, wanted in (
+            ("struct a {\n", "a", "struct ATTRIBUTE a {\n"),
+            ("struct a // of one\n{\n", "a", "struct ATTRIBUTE a // of one\n{\n"),
+            ("typedef struct {\n", "a", "typedef struct ATTRIBUTE {\n"),
+            ("typedef struct a { int b; } a;\n", "a", "typedef struct ATTRIBUTE a { int b; } a;\n"),
+            ("static struct a { int b; } c[4];\n", "a", "static struct ATTRIBUTE a { int b; } c[4];\n"),
+            ("struct a final : b {\n", "a", "struct ATTRIBUTE a final : b {\n"),
+        ):
+            found = self.patch(text, patches.AlignRecord(1, "struct", name, 64))
+            self.assertEqual(found, wanted.replace("ATTRIBUTE", "__attribute__((aligned(64)))"))
+        for text in ("A_STRUCT(a)\n", "struct __attribute__((packed)) a {\n", "struct b {\n"):
+            self.assertRaises(patches.Unpatchable, self.patch, text, patches.AlignRecord(1, "struct", "a", 64))
+
+    def test_variables(self):
+        for text, wanted in (
+            ("static int a = 3;", "static int a ATTRIBUTE = 3;"),
+            ("int b, a[4][2], c; // a", "int b, a[4][2] ATTRIBUTE, c; // a"),
+            ("std::atomic<int> a{0};", "std::atomic<int> a ATTRIBUTE{0};"),
+        ):
+            found = self.patch(text, patches.AlignVariable(1, "a", 64))
+            self.assertEqual(found, wanted.replace("ATTRIBUTE", "__attribute__((aligned(64)))"))
+        for text in ("int (*a)(void);", "MAKE(a)", "int b;"):
+            self.assertRaises(patches.Unpatchable, self.patch, text, patches.AlignVariable(1, "a", 64))
+
+    def test_values_by_their_order(self):
+        for text, wanted in (
+            ("struct a x = {1, 2};", True),
+            ("struct a x[] = {{1, 2}};", True),
+            ("struct a x = {.b = 1};", False),
+            ("struct a x = {0};", False),
+            ("struct a x = {};", False),
+            ("struct a *f(int b);\nstruct c x = {1};", False),
+        ):
+            self.assertEqual(patches.OrderFields(None, "a", [], 64).by_position(text.split("\n")), wanted, text)
+
+    def test_the_last_line_may_have_no_end(self):
+        end = "\n\\ No newline at end of file\n"
+        self.assertTrue(patches.difference("a.c", "int a;", "int b;").endswith(f"-int a;{end}+int b;{end}"))
+
+    @unittest.skipUnless(shutil.which("clang"), "clang isn't installed")
+    def test_what_is_said_is_c_and_c_plus_plus(self):
+        text = "struct __attribute__((aligned(64))) own_line { int value[21]; };\nstruct __attribute__((aligned(64))) a { int b; };\n"
+        text += "struct c { int d; int e[3] __attribute__((aligned(64))); };\nstatic int f __attribute__((aligned(64))) = 3;\n"
+        text += "int g(void);\nint g(void) { return f; }\n"
+        for language in ("c", "c++"):
+            words = ["clang", "-Wall", "-Wextra", "-Werror", "-fsyntax-only", "-x", language, self.path("a", text)]
+            subprocess.run(words, check=True)
+
+
+class Sentences(unittest.TestCase):
+    def tried(self, useless, useful, accesses, after=None, many=1):
+        found = Tried(SimpleNamespace(useless=useless, useful=useful), Counted({"useless": useless, "useful": useful}, 9), accesses)
+        if after:
+            found.repair, found.many = Repair(["do it"], [], 64, None), many
+            found.after = Counted(dict(zip(("useless", "useful"), after)), 2)
+        return found.sentence("queue", []) if found.knows() else None
+
+    def test_what_was_counted(self):
+        told = "do it; counted so: useless 2188 before, 23 after; useful 2457, 2458; by the report's rule 9, 2"
+        self.assertEqual(self.tried(2188, 2457, 90000, (23, 2458)), told)
+
+    def test_nothing_to_do(self):
+        self.assertEqual(self.tried(100, 41, 22_900_000), "nothing to do: 141 of 22,900,000 accesses miss")
+        self.assertIn("the one repair that was counted saves 3 of 4645 misses", self.tried(2188, 2457, 90000, (2185, 2457)))
+        told = self.tried(0, 900, 9000, (0, 990), 4)
+        self.assertIn("nothing by putting words elsewhere: the best of 4 repairs that were counted saves 0 of 900 misses", told)
+        self.assertIn("what harts hand to each other in queue costs less where it is written less often", told)
+        self.assertIsNone(self.tried(900, 0, 9000))
+
+
+class Screens(unittest.TestCase):
+    def test_a_ring_with_statistics(self):
+        with tempfile.TemporaryDirectory() as folder:
+            words = ("run", built("ring.elf"), *TURNS, "--explain", "0", "--sources", os.path.join(HERE, "programs"))
+            patch = os.path.join(folder, "patch")
+            status, text, said = view(*words, "--patch", patch, STAND_IN_HAS="move")
+            self.assertEqual((status, said), (0, ""))
+            text = joined(text)
+            self.assertIn("give each element of stats lines of its own by `struct __attribute__((aligned(64))) stats` (ring.c:24)", text)
+            self.assertIn("counted so: useless 342 before, 44 after; useful 314, 314; by the report's rule 658, 359", text)
+            # (what it says where nothing is moved is what it says else)
+            self.assertNotIn("place", text)
+            self.assertNotIn("counted so", view(*words)[1])
+            status, _, said = view(*words, "--patch", patch)
+            self.assertEqual((status, "a predator with `move`" in said), (2, True))
+
+    def test_what_a_run_says_is_heard(self):
+        says = "predator: no hart was free for the last thread that was to start: `harts` is 8, and in the settings it may be up to 256\n"
+        words = ("run", built("ring.elf"), *TURNS, "--explain", "0", "--fail-above", "9999")
+        status, text, said = view(*words, STAND_IN_HAS="move", STAND_IN_SAYS=says)
+        self.assertEqual((status, said.startswith(says), said.count(says)), (3, True, 1))
+        self.assertIn("note: no hart was free for the last thread that was to start", joined(text))
+        self.assertEqual(view(*words, STAND_IN_HAS="move", STAND_IN_PUTS="put out")[2], "put out\n")
+
+    def test_a_trace_is_read_as_a_run_is(self):
+        with tempfile.TemporaryDirectory() as folder:
+            trace = os.path.join(folder, "t")
+            subprocess.run([STAND_IN, "run", built("shards.elf"), *TURNS, "--trace", trace], check=True, stdout=subprocess.DEVNULL)
+            words = ("--explain", "0")
+            _, run, _ = view("run", built("shards.elf"), *TURNS, *words, STAND_IN_HAS="move")
+            _, replay, _ = view("replay", trace, "--program", built("shards.elf"), *words, STAND_IN_HAS="move")
+            (one, other) = (re.search("to do .*", joined(it))[0] for it in (run, replay))
+            self.assertEqual(one, other)
+            self.assertIn("useless 2147 before, 0 after; useful 0, 0", one)
+
+
+if __name__ == "__main__":
+    unittest.main()

@@ -1,0 +1,248 @@
+"""What misses may be worth in time, and what kinds of instructions take a line."""
+
+import json
+import os
+import shutil
+import subprocess
+import sys
+import tempfile
+import unittest
+from types import SimpleNamespace
+
+from calling import HERE, PROGRAM, STAND_IN, built, has, joined, view
+
+sys.path[:0] = [os.path.dirname(HERE)]
+
+import instructions  # noqa: E402
+import worth  # noqa: E402
+from bands import BANDS, at_most, band_of  # noqa: E402
+from calls import Call  # noqa: E402
+from instructions import ATOMIC, LOAD, STORE, UNKNOWN, all_that_do, kind_of, kinds_of, told  # noqa: E402
+from model import View  # noqa: E402
+from naming import Naming  # noqa: E402
+from reports import Misses, Pair, Report, Takings, Word  # noqa: E402
+
+REPORT = "predator report 1\noutcome exit 0\nsteps {}\naccesses 2000\nlayout 64 0\nthresholds 16 64 100\nlines 0\nend\n"
+LINE = "line 0x0001{} cold 2 useful {} useless {}\nobject symbol {} 0x0001{} 64\n"
+RISCV = """
+guest.elf:	file format elf32-littleriscv
+
+00010344 <main>:
+   10344:      	sw	a2, 4(s0)
+   10348:      	lw	a2, 8(s0)
+   1034c:      	amoadd.w.aqrl	a1, a2, (a1)
+   10350:      	lr.w	a0, (a1)
+   10354:      	sc.w.rl	a3, a1, (a0)
+   10358:      	addi	a0, a0, 4
+   1035c:      	sb	a2, 4(s0)
+   10360:      	lbu	a2, 4(s0)
+"""
+X86 = """
+a:	file format elf64-x86-64
+
+0000000000001129 <f>:
+    1129:      	lock
+    112a:      	addl	%edi, 12032(%rip)       # 0x4030 <a>
+    1130:      	addl	%edi, 12014(%rip)       # 0x4024 <b+0x4>
+    1136:      	movl	%edi, 12012(%rip)       # 0x4028 <b+0x8>
+    113c:      	movl	12010(%rip), %eax       # 0x402c <b+0xc>
+    1142:      	movl	%eax, %ecx
+    1144:      	xchgl	%ecx, 12006(%rip)       # 0x4030 <a>
+    114a:      	cmpl	%edi, 11960(%rip)       # 0x4020 <b>
+    1150:      	rep
+    1151:      	stosq	%rax, %es:(%rdi)
+    1154:      	callq	0x1060 <__tsan_write4@plt>
+    1159:      	callq	0x10b0 <__tsan_read4@plt>
+    115e:      	callq	0x10a0 <__tsan_atomic32_fetch_add@plt>
+    1163:      	incl	(%rax,%rbx,4)
+    1166:      	leaq	8(%rax), %rbx
+    116a:      	jmp	0x116a <f+0x41>
+"""
+
+
+def misses_of(*lines):
+    """A count of lines, each by its place, useful and useless misses, and its object."""
+    rows = "".join(LINE.format(at, useful, useless, name, at) for at, useful, useless, name in lines)
+    total = f"total cold {2 * len(lines)} useful {sum(it[1] for it in lines)} useless {sum(it[2] for it in lines)}\n"
+    return Misses(f"misses 64 0\naccesses 2000\nlines {len(lines)}\n{rows}{total}end\n")
+
+
+def view_of(*lines, steps=1000, words=("run", "p"), alternating=None):
+    """What is seen of a run with some misses, and of the same one in turns of one step."""
+    report = Report(REPORT.format(steps))
+    made = View(SimpleNamespace(**vars_of(words)), report, Naming(report))
+    made.misses = misses_of(*lines)
+    made.arrange()
+    made.worth = worth.Worth(made, None)
+    if alternating:
+        made.worth.known, made.worth.alternating = True, worth.Alternating(alternating[0], misses_of(*alternating[1:]))
+        made.worth.of = made.worth.alternating.useless_of(made.naming)
+    return made
+
+
+def vars_of(words):
+    """A call without its file."""
+    call = Call.__new__(Call)
+    call.how, call.options, call.own, call.marks, call.given, call.spare = words[0], {"type": [], "shape": []}, [], [], [], None
+    call.words, call.subject, call.named, call.program = [*words[1:]], words[1], words[1], None
+    own = {it: getattr(call, it) for it in ("how", "options", "own", "words", "subject", "named", "program", "spare")}
+    return own | {it: getattr(call, it) for it in ("number", "settings_words", "value_of", "words_to_run", "trace", "reads_once")}
+
+
+class InTime(unittest.TestCase):
+    def test_bands(self):
+        self.assertEqual([band_of(it) for it in (0, 0.049, 0.05, 2.99, 3, 7.99, 8, 500)], [0, 0, 1, 1, 2, 2, 3, 3])
+        self.assertEqual(BANDS[0].least, 0)
+        self.assertEqual(len({it.told for it in BANDS}), len(BANDS))
+
+    def test_bound(self):
+        self.assertEqual(at_most(0, 140, 0.4), 0)
+        self.assertAlmostEqual(at_most(10, 40, 0.4), 0.5)
+        self.assertEqual([worth.percent(it) for it in (0, 0.001, 0.014, 0.5, 1)], ["0%", "less than 1%", "1%", "50%", "100%"])
+
+    def test_a_run(self):
+        own = view_of(("1000", 1, 7, "many"), ("1040", 5, 2, "few"), alternating=(4000, ("1000", 1, 100, "many")))
+        self.assertEqual((own.worth.rate(9), own.worth.unit()), (9.0, "steps"))
+        most = at_most(100 / 4, 140, 0.4)
+        how = "by 140 ns for each in turns of one step, 0.4 ns for a step: a bound and no estimate"
+        bound = f"at most {100 * most:.0f}% of the time, {how}"
+        self.assertEqual(own.worth.total(), f"9.00 useless misses by 1000 steps: fought over in every turn; {bound}")
+        many, few = own.things
+        self.assertTrue(own.worth.told(many).startswith("7.00 useless misses by 1000 steps: padding often pays: measure; at most 90%"))
+        # (what is seen is more than in turns of one step)
+        self.assertAlmostEqual(own.worth.at_most(few), at_most(2, 140, 0.4))
+        self.assertIn("; most misses of its worst line are useful, so a pad may cost time", own.worth.told(few))
+        self.assertNotIn("a pad may cost time", own.worth.told(many))
+
+    def test_turns_that_the_study_has_not(self):
+        for words in (["--set", "quantum=3"], ["--set", "seed=2"], ["--schedule", "f"]):
+            own = view_of(("1000", 1, 7, "many"), words=("run", "p", *words))
+            self.assertIsNone(own.worth.band(7), words)
+            self.assertEqual(own.worth.total(), "7.00 useless misses by 1000 steps")
+        own = view_of(("1000", 1, 7, "many"), words=("replay", "t"))
+        self.assertEqual(own.worth.total(), "7.00 useless misses by 1000 steps: padding often pays: measure, if turns had 100 steps")
+        own = view_of(("1000", 1, 7, "many"), steps=0, words=("replay", "t"))
+        self.assertEqual(own.worth.total(), "3.50 useless misses by 1000 accesses")
+        own.misses = None
+        self.assertEqual((own.worth.total(), own.worth.told(own.things[0])), ("", ""))
+
+    def test_the_words_of_a_run_in_turns_of_one_step(self):
+        def words_of(*words):
+            return worth.in_turns_of_one(SimpleNamespace(**vars_of(("run", *words))))
+
+        self.assertEqual(words_of("p"), ["run", "--set", "quantum=1,seed=0", "p"])
+        self.assertEqual(
+            words_of("p", "--set", "harts=4,quantum=9", "--schedule", "f", "--settings", "s", "--trace", "t", "--", "--set", "a"),
+            ["run", "--set", "harts=4,quantum=1,seed=0", "p", "--settings", "s", "--", "--set", "a"],
+        )
+        self.assertEqual(words_of("p", "--set=seed=4", "--schedule=f"), ["run", "--set", "quantum=1,seed=0", "p"])
+
+    def test_refused(self):
+        with tempfile.NamedTemporaryFile("w", suffix=".report") as file:
+            file.write(REPORT.format(3))
+            file.flush()
+            status, _, said = view(file.name, "--latency", "100")
+        self.assertEqual((status, "'--latency' is for `view run`" in said), (2, True))
+        status, _, said = view("run", built("ring.elf"), "--latency", "1.5")
+        self.assertEqual((status, "'--latency' is a number, and not '1.5'" in said), (2, True))
+
+
+class OnTheScreen(unittest.TestCase):
+    program = STAND_IN
+
+    def test_a_run_and_its_bound(self):
+        with tempfile.TemporaryDirectory() as folder:
+            path = os.path.join(folder, "json")
+            words = ("run", built("ring.elf"), "--latency", "70", "--json", path, "--no-predicted")
+            status, text, said = view(*words, program=self.program, STAND_IN_SAYS="said")
+            self.assertEqual((status, said), (0, "said" if self.program == STAND_IN else ""))
+            with open(path, encoding="utf-8") as file:
+                found = json.load(file)
+        time, first = found["time"], found["objects"][0]
+        self.assertEqual((time["by"], time["latency"], time["alternating"]["steps"]), ("steps", 70, 6107))
+        self.assertEqual(time["most"], round(at_most(1000 * time["alternating"]["useless"] / 6107, 70, 0.4), 4))
+        self.assertIn(f"time: {time['rate']:.2f} useless misses by 1000 steps: fought over in every turn; at most", joined(text))
+        self.assertEqual(first["takings"], {"atomic": 0, "load": 0, "store": 61, "unknown": 0})
+        self.assertEqual({it["kind"] for it in first["fights"]}, {"store"})
+        self.assertIn("takings 61 by stores over stores: the line is hardly read", joined(text))
+        self.assertIn("never for the same word; from a load takings", joined(text))
+
+
+@unittest.skipUnless(has(PROGRAM, "misses", "explain"), "the program isn't built")
+class OnTheScreenOfTheProgram(OnTheScreen):
+    program = PROGRAM
+
+
+class Kinds(unittest.TestCase):
+    def test_riscv(self):
+        found = all_that_do(RISCV, range(0x10340, 0x10368, 4))
+        self.assertNotIn(0x10340, found)
+        self.assertNotIn(0x10358, found)
+        self.assertEqual([at for at, it in found.items() if it.is_atomic], [0x1034C, 0x10354])
+        self.assertEqual([at for at, it in found.items() if it.reads and not it.is_atomic], [0x10348, 0x10350, 0x10360])
+        self.assertEqual([at for at, it in found.items() if not it.reads], [0x10344, 0x1035C])
+
+    def test_x86(self):
+        found = all_that_do(X86, range(0x1129, 0x1170))
+        self.assertEqual([at for at, it in found.items() if it.is_atomic], [0x1129, 0x1144, *range(0x115E, 0x1163)])
+        self.assertEqual([at for at, it in found.items() if it.is_update and not it.is_atomic], [0x112A, 0x1130, 0x1163])
+        loads = [at for at, it in found.items() if it.reads and not it.is_update]
+        self.assertEqual(loads, [0x113C, 0x114A, *range(0x1159, 0x115E)])
+        stores = [at for at, it in found.items() if not it.reads]
+        self.assertEqual(stores, [0x1136, 0x1150, 0x1151, *range(0x1154, 0x1159)])
+
+    def test_pairs(self):
+        known = all_that_do(RISCV, range(0x10340, 0x10368, 4))
+        store, load, amo = 0x10344, 0x10348, 0x1034C
+        for victim, taker, kind in (
+            *((store, store, STORE), (load, store, LOAD), (amo, store, STORE), (store, amo, ATOMIC), (load, amo, ATOMIC)),
+            *((0, amo, ATOMIC), (0, store, UNKNOWN), (store, 0, UNKNOWN), (0x10350, store, LOAD)),
+        ):
+            self.assertEqual(kind_of(Pair(victim, taker, 1, 0), known), kind, (victim, taker))
+        own = kinds_of([Pair(store, store, 5, 0), Pair(load, store, 2, 0), Pair(0, 0, 1, 0)], known)
+        self.assertEqual(own, {ATOMIC: 0, LOAD: 2, STORE: 5, UNKNOWN: 1})
+        self.assertEqual(told(own), "2 from loads, 5 by stores over stores, 1 by what isn't known")
+        self.assertIn("a store buffer hides most of that", told(own, is_read=False))
+        self.assertEqual((told({}), told(kinds_of([Pair(0, 0, 1, 0)], known))), ("", ""))
+        # (an instruction that loads and stores waits for the line itself)
+        self.assertEqual(kind_of(Pair(0x1136, 0x1163, 1, 0), all_that_do(X86, range(0x1129, 0x1170))), LOAD)
+
+    def test_the_order_of_objects(self):
+        own = view_of(("1000", 0, 9, "stored"), ("1040", 0, 7, "loaded"), ("1080", 0, 1, "other"))
+        own.does = all_that_do(RISCV, range(0x10340, 0x10368, 4))
+        for it in own.things:
+            it.saves = it.useless
+        own.is_read = lambda thing: thing.name != "stored"
+        takings = {"stored": [Pair(0x10344, 0x10344, 9, 0)], "loaded": [Pair(0x10348, 0x10344, 9, 0)]}
+        own.explained = {it.worst().base: Takings(it.worst().base, takings[it.name], {}) for it in own.things if it.name in takings}
+        own.put_dear_first()
+        self.assertEqual([it.name for it in own.things], ["loaded", "stored", "other"])
+        self.assertTrue(instructions.is_read([Word(0, 2, 10, "1")]))
+        self.assertFalse(instructions.is_read([Word(0, 1, 10, "1"), Word(4, 0, 9, "2")]))
+
+    @unittest.skipUnless(shutil.which("llvm-objdump"), "llvm-objdump isn't installed")
+    def test_a_guest(self):
+        found = instructions.of_file(built("shards.elf"), built("shards.elf"), range(0x10000, 0x10400, 4))
+        self.assertTrue(any(it.is_atomic for it in found.values()))
+        self.assertEqual(instructions.of_file(built("missing.elf"), built("missing.elf"), [0x10000]), {})
+        words = ["explain", built("shards.elf"), "0x00011000", "64", "0"]
+        text = subprocess.run([STAND_IN, *words], capture_output=True, text=True, check=True).stdout
+        for row in (it.split() for it in text.splitlines() if it.startswith("site ")):
+            does, reads, writes = found[int(row[1], 16)], int(row[3]), int(row[5])
+            is_load = does.reads and not does.is_atomic
+            self.assertEqual((writes > 0, reads > 0 and writes == 0), (not is_load, is_load))
+
+    @unittest.skipUnless(shutil.which("llvm-objdump") and shutil.which("gcc"), "llvm-objdump or gcc isn't installed")
+    def test_a_program_of_this_machine(self):
+        source = "int a, b; int f(void) { __sync_fetch_and_add(&a, 1); b = 2; return a; } int main(void) { return f(); }"
+        with tempfile.TemporaryDirectory() as folder:
+            path = os.path.join(folder, "p")
+            subprocess.run(["gcc", "-O1", "-xc", "-", "-o", path], input=source, text=True, check=True)
+            begin = int(subprocess.run(["nm", path], capture_output=True, text=True, check=True).stdout.partition(" T f\n")[0][-16:], 16)
+            found = instructions.of_file(path, path, range(begin, begin + 32))
+        if os.uname().machine == "x86_64":
+            self.assertEqual((sum(it.is_atomic for it in found.values()), any(not it.reads for it in found.values())), (1, True))
+
+
+if __name__ == "__main__":
+    unittest.main()
