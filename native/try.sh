@@ -417,6 +417,7 @@ within "pipe: killed: accesses" 300000 1000000000 "$("$judge" accesses from-pipe
 . "$here/tries/pcs.sh"
 . "$here/tries/nameless.sh"
 . "$here/tries/ends.sh"
+. "$here/tries/again.sh"
 
 # The report, where the proved program is built.
 PREDATOR_BUILD=no "$here/../bin/predator" >/dev/null 2>&1
@@ -472,7 +473,9 @@ if /usr/bin/python3 -c 'import elftools, jinja2' 2>/dev/null && command -v llvm-
     said=$(echo "report = 10" >few; view replay t --settings few --words --explain 0)
     has "view: an object" "counters" "$said"
     has "view: a field" "counters[1].count" "$said"
-    has "view: its type" "on \`struct own\`" "$said"
+    # (enough misses for a repair to be named)
+    "$run" --quantum 100 --most 60000 --trace u -- ./counters >/dev/null 2>&1
+    has "view: its type" "by \`struct __attribute__((aligned(64))) own\` (counters.c:" "$(view replay u --settings few --explain 0 | tr -s '\n ' ' ')"
     "$run" --trace h -- ./heap
     said=$(view replay h --explain 0)
     has "view: a block" "block made at heap.c:13 < main" "$said"

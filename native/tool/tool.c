@@ -274,8 +274,11 @@ static IRSB *instrument(VgCallbackClosure *closure, IRSB *in, const VexGuestLayo
     Notes notes = {deepCopyIRSBExceptStmts(in), NULL, 0, 0, 0};
     const IRExpr *swap = NULL;
     Int it = 0;
+    for (it = 0; it < in->stmts_used; it++)
+        in->stmts[it] = ticks_instead(in->stmts[it]);
     if (!instruments || is_own(closure->readdr))
         return in;
+    it = 0;
     while (it < in->stmts_used && in->stmts[it]->tag != Ist_IMark)
         addStmtToIRSB(notes.out, in->stmts[it++]);
     for (; it < in->stmts_used; it++) {
@@ -324,15 +327,11 @@ static IRSB *instrument(VgCallbackClosure *closure, IRSB *in, const VexGuestLayo
 
 /* ---- What happens beside ---- */
 
-static Addr waits_at[MOST_THREADS + 1];  /* the word that a thread waits at, or 0 */
-static Addr ends_at[MOST_THREADS + 1];   /* the word at which the system wakes those that join the thread */
-static Addr next_word;                   /* that of the thread that is about to be made */
-
 static void on_create(ThreadId parent, ThreadId child)
 {
     turns_expect(child);
     begins[child] = True;
-    ends_at[child] = parent ? next_word : 0;
+    calls_create(parent, child);
     live++;
     had_threads = had_threads || live >= 2;
     judge_recording();
@@ -340,13 +339,8 @@ static void on_create(ThreadId parent, ThreadId child)
 
 static void on_exit(ThreadId tid)
 {
-    ThreadId it;
     turns_forget(tid);
-    for (it = 1; ends_at[tid] && it <= MOST_THREADS; it++)
-        if (waits_at[it] == ends_at[tid]) {
-            turns_woke(1);
-            break;
-        }
+    calls_exit(tid);
     live--;
     judge_recording();
 }
@@ -416,6 +410,14 @@ static void pin(void)
     set_policy(3 /* SCHED_BATCH */);
 }
 
+static UInt first_cpu(void)
+{
+    UInt it = 0;
+    while (it + 1 < 8 * sizeof cpus && !(cpus[it / 8] >> it % 8 & 1))
+        it++;
+    return it;
+}
+
 /* As it was before the tool. */
 static void unpin(void)
 {
@@ -448,39 +450,9 @@ static void on_fork_child(ThreadId tid)
     pinned_to = -1;
 }
 
-enum { FUTEX_WAKE_OP = 5, FUTEX_WAIT_BITSET = 9, FUTEX_WAKE_BITSET = 10 };
-
-static Bool is_futex(UInt call, const UWord *words, UInt one, UInt other, UInt third)
-{
-    UInt what = words[1] & 127;
-    return call == __NR_futex && (what == one || what == other || what == third);
-}
-
-static Bool is_wait(UInt call, const UWord *words)
-{
-    ThreadId it;
-    if (!is_futex(call, words, VKI_FUTEX_WAIT, FUTEX_WAIT_BITSET, FUTEX_WAIT_BITSET))
-        return False;
-    if (words[1] & VKI_FUTEX_PRIVATE_FLAG)
-        return True;
-    for (it = 1; it <= MOST_THREADS; it++) /* a join; another word may be shared with another program, which wakes it when it likes */
-        if (ends_at[it] == words[0])
-            return True;
-    return False;
-}
-
-static Bool is_wake(UInt call, const UWord *words)
-{
-    return is_futex(call, words, VKI_FUTEX_WAKE, FUTEX_WAKE_OP, FUTEX_WAKE_BITSET) && (words[1] & VKI_FUTEX_PRIVATE_FLAG);
-}
-
 static void before_call(ThreadId tid, UInt call, UWord *words, UInt count)
 {
-    Bool waits = is_wait(call, words);
-    turns_call(tid, waits ? CALL_WAITS : is_wake(call, words) ? CALL_KEEPS : call == __NR_sched_yield ? CALL_YIELDS : CALL_OTHER);
-    waits_at[tid] = waits ? words[0] : 0;
-    if (call == __NR_clone)
-        next_word = words[0] & VKI_CLONE_CHILD_CLEARTID ? words[3] : 0;
+    calls_before(tid, call, words);
     if (call == __NR_exit_group || (call == __NR_exit && live == 1))
         exit_code = words[0] & 0xff;
     /* Where it works, the program is another one, and the tool is gone. */
@@ -494,12 +466,8 @@ static void before_call(ThreadId tid, UInt call, UWord *words, UInt count)
 
 static void after_call(ThreadId tid, UInt call, UWord *words, UInt count, SysRes result)
 {
-    if (waits_at[tid] && sr_isError(result))
-        turns_woke(1); /* it was no wake that brought it back, and was taken for one */
-    if (is_wake(call, words) && !sr_isError(result))
-        turns_woke(sr_Res(result));
-    turns_call(tid, CALL_OTHER);
-    waits_at[tid] = 0;
+    calls_after(tid, call, words, result);
+    ticks_pass(call);
     if (pinned_to < 0)
         return;
     if (call == __NR_execve || call == 322)
@@ -508,6 +476,8 @@ static void after_call(ThreadId tid, UInt call, UWord *words, UInt count, SysRes
         return;
     if (call == __NR_sched_getaffinity) /* as if it weren't on one processor */
         VG_(memcpy)((void *)words[2], cpus, sr_Res(result) < cpus_size ? sr_Res(result) : cpus_size);
+    if (call == __NR_getcpu && words[0]) /* which one it is differs from run to run */
+        *(UInt *)words[0] = first_cpu();
     if (call == __NR_sched_setaffinity)
         pin();
 }

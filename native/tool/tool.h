@@ -70,13 +70,26 @@ static inline const HChar *mapped_file(Addr addr)
 typedef enum {
     CALL_OTHER,  /* may take its time */
     CALL_WAITS,  /* waits until another thread wakes it */
+    CALL_SHARES, /* the same, or another program does */
     CALL_YIELDS, /* comes back at once, and gives the turn away */
     CALL_KEEPS   /* comes back at once, and keeps the turn */
 } Call;
 void turns_call(ThreadId tid, Call call);         /* what the call is that a thread is about to make */
 void turns_woke(Int count);                       /* so many of those that wait come back */
+void turns_unwoken(ThreadId tid);                 /* one that waited comes back by itself */
+void turns_leaves(Addr word);                     /* a thread ends, and the system clears a word once it is gone */
 void turns_expect(ThreadId tid);                  /* a thread is about to exist: the turn is kept for it */
 void turns_forget(ThreadId tid);
+
+/* calls.c: what a call of the system waits for. */
+void calls_create(ThreadId parent, ThreadId child);
+void calls_exit(ThreadId tid);
+void calls_before(ThreadId tid, UInt call, const UWord *words);
+void calls_after(ThreadId tid, UInt call, const UWord *words, SysRes result);
+
+/* ticks.c: the processor's counter of time. */
+IRStmt *ticks_instead(IRStmt *it);                /* a statement that reads the counter reads one of ours; any other stays */
+void ticks_pass(UInt call);                       /* a call has come back */
 
 #include "trace.h"
 

@@ -9,6 +9,7 @@ typedef struct {
     Int lwp;     /* the system's number of the thread, or 0 */
     Bool wants;  /* stands in the ring */
     Bool sleeps; /* waits at `turn` */
+    Bool was_due; /* its call has waited, and it was one of the `due` */
     UInt turn;   /* 1 once the turn was given to it */
 } Place;
 
@@ -18,6 +19,8 @@ static Int owner_lwp;
 static Bool held;
 static Int there, wanting; /* places in use, and those of them that stand in the ring */
 static volatile Int busy, due; /* `due` threads were woken and aren't there yet */
+static Int going; /* the thread, by the system's number, that gave the turn away to wait, or 0 */
+static Addr leaving; /* the word that the system clears once the last thread that ended is gone, or 0 */
 Call turn_calls[MOST_THREADS + 1];
 static Int waiting; /* threads whose call is CALL_WAITS */
 
@@ -63,6 +66,21 @@ void turns_woke(Int count)
 {
     enter();
     due += count;
+    leave();
+}
+
+/* It was no wake that brought a thread back, though it was taken for one. */
+void turns_unwoken(ThreadId tid)
+{
+    enter();
+    due += places[tid].was_due;
+    leave();
+}
+
+void turns_leaves(Addr word)
+{
+    enter();
+    leaving = word;
     leave();
 }
 
@@ -134,6 +152,7 @@ void *__wrap_vgModuleLocal_create_sched_lock(void)
     VG_(memset)(places, 0, sizeof places);
     VG_(memset)(turn_calls, 0, sizeof turn_calls);
     owner = top = held = there = wanting = busy = due = waiting = owner_lwp = 0;
+    leaving = going = 0;
     return places;
 }
 
@@ -153,6 +172,61 @@ void __wrap_vgPlain_acquire_BigLock(ThreadId tid, const HChar *who)
     __real_vgPlain_acquire_BigLock(tid, who);
 }
 
+/* Whether a thread has the processor or wants it, by what the system says of it. */
+static Bool is_running(Int lwp)
+{
+    HChar path[64], text[256];
+    const HChar *end;
+    Int count = 0;
+    VG_(sprintf)(path, "/proc/self/task/%d/stat", lwp);
+    SysRes file = VG_(open)(path, VKI_O_RDONLY, 0);
+    if (!sr_isError(file)) {
+        count = VG_(read)(sr_Res(file), text, sizeof text - 1);
+        VG_(close)(sr_Res(file));
+    }
+    text[count > 0 ? count : 0] = 0;
+    end = VG_(strrchr)(text, ')');
+    return end && end[1] == ' ' && (end[2] == 'R' || end[2] == 'D');
+}
+
+/* One that is about to wait has given the turn away before it does. Until it sleeps nobody goes on, who could wake it too early; a
+   minute at most. */
+static void await_asleep(void)
+{
+    struct vki_timespec each = {0, 1000000};
+    Int lwp = going;
+    UInt times;
+    going = 0;
+    for (times = 0; lwp && lwp != owner_lwp && times < 60000 && is_running(lwp); times++)
+        if (times < 100)
+            yield();
+        else
+            CALL(__NR_nanosleep, &each, 0, 0, 0);
+}
+
+/* Others see that a thread has ended by a word that the system clears some time later. Until then nobody goes on; a minute at most. */
+static void await_gone(void)
+{
+    struct vki_timespec each = {0, 1000000};
+    Addr word = leaving;
+    UInt times;
+    leaving = 0;
+    for (times = 0; word && times < 60000; times++) {
+        if (!VG_(am_is_valid_for_client)(word, sizeof(UInt), VKI_PROT_READ) || *(volatile UInt *)word == 0)
+            return;
+        if (times < 100)
+            yield();
+        else
+            CALL(__NR_nanosleep, &each, 0, 0, 0);
+    }
+}
+
+static void await_others(void)
+{
+    await_asleep();
+    await_gone();
+}
+
 void __wrap_vgModuleLocal_acquire_sched_lock(void *lock)
 {
     Int lwp = VG_(gettid)();
@@ -165,9 +239,12 @@ void __wrap_vgModuleLocal_acquire_sched_lock(void *lock)
         use(me, lwp);
     }
     Place *it = &places[me];
-    if (turn_calls[me] == CALL_WAITS) {
+    if (turn_calls[me] == CALL_WAITS || turn_calls[me] == CALL_SHARES) {
+        /* (what another program has woken is none of those) */
+        it->was_due = turn_calls[me] == CALL_WAITS || due > 0;
         set_call(me, CALL_OTHER);
-        came = --due == 0;
+        due -= it->was_due;
+        came = it->was_due && due == 0;
     }
     if (it->turn == 0 && !held) {
         set_wants(it, False);
@@ -175,6 +252,7 @@ void __wrap_vgModuleLocal_acquire_sched_lock(void *lock)
         owner = me;
         owner_lwp = lwp;
         leave();
+        await_others();
         return;
     }
     if (it->turn == 0) {
@@ -192,23 +270,7 @@ void __wrap_vgModuleLocal_acquire_sched_lock(void *lock)
     owner = me;
     owner_lwp = lwp;
     leave();
-}
-
-/* Whether a thread has the processor or wants it, by what the system says of it. */
-static Bool is_running(const HChar *name)
-{
-    HChar path[64], text[256];
-    const HChar *end;
-    Int count = 0;
-    VG_(sprintf)(path, "/proc/self/task/%.20s/stat", name);
-    SysRes file = VG_(open)(path, VKI_O_RDONLY, 0);
-    if (!sr_isError(file)) {
-        count = VG_(read)(sr_Res(file), text, sizeof text - 1);
-        VG_(close)(sr_Res(file));
-    }
-    text[count > 0 ? count : 0] = 0;
-    end = VG_(strrchr)(text, ')');
-    return end && end[1] == ' ' && (end[2] == 'R' || end[2] == 'D');
+    await_others();
 }
 
 /* The same of any other thread of the program. */
@@ -223,7 +285,8 @@ static Bool others_run(void)
     while (!is && (count = sr_Res(CALL(__NR_getdents64, sr_Res(folder), names, sizeof names, 0))) > 0)
         for (at = 0; at < count && !is; at += names[at + 16] | names[at + 17] << 8) {
             const HChar *name = (const HChar *)names + at + 19;
-            is = name[0] != '.' && VG_(strtoll10)(name, NULL) != own && is_running(name);
+            Int other = VG_(strtoll10)(name, NULL);
+            is = other > 0 && other != own && is_running(other);
         }
     VG_(close)(sr_Res(folder));
     return is;
@@ -275,6 +338,8 @@ void __wrap_vgModuleLocal_release_sched_lock(void *lock)
         let_others_come();
     if (yields || (in_call && (turn_calls[me] == CALL_YIELDS || turn_calls[me] == CALL_KEEPS)))
         set_wants(&places[me], True);
+    if (in_call && (turn_calls[me] == CALL_WAITS || turn_calls[me] == CALL_SHARES))
+        going = places[me].lwp;
     next = in_call && turn_calls[me] == CALL_KEEPS ? me : next_of(me);
     if (next == 0) {
         held = False;

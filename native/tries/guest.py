@@ -4,7 +4,8 @@ for RV32: guest.py FOLDER [NAME ..]. FOLDER is for what is built. It prints a li
 
 Compared are the observed lines, each by the variables and blocks on it, where it begins in them and its verdict. Counts aren't: a turn is
 so many accesses here, and so many steps there. Variables that don't stand alone in their lines are put, by the linker, where they are in
-the build for RV32. docs/NATIVE.md tells which examples can't be compared."""
+the build for RV32. as_is (a mutex has 40 bytes here and 16 there) and linked, which
+calls the guest's system itself, can't be compared."""
 
 import os
 import subprocess

@@ -18,7 +18,9 @@ if command -v g++ >/dev/null && names g++ names -g; then
     done
     same "names: a number of 8 bytes is whole" "" "$(grep -o "hits[._A-Za-z]*+4" <<<"$said" | head -n 1)"
     has "names: code without a name" "block made in libbare.so+0x" "$said"
-    has "names: a type" "\`app::detail::Slot\`" "$said"
+    # (enough misses for repairs to be named)
+    "$run" --quantum 5 --trace m -- ./names
+    has "names: a type" "by \`struct __attribute__((aligned(64))) Slot\` (names.cpp:" "$(view replay m --explain 0 --top 30 | tr -s '\n ' ' ')"
     has "names: whole in JSON" "app::detail::Table<std::__cxx11::basic_string<char,std::char_traits<char>,std::allocator<char> >" "$(cat n.json)"
     declared=$(python3 -c 'import json, sys; print(*{it["declared"]["line"] for it in json.load(sys.stdin)["objects"] if it["name"] == "app::Pool::shared"})' <n.json)
     same "names: a definition" "$(grep -n "^detail::Slot Pool::shared" "$here/tries/names.cpp" | cut -d: -f1)" "$declared"
@@ -50,4 +52,4 @@ if command -v rustc >/dev/null; then
 else
     skip "names of Rust: there is no rustc"
 fi
-rm -f n n.json n.table
+rm -f n n.json n.table m m.table

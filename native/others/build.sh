@@ -1,0 +1,76 @@
+#!/usr/bin/env bash
+# Builds the studies of what fetch.sh has fetched into out/, with debug information: as it is, and again with the repair, which is put in by sed.
+#
+#     build.sh [STUDY ..]        all of them, or those that are named
+#
+# (Debian: apt-get install gcc g++ make libevent-dev libtbb-dev; the two packages have the settings that Debian builds libevent with, and oneTBB's
+# library, of which the headers are what is looked at.)
+set -eu
+here=$(cd "$(dirname "$(readlink -f "$0")")" && pwd)
+fetched=$here/fetched
+out=$here/out
+flags=(-g -O2 -w -pthread)
+studies=(lmdb libevent queue gomp)
+
+# NAME: a copy of a source that a repair changes.
+copy() {
+    rm -rf "${out:?}/$1"
+    cp -r "$fetched/$2" "$out/$1"
+}
+
+build_lmdb() {
+    local name from=libraries/liblmdb
+    for name in lmdb lmdb-apart; do
+        copy "$name.source" lmdb
+        # (what a writer writes apart from what readers read)
+        if [ "$name" = lmdb-apart ]; then
+            sed -i '/^struct MDB_env {$/,/^};$/{
+                s/^\tMDB_txn\t\t\*me_txn;.*/\tchar apart0[64];\n&/
+                s/^\tsize_t\t\tme_mapsize;.*/\tchar apart1[64];\n&/
+                s/^\ttxnid_t\t\tme_pgoldest;.*/\tchar apart2[64];\n&/
+                s/^\tint\t\t\tme_maxfree_1pg;.*/\tchar apart3[64];\n&/
+            }' "$out/$name.source/$from/mdb.c"
+        fi
+        gcc "${flags[@]}" -I "$out/$name.source/$from" "$here/lmdb.c" "$out/$name.source/$from"/{mdb,midl}.c -o "$out/$name"
+    done
+}
+
+build_libevent() {
+    local name sources=(event evmap evthread evthread_pthread evutil evutil_rand evutil_time log signal epoll poll select strlcpy)
+    for name in libevent libevent-once; do
+        copy "$name.source" libevent
+        [ "$name" = libevent ] ||
+            sed -i 's/^\tevent_debug_mode_too_late = 1;$/\tif (!event_debug_mode_too_late)\n\t\t&/' "$out/$name.source/event.c"
+        printf '#define _GNU_SOURCE 1\n' >"$out/$name.source/evconfig-private.h"
+        (cd "$out/$name.source" && gcc "${flags[@]}" -DHAVE_CONFIG_H -I . -I include -I "/usr/include/$(gcc -print-multiarch)" "$here/libevent.c" \
+            "${sources[@]/%/.c}" -o "$out/$name")
+    done
+}
+
+build_queue() {
+    local name
+    for name in queue queue-apart; do
+        copy "$name.source" onetbb
+        # (lines of its own for each element, and in it for each of its two ends)
+        [ "$name" = queue ] || sed -i '/^class micro_queue {$/,/^};/{
+            s/^class micro_queue {$/class alignas(max_nfs_size) micro_queue {/
+            s/^    std::atomic<padded_page\*> tail_page{};$/    alignas(max_nfs_size) &/
+        }' "$out/$name.source/include/oneapi/tbb/detail/_concurrent_queue_base.h"
+        g++ "${flags[@]}" -std=c++17 -I "$out/$name.source/include" "$here/queue.cpp" -ltbb -o "$out/$name"
+    done
+}
+
+build_gomp() {
+    gcc "${flags[@]}" -fopenmp "$here/gomp.c" -o "$out/gomp"
+    gcc "${flags[@]}" -fopenmp -DAPART "$here/gomp.c" -o "$out/gomp-apart"
+}
+
+mkdir -p "$out"
+(($# > 0)) || set -- "${studies[@]}"
+for study; do
+    if ! declare -F "build_$study" >/dev/null; then
+        echo "build.sh: $study: the studies are ${studies[*]}" >&2
+        exit 1
+    fi
+    "build_$study"
+done

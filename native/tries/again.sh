@@ -1,0 +1,34 @@
+# shellcheck shell=bash
+# Part of native/try.sh, which reads it: tries that a busy machine changes no order, and another allocator.
+#
+# (try.sh sets the names that aren't set here)
+# shellcheck disable=SC2154
+
+gcc -O1 -g -pthread "$here/tries/again.c" -o again
+gcc -O1 -g -shared -fPIC -fno-builtin "$here/tries/bump.c" -o bump.so
+
+# Two programs that take every processor time after time, while the same is recorded again and again.
+busy() {
+    local pids=() it
+    for it in 1 2; do
+        (while :; do :; done) &
+        pids+=($!)
+    done
+    "$@"
+    kill "${pids[@]}"
+    wait "${pids[@]}" 2>/dev/null
+}
+three_times() { # QUANTUM PROGRAM
+    for it in 1 2 3; do "$run" --quantum "$1" --trace same$it -- "$2" >/dev/null 2>&1; done
+}
+for row in "10 ./kinds" "1 ./again" "10 ./again" "1000 ./again"; do
+    read -r quantum name <<<"$row"
+    busy three_times "$quantum" "$name"
+    same "$name at $quantum, busy: the same trace" "same same" "$(cmp -s same1 same2 && echo same) $(cmp -s same1 same3 && echo same)"
+    same "$name at $quantum, busy: the same table" same "$(cmp -s same1.table same3.table && echo same)"
+done
+
+# Another allocator, by LD_PRELOAD.
+LD_PRELOAD=$work/bump.so "$run" --trace t -- ./heap >/dev/null 2>&1
+has "an allocator by LD_PRELOAD: blocks" live "$("$judge" blocks t make)"
+rm -f t t.table same* from-pipe said
