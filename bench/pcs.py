@@ -1,11 +1,13 @@
 #!/usr/bin/env python3
-"""Measures what pcs in a trace cost, and what `blame` takes of time and memory.
+"""Measures what pcs in a trace cost, what `blame` takes of time and memory, and what `move` takes beside `convert`, and compares that with
+the aims.
 
 usage: bench/pcs.py [PROGRAM]
 
 20,000,000 accesses to 64 lines are written in version 3, with 64 pcs for each of 8 harts, and converted to version 2: once each line has
-a pc of its own, and once any pc comes at any line. The commands run five times in turn, and the least time of each counts. Then 1,000,000
-pairs of instructions take one line: `blame` of that shows its memory. A benchmark, no test."""
+a pc of its own, and once any pc comes at any line. `move` moves each word to a line of its own, by a table of 512 rows. The commands run
+five times in turn, and the least time of each counts. Then 1,000,000 pairs of instructions take one line: `blame` of that shows its
+memory. What reading alone takes is measured by `crates/benches`, where that is built. A benchmark, no test."""
 
 import functools
 import os
@@ -22,12 +24,18 @@ sys.path.insert(0, os.path.join(TOP, "tools"))
 from traces import groups  # noqa: E402
 
 BUILT = os.path.join(TOP, "crates/predator/out/predator")
+BENCHES = os.path.join(TOP, "crates/benches/out/benches")
 # As the launcher has it.
 os.environ.setdefault("GLIBC_TUNABLES", "glibc.malloc.hugetlb=1")
 ROUNDS, MADE, HARTS, PCS = 5, 20_000_000, 8, 64
 # So many instructions of one hart take a line from as many of another.
 SIDE = 1000
-CODE, DATA = 0x10000, 0x20000
+CODE, DATA, PLACES = 0x10000, 0x20000, 0x100000
+# So many pieces of a trace are read, each of 8192 accesses.
+PIECES = 1024
+# At most so much of what each aim is beside, and so many bytes.
+AIMS = {"blame": 2.5, "move": 1.5, "reading": 1.25}
+ROOM = 1 << 30
 
 
 class Touch(NamedTuple):
@@ -75,6 +83,14 @@ def write(path: str, touches: Iterable[Touch]) -> str:
     return path
 
 
+def table(path: str) -> str:
+    """A table by which each word of the lines goes to a line of its own."""
+    words = (64 * line + 4 * hart for line in range(64) for hart in range(HARTS))
+    with open(path, "w", encoding="ascii") as out:
+        out.writelines(f"{DATA + it:#x} 4 {PLACES + 16 * it:#x}\n" for it in words)
+    return path
+
+
 def timed(words: list[str]) -> tuple[float, int]:
     """Seconds, and the most bytes of memory."""
     begin = time.monotonic()
@@ -86,34 +102,64 @@ def timed(words: list[str]) -> tuple[float, int]:
     return time.monotonic() - begin, used.ru_maxrss * 1024
 
 
-def measure(program: str, work: str, are_apart: bool) -> None:
-    """What each command takes."""
-    three, two = write(f"{work}/three", mixed(are_apart)), f"{work}/two"
-    subprocess.run([program, "convert", three, two], check=True, stdout=subprocess.DEVNULL)
-    commands = {
-        "replay of version 2": [program, "replay", two],
-        "replay": [program, "replay", three],
-        "blame": [program, "blame", three],
-        "misses": [program, "misses", three],
-        "convert": [program, "convert", three, f"{work}/again"],
-    }
+def least_of(commands: dict[str, list[str]]) -> dict[str, float]:
+    """The least time of each command, over some rounds."""
     least = dict.fromkeys(commands, float("inf"))
     for _ in range(ROUNDS):
         for name, words in commands.items():
             least[name] = min(least[name], timed(words)[0])
+    return least
+
+
+def judged(what: str, took: float, aim: float) -> None:
+    print(f"{what}: {took:.2f} times, at most {aim:g}{'' if took <= aim else ': missed'}")
+
+
+def measure(program: str, work: str, are_apart: bool) -> None:
+    """What each command takes."""
+    three, two = write(f"{work}/three", mixed(are_apart)), f"{work}/two"
+    subprocess.run([program, "convert", three, two], check=True, stdout=subprocess.DEVNULL)
+    least = least_of(
+        {
+            "replay of version 2": [program, "replay", two],
+            "replay": [program, "replay", three],
+            "blame": [program, "blame", three],
+            "misses": [program, "misses", three],
+            "convert": [program, "convert", three, f"{work}/again"],
+            "move": [program, "move", three, table(f"{work}/table"), f"{work}/moved"],
+        }
+    )
     print("a pc of its own for each line:" if are_apart else "any pc at any line:")
     print(f"{os.path.getsize(three) / MADE:.2f} bytes an access in version 3, {os.path.getsize(two) / MADE:.2f} in version 2")
     for name, took in least.items():
         beside = took / least["replay"], took / least["replay of version 2"]
         print(f"{name}: {took:.2f} s, {beside[0]:.2f} of replay, {beside[1]:.2f} of that of version 2")
+    judged("blame beside replay", least["blame"] / least["replay"], AIMS["blame"])
+    judged("move beside convert", least["move"] / least["convert"], AIMS["move"])
+
+
+def measure_pairs(program: str, work: str) -> None:
+    """What many pairs take."""
+    took, memory = timed([program, "blame", write(f"{work}/pairs", paired())])
+    missed = "" if memory <= ROOM else ": missed"
+    print(f"blame of {SIDE * SIDE} pairs: {took:.2f} s, {memory / 1e6:.0f} MB, at most {ROOM / 1e6:.0f}{missed}")
+
+
+def measure_reading() -> None:
+    """What reading alone takes, without what sees the records."""
+    if not os.access(BENCHES, os.X_OK):
+        print("reading alone: not measured, for crates/benches isn't built (`rt run` there builds it)")
+        return
+    least = least_of({it: [BENCHES, "traces", it, str(PIECES)] for it in ("2", "3")})
+    judged("reading version 3 beside version 2", least["3"] / least["2"], AIMS["reading"])
 
 
 def main(program: str) -> None:
     with tempfile.TemporaryDirectory() as work:
         for are_apart in (True, False):
             measure(program, work, are_apart)
-        took, memory = timed([program, "blame", write(f"{work}/pairs", paired())])
-        print(f"blame of {SIDE * SIDE} pairs: {took:.2f} s, {memory / 1e6:.0f} MB")
+        measure_pairs(program, work)
+    measure_reading()
 
 
 if __name__ == "__main__":

@@ -1,8 +1,22 @@
 # Completion of the words of predator, for bash.
+
+# _predator_view WORD: `view`, and behind it what the word says that is shown, or what a file is by its first bytes.
+_predator_view() {
+    local front=
+    if [ -f "$1" ]; then LC_ALL=C read -r -N 6 front 2>/dev/null <"$1"; fi
+    case $1:$front in
+        run:* | replay:* | native:* | sweep:* | caches:*) echo "view $1" ;;
+        *:PRDTRC) echo "view replay" ;;
+        *:$'\177ELF\1'*) echo "view run" ;;
+        *:$'\177ELF\2'*) echo "view native" ;;
+        *) echo view ;;
+    esac
+}
+
 _predator() {
     local word=${COMP_WORDS[COMP_CWORD]} before=${COMP_WORDS[COMP_CWORD - 1]} options
     # commands.toml: names
-    local commands="run replay check split gen convert sweep caches place misses blame explain view campaign native" own="--help --version --prove"
+    local commands="run replay check split gen convert sweep caches place move misses blame explain view campaign native" own="--help --version --prove"
     # (so far)
     if ((COMP_CWORD == 1)); then
         mapfile -t COMPREPLY < <(compgen -W "$commands help $own" -- "$word")
@@ -20,7 +34,7 @@ _predator() {
             return
         fi
     done
-    if [ "$of" = view ] && ((COMP_CWORD > 2)) && [[ ${COMP_WORDS[2]} == @(run|replay|native|sweep|caches) ]]; then of="view ${COMP_WORDS[2]}"; fi
+    if [ "$of" = view ] && ((COMP_CWORD > 2)); then of=$(_predator_view "${COMP_WORDS[2]}"); fi
     case $of in
     # commands.toml: options
         'run') options="--settings --set --schedule --trace --pcs --output" ;;
@@ -32,17 +46,18 @@ _predator() {
         'sweep') options="--size" ;;
         'caches') options="--size --sets --ways" ;;
         'place') options="--size" ;;
+        'move') options="" ;;
         'misses') options="--size --shift" ;;
         'blame') options="--size --shift" ;;
         'explain') options="--settings --set --schedule" ;;
-        'view') options="--top --object --words --library --predicted --no-predicted --explain --type --sources --html --json --sarif --against --fail-above --by --program --back" ;;
+        'view') options="--top --object --words --library --predicted --no-predicted --explain --type --sources --html --json --sarif --against --fail-above --by --patch --program --back" ;;
         'campaign') options="--to --profile --cores --html --check" ;;
         'native') options="--built --quantum --all --marked --pcs --most --trace --table --report --settings --size --shift --mend --build" ;;
-        'view run') options="--top --object --words --library --predicted --no-predicted --explain --type --sources --html --json --sarif --against --fail-above --by --settings --set --schedule --trace --pcs --output" ;;
-        'view replay') options="--top --object --words --library --predicted --no-predicted --explain --type --sources --html --json --sarif --against --fail-above --by --program --back --settings --set --size --shift --save --resume" ;;
-        'view sweep') options="--size --html" ;;
+        'view run') options="--top --object --words --library --predicted --no-predicted --explain --type --sources --html --json --sarif --against --fail-above --by --patch --latency --settings --set --schedule --trace --pcs --output" ;;
+        'view replay') options="--top --object --words --library --predicted --no-predicted --explain --type --sources --html --json --sarif --against --fail-above --by --patch --program --back --settings --set --size --shift --save --resume" ;;
+        'view sweep') options="--size --top --html" ;;
         'view caches') options="--shape --top --html" ;;
-        'view native') options="--top --object --words --library --predicted --no-predicted --explain --type --sources --html --json --sarif --against --fail-above --by --built --quantum --all --marked --most --settings --set --size --shift" ;;
+        'view native') options="--top --object --words --library --predicted --no-predicted --explain --type --sources --html --json --sarif --against --fail-above --by --patch --built --quantum --all --marked --most --settings --set --size --shift" ;;
     # (so far)
         *) return ;;
     esac
@@ -50,7 +65,7 @@ _predator() {
     case $before in
         --by) known="useless count" ;;
         --profile) known="slurm ssh $(compgen -d -- "$word")" ;;
-        --object | --type | --top | --shape | --explain | --fail-above | --cores | --quantum | --most) known= ;;
+        --object | --type | --top | --shape | --explain | --latency | --fail-above | --cores | --quantum | --most) known= ;;
     # commands.toml: values
         --size) known="4 8 16 32 64 128 256 512 1024" ;;
         --shift) known="" ;;

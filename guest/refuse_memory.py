@@ -15,6 +15,7 @@ import tempfile
 TOP = os.path.join(os.path.dirname(os.path.abspath(__file__)), "..")
 sys.path.insert(0, os.path.join(TOP, "tools"))
 
+from commands import call as call_of, known  # noqa: E402
 from traces import with_pcs  # noqa: E402
 
 PROGRAM = os.path.abspath(os.environ.get("PREDATOR_PROGRAM") or os.path.join(TOP, "crates/predator/out/predator"))
@@ -67,24 +68,39 @@ __attribute__((destructor)) static void tell(void)
 }
 """
 
-CALLS = [
+# Calls with files of their own. Each other command has its call in commands.toml, with these in the place of its names.
+OWN = [
     ("run", "allocates.elf", "--settings", "S", "--trace", "t", "--output", "o"),
     ("run", "queue.elf", "--trace", "t"),
     ("run", "queue.elf", "--trace", "t", "--pcs"),
     ("run", "words.elf", "--schedule", "C", "--output", "o"),
     ("replay", "given.trace", "--settings", "S"),
-    ("check", "symbols.elf"),
     ("gen", "2000", "f"),
     ("split", "given.trace", "40", "a", "b"),
-    ("convert", "given.trace", "c"),
-    ("sweep", "given.trace", "--size", "64"),
-    ("caches", "given.trace", "--size", "64", "--sets", "4", "--ways", "2"),
-    ("misses", "given.trace"),
     ("place", "objects.trace", "both"),
     ("blame", "sited.trace"),
     ("explain", "queue.elf", "0x12000", "64", "73", "--set", "quantum=10"),
 ]
-WRITTEN = ("t", "o", "f", "a", "b", "c")
+# What is refused, is so also where memory runs out later.
+REFUSED = [
+    (),
+    ("replay", "given.trace", "--size", "3"),
+    ("run", "table", "--trace", "t"),
+    ("run", "words.elf", "--settings", "C", "--trace", "t"),
+    ("run", "words.elf", "--schedule", "S", "--trace", "t"),
+    ("replay", "table", "--settings", "S"),
+    ("replay", "given.trace", "--resume", "table"),
+    ("convert", "cut.trace", "c"),
+    ("place", "objects.trace", "none"),
+    ("move", "given.trace", "S", "m"),
+    ("move", "given.trace", "taken", "m"),
+    ("move", "cut.trace", "table", "m"),
+    ("blame", "given.trace"),
+]
+NAMES = {"PROGRAM": "symbols.elf", "TRACE": "given.trace", "TABLE": "table"}
+OWN_NAMES = {words[0] for words in OWN}
+CALLS = OWN + REFUSED + [tuple(call_of(it, **NAMES)) for it in known()["command"] if it["name"] not in OWN_NAMES]
+WRITTEN = ("t", "o", "f", "a", "b")
 
 
 def files():
@@ -147,6 +163,9 @@ def main():
             out.write("tracking = 1\nprediction = 1\nreport = 1\n")
         with open("C", "w") as out:
             out.write("0 50\n1 30\n")
+        for name, line in (("table", "0 4 0xfffffffc\n"), ("taken", "0 4 0x1028c\n")):
+            with open(name, "w") as out:
+                out.write(line)
         with open("shim.c", "w") as out:
             out.write(SHIM)
         subprocess.run(["cc", "-shared", "-fPIC", "-O1", "-o", "shim.so", "shim.c", "-ldl"], check=True)
@@ -154,7 +173,10 @@ def main():
             subprocess.run([PROGRAM, *words], check=True, stdout=subprocess.DEVNULL)
         with open("given.trace", "rb") as given, open("sited.trace", "wb") as out:
             # (so many instructions that lines of many pairs are there)
-            out.write(with_pcs(given.read(), lambda it, before: 0x10000 + 4 * (it.hart + it.addr // 4 % 8)))
+            trace = given.read()
+            out.write(with_pcs(trace, lambda it, before: 0x10000 + 4 * (it.hart + it.addr // 4 % 8)))
+        with open("cut.trace", "wb") as out:
+            out.write(trace[:-30])
         sys.exit(1 if sum(try_call(words) for words in CALLS) else 0)
 
 

@@ -129,7 +129,9 @@ try_completion() {
     completes "--sources --sarif --settings --set --size --shift --save" view replay t --s
     completes "--sources --sarif --settings --set --size --shift" view native p --s
     completes "" view run p --ba
-    completes "--size --html --help" view sweep t --
+    completes "--sources --sarif --settings --set --schedule" view "$here/built/counters.elf" --s
+    completes "--back" view r --ba
+    completes "--size --top --html --help" view sweep t --
     completes "--shape --top --html --help" view caches t --
     completes "--back" view replay t --ba
     completes "useless count" view run p --fail-above 3 --by ""
@@ -351,15 +353,17 @@ try_shown() {
 # Pipes, and files that are missing, closed, endless or full.
 try_streams() {
     local once="a pipe or a terminal can be read once; write it to a file first" words
-    local -a programs traces twice settings schedules states written
+    local -a programs traces tables twice settings schedules states written
     calls programs PROGRAM
     calls traces TRACE
+    calls tables TABLE
     calls twice twice
     calls settings --settings
     calls schedules --schedule
     calls states --resume
     calls written written
     "$predator" gen 40000 made >/dev/null
+    echo "0xfffffff0 4 0xfffffff8" >table
     "$predator" run programs/counters.elf --trace run.trace --output run.output >report 2>/dev/null
     "$predator" replay made >wanted
     try "a trace by standard input" 0 bash -c '"$0" replay - <made' "$predator"
@@ -402,14 +406,17 @@ try_streams() {
     try "an endless state" 9 timeout 60 bash -c 'ulimit -v 1000000; exec "$0" replay made --resume /dev/zero' "$predator"
     prints "an endless state" "predator: no memory"
     for it in missing programs /proc/self/mem; do
-        refused 7 $it "${programs[@]}" "${traces[@]}" "${settings[@]}" "${schedules[@]}" "${states[@]}"
+        refused 7 $it "${programs[@]}" "${traces[@]}" "${tables[@]}" "${settings[@]}" "${schedules[@]}" "${states[@]}"
     done
     refused 4 /dev/zero "${settings[@]}"
     refused 3 /dev/zero "${schedules[@]}"
+    refused 14 /dev/zero "${tables[@]}"
     refused 7 /dev/fd/9 "replay IT" "run programs/counters.elf --settings IT" "replay made --resume IT"
     for it in nothing /dev/null; do
         try "$it as settings" 0 timeout 10 "$predator" replay made --settings $it
         try "$it as a schedule" 0 timeout 10 "$predator" run programs/counters.elf --schedule $it
+        try "$it as a table" 0 timeout 10 "$predator" move made $it a
+        try "what it moves" 0 cmp a made
     done
     # What is full, and an input stays as it was.
     for words in "${written[@]}"; do

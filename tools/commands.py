@@ -23,8 +23,6 @@ WIDTH = 137
 # Where the crates say how the program is called, and which exit statuses it has.
 NUMBERS = "crates/command_files/specs/Numbers.antt"
 USAGE = "crates/worked_runs/data/usage.txt"
-# What refuses memory to each command.
-MEMORY = "guest/refuse_memory.py"
 # The pages of help of what the launcher answers itself.
 PAGES = {"view": "view/calls.py", "campaign": "campaign/main.py", "native": "native/predator-native"}
 # Crates that repeat lines of usage, to test them.
@@ -180,9 +178,9 @@ def view_options(table: dict[str, list[Row]]) -> dict[str, list[str]]:
     layout = [it for it in of["replay"] if it not in ("--save", "--resume")]
     return {
         "view": [*own["options"], *own["names"]],
-        "view run": [*own["options"], *of["run"]],
+        "view run": [*own["options"], *own["runs"], *of["run"]],
         "view replay": [*own["options"], *own["names"], *of["replay"]],
-        "view sweep": [*of["sweep"], "--html"],
+        "view sweep": [*of["sweep"], "--top", "--html"],
         "view caches": own["caches"],
         "view native": [*own["options"], *recorder["traces"], *layout],
     }
@@ -318,7 +316,7 @@ def check_pages(table: dict[str, list[Row]]) -> Iterator[str]:
         option = r"(?:--[a-z-]+|-h)(?: [A-Z]+(?:=[A-Z]+)?| count)?"
         rows = re.findall(rf"^(?:#  )? ((?: *{option},?)+)(?=  |$)", read(PAGES[it["name"]]), re.MULTILINE)
         told = {name for row in rows for name in re.findall(r"--[a-z-]+", row)} - {"--help"}
-        for name in sorted(told ^ {*it["options"], *it.get("names", ()), *it.get("caches", ())}):
+        for name in sorted(told ^ {*it["options"], *it.get("names", ()), *it.get("runs", ()), *it.get("caches", ())}):
             yield f"commands.toml and {PAGES[it['name']]} have other options: {name}"
 
 
@@ -338,9 +336,6 @@ def differences(table: dict[str, list[Row]], program: str | None) -> Iterator[st
     for command in table["command"]:
         for it in {*options_of(command)} - options:
             yield f"commands.toml: {command['name']} has an option {it} that isn't described"
-    for command in table["command"]:
-        if f'("{command["name"]}", ' not in read(MEMORY):
-            yield f"{MEMORY}: it has no call of {command['name']}"
     yield from check_pages(table)
     if program:
         yield from check_settings(program, table)
@@ -348,7 +343,7 @@ def differences(table: dict[str, list[Row]], program: str | None) -> Iterator[st
 
 def call(command: Row, **others: str) -> list[str]:
     """A command's call, with the files of the tries, or others, in the place of its names."""
-    files = {"PROGRAM": "programs/counters.elf", "TRACE": "made", "NAME": "counters", "A": "a", "B": "b", **others}
+    files = {"PROGRAM": "programs/counters.elf", "TRACE": "made", "TABLE": "table", "NAME": "counters", "A": "a", "B": "b", **others}
     return [files.get(word, word) for word in command["call"]]
 
 

@@ -31,7 +31,7 @@ from typing import Callable, Iterable, Iterator, NamedTuple
 import made_guests
 import made_traces
 from made_guests import DATA, Guest, GuestCase
-from made_traces import CODE, Made, TraceCase, rest_of
+from made_traces import CODE, LINE, LINES, Made, TraceCase, rest_of
 from traces import with_pcs
 
 # The size grows by 4, and a cost by no more than this.
@@ -149,6 +149,14 @@ def place(trace: str, made: Made) -> Call:
     return Call(["place", trace, made.object], [(f"place {made.object}", 1), ("end", 1)])
 
 
+def move(trace: str, made: Made) -> Call:
+    """With as many ranges as the trace has lines, each of the first word of a line, and the places in reverse."""
+    count = min(made.lines, 1 << 15)
+    with open(f"{trace}.table", "w", encoding="ascii") as file:
+        file.writelines(f"{LINES + LINE * at:#x} 4 {LINES + LINE * (count - 1 - at):#x}\n" for at in range(count))
+    return Call(["move", trace, f"{trace}.table", f"{trace}.moved"], [(f"move {made.accesses}", 1)])
+
+
 def convert(trace: str, made: Made) -> Call:
     return Call(["convert", trace, f"{trace}.other"], [(f"convert 2 {made.accesses}", 1)])
 
@@ -165,7 +173,7 @@ def generate(trace: str, made: Made) -> Call:
 
 OF_TRACES: dict[str, Callable[[str, Made], Call]] = {
     "replay": replay, "replay--size": replay_words, "replay--save": replay_save, "replay--resume": replay_resume, "misses": misses,
-    "blame": blame, "sweep": sweep, "caches": caches, "place": place, "convert": convert, "split": split, "gen": generate,
+    "blame": blame, "sweep": sweep, "caches": caches, "place": place, "move": move, "convert": convert, "split": split, "gen": generate,
 }
 
 

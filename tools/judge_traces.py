@@ -7,8 +7,9 @@ makes COUNT (200) small traces as judge_report.py does, by the random numbers th
 that PROGRAM reports must be those of a recount; and where it is cut at a random access, the state that is saved of its first half must
 be good, and the second half, carried on from it, must have the report of the whole. With random pcs, in version 3, it must have the same
 report, the same accesses and pcs in its halves, and what a trace without pcs is converted to; and what `blame` prints of it, and of the
-trace without pcs, must be what recount_blame.py does, where PROGRAM has that command. Some of the states are changed in each byte and
-cut at each, and what PROGRAM says of them is compared. It ends with 1 where anything differs."""
+trace without pcs, must be what recount_blame.py does. By a random table it must be moved, in each version, as recount_move.py moves it, or
+be refused so. Some of the states are changed in each byte and cut at each, and what PROGRAM says of them is compared. It ends with 1 where
+anything differs."""
 
 import os
 import random
@@ -18,6 +19,7 @@ import tempfile
 
 import judge_state
 import recount_blame
+import recount_move
 from judge_report import some_case, trace_of
 from recount import recount
 from traces import sited, with_pcs
@@ -94,36 +96,77 @@ def is_blamed(program, folder, case, made):
     )
 
 
+def some_table(dice, made):
+    """Ranges of words that are accessed, or lie beside these. They go to each other's places, to free ones or beside. Some have a fault."""
+    words = sorted({it.addr // 4 * 4 + 4 * dice.choice((0, 0, 0, 1)) for it in sited(made)})
+    begins = sorted(dice.sample(words, min(len(words), dice.randrange(5))))
+    ranges = [(it, 4 * dice.choice((1, 1, 1, 2, 4))) for it in begins]
+    places = [dice.choice((2**31 + 64 * at, it + 64)) for at, it in enumerate(begins)]
+    if dice.random() < 0.5:
+        places = dice.sample(begins, len(begins))
+    lines = [f"{begin:{dice.choice(('#x', 'd', '#010x'))}} {size} {to}" for (begin, size), to in zip(ranges, places)]
+    if dice.random() < 0.1:
+        faulty = ("", "0 4", "0 4 4 ", "00 4 4", "4 0 4", "0 4 4294967296", "0x123456789 4 0")
+        lines.insert(dice.randrange(len(lines) + 1), dice.choice(faulty))
+    return "\n".join(lines).encode()
+
+
+def is_moved(program, folder, table):
+    """Whether the trace is moved by a table as a recount moves it, in version 1, 2 and 3, which are there."""
+    text, out = os.path.join(folder, "table"), os.path.join(folder, "moved")
+    with open(text, "wb") as file:
+        file.write(table)
+    for name in ("trace", "one", "sited"):
+        trace = os.path.join(folder, name)
+        if os.path.exists(out):
+            os.remove(out)
+        ran = subprocess.run([program, "move", trace, text, out], capture_output=True, encoding="latin-1")
+        line, wanted = recount_move.move(read(trace), table)
+        if (ran.returncode, ran.stdout) != (0 if line.startswith("move ") else 14, f"{line}\n"):
+            return False
+        if (read(out) if os.path.exists(out) else None) != wanted:
+            return False
+    return True
+
+
+def put_case(folder, case):
+    """Puts a trace and its settings into files, and gives the words of a replay behind the trace."""
+    with open(os.path.join(folder, "trace"), "wb") as file:
+        file.write(trace_of(case))
+    settings = os.path.join(folder, "settings")
+    with open(settings, "w", encoding="utf-8") as file:
+        file.write(f"tracking = {case.tracking}\nprediction = {case.prediction}\nreport = {case.report}\nline = {case.native}\n")
+    return ["--settings", settings, *(["--size", str(case.layout[0]), "--shift", str(case.layout[1])] if case.layout else [])]
+
+
+def faults_of(program, folder, dice, case, words):
+    """What is wrong with what the program says of a trace."""
+    report = printed(program, "replay", os.path.join(folder, "trace"), *words)
+    if not is_recounted(case, trace_of(case), report):
+        yield "a recount has other observed lines"
+    cut = dice.randrange(len(case.accesses) + 1)
+    made = with_pcs(trace_of(case), some_pcs(dice))
+    if not keeps_pcs(program, folder, words, cut, made, report):
+        yield "with pcs it has another report, other halves or another copy"
+    if not is_moved(program, folder, some_table(dice, made)):
+        yield "a recount moves it otherwise"
+    if not is_blamed(program, folder, case, made):
+        yield "a recount has other takings"
+    if not is_carried_on(program, folder, words, cut, report):
+        yield "its halves have another report, or a bad state"
+
+
 def main(program, count=200, seed=1):
-    dice, wrong = random.Random(int(seed)), 0
-    has_blame = "usage: predator blame " in printed(program)
-    if not has_blame:
-        print("skipped: what takes which line, since the program has no `blame`")
+    dice, wrong, changed = random.Random(int(seed)), recount_move.try_worked(), 0
     with tempfile.TemporaryDirectory() as folder:
-        trace, settings = os.path.join(folder, "trace"), os.path.join(folder, "settings")
-        changed = 0
         for number in range(int(count)):
             case = some_case(dice)
-            with open(trace, "wb") as file:
-                file.write(trace_of(case))
-            with open(settings, "w", encoding="utf-8") as file:
-                file.write(f"tracking = {case.tracking}\nprediction = {case.prediction}\nreport = {case.report}\nline = {case.native}\n")
-            words = ["--settings", settings, *(["--size", str(case.layout[0]), "--shift", str(case.layout[1])] if case.layout else [])]
-            report = printed(program, "replay", trace, *words)
-            faults = []
-            if not is_recounted(case, trace_of(case), report):
-                faults.append("a recount has other observed lines")
-            cut = dice.randrange(len(case.accesses) + 1)
-            made = with_pcs(trace_of(case), some_pcs(dice))
-            if not keeps_pcs(program, folder, words, cut, made, report):
-                faults.append("with pcs it has another report, other halves or another copy")
-            if has_blame and not is_blamed(program, folder, case, made):
-                faults.append("a recount has other takings")
-            if not is_carried_on(program, folder, words, cut, report):
-                faults.append("its halves have another report, or a bad state")
-            elif number >= EACH * changed and os.path.getsize(os.path.join(folder, "state")) <= MOST:
+            words = put_case(folder, case)
+            faults = list(faults_of(program, folder, dice, case, words))
+            state = os.path.join(folder, "state")
+            if not faults and number >= EACH * changed and os.path.getsize(state) <= MOST:
                 changed += 1
-                tried, differs = judge_state.judge_changes(os.path.join(folder, "state"), program, os.path.join(folder, "second"), words)
+                tried, differs = judge_state.judge_changes(state, program, os.path.join(folder, "second"), words)
                 faults += [f"{differs} of {tried} changed states are judged otherwise"] if differs else []
             wrong += bool(faults)
             for it in faults:

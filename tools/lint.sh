@@ -41,7 +41,7 @@ judge_c() {
     done
     gcc "${strict[@]}" -std=gnu11 native/tool/mend.c || status=1
     if [ -e "$headers/pub_tool_tooliface.h" ]; then
-        for it in native/tool/{tool,trace,objects,sites,nameless,elf,turns,preload}.c; do
+        for it in native/tool/{tool,trace,objects,sites,nameless,elf,turns,calls,ticks,preload}.c; do
             gcc "${strict[@]}" -std=gnu99 -fno-builtin "-I$headers" "-I$headers/vki" \
                 -DVGA_amd64=1 -DVGO_linux=1 -DVGP_amd64_linux=1 -DVGPV_amd64_linux_vanilla=1 "$it" || status=1
         done

@@ -353,7 +353,7 @@ CASES = [
     TraceCase("blocks under one", blocks_under_one, 2048, OBJECTS),
     TraceCase("blocks at one place", blocks_at_one_place, 2048, f"{SAVED} misses"),
     TraceCase("blocks dead before", blocks_before, 1024, "replay", never="misses"),
-    TraceCase("lines", lines, 4096, f"{SAVED} replay--size misses sweep caches convert split gen blame"),
+    TraceCase("lines", lines, 4096, f"{SAVED} replay--size misses sweep caches convert split move gen blame"),
     TraceCase("lines apart", lines_apart, 4096, f"{SAVED} misses sweep caches blame", 60000),
     TraceCase("many instructions on a line", instructions, 16384, "blame"),
     TraceCase("many instructions on many lines", instructions_of_lines, 4096, "blame"),

@@ -99,9 +99,27 @@ SCHEDULES = {
     "zero": (b"0 1\n0 0\n", "ZeroCount 2", "line 2 has a count of 0: it is at least 1; leave the line out"),
     "lines": (b"0 1\n" * ((1 << 18) + 1), "TooLong", "a schedule has at most 1 MiB"),
 }
+FORM = "isn't FROM SIZE TO, as `0x11004 4 0x11040`, with one space between each two: multiples of 4, SIZE at least 4, FROM + SIZE " \
+    "and TO + SIZE at most 2^32, and FROM at or above the end of the range before it"
+TABLES = {
+    "odd.moves": (b"\n0 6 8\n", "BadLine 2", f"line 2 {FORM}"),
+    "back.moves": (b"8 4 8\n0 4 0\n", "BadLine 2", f"line 2 {FORM}"),
+    "meet.moves": (b"0 8 64\n8 4 68\n", "Overlap 2", "the place that line 2 moves to and that of an earlier line have bytes in common: "
+                   "move it elsewhere"),
+    "long.moves": (b"\n" * ((1 << 20) + 1), "TooLong", "a table has at most 1 MiB"),
+}
+# Lines of tables, each just beyond a rule, and behind it the line that keeps it.
+LINES = {
+    b"2 4 8": b"4 4 8", b"4 4 10": b"4 4 12", b"4 6 8": b"4 8 16", b"4 0 8": b"4 4 8", b"0xfffffffc 8 0": b"0xfffffffc 4 0",
+    b"0 8 0xfffffffc": b"0 4 0xfffffffc", b"4294967296 4 0": b"4294967292 4 0", b"0 4294967300 0": b"0 4294967296 0", b"04 4 8": b"4 4 8",
+    b"0x 4 8": b"0x4 4 8", b"0x123456789 4 0": b"0x12345678 4 0", b"0X4 4 8": b"0xA0 4 0xa0", b"+4 4 8": b"4 4 8", b"-4 4 8": b"4 4 8",
+    b"4  4 8": b"4 4 8", b" 4 4 8": b"4 4 8", b"4 4 8 ": b"4 4 8", b"4\t4\t8": b"4 4 8", b"4 4": b"4 4 8", b"4 4 8 8": b"4 4 8",
+    b"4 4 8\r": b"4 4 8", b"# 4": b"", b"\0": b"", b"4 4 8\n4 4 12": b"4 4 8\n8 4 12",
+}
 FILES: dict[str, bytes] = {
+    "table": b"0 4 0xfffffffc\n", "way": b"0x1000 4 0x1004\n",
     "t": trace(symbol(8, b"pair") + write(0x1000) + write(0x1004, 1), 2), "p": program(), "rest": trace(b"", 0, first=1),
-    "few": trace(b"", 0, first=2, harts=4), "behind": trace(b"", 0, first=2),
+    "empty": trace(b"", 0), "few": trace(b"", 0, first=2, harts=4), "behind": trace(b"", 0, first=2),
     "second": b"PRDTRC02" + trace(b"", 0)[8:],
     "large": trace(symbol((1 << 24) + 4, b"large") + write(0x1000), 1),
     "full": trace(symbol(8, b"pair") + write(0x1000) + write(0xFFFFFFFC), 2),
@@ -111,9 +129,12 @@ FILES: dict[str, bytes] = {
 
 
 def put_files() -> None:
-    for kind in (PROGRAMS, TRACES, SCHEDULES):
+    for kind in (PROGRAMS, TRACES, SCHEDULES, TABLES):
         for name, row in kind.items():
             put(name, row[0])
+    for at, (wrong, right) in enumerate(LINES.items()):
+        put(f"wrong.{at}", wrong)
+        put(f"right.{at}", right)
     for name, content in FILES.items():
         put(name, content)
     put("state", b"bad")
@@ -134,6 +155,15 @@ def faults() -> Iterator[Fault]:
         yield ["convert", name, "a"], 5, f"trace {row[1]}", f"{name}: {row[2]}"
     for name, row in SCHEDULES.items():
         yield ["run", "p", "--schedule", name], 3, f"schedule {row[1]}", f"{name}: {row[2]}"
+    for name, row in TABLES.items():
+        yield ["move", "t", name, "a"], 14, f"table {row[1]}", f"{name}: {row[2]}"
+    for at, line in enumerate(LINES):
+        number = line.count(b"\n") + 1
+        yield ["move", "empty", f"wrong.{at}", "a"], 14, f"table BadLine {number}", f"wrong.{at}: line {number} {FORM}"
+        yield ["move", "empty", f"right.{at}", "a"], 0, "move 0 0", ""
+    yield ["move", "t", "way", "a"], 14, "table Occupied 0x00001004", \
+        "t: an access at this address isn't moved, and others would be moved to where it is: give them another place, or give this " \
+        "address a line of its own"
     for name in ("t", "second"):
         yield ["blame", name], 5, "trace NoPcs", f"{name}: {NO_PCS}"
     none = "no object symbol of the trace has this name, nor was exactly one block made at that address"

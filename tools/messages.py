@@ -21,10 +21,10 @@ from typing import Iterable, Iterator, NamedTuple
 
 import commands
 from commands import Row, bounds, flags, known, names_of, number, options_of
-from message_files import faults, put_files
+from message_files import FORM, faults, put_files
 
-USUAL = {"PROGRAM": "p", "TRACE": "t", "NAME": "pair", "A": "a", "B": "b", "FILE": "a", "N": "3", "K": "3", "BASE": "0x00011000",
-         "SIZE": "64", "START": "0"}
+USUAL = {"PROGRAM": "p", "TRACE": "t", "TABLE": "table", "NAME": "pair", "A": "a", "B": "b", "FILE": "a", "N": "3", "K": "3",
+         "BASE": "0x00011000", "SIZE": "64", "START": "0"}
 # What clap calls the words of the line of usage that it calls otherwise.
 CALLED = {"N": "count", "K": "at", "A": "first", "B": "second"}
 WANTED = {"sweep": ["--size", "64"], "caches": ["--size", "64", "--sets", "4", "--ways", "2"]}
@@ -269,8 +269,13 @@ def files() -> Iterator[Try]:
         if "TRACE" in row.get("reads", ()):
             yield Try(call(name, TRACE="short"), 5, "trace Truncated 10", f"short: {cut}")
             yield Try(call(name, TRACE="missing"), 7, "read fault", "missing: No such file or directory")
+        if "TABLE" in row.get("reads", ()):
+            yield Try(call(name, TABLE="missing"), 7, "read fault", "missing: No such file or directory")
+            # (the table is judged before the trace)
+            yield Try(call(name, TABLE="odd.moves", TRACE="short"), 14, "table BadLine 2", f"odd.moves: line 2 {FORM}")
         if "PROGRAM" in row.get("reads", ()):
             yield Try(call(name, PROGRAM="script"), 2, "elf TooShort", "script: a script: guest/build.sh builds for RV32IMA")
+            yield Try(call(name, PROGRAM="x86.elf"), 2, "elf BadMachine", "x86.elf: an ELF file for x86: guest/build.sh builds for RV32IMA")
             yield Try(call(name, PROGRAM="missing"), 7, "read fault", "missing: No such file or directory")
         if "--schedule" in SPACE[name]:
             yield Try([*call(name), "--schedule", "short"], 3, "schedule BadLine 1",
@@ -290,7 +295,8 @@ def fault_of(program: str, it: Try) -> str:
         return f"a control character comes to standard error: {said!r}"
     if it.status is None:
         return f"it is refused: {said!r}" if ran.returncode in (1, 4) else ""
-    text = printed if it.printed == "*" else f"predator: {it.printed}\n" if it.printed else USAGE
+    name = "predator: " if it.status else ""
+    text = printed if it.printed == "*" else f"{name}{it.printed}\n" if it.printed else USAGE
     wanted = it.status, text, f"predator: {it.said}\n" if it.said else ""
     if (ran.returncode, printed, said) == wanted:
         return ""

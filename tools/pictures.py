@@ -15,13 +15,13 @@ import tempfile
 TOP = os.path.abspath(os.path.join(os.path.dirname(os.path.abspath(__file__)), ".."))
 # Of each picture the calls that make its page, in a folder of their own, and the width and height that are shown.
 PICTURES = {
-    "view": ([["view", "run", f"{TOP}/guest/built/counters.elf", "--html", "page.html"]], 1000, 836),
+    "view": ([["view", "run", f"{TOP}/guest/built/counters.elf", "--html", "page.html"]], 1000, 650),
     "sweep": (
         [
             ["run", f"{TOP}/guest/built/studies/linear_regression.elf", "--trace", "linear_regression"],
             ["view", "sweep", "linear_regression", "--size", "64", "--html", "page.html"],
         ],
-        *(1000, 395),
+        *(1000, 640),
     ),
 }
 MOST = 100_000
@@ -37,7 +37,7 @@ def draw(name: str, browser: str) -> str:
             subprocess.run([os.path.join(TOP, "bin/predator"), *words], cwd=folder, check=True, capture_output=True)
         options = ["--headless", "--no-sandbox", "--disable-gpu", "--hide-scrollbars", f"--user-data-dir={folder}/user"]
         options += [f"--window-size={width},{height}", f"--screenshot={to}", f"file://{folder}/page.html"]
-        subprocess.run([browser, *options], check=True, capture_output=True, timeout=120)
+        subprocess.run([browser, *options], check=True, capture_output=True, timeout=600)
     size = os.path.getsize(to)
     if size > MOST:
         raise SystemExit(f"{to}: {size} bytes, and at most {MOST} are allowed")

@@ -7,8 +7,8 @@ usage: tools/sizes.py PROGRAM [--long]
 Each call has an address space of so many bytes as its row says, so that one that holds a trace, or takes pieces of a GiB, ends with want of
 memory. What it prints is known: two harts take one line from each other at each access, or write so many lines. The short form takes a
 trace of more than 2^24 accesses through every command that passes over one, one of more than 256 MiB through `replay`, a run and `explain`
-of more than 2^24 accesses, more than 65,536 blocks, noted blocks and lines, programs of 16 MiB and of a byte less, and a state, an output
-and a trace of more than 32 MiB. The long form takes the longer trace through every command. Memory that
+of more than 2^24 accesses, more than 65,536 blocks, noted blocks and lines, programs of 16 MiB and of a byte less, a table of 1 MiB, and a
+state, an output and a trace of more than 32 MiB. The long form takes the longer trace through every command. Memory that
 is refused at any one place is tried by guest/refuse_memory.py."""
 
 import hashlib
@@ -99,6 +99,15 @@ def converted(count: int) -> str:
     return sum_of(pieces())
 
 
+def moved(count: int) -> str:
+    """The sum of the trace with the second word 64 bytes behind its line's begin."""
+    def pieces() -> Iterator[bytes]:
+        yield files.header() + files.symbol(BASE, 8, b"pair")
+        yield from often(files.records([(0, "W", BASE), (1, "W", BASE + 64)]), count // 2)
+        yield files.ending(count)
+    return sum_of(pieces())
+
+
 def halves(count: int, at: int) -> dict[str, str]:
     pair = files.records([(0, "W", BASE), (1, "W", BASE + 4)])
 
@@ -140,6 +149,8 @@ def of_trace(name: str, count: int) -> Iterator[Try]:
         "caches 64 1 1", f"accesses {count}", "lines 1", f"line {BASE:#010x} bounded {count - 1} unbounded {count - 1} evicted 0",
         f"total bounded {count - 1} unbounded {count - 1} evicted 0", "end"), 40)
     yield Try(f"place {name} pair", placed(count), 40)
+    put("apart", b"%d 4 %d\n" % (BASE + 4, BASE + 64))
+    yield Try(f"move {name} apart m", lines(f"move {count} {count // 2}"), 40, {"m": moved(count)})
     yield Try(f"convert {name} c", lines(f"convert 2 {count}"), 40, {"c": converted(count)})
     yield Try(f"split {name} {at} a b", lines(f"split {at} {count - at}"), 40, halves(count, at))
 
@@ -151,6 +162,17 @@ def blamed(count: int) -> Iterator[Try]:
         "predator blame 1", f"accesses {count}", "layout 64 0", "lines 1", f"line {BASE:#010x} takings {count - 1} pairs 2 harts 2",
         f"pair {one} {other} taken {count // 2} same 0", f"pair {other} {one} taken {count // 2 - 1} same 0",
         f"from 0 to 1 taken {count // 2}", f"from 1 to 0 taken {count // 2 - 1}", f"total takings {count - 1}", "end"), 40)
+
+
+def long_table() -> Iterator[Try]:
+    """A table as long as one may be, of which each word goes to the place that another one leaves."""
+    size = len("0x00100000 4 0x00100000\n")
+    count = (MIB - 1) // size
+    rows = "".join(f"{0x100000 + 4 * at:#010x} 4 {0x100000 + 4 * (count - 1 - at):#010x}\n" for at in range(count))
+    put("table", rows.encode().ljust(MIB, b"\n"))
+    put("words", files.trace([(0, "W", 0x100000 + 4 * at) for at in range(count)]))
+    moved_to = files.trace([(0, "W", 0x100000 + 4 * at) for at in reversed(range(count))])
+    yield Try("move words table m", lines(f"move {count} {count}"), 40, {"m": hashlib.sha256(moved_to).hexdigest()})
 
 
 def parts(count: int) -> Iterator[Try]:
@@ -286,6 +308,7 @@ def kinds(is_long: bool) -> Iterator[list[Try]]:
     fight_by("blamed", LONG)
     yield list(blamed(LONG))
     os.remove("blamed")
+    yield list(long_table())
     yield [*runs(), *programs(), Try(f"gen {LONG} f", (f"generated {LONG}",), 40)]
     yield [*many_lines(MANY)]
     yield [*many_lines(TRACKS)]

@@ -11,7 +11,8 @@ from counts import Count, can_run, guest_count
 from judge import Row, bands, correlated, ranks, spearman
 from page import Box, named, page
 from pairs import FORMS, Built, Program, Trouble, build_all, programs
-from tables import Study, counts_of, kept, markdown, saved, told_counts, values
+from studies import all_kept, documents, of_values
+from tables import Study, counts_of, kept, markdown, saved, shown, told_counts, values
 from timing import Timed, once, usual_rounds
 
 # The status for a part of bin/try that skips itself.
@@ -69,9 +70,11 @@ def arithmetic() -> Iterator[str]:
     yield from wrong("the record", kept(saved(study)), study)
     counted = {"some": rows[1].counts, "many": rows[3].counts}
     yield from wrong("the record of counts", counts_of(told_counts(counted)), counted)
-    yield from wrong("lines of the table", len(values(study).splitlines()), 6)
+    yield from wrong("lines of the table", len([it for it in values(study).splitlines() if it[:1] != "#"]), 6)
+    yield from wrong("the table again", values(of_values(values(study))), values(study))
     yield from wrong("lines of the text", sum("made up" in it for it in markdown(study).splitlines()), 1)
     yield from of_the_page(study)
+    yield from of_what_is_kept()
 
 
 def of_the_page(study: Study) -> Iterator[str]:
@@ -79,10 +82,25 @@ def of_the_page(study: Study) -> Iterator[str]:
     spread = named([(100.0, 100.0, "one"), (101.0, 100.0, "other"), (102.0, 101.0, "third")])
     boxes = [Box(it["x"], it["y"] - 9, it["x"] + 5.6 * len(it["text"]), it["y"]) for it in spread]
     yield from wrong("names", [a.meets(b) for at, a in enumerate(boxes) for b in boxes[:at]], [False] * 3)
-    text = page(study)
+    text = page({"one": study, "<other>": study})
     if text is not None:
-        yield from wrong("points of the page", text.count("<g transform"), 5)
-        yield from wrong("escaped names", "made up &lt;&amp;&gt;" in text, True)
+        yield from wrong("points of the page", text.count("<g transform"), 10)
+        escaped = [it in text for it in ("made up &lt;&amp;&gt;", "&lt;other&gt;", "<other>")]
+        yield from wrong("escaped names", escaped, [True, True, False])
+        told = [f"{it.program.name}, 2 threads: slowdown {shown(it.slowdown())} (" in text for it in study.rows]
+        yield from wrong("what the points tell", told, [True] * 5)
+
+
+def of_what_is_kept() -> Iterator[str]:
+    """What is wrong with the kept studies, and with the documents that tell of them."""
+    studies = all_kept()
+    for name, study in studies.items():
+        again = of_values(values(study))
+        kept_rows = [[(it.program, it.threads, it.counts, f"{it.slowdown():.3g}") for it in own.rows] for own in (again, study)]
+        yield from wrong(f"{name}: the same rows again", kept_rows[0] == kept_rows[1], True)
+        yield from wrong(f"{name}: enough pairs", len(study.judged()) >= 24, True)
+    for path, text, renewed in documents(studies):
+        yield from wrong(f"{path}: the tables of bench/clock/studies.py --renew", text == renewed, True)
 
 
 def of_a_pair(pair: Sequence[Built]) -> Iterator[str]:

@@ -7,10 +7,12 @@ from counts import Count
 from pairs import FORMS, Program
 from timing import Timed
 
+from bands import BANDS, at_most, band_of
+
 QUANTA = (1, 10, 100, 1000)
 USUAL = 100
 # Useless misses by 1000 steps under the usual quantum: where the bands begin.
-EDGES = (0.0, 0.05, 3.0, 8.0)
+EDGES = tuple(it.least for it in BANDS)
 Cell = str | int | float | None
 
 
@@ -61,9 +63,9 @@ class Row(NamedTuple):
         return found.useless * latency if found else None
 
     def at_most(self, latency: float, step: float) -> float | None:
-        """The same as a part of the time, where a step takes so many nanoseconds."""
-        found, bound = self.counts.get((FORMS[0], 1)), self.bound(latency)
-        return bound / (found.steps * step + bound) if found and bound is not None else None
+        """The part of the time that view calls the most, where a step takes so many nanoseconds."""
+        rates = self.rate(1), self.rate()
+        return None if rates[0] is None or rates[1] is None else at_most(max(rates[0], rates[1]), latency, step)
 
 
 def ranks(values: Sequence[float]) -> list[float]:
@@ -83,11 +85,6 @@ def correlation(one: Sequence[float], other: Sequence[float]) -> float | None:
 
 def spearman(pairs: Sequence[tuple[float, float]]) -> float | None:
     return correlation(*[ranks(it) for it in zip(*pairs)]) if len(pairs) > 2 else None
-
-
-def band_of(rate: float) -> int:
-    """Which of the bands: the last that begins at or below the rate."""
-    return max(at for at, edge in enumerate(EDGES) if rate >= edge)
 
 
 def band_name(at: int) -> str:

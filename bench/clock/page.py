@@ -1,23 +1,21 @@
-"""The page of a study: useless misses by 1000 steps against the slowdown that padding took away, each program a named point. One file of
-HTML, which needs no network and no script; its template escapes every name, and stands on that of view/."""
+"""The page of some studies, side by side: useless misses by 1000 steps against the slowdown that padding took away, each program a named
+point. One file of HTML, which needs no network and no script; its template, which extends that of view/, escapes every name."""
 
 import math
-import os
-import sys
-from typing import Any, Iterator, NamedTuple, Sequence
+from typing import Any, Iterator, Mapping, NamedTuple, Sequence
 
-from judge import EDGES, Row, bands, band_name
-from pairs import HERE, KINDS, TOP
+from judge import EDGES, Row, bands
+from pairs import HERE, KINDS
 from tables import Study, bound_told, shown
 
-sys.path.append(os.path.join(TOP, "view"))
+from bands import BANDS
 
 Given = dict[str, Any]
 # The picture: its width and height, and what is kept free at the left and below, and at the other sides.
-WIDTH, HEIGHT, LEFT, LOWER, EDGE = 980, 640, 56, 44, 14
+WIDTH, HEIGHT, LEFT, LOWER, EDGE = 640, 600, 44, 44, 14
 # A point is within so many points of its place; a letter is so wide, and a line of text so high.
 POINT, LETTER, LINE = 5, 5.6, 11
-# What is below this, by 1000 steps, stands at it.
+# What is below this, by 1000 steps, is drawn at it.
 LEAST = 0.01
 COLOURS = {"false": "#d55e00", "mixed": "#0072b2", "handover": "#009e73", "true": "#1b1b1b", "none": "#5c5c5c"}
 SHAPES = {
@@ -120,16 +118,49 @@ def told_of(row: Row) -> str:
     return f"{row.program.name}, {row.threads} threads: {how}, {shown(row.rate())} useless misses by 1000 steps; {row.program.text}"
 
 
-def title_of(rows: Sequence[Row]) -> str:
+def title_of(studies: Mapping[str, Study]) -> str:
     """What is seen, in a sentence."""
-    found = [it for it in bands(rows) if it[1]]
-    if not found:
-        return "No pair was measured undisturbed"
-    parts = [f"{it[0]}: {shown(it[3])}" for it in found]
-    return f"What padding is worth by useless misses by 1000 steps, in the middle ({'; '.join(parts)})"
+    parts = []
+    for name, study in studies.items():
+        found = bands(study.judged())
+        if found[0][1] and found[-1][1]:
+            parts.append(f"{shown(found[0][3])} and {shown(found[-1][3])} times as fast ({name})")
+    if not parts:
+        return "What padding is worth, by useless misses"
+    return f"Padding made programs with the fewest useless misses and with the most, in the middle: {'; '.join(parts)}"
 
 
-def page(study: Study) -> str | None:
+def pictures_of(studies: Mapping[str, Study]) -> list[Given]:
+    """A picture for each count of threads and study, all with the same axes."""
+    drawn = {
+        (count, name): [it for it in study.judged() if it.threads == count and it.rate() is not None]
+        for count in sorted({it for study in studies.values() for it in study.threads()})
+        for name, study in studies.items()
+    }
+    along, up = scales([it for own in drawn.values() for it in own])
+    return [{"threads": count, "study": name, **picture(own, along, up)} for (count, name), own in drawn.items() if own]
+
+
+def rows_of(studies: Mapping[str, Study]) -> list[Given]:
+    """All pairs, with what each study has of them, the greatest slowdown first."""
+    found: dict[tuple[int, str], dict[str, Row]] = {}
+    for name, study in studies.items():
+        for it in study.rows:
+            found.setdefault((it.threads, it.program.name), {})[name] = it
+    made: list[Given] = []
+    for (threads, _), own in sorted(found.items(), key=lambda it: (-max(row.slowdown() for row in it[1].values()), it[0])):
+        program = next(iter(own.values())).program
+        cells = []
+        for name in studies:
+            row = own.get(name)
+            low, high = row.range() if row else (0.0, 0.0)
+            told = f"{shown(row.slowdown())} ({low:.2f} to {high:.2f}{'' if row.is_quiet() else '; disturbed'})" if row else "-"
+            cells.append({"rate": shown(row.rate()) if row else "-", "told": told})
+        made.append({"program": program, "threads": threads, "cells": cells})
+    return made
+
+
+def page(studies: Mapping[str, Study]) -> str | None:
     """The page, or None where jinja2 isn't installed."""
     from drawing import templates
     from faults import Fault
@@ -138,29 +169,19 @@ def page(study: Study) -> str | None:
         found = templates(HERE)
     except Fault:
         return None
-    rows = [it for it in study.judged() if it.rate() is not None]
-    along, up = scales(rows)
-    pictures = [
-        {"threads": count, **picture([it for it in rows if it.threads == count], along, up)}
-        for count in study.threads()
-        if any(it.threads == count for it in rows)
-    ]
     given = {
-        "title": title_of(rows),
-        "study": study,
-        "pictures": pictures,
+        "title": title_of(studies),
+        "studies": studies,
+        "pictures": pictures_of(studies),
         "width": WIDTH,
         "height": HEIGHT,
         "left": LEFT,
         "lower": LOWER,
         "edge": EDGE,
         "kinds": [{"name": it, "shape": SHAPES[it], "colour": COLOURS[it]} for it in KINDS],
-        "bands": [[shown(cell) for cell in row] for row in bands(rows)],
-        "names": [band_name(at) for at in range(len(EDGES))],
-        "bound": bound_told(rows, study.latency(), study.step),
-        "rows": [
-            {"row": it, "slowdown": shown(it.slowdown()), "quarters": "{:.2f} to {:.2f}".format(*it.range()), "rate": shown(it.rate())}
-            for it in sorted(study.rows, key=lambda it: -it.slowdown())
-        ],
+        "bands": {name: [[shown(cell) for cell in row] for row in bands(study.judged())] for name, study in studies.items()},
+        "told": [it.told for it in BANDS],
+        "bound": {name: bound_told(study.judged(), study.latency(), study.step) for name, study in studies.items()},
+        "rows": rows_of(studies),
     }
     return found.get_template("study.html").render(given)

@@ -2,12 +2,15 @@
 
 import os
 import subprocess
+import sys
 from concurrent.futures import ThreadPoolExecutor
 from typing import Iterable, NamedTuple, Sequence
 
 HERE = os.path.dirname(os.path.abspath(__file__))
 TOP = os.path.dirname(os.path.dirname(HERE))
 PROGRAMS = os.path.join(HERE, "programs")
+# (whose bands view tells, and whose templates are used here)
+sys.path.append(os.path.join(TOP, "view"))
 GUESTS = os.path.join(HERE, "guests.sh")
 # What a first line may say that its program is.
 KINDS = ("false", "mixed", "handover", "true", "none")

@@ -168,7 +168,8 @@ def keep(text: str, folder: str, name: str) -> None:
 def write(study: Study, out: str) -> None:
     """The four files, and what was found on standard output."""
     text = markdown(study)
-    made = {STUDY: saved(study), "study.tsv": values(study), "study.md": text, "study.html": page(study)}
+    seen = page({study.machine.get("date", "this study"): study})
+    made = {STUDY: saved(study), "study.tsv": values(study), "study.md": text, "study.html": seen}
     for name, own in made.items():
         if own is None:
             say(f"{name} wants python3-jinja2: apt-get install python3-jinja2, and then --again {out}")

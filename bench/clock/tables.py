@@ -166,8 +166,9 @@ def markdown(study: Study) -> str:
 
 
 def values(study: Study) -> str:
-    """All numbers, with a head, as tab-separated values."""
-    heads = ["program", "kind", "threads", "quiet", "slowdown", "low", "high"]
+    """All numbers as tab-separated values with a head, behind lines that say where they were measured."""
+    notes = [*study.machine.items(), *((f"line {it}", f"{ns:g}") for it, ns in study.lines.items()), ("step", f"{study.step:g}")]
+    heads = ["program", "kind", "threads", "quiet", "slowdown", "low", "high", "guest rounds"]
     for form in FORMS:
         heads += [f"{form}: {it}" for it in ("ns", "kept", "runs", "rounds", "voluntary", "involuntary")]
         heads += [f"{form}, quantum {it}: {what}" for it in QUANTA for what in ("steps", "useful", "useless", "listed")]
@@ -175,7 +176,7 @@ def values(study: Study) -> str:
     heads += ["saved ns", "bound ns", "at most", "saved"]
     rows = [heads]
     for it in study.rows:
-        cells: list[Cell] = [it.program.name, it.program.kind, it.threads, int(it.is_quiet()), it.slowdown(), *it.range()]
+        cells: list[Cell] = [it.program.name, it.program.kind, it.threads, int(it.is_quiet()), it.slowdown(), *it.range(), it.guest_rounds]
         for form, own in zip(FORMS, it.timed):
             cells += [own.ns, own.kept, own.runs, own.rounds, own.voluntary, own.involuntary]
             for quantum in QUANTA:
@@ -185,4 +186,4 @@ def values(study: Study) -> str:
             cells += [here.accesses, here.useful, here.useless] if here else [None] * 3
         cells += [it.saved(), it.bound(study.latency()), it.at_most(study.latency(), study.step), it.share()]
         rows.append(["" if cell is None else f"{cell:.6g}" if isinstance(cell, float) else str(cell) for cell in cells])
-    return "".join("\t".join(it) + "\n" for it in rows)
+    return "".join(f"# {name}: {text}\n" for name, text in notes) + "".join("\t".join(it) + "\n" for it in rows)

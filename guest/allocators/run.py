@@ -16,8 +16,8 @@ from report import BUILT, PROGRAM, TOP, Run, block, renew, table, with_objects  
 
 SETTINGS = "memory = 67108864\n"
 KIT = "the kit's `malloc`"
-# How many lines of a report are shown, and of each how many lines that say what stands there.
-MOST, MOST_OF_ONE = 4, 6
+# How many lines of a report are shown, and how many objects of each.
+MOST, MOST_OF_ONE = 4, 2
 SHIM = [os.path.join(HERE, "shim", "shim.c")]
 FETCHED = os.path.join(HERE, "fetched")
 # Each allocator's sources, and the flags that its own documents name for a release with locks.

@@ -1,6 +1,6 @@
 #!/usr/bin/env bash
-# Builds the studies of what fetch.sh has fetched into out/, with line tables: each code base by its own build, or its sources as they are,
-# with guest/cc as its compiler; and again with the repair, which is a few words put in by sed.
+# Builds the studies of what fetch.sh has fetched into out/, with line tables, or with what DEBUG says in their place: each code base by its
+# own build, or its sources as they are, with guest/cc as its compiler; and again with the repair, which is a few words put in by sed.
 #
 #     build.sh [STUDY ..]        all of them, or those that are named
 #
@@ -11,7 +11,7 @@ here=$(cd "$(dirname "$(readlink -f "$0")")" && pwd)
 cc=$here/../cc
 fetched=$here/fetched
 out=$here/out
-lines=-gline-tables-only
+lines=${DEBUG:--gline-tables-only}
 studies=(ck_anderson ck_ring kt_for rte_ring sqlite urcu_qsbr zstd xz)
 # The names of the autotools are those that aren't to be run again because a file is newer.
 tools=(AUTOMAKE=: AUTOCONF=: ACLOCAL=: AUTOHEADER=:)
@@ -47,11 +47,14 @@ build_ck_anderson() {
 
 build_ck_ring() {
     local name
-    for name in ck_ring ck_ring-apart; do
+    for name in ck_ring ck_ring-apart ck_ring-own_lines; do
         ck "$name"
         # (the end of a ring, which is read all the time, apart from the beginning of the next one)
         [ "$name" = ck_ring ] ||
             sed -i '/^struct ck_ring {$/,/^};$/s/^\tunsigned int mask;$/&\n\tchar apart[56];/' "$out/$name/include/ck_ring.h"
+        # (and a line for each entry)
+        [ "$name" != ck_ring-own_lines ] ||
+            sed -i 's/^struct entry {$/struct __attribute__((aligned(64))) entry {/' "$out/$name/regressions/ck_ring/validate/ck_ring_spsc.c"
         ck_program "$name" ck_ring/validate ck_ring_spsc "7 1 32" -DITERATIONS=16
     done
 }

@@ -35,12 +35,12 @@ LARGE = {"zstd": SETTINGS + "memory = 67108864\n", "xz": SETTINGS + "memory = 67
 # moved.
 PREDICTED = ["rte_ring", "rte_ring-together", "kt_for-apart"]
 MOVED = {"rte_ring-together": ("rte_ring-together-at-24", 24)}
-# How many lines of a report, and how many of the misses, are shown, and of each how many lines that say what stands there.
-MOST, MOST_OF_ONE = 2, 6
+# How many lines of a report, and how many of the misses, are shown, and how many objects of each.
+MOST, MOST_OF_ONE = 2, 2
 
 
 def first(lines):
-    """The rows of the first lines of a list, each with the beginning of what stands on it."""
+    """The rows of the first lines of a list, each with the first objects on it."""
     return [text for rows in with_objects(lines[:MOST], MOST_OF_ONE) for text in rows]
 
 
@@ -94,7 +94,7 @@ def main(words):
             runs[name] = run
             counts = [len(run.report.of_kind("observed")), run.report.sum("observed"), run.by_word.sum("observed")]
             costs.append([name, run.report.steps, *counts, *build.total, run.told()])
-            if build.pair:
+            if build.pair and name == STUDIES[study][0]:
                 fights.append([name, f"`{shown(build.base)}`", build.count, *build.pair])
             shown_here.append(excerpt(name, run, build))
             wrong += [f"{name}: {it}" for it in run.wrong + build.wrong]

@@ -135,11 +135,11 @@ def table(heads, rows):
 
 
 def with_objects(lines, most=100):
-    """The rows of some lines, each given as its text and what stands on it: at most so many rows of that, and none where it is what stands
-    on the one before."""
+    """The rows of some lines, each given as its text and what stands on it: at most so many objects, without their call sites, and none
+    where they are those of the line before."""
     made, before = [], None
-    for text, objects in lines:
-        shown_here = [*objects[:most], *([".."] if len(objects) > most else [])]
+    for text, rows in lines:
+        shown_here = [it for it in rows if it.startswith("object ")][:most]
         made.append([text, *(shown_here if shown_here != before else [])])
         before = shown_here
     return made

@@ -9,9 +9,8 @@ import sys
 
 from report import BUILT, SETTINGS, Run, block, builds, commit, renew, shown, table, with_objects
 
-# How many lines of a report a study shows, and the one that shows the words of the first.
+# How many lines of a report a study shows.
 MOST = 4
-SHOWN = "linear_regression"
 # The studies that show a prediction, and the place of their build where nothing is observed.
 PREDICTED = {"linear_regression": 0, "word_count": 0, "string_match": 0}
 
@@ -30,8 +29,8 @@ def excerpt(name, run):
     lines, observed = run.report.lines, run.report.of_kind("observed")
     first = (observed or lines)[:MOST]
     made = [f"{name}: lines {len(lines)}" + (f", {len(observed)} of them observed" if lines else "")]
-    for it, rows in zip(first, with_objects([(it.text, it.objects) for it in first])):
-        made += [*rows, *(it.words if name == SHOWN and it == first[0] else [])]
+    for rows in with_objects([(it.text, it.objects) for it in first]):
+        made += rows
     return block(made + [".."] * (len(observed or lines) > MOST))
 
 

@@ -76,6 +76,15 @@ class Bench:
     def writing(self) -> Iterator[Case]:
         return (it for it in self.cases if not it.refuses() and it.writes and it.writes[-1][1])
 
+    def fullest(self) -> list[Case]:
+        """Of each command that writes the call with the most files."""
+        found: dict[str, Case] = {}
+        for it in self.writing():
+            best = found.setdefault(it.words[0], it)
+            if len(it.reads + it.writes) > len(best.reads + best.writes):
+                found[it.words[0]] = it
+        return list(found.values())
+
     def inputs(self) -> dict[str, tuple[int, ...]]:
         """Of each file that is none of the outputs what changes when it is written, or is another one."""
         found: dict[str, tuple[int, ...]] = {}

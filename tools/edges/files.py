@@ -8,7 +8,7 @@ from typing import Iterable, NamedTuple
 
 sys.path.insert(0, os.path.join(os.path.dirname(os.path.abspath(__file__)), ".."))
 
-from message_files import NO_PCS  # noqa: E402
+from message_files import FORM, NO_PCS  # noqa: E402
 from traces import groups  # noqa: E402
 
 DATA = os.path.join(os.path.dirname(os.path.abspath(__file__)), "..", "..", "crates", "worked_runs", "data")
@@ -19,6 +19,8 @@ PIECES, REST = 16, 1
 # How many words it writes, how many lines the traces have, and how many accesses one has that is made, and cut behind so many of them:
 # what is printed or written has more than 64 KiB.
 WRITES, LINES, MADE, CUT = 9000, 1500, 20000, 9000
+# Where a trace of so many accesses is cut off, within a record.
+CUT_AT = 20 + 8 * 15000 + 5
 STATE = bytes.fromhex(
     "50524453544130310400000000000000010000000000000000000000000000000800000000000000020000000000000001000000000000000100000000000000"
     "001000000000000001000000000000000002030005000000001000000000000000000000000000000000000000000000010000000000000001000000000000"
@@ -35,12 +37,26 @@ class Case(NamedTuple):
     reads: tuple[str, ...]
     writes: tuple[tuple[str, bytes], ...] = ()
     said: bytes = b""
-    # the trace that is read more than once, and the file that is standard input
+    # the trace that is read more than once, that which is read while the output is written, and the file that is standard input
     again: str = ""
+    along: str = ""
     piped: str = ""
+    # whether it writes although it is refused: what of its trace comes before the fault
+    leaves: bool = False
 
     def refuses(self) -> bool:
-        return self.status in (1, 2, 3, 4, 5, 6, 13)
+        return self.status in (1, 2, 3, 4, 5, 6, 13, 14)
+
+    def stays(self) -> bool:
+        """Whether each output is to stay as it was."""
+        return self.refuses() and not self.leaves
+
+    def renamed(self, name: str, other: str) -> "Case":
+        """The same call over a file of another name."""
+        def by(it: str) -> str:
+            return other if it == name else it
+        return self._replace(words=tuple(map(by, self.words)), reads=tuple(map(by, self.reads)), again=by(self.again),
+                             along=by(self.along), writes=tuple((by(it), whole) for it, whole in self.writes))
 
 
 def lines(*texts: str) -> bytes:
@@ -107,6 +123,23 @@ def in_turn(count: int) -> list[Sited]:
 def by_line(touches: list[Touch]) -> list[Sited]:
     """Accesses with pcs that each line has for itself, one for each hart."""
     return [(hart, kind, addr, addr // 64 * 64 + 4 * hart) for hart, kind, addr in touches]
+
+
+# A table of moves, and the accesses with it.
+TABLE = b"0x10000 4 0x20000\n"
+
+
+def moved(touches: list[Touch]) -> list[Touch]:
+    return [(hart, kind, 0x20000 if addr == 0x10000 else addr) for hart, kind, addr in touches]
+
+
+# A word that is no place of that table, and one of this, and accesses of which only the last but some is at it.
+WAY = 0x10004
+OVER = TABLE + b"0x1f000 4 0x10004\n"
+
+
+def with_late(count: int) -> list[Touch]:
+    return [it for it in made(count) if it[2] != WAY] + [(0, "W", WAY)] + made(9)
 
 
 def halves(touches: list[Touch], at: int) -> tuple[bytes, bytes]:
@@ -256,12 +289,13 @@ def files() -> dict[str, bytes]:
     return {
         "long.elf": LONG.file, "small.elf": SMALL.file, "plain.elf": _data("plain.elf"), "adds.elf": _data("adds_bytes.elf"),
         "waits.elf": _data("waits_for_ever.elf"), "traps.elf": _data("traps.elf"),
-        "settings": b"tracking = 1\nreport = 1\n", "schedule": b"0 5\n",
-        "made": trace(made(MADE)), "fought": trace(fights), "short": trace(made(200)), "pair": trace(pair, symbol(0x1000, 8, b"pair")),
+        "settings": b"tracking = 1\nreport = 1\n", "schedule": b"0 5\n", "table": TABLE,
+        "made": trace(made(MADE)), "fought": trace(fights), "short": trace(made(200)), "two": trace(pair, symbol(0x1000, 8, b"pair")),
         "taken": trace([(0, "W", 0x1000), (1, "W", 0x1000), (1, "W", 0x2000), (0, "W", 0x1000)]),
         "turns": trace(pair + [(1, "W", 0x1004)]), "written": trace([(0, "W", 0x100000 + 4 * it) for it in range(LINES)]),
         "sited": sited(by_line(fights)), "few": sited(in_turn(3)),
         "state": STATE, "rest": header(first=2) + ending(0), "bad": b"harts = 0\n", "script": b"#!/bin/sh\n",
+        "over": OVER, "late": trace(with_late(MADE)), "cut": trace(made(MADE))[:CUT_AT],
     }
 
 
@@ -286,10 +320,28 @@ def writing_cases() -> list[Case]:
              again="made"),
         Case(("split", "short", "0", "a", "b"), 0, b"split 0 200\n", ("short",), tuple(zip("ab", halves(short, 0))), again="short"),
         Case(("convert", "made", "c"), 0, lines(f"convert 2 {MADE}"), ("made",), (("c", converted(made(MADE))),), again="made"),
+        Case(("move", "made", "table", "m"), 0, lines(f"move {MADE} {sum(it[2] == 0x10000 for it in made(MADE))}"), ("table", "made"),
+             (("m", trace(moved(made(MADE)))),), along="made"),
         Case(("replay", "written", "--size", "4", "--settings", "settings", "--save", "s"), 0, kept, ("settings", "written"),
              (("s", written_state(LINES)),)),
-        Case(("replay", "rest", "--size", "4", "--set", "tracking=1", "--resume", "state", "--save", "s"), 0,
-             report("exit 0", 0, 2, "4 0", "1 none 100"), ("state", "rest"), (("s", STATE),)),
+        Case(("replay", "rest", "--size", "4", "--settings", "settings", "--resume", "state", "--save", "s"), 0,
+             report("exit 0", 0, 2, "4 0", "1 none 1"), ("settings", "state", "rest"), (("s", STATE),)),
+        # (what is refused within the trace leaves the records before that)
+        *left_cases(),
+    ]
+
+
+def left_cases() -> list[Case]:
+    before = header() + records(moved(made(MADE)[:15000]))
+    cut = f"cut: it ends after {CUT_AT} bytes, before the trace does: write or copy it again"
+    first = header() + records(moved(with_late(MADE)[:-10]))
+    taken = "late: an access at this address isn't moved, and others would be moved to where it is: give them another place, or give " \
+        "this address a line of its own"
+    return [
+        Case(("move", "cut", "table", "m"), 5, lines(f"predator: trace Truncated {CUT_AT}"), ("table", "cut"), (("m", before),),
+             lines(f"predator: {cut}"), along="cut", leaves=True),
+        Case(("move", "late", "over", "m"), 14, lines(f"predator: table Occupied {WAY:#010x}"), ("over", "late"), (("m", first),),
+             lines(f"predator: {taken}"), along="late", leaves=True),
     ]
 
 
@@ -308,8 +360,8 @@ def printing_cases() -> list[Case]:
         Case(("blame", "sited"), 0, fought_blame(LINES), ("sited",)),
         Case(("blame", "-", "--size", "4"), 0, none_taken, ("/dev/stdin",), piped="few"),
         Case(("caches", "fought", *caches), 0, fought_caches(LINES), ("fought",)),
-        Case(("sweep", "pair", "--size", "8"), 0, printed_by_case("sweep.case", "sweep t --size 8"), ("pair",)),
-        Case(("place", "pair", "pair"), 0, printed_by_case("place.case", "place t pair"), ("pair",), again="pair"),
+        Case(("sweep", "two", "--size", "8"), 0, printed_by_case("sweep.case", "sweep t --size 8"), ("two",)),
+        Case(("place", "two", "pair"), 0, printed_by_case("place.case", "place t pair"), ("two",), again="two"),
         Case(("check", "plain.elf"), 0, printed_by_case("programs.case", "check p"), ("plain.elf",)),
         Case(explain, 0, printed_by_case("explain.case", "explain p 0x00011000 64 0 --settings one"), ("adds.elf",)),
         Case(("run", "small.elf"), 0, shown, ("small.elf",), said=SMALL.output + b"\n"),
@@ -317,7 +369,7 @@ def printing_cases() -> list[Case]:
 
 
 def refused_cases() -> list[Case]:
-    """Calls that are refused, and so write nothing. What is said of it may be worded anew; then it is to be so here."""
+    """Calls that are refused before an output is begun, and so write nothing. What is said may be worded anew; then it is to be so here."""
     outputs = ("--trace", "t", "--output", "o")
     both, state = (("t", b""), ("o", b"")), (("s", b""),)
     cut = "it ends after 10 bytes, before the trace does: write or copy it again"
@@ -336,7 +388,9 @@ def refused_cases() -> list[Case]:
         (("convert", "script", "c"), 5, b"predator: trace Truncated 10\n", ("script",), (("c", b""),), f"script: {cut}"),
         (("replay", "short", "--resume", "bad", "--save", "s"), 6, b"predator: state BadState 0\n", ("bad",), state,
          "bad: not a saved state, or only part of one: byte 0 is wrong"),
-        (("place", "pair", "none"), 13, b"predator: place NoObject\n", ("pair",), (), none),
+        (("place", "two", "none"), 13, b"predator: place NoObject\n", ("two",), (), none),
+        (("move", "made", "bad", "m"), 14, b"predator: table BadLine 1\n", ("bad",), (("m", b""),), f"bad: line 1 {FORM}"),
+        (("move", "script", "table", "m"), 5, b"predator: trace Truncated 10\n", ("table", "script"), (("m", b""),), f"script: {cut}"),
     ]
     made_of = [Case(*row[:5], said=f"predator: {row[5]}\n".encode()) for row in rows]
     return [it._replace(again=it.reads[0]) if it.words[0] in ("split", "convert", "place") else it for it in made_of]

@@ -8,6 +8,10 @@ from bench import Call, Ending, Fault
 from files import Case
 
 
+# How many bytes are asked for at once at most.
+PIECE = 65536
+
+
 class Wanted(NamedTuple):
     """How a call ends where one of its calls of the system went wrong. Of what is printed a front may be enough. `line` is the fault that
     is said, and None where whatever is said will do. Outputs are `whole`, `begun` in their order, or as they `stay`."""
@@ -20,7 +24,7 @@ class Wanted(NamedTuple):
 
 
 def good_end(case: Case) -> Wanted:
-    return Wanted(case.status, case.printed, False, b"", "stay" if case.refuses() else "whole")
+    return Wanted(case.status, case.printed, False, b"", "stay" if case.stays() else "whole")
 
 
 def is_said(case: Case, ending: Ending, wanted: Wanted) -> bool:
@@ -65,11 +69,23 @@ def faults_of(case: Case, ending: Ending, wanted: Wanted) -> list[Fault]:
     return found
 
 
-def faults_of_opening(case: Case, it: Call, ended: set[str], begun: list[str]) -> Iterator[Fault]:
-    """What is wrong with how a file is opened: an input is opened for reading alone, an output once, after the inputs were read to their
-    ends, and to be written as it stands."""
+class Seen:
+    """What was made of the files so far: which were opened, read from, read to their ends, and emptied, each in order."""
+
+    def __init__(self) -> None:
+        self.opened: list[str] = []
+        self.begun: set[str] = set()
+        self.ended: set[str] = set()
+        self.emptied: list[str] = []
+
+
+def faults_of_opening(case: Case, it: Call, seen: Seen) -> Iterator[Fault]:
+    """What is wrong with how a file is opened. Each is opened once, an input for reading alone, and an output to be written as it stands,
+    after the inputs were read to their ends. Of a trace that is read along with the writing something was read."""
     outputs = dict(case.writes)
     how = it.asked & ~(os.O_CLOEXEC | os.O_NOCTTY | os.O_LARGEFILE)
+    if it.name in seen.opened and it.name != os.devnull:
+        yield f"{it.name} is opened twice"
     if it.name not in outputs:
         if how != os.O_RDONLY:
             yield f"{it.name} is opened with {it.asked:#o}, and is no output"
@@ -78,36 +94,37 @@ def faults_of_opening(case: Case, it: Call, ended: set[str], begun: list[str]) -
         return
     if how != os.O_WRONLY | os.O_CREAT:
         yield f"{it.name} is opened with {it.asked:#o}"
-    if it.name in begun:
-        yield f"{it.name} is opened twice"
-    yield from (f"{it.name} is opened before {name} was read to its end" for name in case.reads if name not in ended)
+    yield from (f"{it.name} is opened before {name} was read to its end" for name in case.reads
+                if name not in (seen.begun if name == case.along else seen.ended))
 
 
 def faults_of_calls(case: Case, ending: Ending) -> list[Fault]:
     """What is wrong with the calls of the system that were made, by what was written down of them."""
     found: list[Fault] = []
-    outputs, ended, opened = dict(case.writes), set[str](), list[str]()
-    emptied, handed = list[str](), collections.Counter[str]()
+    outputs, seen, handed = dict(case.writes), Seen(), collections.Counter[str]()
     still: dict[int, str] = {}
     for it in ending.calls:
         if it.call == "open" and it.answer >= 0:
-            found += faults_of_opening(case, it, ended, opened)
+            found += faults_of_opening(case, it, seen)
             still[it.answer] = it.name
-            opened.append(it.name)
+            seen.opened.append(it.name)
         elif it.call == "close" and still.pop(it.fd, None) is None:
             found.append(f"{it.fd} is closed, and isn't open")
-        elif it.call == "read" and it.answer == 0:
-            ended.add(it.name)
+        elif it.call == "read" and it.asked > PIECE:
+            found.append(f"{it.asked} bytes of {it.name} are read at once")
+        elif it.call == "read" and it.answer >= 0:
+            (seen.begun if it.answer else seen.ended).add(it.name)
         elif it.call == "ftruncate" and it.answer == 0:
-            emptied.append(it.name)
-            found += [] if emptied == list(outputs)[: len(emptied)] else [f"the outputs are begun as {emptied}"]
+            seen.emptied.append(it.name)
+            are_in_order = seen.emptied == list(outputs)[: len(seen.emptied)]
+            found += [] if are_in_order else [f"the outputs are begun as {seen.emptied}"]
         elif it.call == "write":
             handed[it.name] += max(it.answer, 0)
-            if it.name not in ("<1>", "<2>") and it.name not in emptied:
+            if it.name not in ("<1>", "<2>") and it.name not in seen.emptied:
                 found.append(f"{it.name} is written, and wasn't emptied")
     found += [f"{name} isn't closed" for name in still.values()]
     if handed["<1>"] != len(ending.printed):
         found.append(f"{handed['<1>']} bytes were answered as printed, and {len(ending.printed)} are there")
     found += [f"{handed[name]} bytes were answered as written to {name}, and {len(ending.files[name] or b'')} are there"
-              for name in emptied if name in outputs and len(ending.files[name] or b"") != handed[name]]
+              for name in seen.emptied if name in outputs and len(ending.files[name] or b"") != handed[name]]
     return found

@@ -12,17 +12,19 @@ builds it. What is wanted after each:
 - each output is as it was, a front of what it is to be, or whole, and whole where the work is done. It has the bytes that were handed over
   in writes that the system answered, and no others;
 - no other file is changed or made, and nothing is left open or running;
-- an input is opened for reading alone, and an output once, as it stands, after the inputs were read to their ends and the output before it
-  was emptied;
+- each file is opened once: an input for reading alone, and an output as it stands, after the inputs were read to their ends and the output
+  before it was emptied. (That of `move` is begun as soon as its trace was read from);
 - a call that a signal interrupts (EINTR) is made anew, but for a read, which fails then; so is what moved fewer bytes;
 - an error of a close changes nothing. That of a write to standard error, or of asking what the streams are, changes nothing else.
 
-tries.py tries what needs no failing call: names of files, streams, full disks, traces that change, and what `main` does. files.py
-has what each call is to print and write, worked out apart from the program.
+tries.py, names.py and streams.py try what needs no failing call: names of files, streams, full disks, traces that change, and what `main`
+does. files.py has what each call is to print and write, worked out apart from the program.
 
 The short form takes EINTR and some of the other errnos in turn, and of calls that are alike the first two and the last; --long takes all.
-With --planted between.c makes mistakes in the program's name, one kind after another, and each must be found. So what is shown is that such
-a mistake would be seen; the program itself isn't changed.
+With --planted between.c makes mistakes in the program's name, one kind after another, and each must be found, most of them in calls of
+every command that writes: a last piece that is written in part, the tail of an older file that stays, a piece of one byte that is lost, a
+text that is cut at 64 KiB, an output that is begun too early, an input that is opened for writing, and the others in PLANTS. So what is
+shown is that such a mistake would be seen; the program itself isn't changed.
 
 --open tries what one would expect and the program doesn't do, and nothing else: it fails as long as that is so.
 
@@ -37,10 +39,12 @@ import sys
 import tempfile
 from typing import Iterator, NamedTuple
 
+import names
 import tries
 from bench import Bench, Call
 from files import Case
 from judge import Wanted, faults_of, good_end
+from streams import READ_ONCE
 
 # Which errnos a call may have. A close is made anyway, and its error is passed over.
 ERRORS = {
@@ -55,7 +59,6 @@ ERRORS = {
 SHARES = {"read": ("less", "half", "one"), "write": ("less", "half", "one", "none")}
 # Which calls are made anew where a signal interrupts them.
 TRIED_ANEW = ("open", "write", "ftruncate", "close")
-READ_ONCE = "a pipe or a terminal can be read once; write it to a file first"
 NO_BYTE = "failed to write whole buffer"
 READ_FAULT, WRITE_FAULT, NO_MEMORY = b"predator: read fault\n", b"predator: write fault\n", b"predator: no memory\n"
 
@@ -102,7 +105,7 @@ def reason_of(it: Call, part: str, how: How) -> str:
 def wanted_of(case: Case, calls: list[Call], number: int, how: How) -> Wanted:
     it, part = calls[number - 1], part_of(case, calls, number)
     reason = "" if part == "aside" else reason_of(it, part, how)
-    outputs = "stay" if case.refuses() else "whole"
+    outputs = "stay" if case.stays() else "whole"
     if not reason:
         # (the advice of a refusal looks at the file again)
         is_lost = part == "aside" and (it.name == "<2>" or (case.refuses() and it.call in ("lseek", "read")))
@@ -218,38 +221,48 @@ def try_good(bench: Bench) -> None:
         bench.count("as it is", "", case.words, faults_of(case, ending, good_end(case)))
 
 
+# Each mistake: what it is, what finds it, and in which calls it has to be found: in those of every command that writes, of every one that
+# reads and may write, of every one that reads, or of any.
 PLANTS = {
-    "part": ("a last piece of which a byte is lost", try_last_pieces),
-    "tail": ("the tail of an older file that stays", try_good),
-    "byte": ("a piece of one byte that is lost", try_good),
-    "print": ("a text that is cut at 64 KiB", try_good),
-    "full": ("an output that is cut on a full disk", try_rooms),
-    "early": ("an output that is begun before the inputs are read", try_good),
-    "order": ("a second output that is begun before the first", try_first_outputs),
-    "writing": ("an input that is opened for writing", try_good),
-    "kept": ("a file that isn't closed", try_good),
-    "shown": ("an output that is shown though it is kept", try_good),
-    "cut": ("an output of which 64 KiB are shown", try_good),
-    "inodes": ("numbers of files of which 32 bits count", tries.try_inodes),
-    "devices": ("devices that don't count", tries.try_inodes),
-    "behind": ("a line behind the report", try_good),
-    "status": ("a status that is always 0", tries.try_statuses),
-    "words": ("words behind the twelfth that are dropped", tries.try_words),
-    "case": ("names that differ by case as one file", tries.try_names_by_case),
-    "dash": ("a trace that is standard input, looked for as a file", tries.try_dash),
+    "part": ("a last piece of which a byte is lost", try_last_pieces, "writing"),
+    "tail": ("the tail of an older file that stays", try_good, "writing"),
+    "byte": ("a piece of one byte that is lost", try_good, "any"),
+    "print": ("a text that is cut at 64 KiB", try_good, "any"),
+    "full": ("an output that is cut on a full disk", try_rooms, "writing"),
+    "early": ("an output that is begun before the inputs are read", try_good, "both"),
+    "order": ("a second output that is begun before the first", try_first_outputs, "any"),
+    "writing": ("an input that is opened for writing", try_good, "reading"),
+    "kept": ("a file that isn't closed", try_good, "reading"),
+    "shown": ("an output that is shown though it is kept", try_good, "writing"),
+    "cut": ("an output of which 64 KiB are shown", try_good, "any"),
+    "inodes": ("numbers of files of which 32 bits count", names.try_inodes, "both"),
+    "devices": ("devices that don't count", names.try_inodes, "both"),
+    "behind": ("a line behind the report", try_good, "reading"),
+    "status": ("a status that is always 0", tries.try_statuses, "any"),
+    "words": ("words behind the twelfth that are dropped", tries.try_words, "any"),
+    "case": ("names that differ by case as one file", names.try_names_by_case, "both"),
+    "dash": ("a trace that is standard input, looked for as a file", tries.try_dash, "any"),
 }
+
+
+def must_find(bench: Bench, which: str) -> set[str]:
+    """The commands of which each has to find a mistake."""
+    writing, reading = {it.words[0] for it in bench.writing()}, {it.words[0] for it in bench.cases if it.reads}
+    return {"writing": writing, "reading": reading, "both": writing & reading, "any": set()}[which]
 
 
 def try_plants(bench: Bench) -> None:
     """Plants each mistake, and counts whether it is found. Without one there is nothing to be found."""
     for find in (try_last_pieces, try_first_outputs, try_good):
         find(bench)
-    for word, (what, find) in PLANTS.items():
+    for word, (what, find, which) in PLANTS.items():
         planted = Bench(bench.program, bench.work, bench.shim, {"EDGES_PLANT": word})
         find(planted)
         first = " ".join(planted.failed[0].split()[1:]) if planted.failed else ""
         print(f"planted: {what}: {'found: ' + first[:140] if first else 'NOT FOUND'}")
-        bench.count("planted", word, (what,), [] if first else ["it isn't found"])
+        lacking = must_find(bench, which) - {it.split()[1] for it in planted.failed}
+        faults = [] if first else ["it isn't found"]
+        bench.count("planted", word, (what,), faults + [f"no call of {it} finds it" for it in sorted(lacking)])
 
 
 def built(work: str) -> str:

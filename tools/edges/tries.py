@@ -1,92 +1,28 @@
-"""Tries what needs no failing call: the status of each end, words, names of files, streams and full disks. main.py has them made."""
+"""Tries which calls of the system there are, the status of each end, the words, a trace that is standard input, and one that changes. The
+tries of names.py and streams.py are made along with them. None needs a failing call."""
 
 import errno
-import fcntl
-import os
-import pty
 import re
 import resource
-import select
 import shutil
 import socket
 import subprocess
-import threading
-from typing import Callable, Iterator, Sequence
+from typing import Callable, Iterator
 
 import files
-from bench import OLDER, SECONDS, Bench, Fault, content
+import names
+import streams
+from commands import known
+from bench import Bench, content
+from ended import READ_FAULT, WRITE_FAULT, Ended, fault_line, put, remove, try_case
 from files import Case, SMALL, report
 from judge import faults_of, good_end
+from streams import DISK
 
-IN_USE = "the same file is in use under another name, and stays as it is"
-BROKEN, NO_SPACE, NO_STREAM = "Broken pipe", "No space left on device", "Bad file descriptor"
-READ_FAULT, WRITE_FAULT = b"predator: read fault\n", b"predator: write fault\n"
 # The commands that read a trace once, and so from standard input too.
-FROM_INPUT = ("replay", "misses", "blame", "caches", "sweep")
-# The memory, in bytes, that a call gets which is to want more, and the bytes of a disk that is filled.
-LITTLE, DISK = 48 << 20, 16384
-# How many bytes a pipe takes that nobody reads, and how many more of them a reader makes room for that takes a few.
-PIPE, PAGE = 65536, 4096
-
-
-class Ended:
-    """How a call ended that was made over other streams."""
-
-    def __init__(self, bench: Bench, words: Sequence[str], **streams: object) -> None:
-        usual: dict[str, object] = {"stdin": subprocess.DEVNULL, "stdout": subprocess.PIPE, "stderr": subprocess.PIPE}
-        settings = usual | {"env": bench.environment({}), "timeout": SECONDS, "check": False} | streams
-        try:
-            ran = subprocess.run([bench.program, *words], **settings)  # type: ignore[call-overload]
-            self.status, self.printed, self.said = ran.returncode, ran.stdout, ran.stderr or b""
-        except subprocess.TimeoutExpired:
-            self.status, self.printed, self.said = None, b"", f"(it hadn't ended after {SECONDS} s)".encode()
-
-    def faults(self, status: int, printed: bytes | None, said: bytes | None) -> list[Fault]:
-        """What is wrong. None stands for what isn't looked at, or went elsewhere."""
-        found = [] if self.status == status else [f"status {self.status}, and {status} is wanted"]
-        for what, is_now, wanted in (("printed", self.printed, printed), ("said", self.said, said)):
-            if wanted is not None and is_now != wanted:
-                found.append(f"it {what} {is_now[-200:]!r}, and wanted is {wanted[-200:]!r}")
-        return found
-
-    def unsaid(self, line: bytes) -> list[Fault]:
-        """What is wrong where this line is to be the last that is said."""
-        return [] if self.said.endswith(line) else [f"it said {self.said[-200:]!r}, and wanted is {line!r}"]
-
-
-def fault_line(name: str, reason: str) -> bytes:
-    return f"predator: {name}: {reason}\n".encode()
-
-
-def other_bytes(name: str, wanted: bytes | None) -> list[Fault]:
-    """What is wrong with a file that is to have these bytes, or not to be there."""
-    now = content(name)
-    return [] if now == wanted else [f"{name} has {None if now is None else len(now)} bytes, and not those that are wanted"]
-
-
-def unwritten(case: Case) -> list[Fault]:
-    """What is wrong with the outputs of a call that is to write them whole. They are removed."""
-    found = [it for name, whole in case.writes for it in other_bytes(name, None if case.refuses() else whole)]
-    remove(*dict(case.writes))
-    return found
-
-
-def put(name: str, bytes_of: bytes) -> None:
-    with open(name, "wb") as file:
-        file.write(bytes_of)
-
-
-def remove(*names: str) -> None:
-    for it in names:
-        if os.path.lexists(it):
-            os.remove(it)
-
-
-def try_case(bench: Bench, what: str, how: str, case: Case) -> None:
-    bench.count(what, how, case.words, faults_of(case, bench.call(case), good_end(case)))
-
-
-# ---- The calls of the system, the status of each end, and the words.
+FROM_INPUT = ("replay", "misses", "blame", "caches", "sweep", "move")
+# The memory, in bytes, that a call gets which is to want more.
+LITTLE = 48 << 20
 
 # The functions of the C library that between.c stands before, and those about files that would go past it.
 STOOD_BEFORE = {"open", "close", "read", "write", "lseek", "ftruncate", "statx"}
@@ -110,11 +46,25 @@ def try_calls(bench: Bench) -> None:
     bench.count("main", "calls", ["objdump"], found)
 
 
+def slots(name: str) -> tuple[int, int]:
+    """How many files a command reads and writes at most, by commands.toml."""
+    table = known()
+    row = next(it for it in table["command"] if it["name"] == name)
+    options = [it for it in table["option"] if it["name"] in row["usage"].replace("[", " ").split()]
+    return tuple(len(row.get(what, ())) + sum(what in it for it in options) for what in ("reads", "writes"))  # type: ignore[return-value]
+
+
 def try_commands(bench: Bench) -> None:
-    """No command is left out."""
-    lines = files.usage().decode().splitlines()
-    left = {it.split()[2] for it in lines} ^ {it.words[0] for it in bench.cases}
+    """No command is left out, and of none that writes a file that it reads or writes."""
+    names_of = {it.split()[2] for it in files.usage().decode().splitlines()}
+    left = names_of ^ {it.words[0] for it in bench.cases}
     bench.count("main", "commands", sorted(left), [f"{it} isn't tried, or is no command" for it in left])
+    tried = {it.words[0]: (len(it.reads), len(it.writes)) for it in bench.fullest()}
+    wanted = {it: slots(it) for it in sorted(names_of) if slots(it)[1]}
+    refused = {it.words[0] for it in bench.cases if it.stays() and it.writes}
+    found = [f"{it} is tried with {tried.get(it)} files, and it has {wanted[it]}" for it in wanted if tried.get(it) != wanted[it]]
+    found += [f"no refusal of {it} is tried" for it in wanted if it not in refused]
+    bench.count("main", "commands", sorted(wanted), found)
 
 
 def ends() -> Iterator[tuple[int, str, bytes]]:
@@ -133,7 +83,8 @@ def ends() -> Iterator[tuple[int, str, bytes]]:
     yield 10, "run plain.elf --set budget=2", report("budget", 2, 0, *run)
     yield 11, "run waits.elf", report("deadlock", 4, 1, *run)
     yield 12, "run traps.elf", report("trap hart 0 pc 0x00010000 load-misaligned", 0, 0, *run)
-    yield 13, "place pair none", b"predator: place NoObject\n"
+    yield 13, "place two none", b"predator: place NoObject\n"
+    yield 14, "move short bad m", b"predator: table BadLine 1\n"
 
 
 def with_little_memory() -> None:
@@ -167,367 +118,46 @@ def try_words(bench: Bench) -> None:
 
 
 def try_dash(bench: Bench) -> None:
-    """As the trace of a command that reads it once `-` is standard input, though there is a file of that name."""
-    once = [it for it in bench.cases if it.words[0] in FROM_INPUT and it.status == 0 and not it.writes]
+    """As the trace of a command that reads it once `-` is standard input, though there is a file of that name, and so it is called."""
     put("-", b"no trace")
     bench.kept = bench.inputs()
-    for case in (it for it in once if not it.piped):
-        piped = case._replace(words=(case.words[0], "-", *case.words[2:]), reads=(*case.reads[:-1], "/dev/stdin"), piped=case.reads[-1])
-        try_case(bench, "main", "-", piped)
+    for case in (it for it in bench.cases if it.words[0] in FROM_INPUT and not it.piped):
+        command, trace, *others = case.words
+        said = case.said.replace(f"predator: {trace}: ".encode(), b"predator: standard input: ")
+        try_case(bench, "main", "-", case.renamed(trace, "/dev/stdin")._replace(words=(command, "-", *others), piped=trace, said=said))
     remove("-")
     bench.kept = bench.inputs()
-    for words in ("replay - --size 64", "misses -", "blame -", "caches - --size 64 --sets 64 --ways 64", "sweep - --size 8"):
+    cut = b"predator: standard input: it ends after 10 bytes, before the trace does: write or copy it again\n"
+    for words in ("replay -", "misses -", "blame -", "caches - --size 64 --sets 64 --ways 64", "sweep - --size 8", "move - table m"):
         with open("bad", "rb") as given:
-            ended = Ended(bench, words.split(), stdin=given)
-        found = ended.faults(5, b"predator: trace Truncated 10\n", None)
-        found += [] if ended.said.startswith(b"predator: standard input: ") else [f"it said {ended.said!r}"]
-        bench.count("main", "-", words.split(), found)
+            found = Ended(bench, words.split(), stdin=given).faults(5, b"predator: trace Truncated 10\n", cut)
+        bench.count("main", "-", words.split(), found + bench.changed())
+    # (one name is one file in a call)
+    for status, words, fault in ((4, "replay - --settings -", "settings OutOfRange harts"), (6, "replay - --resume -", "state BadState 0"),
+                                 (14, "move - - m", "table BadLine 1")):
+        with open("bad", "rb") as given:
+            found = Ended(bench, words.split(), stdin=given).faults(status, f"predator: {fault}\n".encode(), None)
+        bench.count("main", "-", words.split(), found + bench.changed())
 
 
 def try_files_of_that_name(bench: Bench) -> None:
     """A file that is called `-` serves wherever no trace is read once, and isn't looked for on standard input."""
-    for words, name in ((f"split - {files.CUT} a b", "made"), ("convert - c", "made"), ("place - pair", "pair"), ("check -", "plain.elf"),
-                        ("run - --trace t --output o", "long.elf")):
-        like = next(it for it in bench.cases if it.words[0] == words.split()[0] and name in it.reads)
-        reads = tuple("-" if other == name else other for other in like.reads)
-        shutil.copy(name, "-")
-        bench.kept = bench.inputs()
-        try_case(bench, "main", "-", like._replace(words=tuple(words.split()), reads=reads, piped="bad", again="-" if like.again else ""))
-        remove("-")
-        bench.kept = bench.inputs()
-        said = fault_line("-", "No such file or directory")
-        missing = like._replace(words=tuple(words.split()), status=7, printed=READ_FAULT, reads=(), piped="bad", said=said)
-        found = faults_of(missing, bench.call(missing), good_end(missing)._replace(outputs="stay"))
-        bench.count("main", "-", missing.words, found)
-
-
-# ---- Names.
-
-def try_names_by_case(bench: Bench) -> None:
-    """Names that differ by case alone are those of different files."""
-    for words, old, new in (("run long.elf --trace t --output T", "o", "T"), (f"split made {files.CUT} a A", "b", "A"),
-                            ("convert made MADE", "c", "MADE"), (f"gen {files.MADE} MADE", "f", "MADE"),
-                            ("replay written --size 4 --settings settings --save WRITTEN", "s", "WRITTEN"),
-                            ("replay rest --size 4 --set tracking=1 --resume state --save STATE", "s", "STATE")):
-        like = next(it for it in bench.cases if it.words[:2] == tuple(words.split()[:2]))
-        writes = tuple((new if name == old else name, whole) for name, whole in like.writes)
-        try_case(bench, "names", "case", like._replace(words=tuple(words.split()), writes=writes))
-
-
-SAME = """run small.elf --trace x --output x
-run small.elf --trace small.elf
-run small.elf --settings settings --output settings
-run small.elf --schedule schedule --trace schedule
-split short 3 x x
-split short 3 short x
-split short 3 x short
-convert short short
-replay short --save short
-replay rest --resume state --save state
-replay short --settings settings --save settings
-replay - --save -"""
-
-
-def try_same_names(bench: Bench) -> None:
-    """A name that is written stands once among the names of a call."""
-    for words in (it.split() for it in SAME.splitlines()):
-        name = next(it for it in words if words.count(it) > 1)
-        said = f"predator: '{name}' stands twice; each file that is written wants its own name\n".encode()
-        bench.count("names", "a name twice", words, Ended(bench, words).faults(1, files.usage(), said) + bench.changed())
-
-
-def other_names(name: str) -> Iterator[tuple[str, str, tuple[int, ...]]]:
-    """Other names of a file: what they are, the name, and the open file that it stands for. Each is gone when the next is asked for."""
-    os.link(name, "hard")
-    yield "a hard link", "hard", ()
-    remove("hard")
-    os.symlink(name, "soft")
-    yield "a symbolic link", "soft", ()
-    remove("soft")
-    yield "another path", f"./{name}", ()
-    yield "a whole path", os.path.abspath(name), ()
-    file = os.open(name, os.O_RDWR)
-    yield "/dev/fd", f"/dev/fd/{file}", (file,)
-    yield "/proc/self/fd", f"/proc/self/fd/{file}", (file,)
-    os.close(file)
-
-
-# Calls with IT for an output, and the input, or the output before it, that IT is another name of.
-LINKED = """run small.elf --trace IT = small.elf
-run small.elf --output IT = small.elf
-run small.elf --settings settings --trace IT = settings
-run small.elf --settings settings --output IT = settings
-run small.elf --schedule schedule --trace IT = schedule
-run small.elf --schedule schedule --output IT = schedule
-convert short IT = short
-split short 3 IT x = short
-split short 3 x IT = short
-replay short --save IT = short
-replay short --settings settings --save IT = settings
-replay rest --size 4 --set tracking=1 --resume state --save IT = state
-run small.elf --trace first --output IT = first
-split short 3 first IT = first"""
-
-
-def try_links(bench: Bench) -> None:
-    """An output that is a file of the call under another name fails, and that file stays as it is."""
-    for row in LINKED.splitlines():
-        words, name = row.split(" = ")
-        if name == "first":
-            put(name, b"older")
-        # (the first output is begun by then)
-        wanted = b"" if name == "first" else content(name)
-        for what, other, opened in other_names(name):
-            call = words.replace("IT", other).split()
-            found = Ended(bench, call, pass_fds=opened).faults(8, WRITE_FAULT, fault_line(other, IN_USE)) + other_bytes(name, wanted)
-            bench.count("names", what, call, found)
-        remove("first", "x")
-    bench.kept = bench.inputs()
-
-
-def try_outputs_by_link(bench: Bench) -> None:
-    """What is written under a link goes into the file that it leads to, and the link stays."""
-    words = ["convert", "made", "link"]
-    whole = next(it for it in bench.cases if it.words[:2] == ("convert", "made")).writes[0][1]
-    for what in ("a hard link", "a symbolic link"):
-        put("led", OLDER)
-        if what == "a hard link":
-            os.link("led", "link")
-        else:
-            os.symlink("led", "link")
-        found = Ended(bench, words).faults(0, files.lines(f"convert 2 {files.MADE}"), b"") + other_bytes("led", whole)
-        is_link = os.path.samefile("led", "link") and os.path.islink("link") == (what == "a symbolic link")
-        bench.count("names", f"an output by {what}", words, found + ([] if is_link else ["the link is another file"]))
-        remove("led", "link")
-
-
-def try_inodes(bench: Bench) -> None:
-    """Files are told apart by all of their numbers and by their devices, and one under two names is found by both."""
-    for numbers in ("long", "devices"):
-        told = {"EDGES_INODES": numbers}
-        for case in (it for it in bench.writing() if it.reads or len(it.writes) > 1):
-            bench.count("names", f"{numbers} numbers", case.words, faults_of(case, bench.call(case, told), good_end(case)))
-        words = ["convert", "short", "hard"]
-        os.link("short", "hard")
-        ended = Ended(bench, words, env=bench.environment(told))
-        found = ended.faults(8, WRITE_FAULT, fault_line("hard", IN_USE)) + other_bytes("short", files.files()["short"])
-        remove("hard")
-        bench.kept = bench.inputs()
-        bench.count("names", f"{numbers} numbers", words, found)
-
-
-def with_mask() -> None:
-    os.umask(0o027)
-
-
-def try_modes(bench: Bench) -> None:
-    """A new output may be read and written by whom the mask leaves, and an older one stays the file that it is, with its rights."""
-    for case in bench.writing():
-        found = Ended(bench, case.words, preexec_fn=with_mask).faults(case.status, case.printed, case.said)
-        found += [f"{name} has other rights" for name, _ in case.writes if os.stat(name).st_mode & 0o777 != 0o640]
-        was = {name: os.stat(name).st_ino for name, _ in case.writes}
-        for name in was:
-            os.chmod(name, 0o604)
-        found += Ended(bench, case.words).faults(case.status, case.printed, case.said)
-        found += [f"{name} is another file" for name in was if (os.stat(name).st_ino, os.stat(name).st_mode & 0o777) != (was[name], 0o604)]
-        bench.count("names", "rights", case.words, found + unwritten(case) + bench.changed())
-
-
-# ---- Streams.
-
-def closing(*numbers: int) -> Callable[[], None]:
-    def close() -> None:
-        for it in numbers:
-            os.close(it)
-    return close
-
-
-def try_closed_streams(bench: Bench) -> None:
-    """Without standard output nothing is printed and each output is whole; without the other streams all is as with them."""
-    for case in (it for it in bench.cases if not it.piped):
-        for numbers in ((0,), (1,), (2,), (0, 1, 2)):
-            is_lost = 1 in numbers and not case.refuses()
-            shown = b"" if case.status else case.said
-            said = shown + fault_line("standard output", NO_STREAM) if is_lost else case.said
-            is_seen = 2 not in numbers and not case.refuses()
-            ended = Ended(bench, case.words, preexec_fn=closing(*numbers))
-            found = ended.faults(8 if is_lost else case.status, b"" if 1 in numbers else case.printed, said if is_seen else None)
-            bench.count("streams", f"without {' '.join(map(str, numbers))}", case.words, found + unwritten(case) + bench.changed())
-
-
-def shown_on(terminal: int) -> bytes:
-    """All that was written on a terminal that nobody writes on any more. It is closed."""
-    said = b""
-    try:
-        while piece := os.read(terminal, PAGE):
-            said += piece
-    except OSError:
-        # (so a terminal ends that nobody has open)
-        pass
-    os.close(terminal)
-    return said
-
-
-def try_terminals(bench: Bench) -> None:
-    """With a terminal for standard error all is as without one."""
-    for case in (it for it in bench.cases if not it.piped and len(it.said) < PAGE):
-        ours, theirs = pty.openpty()
-        ended = Ended(bench, case.words, stderr=theirs)
-        os.close(theirs)
-        said = shown_on(ours).replace(b"\r\n", b"\n")
-        found = ended.faults(case.status, case.printed, None) + ([] if said == case.said else [f"it said {said!r}"])
-        bench.count("streams", "a terminal", case.words, found + unwritten(case) + bench.changed())
-
-
-def try_full_output(bench: Bench) -> None:
-    """What can't be printed is a fault, and each output is whole."""
-    for case in (it for it in bench.cases if not it.refuses() and not it.piped):
-        for what, reason in (("/dev/full", NO_SPACE), ("a pipe that nobody reads", BROKEN)):
-            reading, writing = os.pipe()
-            os.close(reading)
-            with open("/dev/full", "wb") as full:
-                ended = Ended(bench, case.words, stdout=full if what == "/dev/full" else writing)
-            os.close(writing)
-            said = (b"" if case.status else case.said) + fault_line("standard output", reason)
-            bench.count("streams", what, case.words, ended.faults(8, None, said) + unwritten(case))
-
-
-# Calls that have standard output for an output, each like one of the cases, which has the name that stands there.
-ONTO_OUTPUT = f"""gen {files.MADE} /dev/stdout = f
-convert made /dev/stdout = c
-split made {files.CUT} /dev/stdout b = a
-split made {files.CUT} a /dev/stdout = b
-run long.elf --trace /dev/stdout = t
-run long.elf --trace t --output /dev/stdout = o
-replay written --size 4 --settings settings --save /dev/stdout = s"""
-
-
-def try_output_as_file(bench: Bench) -> None:
-    """Standard output as an output: a pipe takes the bytes and then the text, and a file stays as it is."""
-    for row in ONTO_OUTPUT.splitlines():
-        words, name = row.split(" = ")
-        like = tuple(words.replace("/dev/stdout", name).split())
-        case = next(it for it in bench.cases if it.words == like)
-        call = words.split()
-        found = Ended(bench, call).faults(0, dict(case.writes)[name] + case.printed, case.said)
-        remove(*dict(case.writes))
-        put("both", b"before\n")
-        with open("both", "ab") as file:
-            ended = Ended(bench, call, stdout=file)
-        found += ended.faults(8, None, None) + other_bytes("both", b"before\n" + WRITE_FAULT)
-        found += ended.unsaid(fault_line("/dev/stdout", IN_USE))
-        remove("both", *dict(case.writes))
-        bench.count("streams", "an output", call, found + bench.changed())
-
-
-def try_text_into_file(bench: Bench) -> None:
-    """A text goes behind what is in the file that standard output is, and never into a file of the call."""
-    for case in (it for it in bench.cases if not it.refuses() and not it.piped):
-        put("text", b"before\n")
-        with open("text", "ab") as file:
-            ended = Ended(bench, case.words, stdout=file)
-        found = ended.faults(case.status, None, case.said) + other_bytes("text", b"before\n" + case.printed) + unwritten(case)
-        remove("text")
+    for case in (it for it in bench.cases if not it.piped and not it.status):
         for name in case.reads + tuple(dict(case.writes)):
-            was = content(name)
-            with open(name, "ab") as file:
-                ended = Ended(bench, case.words, stdout=file)
+            if case.words[0] in FROM_INPUT and name == case.words[1]:
+                continue
+            called = case.renamed(name, "-")._replace(piped="bad")
             if name in case.reads:
-                found += other_bytes(name, was) + ended.faults(8, None, None) + ended.unsaid(fault_line("standard output", IN_USE))
-            else:
-                found += other_bytes(name, WRITE_FAULT) + ended.faults(8, None, None) + ended.unsaid(fault_line(name, IN_USE))
-            remove(*dict(case.writes))
-        bench.count("streams", "a file", case.words, found + bench.changed())
-
-
-def try_full_pipes(bench: Bench) -> None:
-    """A pipe that takes no more and doesn't wait is a fault of printing, and has a front of the text."""
-    for case in (it for it in bench.cases if len(it.printed) > PIPE and not it.piped):
-        reading, writing = os.pipe()
-        os.set_blocking(writing, False)
-        ended = Ended(bench, case.words, stdout=writing)
-        os.close(writing)
-        with open(reading, "rb") as pipe:
-            front = pipe.read()
-        found = ended.faults(8, None, fault_line("standard output", "Resource temporarily unavailable"))
-        found += [] if case.printed.startswith(front) and front else ["no front of the text was printed"]
-        bench.count("streams", "a pipe that is full", case.words, found)
-
-
-def through_fifo(bench: Bench, words: Sequence[str]) -> tuple[Ended, bytes]:
-    """How a call ends, and what came through the FIFO that it writes into, to a program that reads it."""
-    with subprocess.Popen(["cat", "fifo"], stdout=subprocess.PIPE) as reading:
-        ended = Ended(bench, words)
-        try:
-            return ended, reading.communicate(timeout=SECONDS)[0]
-        except subprocess.TimeoutExpired:
-            # (the call never opened it)
-            reading.kill()
-            return ended, b""
-
-
-def into_fifo(bench: Bench, words: Sequence[str]) -> Ended:
-    """How a call ends that writes into a FIFO of one page, whose reader goes when it has read 10 bytes."""
-    reading = os.open("fifo", os.O_RDONLY | os.O_NONBLOCK)
-    fcntl.fcntl(reading, fcntl.F_SETPIPE_SZ, PAGE)
-
-    def read_some() -> None:
-        if select.select([reading], [], [], SECONDS)[0]:
-            os.read(reading, 10)
-        os.close(reading)
-    reader = threading.Thread(target=read_some)
-    reader.start()
-    ended = Ended(bench, words)
-    reader.join()
-    return ended
-
-
-def try_fifos(bench: Bench) -> None:
-    """A FIFO gets a whole output; where its reader goes, that is a fault of writing."""
-    os.mkfifo("fifo")
-    for case, name, whole in ((case, name, whole) for case in bench.writing() for name, whole in case.writes):
-        words = ["fifo" if it == name else it for it in case.words]
-        ended, came = through_fifo(bench, words)
-        found = ended.faults(case.status, case.printed, case.said) + ([] if came == whole else ["what came through is another file"])
-        bench.count("streams", "a FIFO", words, found)
-        if len(whole) > 2 * PAGE:
-            ended = into_fifo(bench, words)
-            found = ended.faults(8, WRITE_FAULT, None) + ended.unsaid(fault_line("fifo", BROKEN))
-            bench.count("streams", "a FIFO whose reader goes", words, found)
-        remove(*dict(case.writes))
-    remove("fifo")
-
-
-# ---- A full disk.
-
-def fill(bench: Bench, mount: str, case: Case) -> list[Fault]:
-    """What is wrong with a call whose outputs go onto a disk that they fill."""
-    words = [f"disk/{it}" if it in dict(case.writes) else it for it in case.words]
-    script = f'{mount} && {{ "$@"; ended=$?; cp disk/* .; exit $ended; }}'
-    ran = subprocess.run(["unshare", "-m", "sh", "-c", script, "sh", bench.program, *words], stdin=subprocess.DEVNULL, capture_output=True,
-                         timeout=SECONDS, check=False)
-    found = [] if (ran.returncode, ran.stdout) == (8, WRITE_FAULT) else [f"status {ran.returncode}, and it printed {ran.stdout!r}"]
-    made = [content(name) or b"" for name, _ in case.writes]
-    found += [f"{name} is no front" for (name, whole), now in zip(case.writes, made) if not whole.startswith(now)]
-    found += [] if sum(map(len, made)) == DISK else [f"the outputs have {sum(map(len, made))} bytes, and the disk {DISK}"]
-    lines = tuple(fault_line(f"disk/{name}", NO_SPACE) for name, _ in case.writes)
-    found += [] if ran.stderr.endswith(lines) else [f"it said {ran.stderr[-200:]!r}"]
-    remove(*dict(case.writes))
-    return found
-
-
-def try_full_disk(bench: Bench) -> bool:
-    """Fills a disk of 16 KiB, where one may be mounted. What fits is a front, and the call fails."""
-    mount = f"mount -t tmpfs -o size={DISK} none disk"
-    os.makedirs("disk")
-    may = shutil.which("unshare") is not None and subprocess.call(["unshare", "-m", "sh", "-c", mount], stderr=subprocess.DEVNULL) == 0
-    if may:
-        one_piece = Case(("gen", "3000", "f"), 0, b"", (), (("f", files.trace(files.made(3000))),))
-        for case in [one_piece, *bench.writing()]:
-            if sum(len(whole) for _, whole in case.writes) > DISK:
-                bench.count("streams", "a disk of 16 KiB", case.words, fill(bench, mount, case))
-    os.rmdir("disk")
-    return may
+                shutil.copy(name, "-")
+                bench.kept = bench.inputs()
+            try_case(bench, "main", "-", called)
+            remove("-")
+            bench.kept = bench.inputs()
+            if name in case.reads:
+                said, before = fault_line("-", "No such file or directory"), called.reads[: called.reads.index("-")]
+                missing = called._replace(status=7, printed=READ_FAULT, reads=before, said=said)
+                found = faults_of(missing, bench.call(missing), good_end(missing)._replace(outputs="stay"))
+                bench.count("main", "-", missing.words, found)
 
 
 # ---- A trace that changes between two readings.
@@ -548,15 +178,20 @@ def changes() -> Iterator[tuple[bytes, int, str]]:
 
 def try_changed_traces(bench: Bench) -> None:
     """A trace that is another one when it is read again is refused for what was read then."""
-    first = content("made") or b""
-    for words in (f"split made {files.CUT} a b", "convert made c"):
-        for other, status, line in changes():
+    two = content("two") or b""
+    of_two = [(other, 5, line) for other, line in (
+        (two[:-1], f"trace Truncated {len(two) - 1}"), (two + b"\0", f"trace AfterEnd {len(two)}"), (b"harts = 0\n", "trace Truncated 10"),
+        (b"PRDTRC09" + two[8:], "trace BadMagic"))]
+    for words, name, becomes in ((f"split made {files.CUT} a b", "made", list(changes())), ("convert made c", "made", list(changes())),
+                                 ("place two pair", "two", of_two)):
+        first = content(name) or b""
+        for other, status, line in becomes:
             put("other", other)
-            how = {"EDGES_NAME": "made", "EDGES_BEHIND": "other"}
+            how = {"EDGES_NAME": name, "EDGES_BEHIND": "other"}
             ended = Ended(bench, words.split(), env=bench.environment(how))
             found = ended.faults(status, f"predator: {line}\n".encode(), None)
             bench.count("main", "a trace that changes", words.split(), found)
-            put("made", first)
+            put(name, first)
             remove("other", "a", "b", "c")
     bench.kept = bench.inputs()
 
@@ -586,14 +221,16 @@ def try_open(bench: Bench) -> None:
     remove("c")
 
 
-TRIES = (try_calls, try_commands, try_statuses, try_words, try_dash, try_files_of_that_name, try_names_by_case, try_same_names,
-         try_links, try_inodes, try_outputs_by_link, try_modes, try_closed_streams, try_terminals, try_full_output, try_output_as_file,
-         try_text_into_file, try_full_pipes, try_fifos, try_changed_traces)
+TRIES = (
+    try_calls, try_commands, try_statuses, try_words, try_dash, try_files_of_that_name, names.try_names_by_case, names.try_same_names,
+    names.try_links, names.try_inodes, names.try_outputs_by_link, names.try_modes, streams.try_closed_streams, streams.try_terminals,
+    streams.try_full_output, streams.try_output_as_file, streams.try_text_into_file, streams.try_full_pipes, streams.try_fifos,
+    streams.try_inputs_by_fifo, try_changed_traces)
 
 
 def try_all(bench: Bench) -> None:
     for tries in TRIES:
         tries(bench)
         bench.kept = bench.inputs()
-    if not try_full_disk(bench):
+    if not streams.try_full_disk(bench):
         print("skipped: a full disk, which wants the right to mount one")

@@ -1,0 +1,218 @@
+#!/usr/bin/env python3
+"""The studies that are kept, beside each other.
+
+usage: bench/clock/studies.py                prints the tables of docs/STUDIES.md and docs/GUIDE.md
+       bench/clock/studies.py --renew        puts them into both
+       bench/clock/studies.py --html FILE    writes a page with the points of all, which wants python3-jinja2
+
+A study is kept as results/NAME.tsv, which is the study.tsv that run.py writes."""
+
+import csv
+import os
+import re
+import sys
+from statistics import median
+from typing import Callable, Iterator, Mapping, Sequence
+
+from counts import Count
+from judge import QUANTA, USUAL, Cell, Row, bands, both, correlated, reported
+from page import page
+from pairs import FORMS, HERE, TOP, Program, Trouble, programs
+from tables import Study, shown, table
+from timing import Timed
+
+RESULTS = os.path.join(HERE, "results")
+# The programs of the table: of the first band and of the last, and those on which the bands and the bound mislead.
+NAMED = ("nodes", "atomics", "readers", "stores", "blocks", "bytes", "guarded", "ring")
+# Those that GUIDE shows: one of the last band and one of the first.
+SHOWN = ("atomics", "guarded")
+
+
+def number(text: str) -> int:
+    return int(float(text))
+
+
+def count_of(cells: Mapping[str, str]) -> Count:
+    """A count by what a table has of it."""
+    return Count(*(number(cells.get(it, "0")) for it in Count._fields))
+
+
+def row_of(it: Mapping[str, str], texts: Mapping[str, str]) -> Row:
+    """A row of a table: of its runs the quarters of the slowdown are kept, and not those of both forms."""
+    low, high, whole = float(it["low"]), float(it["high"]), float(it[f"{FORMS[1]}: ns"])
+    timed = []
+    for form, (least, most) in zip(FORMS, ((low * whole, high * whole), (whole, whole))):
+        kept, runs, rounds, voluntary, involuntary = (
+            number(it[f"{form}: {what}"]) for what in ("kept", "runs", "rounds", "voluntary", "involuntary")
+        )
+        timed.append(Timed(rounds, float(it[f"{form}: ns"]), least, most, kept, runs, 0, voluntary, involuntary))
+    counts = {
+        (form, quantum): count_of({what: it[f"{form}, quantum {quantum}: {what}"] for what in ("steps", "useful", "useless", "listed")})
+        for form in FORMS
+        for quantum in QUANTA
+        if it[f"{form}, quantum {quantum}: steps"]
+    }
+    recorded = {
+        form: count_of({what: it[f"{form}, recorded: {what}"] for what in ("accesses", "useful", "useless")})
+        for form in FORMS
+        if it[f"{form}, recorded: accesses"]
+    }
+    program = Program(it["program"], it["kind"], texts.get(it["program"], ""), "")
+    return Row(program, number(it["threads"]), number(it["guest rounds"]), timed, counts, recorded)
+
+
+def of_values(text: str) -> Study:
+    """The study of a table that `values` made."""
+    notes = dict(re.findall(r"^# ([^:\n]*): (.*)$", text, re.MULTILINE))
+    lines = {name.removeprefix("line "): float(ns) for name, ns in notes.items() if name.startswith("line ")}
+    machine = {name: told for name, told in notes.items() if not name.startswith("line ") and name != "step"}
+    texts = {it.name: it.text for it in programs()}
+    rows = csv.DictReader((it for it in text.splitlines() if it[:1] != "#"), delimiter="\t")
+    return Study(machine, lines, float(notes["step"]), [row_of(it, texts) for it in rows])
+
+
+def all_kept() -> dict[str, Study]:
+    """The studies by the names of their files, in the order of these."""
+    made = {}
+    for file in sorted(os.listdir(RESULTS)):
+        name, ending = os.path.splitext(file)
+        if ending == ".tsv":
+            with open(os.path.join(RESULTS, file), encoding="utf-8") as text:
+                made[name] = of_values(text.read())
+    if not made:
+        raise Trouble(f"no study is kept in {RESULTS}")
+    return made
+
+
+def bands_beside(studies: Mapping[str, Study]) -> str:
+    """The bands of all studies: how many cases each has, and its least, middle and greatest slowdown."""
+    heads = ["Useless misses by 1000 steps"]
+    rows: list[list[Cell]] = [[it[0]] for it in bands([])]
+    for name, study in studies.items():
+        heads += [f"{name}: cases", "least", "middle", "greatest"]
+        rows = [own + more[1:] for own, more in zip(rows, bands(study.judged()))]
+    return table(heads, rows)
+
+
+def ranks(study: Study) -> list[tuple[str, Cell]]:
+    """The rank correlations of the slowdown with some numbers."""
+    chosen = {"useless misses": rate(USUAL), "the same in turns of 10": rate(10), "the same in turns of 1": rate(1)}
+    chosen |= {"both kinds of misses": both, "the report's count": reported}
+    return [(f"rank correlation with {name}", correlated(study.judged(), it)) for name, it in chosen.items()]
+
+
+def rate(quantum: int) -> Callable[[Row], float | None]:
+    return lambda row: row.rate(quantum)
+
+
+def is_handed(row: Row) -> bool:
+    """Whether most misses of a program as it is are useful."""
+    found = row.counts[FORMS[0], USUAL]
+    return found.useful > found.useless
+
+
+def of_bound(study: Study) -> list[tuple[str, Cell]]:
+    """How the bound that view prints did, with the latency of the machine."""
+    most = [(row, it) for row in study.judged() if (it := row.at_most(study.latency(), study.step)) is not None]
+    passed = sorted({row.program.name for row, it in most if row.share() > it + 0.02})
+    saved = [row.share() / it for row, it in most if it > 0.05]
+    over = sum(row.share() > it + 0.02 for row, it in most)
+    return [
+        ("*at most* was passed by 2 points", f"{over} of {len(most)}: {', '.join(passed)}" if over else f"0 of {len(most)}"),
+        ("the part of *at most* that padding saved, in the middle", median(saved) if saved else None),
+    ]
+
+
+def facts(study: Study) -> list[tuple[str, Cell]]:
+    """What else the document tells of a study."""
+    rows, ways = study.judged(), sorted(study.lines.values())
+    handed = [it for it in rows if is_handed(it)]
+    slower, gained = sum(it.slowdown() < 0.95 for it in handed), sum(it.slowdown() > 1.05 for it in handed)
+    return [
+        ("pairs that nothing disturbed", f"{len(rows)} of {len(study.rows)}"),
+        ("ns from one processor to another", f"{ways[0]:.0f} to {ways[-1]:.0f}"),
+        *ranks(study),
+        *of_bound(study),
+        ("of those with most misses useful, a pad cost 5% or more; saved it", f"{slower}; {gained} of {len(handed)}"),
+    ]
+
+
+def facts_beside(studies: Mapping[str, Study]) -> str:
+    rows: dict[str, list[Cell]] = {}
+    for study in studies.values():
+        for name, cell in facts(study):
+            rows.setdefault(name, [name]).append(cell)
+    return table(["Study", *studies], list(rows.values()))
+
+
+def slowdowns(study: Study, name: str) -> str:
+    """The slowdowns of a program with each number of threads, those of disturbed runs in brackets."""
+    own = sorted((it for it in study.rows if it.program.name == name), key=lambda it: it.threads)
+    return ", ".join(shown(it.slowdown()) if it.is_quiet() else f"({shown(it.slowdown())})" for it in own)
+
+
+def programs_beside(studies: Mapping[str, Study], names: Sequence[str], is_told: bool) -> str:
+    """Some programs: what they do, if that is told, their useless misses, and their slowdowns."""
+    first, rows = next(iter(studies.values())), []
+    for name in names:
+        own = sorted((it for it in first.rows if it.program.name == name), key=lambda it: it.threads)
+        rates = ", ".join(shown(it.rate()) for it in own)
+        what = [own[0].program.text] if is_told else []
+        rows.append([f"`{name}`", *what, rates, *[slowdowns(it, name) for it in studies.values()]])
+    heads = ["Program", *(["What it does"] if is_told else []), "Useless by 1000 steps", *[f"{it}: slowdown" for it in studies]]
+    return table(heads, rows, 2 if is_told else 1)
+
+
+def parts(studies: Mapping[str, Study]) -> dict[str, dict[str, str]]:
+    """The texts between the marks of each document."""
+    told = [bands_beside(studies), facts_beside(studies), programs_beside(studies, NAMED, False)]
+    return {"STUDIES.md": {"clock": "\n\n".join(told)}, "GUIDE.md": {"clock": programs_beside(studies, SHOWN, True)}}
+
+
+def renewed(text: str, found: Mapping[str, str], of: str) -> str:
+    """A document with the texts between its marks `<!-- NAME -->` and the next `<!-- end -->`."""
+    for name, own in found.items():
+        mark = f"<!-- {name} -->\n"
+        if text.count(mark) != 1:
+            raise Trouble(f"{of}: there is no one mark {mark.strip()}")
+        before, rest = text.split(mark)
+        text = f"{before}{mark}\n{own}\n\n<!-- end -->{rest.split('<!-- end -->', 1)[1]}"
+    return text
+
+
+def documents(studies: Mapping[str, Study]) -> Iterator[tuple[str, str, str]]:
+    """The path of each document, its text, and what that is to be."""
+    for name, found in parts(studies).items():
+        path = os.path.join(TOP, "docs", name)
+        with open(path, encoding="utf-8") as file:
+            text = file.read()
+        yield path, text, renewed(text, found, path)
+
+
+def main(words: Sequence[str]) -> int:
+    try:
+        studies = all_kept()
+        if words == ["--renew"]:
+            for path, _, text in documents(studies):
+                with open(path, "w", encoding="utf-8") as file:
+                    file.write(text)
+        elif len(words) == 2 and words[0] == "--html":
+            made = page(studies)
+            if made is None:
+                raise Trouble("a page wants python3-jinja2: apt-get install python3-jinja2")
+            with open(words[1], "w", encoding="utf-8") as file:
+                file.write(made)
+        elif not words:
+            for found in parts(studies).values():
+                print(*found.values(), sep="\n\n", end="\n\n")
+        else:
+            print(__doc__)
+            return 2
+    except (Trouble, OSError) as error:
+        print(f"studies.py: {error}", file=sys.stderr)
+        return 2
+    return 0
+
+
+if __name__ == "__main__":
+    sys.exit(main(sys.argv[1:]))

@@ -1,0 +1,136 @@
+#!/usr/bin/env python3
+"""Follows what `predator view` advises on programs that nobody here wrote, and prints the table of docs/STUDIES.md: advice.py [--renew]
+[PROGRAM ..].
+
+Each is built with its types, shown, built as the advice says, and counted again. Where a build of the study does what is advised, it is
+that; else view's patch is taken. fetch.sh has fetched the sources. The status is 1 where what is counted differs from what was foretold by
+a tenth of the misses before or more, or where these didn't become fewer."""
+
+import json
+import os
+import re
+import shutil
+import subprocess
+import sys
+import tempfile
+from typing import NamedTuple
+
+HERE = os.path.dirname(os.path.abspath(__file__))
+sys.path.insert(0, os.path.join(HERE, "..", "studies"))
+from report import BUILT, PROGRAM, builds, renew, table  # noqa: E402
+
+BUILD = os.path.join(HERE, "..", "build.sh")
+STUDIES = os.path.join(HERE, "..", "studies")
+SETTINGS = "quantum=10"
+
+
+class Followed(NamedTuple):
+    """A program: what its call sites make, and the build that does what is advised, or none where the patch does."""
+
+    types: tuple = ()
+    repaired: str | None = None
+
+
+# Of the others, and of the studies of suites.
+OTHERS = {
+    "ck_anderson": Followed(("main=ck_spinlock_anderson_thread",), "ck_anderson-apart"),
+    "ck_ring": Followed(("main=ck_ring", "test=entry"), "ck_ring-own_lines"),
+    "kt_for": Followed(("kt_for=ktf_worker_t",), "kt_for-blocks"),
+}
+# (the records of the build at 0 begin at multiples of a line, and are one line each)
+SUITES = {"linear_regression": Followed((), "linear_regression-at-0")}
+# What isn't shown of what is advised: where it is declared, how blocks are made, sizes and counts.
+REST = re.compile(r" \([\w.-]+:\d+\)|, and make the blocks by `[^`]*`|[:;] \d+ bytes become.*|; counted so.*")
+# The code of a repair that is one of a type alone.
+CODE = re.compile(r"give each element [^`]*(`struct [^`]*`)")
+COUNTED = re.compile(r"useless (\d+) before, (\d+) after; useful (\d+), (\d+)")
+
+
+def told(todo):
+    """What is advised, in short."""
+    code = CODE.match(todo)
+    return code[1] if code else REST.sub("", todo)
+
+
+class Study:
+    """A program that is built in a folder of its own."""
+
+    def __init__(self, name, folder):
+        self.name, self.folder = name, folder
+        self.of = {**OTHERS, **SUITES}[name]
+
+    def build(self, name):
+        """The program of a build, with its types."""
+        if self.name in OTHERS:
+            return os.path.join(HERE, "out", f"{name}.elf")
+        kept = os.path.join(BUILT, f"{name}.elf")
+        if name == self.of.repaired and os.path.exists(kept):
+            return kept
+        source, *flags = builds()[self.name][name]
+        for it in os.listdir(STUDIES):
+            if it.endswith((".c", ".h")) and not os.path.exists(os.path.join(self.folder, it)):
+                shutil.copy(os.path.join(STUDIES, it), self.folder)
+        out = os.path.join(self.folder, f"{name}.elf")
+        subprocess.run([BUILD, out, os.path.join(self.folder, source), "--", *flags], check=True, stdout=subprocess.DEVNULL)
+        return out
+
+    def missed(self, program):
+        """The useless and the useful misses of a run."""
+        trace = os.path.join(self.folder, "trace")
+        subprocess.run([PROGRAM, "run", program, "--set", SETTINGS, "--trace", trace], check=True, capture_output=True)
+        told = subprocess.run([PROGRAM, "misses", trace], check=True, capture_output=True, text=True).stdout
+        found = re.search(r"^total cold \d+ useful (\d+) useless (\d+)$", told, re.MULTILINE)
+        return int(found[2]), int(found[1])
+
+    def look(self, program):
+        """What view finds of a run; the patch is beside it."""
+        words = ["run", program, "--explain", "0", "--no-predicted", "--set", SETTINGS, "--json", "-", "--patch", "patch"]
+        words += [word for it in self.of.types for word in ("--type", it)]
+        ran = subprocess.run([PROGRAM, "view", *words], stdout=subprocess.PIPE, stderr=subprocess.DEVNULL, cwd=self.folder, check=True)
+        return json.loads(ran.stdout)
+
+    def patched(self):
+        """The program of the source as the patch changes it."""
+        subprocess.run(["patch", "-p1", "-s", "-i", "patch"], cwd=self.folder, check=True)
+        return self.build(self.name)
+
+    def row(self):
+        """The row of the table, and what is wrong."""
+        found = self.look(self.build(self.name))
+        advised = [it for it in found["objects"] if it["repaired"]]
+        together = [it for it in found["notes"] if it.startswith("all that is to do")]
+        counts = COUNTED.search(together[0] if together else advised[0]["todo"] if advised else "")
+        before = found["total"]["useless"], found["total"]["useful"]
+        foretold = (int(counts[2]), int(counts[4])) if counts else before
+        counted = self.missed(self.build(self.of.repaired) if self.of.repaired else self.patched())
+        how = "; ".join(told(it["todo"]) for it in advised) or "nothing"
+        is_good = abs(sum(counted) - sum(foretold)) * 10 < sum(before) and (sum(counted) < sum(before) or not counts)
+        wrong = [] if is_good else [f"{self.name}: {before} before, {foretold} foretold, {counted} counted"]
+        return [self.name, how, *(" + ".join(map(str, it)) for it in (before, foretold, counted))], wrong
+
+
+def main(words):
+    names = [it for it in words if it != "--renew"] or [*OTHERS, *SUITES]
+    if "--renew" in words and len(names) < len(OTHERS) + len(SUITES):
+        sys.exit("advice.py: --renew is for all programs")
+    others = [it for it in names if it in OTHERS]
+    if others:
+        subprocess.run([os.path.join(HERE, "build.sh"), *others], check=True, env={**os.environ, "DEBUG": "-g"})
+    rows, wrong = [], []
+    for name in names:
+        with tempfile.TemporaryDirectory() as folder:
+            row, bad = Study(name, folder).row()
+        rows.append(row)
+        wrong += bad
+    heads = ["Program", "What is advised", "Useless and useful before", "Foretold", "Counted"]
+    text = table(heads, rows)
+    print(text)
+    for it in wrong:
+        print(it)
+    if "--renew" in words:
+        renew({"advice": text})
+    return 1 if wrong else 0
+
+
+if __name__ == "__main__":
+    sys.exit(main(sys.argv[1:]))

@@ -1,0 +1,121 @@
+"""Tries names of files: that differ by case, that stand twice, and several of one file. Each is tried with every command that writes, with
+each of its outputs beside each file before that."""
+
+import os
+from typing import Iterator
+
+import files
+from bench import OLDER, Bench, content
+from ended import IN_USE, WRITE_FAULT, Ended, fault_line, other_bytes, put, remove, try_case, unwritten
+from files import Case
+from judge import faults_of, good_end
+
+
+def beside(bench: Bench) -> Iterator[tuple[Case, str, str]]:
+    """A call of each command that writes, with the name of each of its outputs and that of each file that it reads, or writes before."""
+    for case in bench.fullest():
+        outputs = list(dict(case.writes))
+        for at, name in enumerate(outputs):
+            for other in (*case.reads, *outputs[:at]):
+                yield case, name, other
+
+
+def try_names_by_case(bench: Bench) -> None:
+    """Names that differ by case alone are those of different files."""
+    for case, name, other in beside(bench):
+        try_case(bench, "names", "case", case.renamed(name, other.swapcase()))
+
+
+# Of these the trace is standard input.
+WITH_INPUT = ("replay - --save -", "move - table -")
+
+
+def try_same_names(bench: Bench) -> None:
+    """A name that is written stands once among the names of a call."""
+    calls = [(case.renamed(name, other).words, other) for case, name, other in beside(bench)]
+    # (and the later name, where the same stands for both outputs)
+    calls += [(case.renamed(other, name).words, name) for case, name, other in beside(bench)]
+    for words, name in [*calls, *((tuple(it.split()), "-") for it in WITH_INPUT)]:
+        said = f"predator: '{name}' stands twice; each file that is written wants its own name\n".encode()
+        bench.count("names", "a name twice", words, Ended(bench, words).faults(1, files.usage(), said) + bench.changed())
+
+
+def other_names(name: str) -> Iterator[tuple[str, str, tuple[int, ...]]]:
+    """Other names of a file: what they are, the name, and the open file that it stands for. Each is gone when the next is asked for."""
+    os.link(name, "hard")
+    yield "a hard link", "hard", ()
+    remove("hard")
+    os.symlink(name, "soft")
+    yield "a symbolic link", "soft", ()
+    remove("soft")
+    yield "another path", f"./{name}", ()
+    yield "a whole path", os.path.abspath(name), ()
+    file = os.open(name, os.O_RDWR)
+    yield "/dev/fd", f"/dev/fd/{file}", (file,)
+    yield "/proc/self/fd", f"/proc/self/fd/{file}", (file,)
+    os.close(file)
+
+
+def try_links(bench: Bench) -> None:
+    """An output that is a file of the call under another name fails, and that file stays as it is."""
+    for case, name, first in beside(bench):
+        is_output = first in dict(case.writes)
+        if is_output:
+            put(first, b"older")
+        # (the first output is begun by then)
+        wanted = b"" if is_output else content(first)
+        for what, other, opened in other_names(first):
+            call = case.renamed(name, other).words
+            ended = Ended(bench, call, pass_fds=opened)
+            found = ended.faults(8, WRITE_FAULT, fault_line(other, IN_USE)) + other_bytes(first, wanted)
+            bench.count("names", what, call, found)
+        remove(*dict(case.writes))
+    bench.kept = bench.inputs()
+
+
+def try_outputs_by_link(bench: Bench) -> None:
+    """What is written under a link goes into the file that it leads to, and the link stays."""
+    for case, name, whole in ((case, name, whole) for case in bench.fullest() for name, whole in case.writes):
+        call = case.renamed(name, "link").words
+        for what in ("a hard link", "a symbolic link"):
+            put("led", OLDER)
+            if what == "a hard link":
+                os.link("led", "link")
+            else:
+                os.symlink("led", "link")
+            found = Ended(bench, call).faults(0, case.printed, case.said) + other_bytes("led", whole)
+            is_link = os.path.samefile("led", "link") and os.path.islink("link") == (what == "a symbolic link")
+            bench.count("names", f"an output by {what}", call, found + ([] if is_link else ["the link is another file"]))
+            remove("led", "link", *dict(case.writes))
+
+
+def try_inodes(bench: Bench) -> None:
+    """Files are told apart by all of their numbers and by their devices, and one under two names is found by both."""
+    for numbers in ("long", "devices"):
+        told = {"EDGES_INODES": numbers}
+        for case in (it for it in bench.writing() if it.reads or len(it.writes) > 1):
+            bench.count("names", f"{numbers} numbers", case.words, faults_of(case, bench.call(case, told), good_end(case)))
+        words = ["convert", "short", "hard"]
+        os.link("short", "hard")
+        ended = Ended(bench, words, env=bench.environment(told))
+        found = ended.faults(8, WRITE_FAULT, fault_line("hard", IN_USE)) + other_bytes("short", files.files()["short"])
+        remove("hard")
+        bench.kept = bench.inputs()
+        bench.count("names", f"{numbers} numbers", words, found)
+
+
+def with_mask() -> None:
+    os.umask(0o027)
+
+
+def try_modes(bench: Bench) -> None:
+    """A new output may be read and written by whom the mask leaves, and an older one stays the file that it is, with its rights."""
+    for case in bench.writing():
+        found = Ended(bench, case.words, preexec_fn=with_mask).faults(case.status, case.printed, case.said)
+        found += [f"{name} has other rights" for name, _ in case.writes if os.stat(name).st_mode & 0o777 != 0o640]
+        was = {name: os.stat(name).st_ino for name, _ in case.writes}
+        for name in was:
+            os.chmod(name, 0o604)
+        found += Ended(bench, case.words).faults(case.status, case.printed, case.said)
+        found += [f"{name} is another file" for name in was if (os.stat(name).st_ino, os.stat(name).st_mode & 0o777) != (was[name], 0o604)]
+        bench.count("names", "rights", case.words, found + unwritten(case) + bench.changed())
