@@ -165,8 +165,9 @@ def main(words):
             for number, line in quoted(read(name), crates):
                 wrong += 1
                 print(f"{name}:{number}: {line}")
-        about, heading, paragraph = [], [], []
+        about, heading, paragraph, columns = [], [], [], ""
         for number, line in enumerate(read(name).split("\n"), 1):
+            columns = (columns or line) if line.startswith("|") else ""
             named = [it for it in crates if re.search(rf"(?<![\w]){it}(?![\w])", line)]
             heading = named if line.startswith("#") else heading
             paragraph = named if line.startswith(("|", "- ")) or not line.strip() else paragraph + named
@@ -182,7 +183,7 @@ def main(words):
                 for it in re.findall(r"`([A-Za-z][\w-]*)`", line)
                 if it not in everywhere and not it.endswith("_") and "STUDIES" not in name
             ]
-            if name == "docs/PROMISES.md" and line.startswith("| "):
+            if name == "docs/PROMISES.md" and columns.startswith("| Promise |"):
                 more, about = of_promises(line, crates, about)
                 found += more
             wrong += len(found)
