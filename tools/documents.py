@@ -149,46 +149,43 @@ def words_twice(page):
     return sorted({it for it in words if words.count(it) > 1})
 
 
+def wrong_names(name, crates, everywhere):
+    """The lines of a document, each with what it names in vain."""
+    about, heading, paragraph, columns = [], [], [], ""
+    for number, line in enumerate(read(name).split("\n"), 1):
+        columns = (columns or line) if line.startswith("|") else ""
+        named = [it for it in crates if re.search(rf"(?<![\w]){it}(?![\w])", line)]
+        heading = named if line.startswith("#") else heading
+        paragraph = named if line.startswith(("|", "- ")) or not line.strip() else paragraph + named
+        found = [*links(name, line), *relative(line, paragraph or heading)]
+        paths = re.findall(r"(?<![\w/.])(?:crates/)?([a-z_0-9]+/(?:src|specs|proofs|must-fail|data)\b(?:/[\w./]*\w)?)", line)
+        found += [it for it in paths if not has_path(it)]
+        found += [f"crates/{it}" for it in re.findall(r"\bcrates/([a-z_0-9]+)", line) if it not in crates and it != "NAME"]
+        items = re.findall(r"`([a-z_0-9]+)::(\w+)", line)
+        found += [f"{it}::{item}" for it, item in items if it not in crates or not crates[it].has_item(item)]
+        words = re.findall(r"`([A-Za-z][\w-]*)`", line)
+        found += [it for it in words if it not in everywhere and not it.endswith("_") and "STUDIES" not in name]
+        if name == "docs/PROMISES.md" and columns.startswith("| Promise |"):
+            more, about = of_promises(line, crates, about)
+            found += more
+        yield number, dict.fromkeys(found)
+
+
 def main(words):
     if "--help" in words or "-h" in words:
         print(__doc__)
         return 0
     listed = [it.split(":")[0].split()[0] for it in read("crates.txt").split("\n") if re.match(r"[a-z]", it)]
     crates = {it: Crate(it) for it in listed}
-    everywhere, wrong = words_of_sources(), 0
+    everywhere, wrong = words_of_sources(), []
     page = read("docs/ARCHITECTURE.md")
     for it in [] if words else [*wrong_floors(page), *(f"{it}: twice in the glossary" for it in words_twice(page))]:
-        wrong += 1
-        print(f"docs/ARCHITECTURE.md:1: {it}")
+        wrong.append(f"docs/ARCHITECTURE.md:1: {it}")
     for name in words or sorted(documents()):
         if name == "docs/PROMISES.md":
-            for number, line in quoted(read(name), crates):
-                wrong += 1
-                print(f"{name}:{number}: {line}")
-        about, heading, paragraph, columns = [], [], [], ""
-        for number, line in enumerate(read(name).split("\n"), 1):
-            columns = (columns or line) if line.startswith("|") else ""
-            named = [it for it in crates if re.search(rf"(?<![\w]){it}(?![\w])", line)]
-            heading = named if line.startswith("#") else heading
-            paragraph = named if line.startswith(("|", "- ")) or not line.strip() else paragraph + named
-            found = [*links(name, line), *relative(line, paragraph or heading)]
-            paths = re.findall(r"(?<![\w/.])(?:crates/)?([a-z_0-9]+/(?:src|specs|proofs|must-fail|data)\b(?:/[\w./]*\w)?)", line)
-            found += [it for it in paths if not has_path(it)]
-            found += [f"crates/{it}" for it in re.findall(r"\bcrates/([a-z_0-9]+)", line) if it not in crates and it != "NAME"]
-            for crate, item in re.findall(r"`([a-z_0-9]+)::(\w+)", line):
-                if crate not in crates or not crates[crate].has_item(item):
-                    found.append(f"{crate}::{item}")
-            found += [
-                it
-                for it in re.findall(r"`([A-Za-z][\w-]*)`", line)
-                if it not in everywhere and not it.endswith("_") and "STUDIES" not in name
-            ]
-            if name == "docs/PROMISES.md" and columns.startswith("| Promise |"):
-                more, about = of_promises(line, crates, about)
-                found += more
-            wrong += len(found)
-            for it in dict.fromkeys(found):
-                print(f"{name}:{number}: {it}")
+            wrong += [f"{name}:{number}: {line}" for number, line in quoted(read(name), crates)]
+        wrong += [f"{name}:{number}: {it}" for number, found in wrong_names(name, crates, everywhere) for it in found]
+    print("\n".join(wrong), end="\n" if wrong else "")
     return 1 if wrong else 0
 
 
