@@ -39,6 +39,7 @@ MOST = 6.0
 # The cases of which it is known that they grow as a square, and why.
 KNOWN = {
     "blocks dead before": "a listed line looks at each block that lay over it, and only then at when it lived",
+    "lines turned round": "a table is read by putting each place among those before it, and it has at most 1 MiB",
     "guest: noted blocks, more and wider": "the call `block` looks at each page of its bytes",
     "program file: segments": "each header is compared with all behind it",
     "program file: names in one": "each name is looked through to its end, however much of it is kept",
@@ -150,10 +151,11 @@ def place(trace: str, made: Made) -> Call:
 
 
 def move(trace: str, made: Made) -> Call:
-    """With as many ranges as the trace has lines, each of the first word of a line, and the places in reverse."""
+    """With as many ranges as the trace has lines, each of the first word of a line, which goes to the next line, or all in reverse."""
     count = min(made.lines, 1 << 15)
+    places = range(count)[::-1] if made.is_turned else [*range(1, count), 0]
     with open(f"{trace}.table", "w", encoding="ascii") as file:
-        file.writelines(f"{LINES + LINE * at:#x} 4 {LINES + LINE * (count - 1 - at):#x}\n" for at in range(count))
+        file.writelines(f"{LINES + LINE * at:#x} 4 {LINES + LINE * to:#x}\n" for at, to in enumerate(places))
     return Call(["move", trace, f"{trace}.table", f"{trace}.moved"], [(f"move {made.accesses}", 1)])
 
 

@@ -14,7 +14,8 @@ SITES = (0, 0, 0, 0)
 
 class Made(NamedTuple):
     """A trace: how many harts and accesses it has; how many lines are listed with `tracking` and `report` of 1 and the settings here; how
-    many lines of objects and of sites stand below them; and a name for `place`. For `blame` its accesses have so many pcs, in turn."""
+    many lines of objects and of sites stand below them; and a name for `place`. For `blame` its accesses have so many pcs, in turn, and for
+    `move` the places of its lines may fall as the lines rise."""
 
     trace: bytes
     harts: int
@@ -25,6 +26,7 @@ class Made(NamedTuple):
     object: str = ""
     settings: str = ""
     pcs: int = 2
+    is_turned: bool = False
 
 
 class Trace:
@@ -261,6 +263,11 @@ def lines(n: int) -> Made:
     return it.made(n)
 
 
+def lines_turned(n: int) -> Made:
+    """The same, for a table whose places fall."""
+    return lines(n)._replace(is_turned=True)
+
+
 def lines_apart(n: int) -> Made:
     """Each on 64 KiB of its own."""
     it = Trace()
@@ -354,6 +361,7 @@ CASES = [
     TraceCase("blocks at one place", blocks_at_one_place, 2048, f"{SAVED} misses"),
     TraceCase("blocks dead before", blocks_before, 1024, "replay", never="misses"),
     TraceCase("lines", lines, 4096, f"{SAVED} replay--size misses sweep caches convert split move gen blame"),
+    TraceCase("lines turned round", lines_turned, 4096, "move"),
     TraceCase("lines apart", lines_apart, 4096, f"{SAVED} misses sweep caches blame", 60000),
     TraceCase("many instructions on a line", instructions, 16384, "blame"),
     TraceCase("many instructions on many lines", instructions_of_lines, 4096, "blame"),
