@@ -17,7 +17,7 @@ use crate::header_read::LAST_POSITION;
 use crate::number_ahead::number_at;
 use crate::reader_state::count_access;
 use crate::record_read::TOUCH_LENGTH;
-use crate::{ReadSoFar, Tag, TraceFault, TraceRecord};
+use crate::{ReadSoFar, Tag, TraceFault, TraceRecord, Version};
 use base::{Access, Hart, Kind, behind};
 
 // A good access at the front of some bytes, and how many bytes it has.
@@ -161,6 +161,37 @@ fn sited_touch_ahead(progress: &ReadSoFar, kind: Kind, width: u8, bytes: &[u8]) 
     placed(progress, with_site(before, site.number, access), site.end)
 }
 
+// The kind of the access of version 1 that a byte begins.
+#[inline(always)]
+fn kind_of(byte: u8) -> Option<Kind>
+    ensures { IfSome result (λ kind. tag_of Version.One byte ≡ Some (Tag.Touch kind)) }
+{
+    match byte {
+        // Both in one arm: a branch that goes as the kinds come is foretold badly.
+        1 | 2 => Some(if byte == 1 { Kind::Read } else { Kind::Write }),
+        _ => None,
+    }
+}
+
+// The kind and the size of the access of another version that a byte begins.
+#[inline(always)]
+fn sized_kind_of(byte: u8) -> Option<(Kind, u8)>
+    ensures two { IfSome result (λ it. tag_of Version.Two byte ≡ Some (Tag.ShortTouch it.0 it.1)) }
+    ensures three { IfSome result (λ it. tag_of Version.Three byte
+        ≡ Some (Tag.SitedTouch it.0 it.1)) }
+    ensures sized { IfSome result (λ it. IsTrue (is_access_size it.1)) }
+{
+    match byte {
+        0x11 => Some((Kind::Read, 1)),
+        0x12 => Some((Kind::Read, 2)),
+        0x14 => Some((Kind::Read, 4)),
+        0x21 => Some((Kind::Write, 1)),
+        0x22 => Some((Kind::Write, 2)),
+        0x24 => Some((Kind::Write, 4)),
+        _ => None,
+    }
+}
+
 // The good access that begins some bytes, if all of it is there.
 #[inline(always)]
 fn access_ahead(progress: &ReadSoFar, bytes: &[u8]) -> Option<Ahead>
@@ -172,11 +203,19 @@ fn access_ahead(progress: &ReadSoFar, bytes: &[u8]) -> Option<Ahead>
     if bytes.is_empty() {
         return None;
     }
-    match Tag::read(progress.version, bytes[0]) {
-        Some(Tag::Touch(kind)) => touch_ahead(progress, kind, bytes),
-        Some(Tag::ShortTouch(kind, width)) => short_touch_ahead(progress, kind, width, bytes),
-        Some(Tag::SitedTouch(kind, width)) => sited_touch_ahead(progress, kind, width, bytes),
-        _ => None,
+    match progress.version {
+        Version::One => match kind_of(bytes[0]) {
+            Some(kind) => touch_ahead(progress, kind, bytes),
+            None => None,
+        },
+        Version::Two => match sized_kind_of(bytes[0]) {
+            Some((kind, width)) => short_touch_ahead(progress, kind, width, bytes),
+            None => None,
+        },
+        Version::Three => match sized_kind_of(bytes[0]) {
+            Some((kind, width)) => sited_touch_ahead(progress, kind, width, bytes),
+            None => None,
+        },
     }
 }
 
