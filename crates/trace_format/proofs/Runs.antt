@@ -17,7 +17,7 @@ use Rattle.trace_format.specs.Laws.Reading.{then_read}
 use Rattle.trace_format.specs.Rules.{longest_trace}
 use Rattle.trace_format.specs.Tags.{tag_of}
 use Rattle.trace_format.specs.ReaderStates.{HasAccess, ReadsBut, reading_at}
-use Rattle.trace_format.proofs.ReadParts.{front_extent, one_part, part_is_some}
+use Rattle.trace_format.proofs.ReadParts.{one_part, part_is_some}
 
 extent_is : (p : ReadSoFar) (bytes : List ℕ) (tag : Tag) → tag_of p.version (get_or bytes 0 0)
     ≡ Some tag
@@ -42,11 +42,6 @@ module _ (p : ReadSoFar) (bytes part : List ℕ) (tag : Tag) (n : ℕ)
       let some : 0 < n = omega (arith, part_is_some (Some p) None bytes n extent) in
       ap (λ (xs : List ℕ). tag_of p.version (get_or xs 0 0)) cut
       ∙ ap (tag_of p.version) (get_or-take n bytes 0 0 some) ∙ tagged
-
-  -- the bytes of a record are all that it has
-  pub part_extent : length part ≡ extent_of tag part
-  part_extent = front_extent (Some p) None bytes part n cut extent le
-      ∙ extent_is p part tag tagged_too
 
   pub access_there : (a : Touch) (pc : Option ℕ) → tagged_judged p tag part ≡ Ok (records.Touch a pc)
       → HasAccess p bytes a pc n

@@ -5,7 +5,7 @@ use Rattle.std.proofs.Common.{sym, ◌∙◌, arith}
 use Rattle.std.specs.Int.{w16, w32}
 use Rattle.std.specs.List.{list_any}
 use Rattle.std.proofs.lemmas.Bool.Decides.{nat_tests}
-use Rattle.std.proofs.lemmas.List.{take_all, length-drop, length-take-le}
+use Rattle.std.proofs.lemmas.List.{take_all, take-take, length-drop, length-take-le}
 use Rattle.base.specs.Names.{name_of}
 use Rattle.objects.specs.declared.symbol.SymbolKind.{SymbolKind}
 use Rattle.base.specs.Touch.{Touch}
@@ -14,7 +14,8 @@ use Rattle.trace_format.specs.declared.before.Before.{Before}
 use Rattle.trace_format.specs.declared.fault.TraceFault.{TraceFault}
 use Rattle.trace_format.specs.declared.fault.TraceFault.TheVariants as faults
 use Rattle.trace_format.specs.declared.record.TraceRecord.TheVariants as records
-use Rattle.trace_format.specs.Laws.Extents.{front_still, front_whole}
+use Rattle.trace_format.specs.Ahead.{HasNumberAt, with_site}
+use Rattle.trace_format.specs.Laws.Extents.{front_still}
 use Rattle.trace_format.specs.Numbers.{address_at, are_groups, group_count, number_in}
 use Rattle.base.specs.Fields.{number_at}
 use Rattle.trace_format.specs.Judging.{short_touch_extent, short_touch_judged}
@@ -76,18 +77,26 @@ module _ (bytes part : List ℕ) (n m : ℕ) (n_is : n ≡ short_touch_extent by
   pub enough : n ≤ length part
   enough = omega (arith, long, m_is)
 
-  pub front_long : (front : List ℕ) → front ≡ take n part
-      → length front ≡ short_touch_extent front
-  front_long front is = rw is (front_whole part n (sym front_there) some enough)
+-- a pc whose distance is read
+pub site_is_pc : (before : Before) (place z : ℕ) (told : List ℕ) (touch : Result Touch TraceFault)
+    → are_groups told ≡ true → z ≡ number_in told
+    → with_site before z touch ≡ with_pc before place told touch
+site_is_pc before place z told (Err fault) spelled is = refl
+site_is_pc before place z told (Ok touch) spelled is = rw (spelled, is) refl
 
-  pub told_long : (told : List ℕ) → length part ≡ sited_touch_extent part → told ≡ drop n part
-      → length told ≡ group_count told
-  told_long told whole is =
-      let both : length part ≡ n + group_count (drop n part) =
-      whole ∙ ap (λ (k : ℕ). k + group_count (drop k part)) front_there in
-      let size : length (drop n part) ≡ group_count (drop n part) =
-      omega (arith, both, enough, length-drop n part) in
-      rw is size
+-- an access with a pc, both of whose distances are read
+pub sited_by_numbers : (kind : Kind) (size harts place n m z : ℕ) (before : Before)
+    (bytes front : List ℕ)
+    → n ≡ short_touch_extent bytes → HasNumberAt bytes n z m → front ≡ take n bytes
+    → with_site before z (short_touch_judged kind size harts before.last place front)
+    ≡ sited_touch_judged kind size harts before place (take m bytes)
+sited_by_numbers kind size harts place n m z before bytes front n_is has front_is =
+    let le : n ≤ m = omega (arith, has.extent) in
+    site_is_pc before (place + length front) z (drop n (take m bytes)) _ has.spelled has.told
+    ∙ sited_by_parts kind size harts place n before (take m bytes) front (drop n (take m bytes))
+    (front_there bytes (take m bytes) n m n_is has.extent has.there refl)
+    (enough bytes (take m bytes) n m n_is has.extent has.there refl)
+    (front_is ∙ sym (take-take n m bytes le)) refl
 
 -- a symbol whose name is short
 pub short_symbol : (kind : SymbolKind) (addr size told place : ℕ) (name bytes : List ℕ)

@@ -1,3 +1,4 @@
+pub mod Ahead
 pub mod Faults
 pub mod Found
 pub mod Judging

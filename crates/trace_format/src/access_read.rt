@@ -69,7 +69,7 @@ fn group_count(bytes: &[u8]) -> usize
 
 // Where the groups from a place on end, as far as they are there.
 #[inline(always)]
-pub(crate) fn end_of_groups(bytes: &[u8], place: usize) -> usize
+fn end_of_groups(bytes: &[u8], place: usize) -> usize
     requires { place ≤ 7 }
     ensures { result ≡ place + group_count (drop place bytes.now) }
 {
@@ -135,7 +135,7 @@ fn are_groups(told: &[u8]) -> bool
 
 // The address at a distance from the one before.
 #[inline(always)]
-fn address_at(last: u32, z: u32) -> u32
+pub(crate) fn address_at(last: u32, z: u32) -> u32
     ensures { result ≡ address_at last z }
 {
     if z % 2 == 0 {
@@ -211,7 +211,7 @@ fn with_pc(
 
 // The access and the pc in the two parts of a record of version 3, which are all there.
 #[inline(always)]
-pub(crate) fn sited_touch_in(
+fn sited_touch_in(
     front: &[u8],
     told: &[u8],
     kind: Kind,

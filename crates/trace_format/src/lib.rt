@@ -21,6 +21,7 @@ mod ending_write;
 mod fault;
 mod header_read;
 mod laws;
+mod number_ahead;
 mod read_so_far;
 mod reader;
 mod reader_state;

@@ -1,22 +1,24 @@
 // The accesses at the front of some bytes, read one after the other. Most records are accesses, so
 // that their way is short: what is no access, or not a good one, is left to the way of all records.
 ghost use Rattle.std.specs.Prelude.{◌≡◌, ◌^◌, ◌+◌, ◌≤◌, [], ◌∷◌, ◌++◌, length, IfSome, Ok, IsTrue};
-ghost use Rattle.std.specs.Prelude.{IsFalse, Some, slice_index};
+ghost use Rattle.std.specs.Prelude.{IsFalse, Some, drop, slice_index};
 ghost use Rattle.base.specs.Touch.{is_access_size};
-ghost use Rattle.trace_format.specs.Judging.{touch_counted};
+ghost use Rattle.trace_format.specs.Ahead.{with_site};
+ghost use Rattle.trace_format.specs.Judging.{short_touch_judged, touch_counted};
+ghost use Rattle.trace_format.specs.Numbers.{are_groups, number_in};
 ghost use Rattle.trace_format.specs.Rules.{longest_trace};
 ghost use Rattle.trace_format.specs.Tags.{tag_of};
 ghost use Rattle.trace_format.specs.Sound.{IsSound};
 ghost use Rattle.trace_format.specs.ReaderStates.{HasAccess, HasSameHead, ReadsBut, reading_at};
 
-use crate::access_read::{
-    end_of_groups, short_touch_extent, short_touch_of, sited_touch_in, touch_of, without_pc,
-};
+use crate::access_read::{address_at, touch_of, without_pc};
+use crate::before::Before;
 use crate::header_read::LAST_POSITION;
+use crate::number_ahead::number_at;
 use crate::reader_state::count_access;
 use crate::record_read::TOUCH_LENGTH;
-use crate::{ReadSoFar, Tag, TraceFault, TraceRecord};
-use base::{Access, Kind, behind};
+use crate::{ReadSoFar, Tag, TraceFault, TraceRecord, Version};
+use base::{Access, Hart, Kind, behind};
 
 // A good access at the front of some bytes, and how many bytes it has.
 #[derive(Clone, Copy, Drop)]
@@ -65,6 +67,51 @@ fn touch_ahead(progress: &ReadSoFar, kind: Kind, bytes: &[u8]) -> Option<Ahead>
     placed(progress, without_pc(access), TOUCH_LENGTH)
 }
 
+// The access in the bytes of a record of version 2, whose distance is read.
+#[tactic(auto, using(std::proofs::lemmas::Bool::Decides::nat_tests), unfolding(crate::specs::Judging::short_touch_judged))]
+#[inline(always)]
+fn short_touch_told(
+    bytes: &[u8],
+    z: u32,
+    kind: Kind,
+    size: u8,
+    harts: u16,
+    last: u32,
+    place: u64,
+) -> Result<Access, TraceFault>
+    requires long { 2 ≤ length bytes.now }
+    requires spelled { IsTrue (are_groups (drop 2 bytes.now)) }
+    requires told { z ≡ number_in (drop 2 bytes.now) }
+    requires sized { IsTrue (is_access_size size) }
+    requires few { harts ≤ 256 }
+    requires low { place ≤ 2 ^ 44 }
+    ensures { result ≡ short_touch_judged kind size harts last place bytes.now }
+{
+    let number = bytes[1];
+    if u16::from(number) >= harts {
+        return Err(TraceFault::BadField(place + 1));
+    }
+    match Access::of_size(Hart::of_byte(number), address_at(last, z), kind, size) {
+        Some(access) => Ok(access),
+        None => Err(TraceFault::BadField(place + 2)),
+    }
+}
+
+// An access of a version that has pcs, whose pc is this far from the one before.
+#[inline(always)]
+fn with_site(
+    before: &Before,
+    z: u32,
+    access: Result<Access, TraceFault>,
+) -> Result<(Access, Option<u32>), TraceFault>
+    ensures { result ≡ with_site before.now z access }
+{
+    match access {
+        Ok(access) => Ok((access, Some(address_at(before.pc(access.hart()), z)))),
+        Err(fault) => Err(fault),
+    }
+}
+
 // A good access of version 2, if all of it is there.
 #[inline(always)]
 fn short_touch_ahead(progress: &ReadSoFar, kind: Kind, width: u8, bytes: &[u8]) -> Option<Ahead>
@@ -76,14 +123,16 @@ fn short_touch_ahead(progress: &ReadSoFar, kind: Kind, width: u8, bytes: &[u8]) 
     ensures { IfSome result (λ ahead. HasAccess progress.now bytes.now ahead.access ahead.pc
         ahead.size) }
 {
-    let size = short_touch_extent(bytes);
-    if bytes.len() < size {
+    if bytes.len() < 2 {
         return None;
     }
-    let (part, _) = bytes.split_at(size);
+    let Some(near) = number_at(bytes, 2) else {
+        return None;
+    };
+    let (part, _) = bytes.split_at(near.end);
     let (harts, last, place) = (progress.header.harts, progress.before.last, progress.place);
-    let access = short_touch_of(part, kind, width, harts, last, place);
-    placed(progress, without_pc(access), size)
+    let access = short_touch_told(part, near.number, kind, width, harts, last, place);
+    placed(progress, without_pc(access), near.end)
 }
 
 // A good access of version 3, if all of it is there.
@@ -97,16 +146,50 @@ fn sited_touch_ahead(progress: &ReadSoFar, kind: Kind, width: u8, bytes: &[u8]) 
     ensures { IfSome result (λ ahead. HasAccess progress.now bytes.now ahead.access ahead.pc
         ahead.size) }
 {
-    let behind_front = short_touch_extent(bytes);
-    let size = end_of_groups(bytes, behind_front);
-    if bytes.len() < size {
+    if bytes.len() < 2 {
         return None;
     }
-    let (part, _) = bytes.split_at(size);
-    let (front, told) = part.split_at(behind_front);
+    let Some(near) = number_at(bytes, 2) else {
+        return None;
+    };
+    let Some(site) = number_at(bytes, near.end) else {
+        return None;
+    };
+    let (front, _) = bytes.split_at(near.end);
     let (harts, before, place) = (progress.header.harts, &progress.before, progress.place);
-    let sited = sited_touch_in(front, told, kind, width, harts, before, place);
-    placed(progress, sited, size)
+    let access = short_touch_told(front, near.number, kind, width, harts, before.last, place);
+    placed(progress, with_site(before, site.number, access), site.end)
+}
+
+// The kind of the access of version 1 that a byte begins.
+#[inline(always)]
+fn kind_of(byte: u8) -> Option<Kind>
+    ensures { IfSome result (λ kind. tag_of Version.One byte ≡ Some (Tag.Touch kind)) }
+{
+    match byte {
+        // Both in one arm: a branch that goes as the kinds come is foretold badly.
+        1 | 2 => Some(if byte == 1 { Kind::Read } else { Kind::Write }),
+        _ => None,
+    }
+}
+
+// The kind and the size of the access of another version that a byte begins.
+#[inline(always)]
+fn sized_kind_of(byte: u8) -> Option<(Kind, u8)>
+    ensures two { IfSome result (λ it. tag_of Version.Two byte ≡ Some (Tag.ShortTouch it.0 it.1)) }
+    ensures three { IfSome result (λ it. tag_of Version.Three byte
+        ≡ Some (Tag.SitedTouch it.0 it.1)) }
+    ensures sized { IfSome result (λ it. IsTrue (is_access_size it.1)) }
+{
+    match byte {
+        0x11 => Some((Kind::Read, 1)),
+        0x12 => Some((Kind::Read, 2)),
+        0x14 => Some((Kind::Read, 4)),
+        0x21 => Some((Kind::Write, 1)),
+        0x22 => Some((Kind::Write, 2)),
+        0x24 => Some((Kind::Write, 4)),
+        _ => None,
+    }
 }
 
 // The good access that begins some bytes, if all of it is there.
@@ -120,11 +203,19 @@ fn access_ahead(progress: &ReadSoFar, bytes: &[u8]) -> Option<Ahead>
     if bytes.is_empty() {
         return None;
     }
-    match Tag::read(progress.version, bytes[0]) {
-        Some(Tag::Touch(kind)) => touch_ahead(progress, kind, bytes),
-        Some(Tag::ShortTouch(kind, width)) => short_touch_ahead(progress, kind, width, bytes),
-        Some(Tag::SitedTouch(kind, width)) => sited_touch_ahead(progress, kind, width, bytes),
-        _ => None,
+    match progress.version {
+        Version::One => match kind_of(bytes[0]) {
+            Some(kind) => touch_ahead(progress, kind, bytes),
+            None => None,
+        },
+        Version::Two => match sized_kind_of(bytes[0]) {
+            Some((kind, width)) => short_touch_ahead(progress, kind, width, bytes),
+            None => None,
+        },
+        Version::Three => match sized_kind_of(bytes[0]) {
+            Some((kind, width)) => sited_touch_ahead(progress, kind, width, bytes),
+            None => None,
+        },
     }
 }
 
