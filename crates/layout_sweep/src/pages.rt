@@ -1,10 +1,11 @@
 // Windows in pages of 4096. A page that isn't there yet is an empty `Vec`.
 ghost use Rattle.std.specs.Prelude.{◌≡◌, ◌≢◌, ℕ, ◌+◌, ◌-◌, ◌*◌, ◌/◌, ◌%◌, ◌<◌, ◌≤◌, ◌^◌, ◌⊎◌, length, vec_len};
-ghost use Rattle.std.specs.Prelude.{IsTrue, OnOk, OnErr, nat_lt, option_map};
+ghost use Rattle.std.specs.Prelude.{IsTrue, OnOk, OnErr, false, if◌then◌else◌, nat_lt, option_map};
 ghost use Rattle.std.specs.Prelude.{slice_get};
 ghost use Rattle.base.specs.Touch.{is_write};
-ghost use Rattle.layout_sweep.specs.Counts.{AreBelow, swept_after};
-ghost use Rattle.layout_sweep.specs.Pages.{HasBlank, has_window, page_at, window_at, window_in};
+ghost use Rattle.layout_sweep.specs.Counts.{AreBelow, counted_once, swept_after};
+ghost use Rattle.layout_sweep.specs.Pages.{HasBlank, HasRow, IsTurned, has_window, page_at, window_at};
+ghost use Rattle.layout_sweep.specs.Pages.{window_in};
 ghost use Rattle.layout_sweep.specs.Windows.{blank_window, is_swept_size, window_after};
 
 use crate::counts::Swept;
@@ -67,6 +68,29 @@ pub fn make_page(pages: &mut Vec<Page>, window: u64, alloc: Global) -> Result<()
     }
 }
 
+// The first time that a window is taken, which comes once for each.
+#[inline(never)]
+fn count_first(counts: &mut Swept)
+    requires few { (counts.old.total < 2 ^ 40) × (counts.old.lines < 2 ^ 40) }
+    ensures { counts.new ≡ counted_once counts.old false }
+{
+    counts.total += 1;
+    counts.lines += 1;
+}
+
+// A window is taken: that it never was before is tested apart, so that the others take one addition.
+#[inline(always)]
+fn count(counts: &mut Swept, was_taken: bool)
+    requires few { (counts.old.total < 2 ^ 40) × (counts.old.lines < 2 ^ 40) }
+    ensures { counts.new ≡ counted_once counts.old was_taken }
+{
+    if was_taken {
+        counts.total += 1;
+    } else {
+        count_first(counts);
+    }
+}
+
 // One access in a window, counted at its shift.
 #[inline(always)]
 fn note_window(window: &mut Window, counts: &mut Swept, access: Access)
@@ -76,8 +100,7 @@ fn note_window(window: &mut Window, counts: &mut Swept, access: Access)
 {
     let was_taken = window.is_taken();
     if window.note(access) {
-        counts.total += 1;
-        counts.lines += u64::from(!was_taken);
+        count(counts, was_taken);
     }
 }
 
@@ -213,6 +236,23 @@ fn make_pages(pages: &mut Vec<Page>, word: u64, words: u64, alloc: Global) -> Re
     }
 }
 
+// The same, where they aren't all there.
+#[inline(always)]
+fn make_row(pages: &mut Vec<Page>, word: u64, words: u64, alloc: Global) -> Result<(), NoMemory>
+    requires early { word < 2 ^ 30 }
+    requires sized { IsTrue (is_swept_size (4 * words)) }
+    ensures same { (q : ℕ) → window_at pages.new.items q ≡ window_at pages.old.items q }
+    ensures made { OnOk result ((q : ℕ) → word < q → q ≤ word + words
+        → IsTrue (has_window pages.new.items q)) }
+    ensures blank { OnErr result (HasBlank (window_at pages.old.items) word words) }
+{
+    if has_row(pages, word + 1, words) {
+        Ok(())
+    } else {
+        make_pages(pages, word, words, alloc)
+    }
+}
+
 /// Makes what an access needs in the windows that hold its word, of so many words each: their pages
 /// for a write. NoMemory leaves all windows as they were, and comes only where one of them was never
 /// written.
@@ -233,16 +273,174 @@ pub fn make_room(
         × HasBlank (window_at pages.old.items) word words) }
 {
     if access.kind().is_write() {
-        make_pages(pages, word, words, alloc)
+        make_row(pages, word, words, alloc)
     } else {
         Ok(())
     }
 }
 
+// The same at a place where there is one.
+#[inline(always)]
+fn note_there(windows: &mut [Window], place: usize, counts: &mut Swept, access: Access)
+    requires there { place < length windows.old }
+    requires few { (counts.old.total < 2 ^ 40) × (counts.old.lines < 2 ^ 40) }
+    ensures here { window_in windows.new place ≡ window_after (window_in windows.old place) access }
+    ensures others { (q : ℕ) → q ≢ place → window_in windows.new q ≡ window_in windows.old q }
+    ensures counts { counts.new ≡ swept_after counts.old (window_in windows.old place) access }
+    ensures long { length windows.new ≡ length windows.old }
+{
+    note_window(&mut windows[place], counts, access);
+}
+
+// The shift behind one of so many, and behind the last the first.
+#[inline(always)]
+fn shift_behind(shift: usize, count: usize) -> usize
+    requires { shift < count }
+    ensures { result ≡ (if nat_lt (shift + 1) count then shift + 1 else 0) }
+{
+    if shift + 1 < count { shift + 1 } else { 0 }
+}
+
+// The shift at which the window before those of a word is counted, of so many.
+#[inline(always)]
+fn shift_of(word: u64, count: usize) -> usize
+    requires { 0 < count }
+    ensures { result ≡ word % count }
+{
+    // Most lines have 64 bytes, and a remainder by 16 takes less time than a division.
+    if count == 16 {
+        (word % 16) as usize
+    } else {
+        (word % count as u64) as usize
+    }
+}
+
+// One access in as many windows in a row as there are shifts. The first of them is counted at a
+// shift that is given, and the others at those behind it.
+#[inline(always)]
+fn note_row<L: Ledger>(
+    windows: &mut [Window],
+    place: usize,
+    counts: &mut [Swept],
+    first: usize,
+    access: Access,
+    steps: &mut Steps<L>,
+)
+    requires there { place + length counts.old ≤ length windows.old }
+    requires first { first < length counts.old }
+    requires few { AreBelow (2 ^ 40) counts.old }
+    ensures inside { (i : ℕ) → i < length counts.old → window_in windows.new (place + i)
+        ≡ window_after (window_in windows.old (place + i)) access }
+    ensures outside { (q : ℕ) → (q < place) ⊎ (place + length counts.old ≤ q)
+        → window_in windows.new q ≡ window_in windows.old q }
+    ensures counts { (i j : ℕ) → i < length counts.old → IsTurned (length counts.old) first i j
+        → slice_get counts.new j
+        ≡ option_map (λ x. swept_after x (window_in windows.old (place + i)) access)
+        (slice_get counts.old j) }
+    ensures long { length counts.new ≡ length counts.old }
+    ensures windows { length windows.new ≡ length windows.old }
+    ensures cost { steps.new ≡ steps.old + length counts.old }
+{
+    let mut shift = first;
+    for i in 0..counts.len() {
+        steps.tick();
+        note_there(windows, place + i, &mut counts[shift], access);
+        shift = shift_behind(shift, counts.len());
+    }
+}
+
+// Whether windows in a row are all there, in one page.
+#[inline(always)]
+fn has_row(pages: &Vec<Page>, first: u64, count: u64) -> bool
+    requires { count ≤ 64 }
+    ensures near { IsTrue result → first % 4096 + count ≤ 4096 }
+    ensures page { IsTrue result → first / 4096 < length pages.now.items }
+    ensures there { IsTrue result
+        → first % 4096 + count ≤ length (page_at pages.now.items (first / 4096)) }
+{
+    let number = (first / PAGE_WINDOWS) as usize;
+    let end = first % PAGE_WINDOWS + count;
+    if end <= PAGE_WINDOWS && number < pages.len() {
+        end <= pages[number].len() as u64
+    } else {
+        false
+    }
+}
+
+// One access in all windows that hold a word, where they are there and lie in one page.
+#[inline(always)]
+fn note_near<L: Ledger>(
+    pages: &mut Vec<Page>,
+    counts: &mut [Swept],
+    word: u64,
+    access: Access,
+    steps: &mut Steps<L>,
+)
+    requires early { word < 2 ^ 30 }
+    requires sized { IsTrue (is_swept_size (4 * length counts.old)) }
+    requires few { AreBelow (2 ^ 40) counts.old }
+    requires row { HasRow pages.old.items (word + 1) (length counts.old) }
+    ensures inside { (q : ℕ) → word < q → q ≤ word + length counts.old
+        → window_at pages.new.items q ≡ window_after (window_at pages.old.items q) access }
+    ensures outside { (q : ℕ) → (q ≤ word) ⊎ (word + length counts.old < q)
+        → window_at pages.new.items q ≡ window_at pages.old.items q }
+    ensures counts { (i q : ℕ) → word < q → q ≤ word + length counts.old
+        → q % length counts.old ≡ i → slice_get counts.new i
+        ≡ option_map (λ x. swept_after x (window_at pages.old.items q) access)
+        (slice_get counts.old i) }
+    ensures long { length counts.new ≡ length counts.old }
+    ensures cost { steps.new ≡ steps.old + length counts.old }
+{
+    let first = word + 1;
+    let number = (first / PAGE_WINDOWS) as usize;
+    let place = (first % PAGE_WINDOWS) as usize;
+    let shift = shift_behind(shift_of(word, counts.len()), counts.len());
+    note_row(
+        pages[number].as_mut_slice(),
+        place,
+        counts,
+        shift,
+        access,
+        steps,
+    );
+}
+
 /// One access in all windows that hold a word, each counted at its shift. They are neighbours, and
-/// those of one line number lie in one page. A write needs their pages.
+/// mostly lie in one page. A write needs their pages.
 #[inline(always)]
 pub fn note_word<L: Ledger>(
+    pages: &mut Vec<Page>,
+    counts: &mut [Swept],
+    word: u64,
+    access: Access,
+    steps: &mut Steps<L>,
+)
+    requires early { word < 2 ^ 30 }
+    requires sized { IsTrue (is_swept_size (4 * length counts.old)) }
+    requires few { AreBelow (2 ^ 40) counts.old }
+    requires made { IsTrue (is_write access.kind) → (q : ℕ) → word < q
+        → q ≤ word + length counts.old → IsTrue (has_window pages.old.items q) }
+    ensures inside { (q : ℕ) → word < q → q ≤ word + length counts.old
+        → window_at pages.new.items q ≡ window_after (window_at pages.old.items q) access }
+    ensures outside { (q : ℕ) → (q ≤ word) ⊎ (word + length counts.old < q)
+        → window_at pages.new.items q ≡ window_at pages.old.items q }
+    ensures counts { (i q : ℕ) → word < q → q ≤ word + length counts.old
+        → q % length counts.old ≡ i → slice_get counts.new i
+        ≡ option_map (λ x. swept_after x (window_at pages.old.items q) access)
+        (slice_get counts.old i) }
+    ensures long { length counts.new ≡ length counts.old }
+    ensures cost { steps.new ≡ steps.old + length counts.old }
+{
+    if has_row(pages, word + 1, counts.len() as u64) {
+        note_near(pages, counts, word, access, steps);
+    } else {
+        note_apart(pages, counts, word, access, steps);
+    }
+}
+
+// One access in all windows that hold a word, those of each line number by themselves: these lie in
+// one page.
+fn note_apart<L: Ledger>(
     pages: &mut Vec<Page>,
     counts: &mut [Swept],
     word: u64,
