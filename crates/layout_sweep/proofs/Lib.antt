@@ -2,3 +2,4 @@ pub mod LineLaws
 pub mod PageLaws
 pub mod WordLaws
 pub mod RowLaws
+pub mod FieldLaws

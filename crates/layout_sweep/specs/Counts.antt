@@ -1,7 +1,7 @@
 -- What is counted at each shift.
 use Rattle.std.specs.Prelude.{ℕ, ◌+◌, ◌*◌, ◌/◌, ◌%◌, ◌<◌, ◌≡◌, ◌==◌, ◌&&◌, nat_le, nat_lt}
 use Rattle.std.specs.Prelude.{if◌then◌else◌, List, Option, None}
-use Rattle.std.specs.Prelude.{Bool, Some, map, slice_get}
+use Rattle.std.specs.Prelude.{Some, map, slice_get}
 use Rattle.std.specs.List.{find, list_all}
 use Rattle.base.specs.Touch.{Touch}
 use Rattle.sharing_rules.specs.AccessLists.{AccessList}
@@ -26,14 +26,6 @@ sweep_of n t = map (swept_of n t) (below (n / 4))
 -- the first whose total is at most every other's
 abbrev pub least_of : List Swept → Option Swept
 least_of all = find (λ x. list_all (λ y. nat_le x.total y.total) all) all
-
--- with one invalidation more, of a line that had one or had none
-abbrev pub counted_once : Swept → Bool → Swept
-counted_once x had = record {
-  shift = x.shift;
-  total = x.total + 1;
-  lines = if had then x.lines else x.lines + 1;
-}
 
 -- after an access in one of its windows
 abbrev pub swept_after : Swept → Window → Touch → Swept

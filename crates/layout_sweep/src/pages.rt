@@ -1,15 +1,15 @@
 // Windows in pages of 4096. A page that isn't there yet is an empty `Vec`.
 ghost use Rattle.std.specs.Prelude.{◌≡◌, ◌≢◌, ℕ, ◌+◌, ◌-◌, ◌*◌, ◌/◌, ◌%◌, ◌<◌, ◌≤◌, ◌^◌, ◌⊎◌, length, vec_len};
-ghost use Rattle.std.specs.Prelude.{IsTrue, OnOk, OnErr, false, if◌then◌else◌, nat_lt, option_map};
+ghost use Rattle.std.specs.Prelude.{IsTrue, OnOk, OnErr, if◌then◌else◌, nat_lt, option_map};
 ghost use Rattle.std.specs.Prelude.{slice_get};
 ghost use Rattle.base.specs.Touch.{is_write};
-ghost use Rattle.layout_sweep.specs.Counts.{AreBelow, counted_once, swept_after};
+ghost use Rattle.layout_sweep.specs.Counts.{AreBelow, swept_after};
 ghost use Rattle.layout_sweep.specs.Pages.{HasBlank, HasRow, IsTurned, has_window, page_at, window_at};
 ghost use Rattle.layout_sweep.specs.Pages.{window_in};
 ghost use Rattle.layout_sweep.specs.Windows.{blank_window, is_swept_size, window_after};
 
 use crate::counts::Swept;
-use crate::window::{BLANK, Window};
+use crate::window::Window;
 use base::{Access, NoMemory, Steps};
 use std::alloc::Global;
 use std::sync::ledger::Ledger;
@@ -45,7 +45,7 @@ fn fill(page: &mut Page, place: usize) -> Result<(), NoMemory>
     if place < page.len() {
         return Ok(());
     }
-    match page.resize(PAGE_WINDOWS as usize, BLANK) {
+    match page.resize(PAGE_WINDOWS as usize, Window::blank()) {
         Ok(()) => Ok(()),
         Err(_) => Err(NoMemory),
     }
@@ -68,29 +68,6 @@ pub fn make_page(pages: &mut Vec<Page>, window: u64, alloc: Global) -> Result<()
     }
 }
 
-// The first time that a window is taken, which comes once for each.
-#[inline(never)]
-fn count_first(counts: &mut Swept)
-    requires few { (counts.old.total < 2 ^ 40) × (counts.old.lines < 2 ^ 40) }
-    ensures { counts.new ≡ counted_once counts.old false }
-{
-    counts.total += 1;
-    counts.lines += 1;
-}
-
-// A window is taken: that it never was before is tested apart, so that the others take one addition.
-#[inline(always)]
-fn count(counts: &mut Swept, was_taken: bool)
-    requires few { (counts.old.total < 2 ^ 40) × (counts.old.lines < 2 ^ 40) }
-    ensures { counts.new ≡ counted_once counts.old was_taken }
-{
-    if was_taken {
-        counts.total += 1;
-    } else {
-        count_first(counts);
-    }
-}
-
 // One access in a window, counted at its shift.
 #[inline(always)]
 fn note_window(window: &mut Window, counts: &mut Swept, access: Access)
@@ -99,8 +76,10 @@ fn note_window(window: &mut Window, counts: &mut Swept, access: Access)
     ensures counts { counts.new ≡ swept_after counts.old window.old access }
 {
     let was_taken = window.is_taken();
-    if window.note(access) {
-        count(counts, was_taken);
+    let taken = window.note(access);
+    counts.total += u64::from(taken);
+    if taken && !was_taken {
+        counts.lines += 1;
     }
 }
 
