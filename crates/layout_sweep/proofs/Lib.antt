@@ -2,4 +2,3 @@ pub mod LineLaws
 pub mod PageLaws
 pub mod WordLaws
 pub mod RowLaws
-pub mod FieldLaws

@@ -320,11 +320,12 @@ fn note_row<L: Ledger>(
     ensures windows { length windows.new ≡ length windows.old }
     ensures cost { steps.new ≡ steps.old + length counts.old }
 {
+    let count = counts.len();
     let mut shift = first;
-    for i in 0..counts.len() {
+    for i in 0..count {
         steps.tick();
         note_there(windows, place + i, &mut counts[shift], access);
-        shift = shift_behind(shift, counts.len());
+        shift = shift_behind(shift, count);
     }
 }
 

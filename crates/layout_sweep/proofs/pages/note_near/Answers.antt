@@ -24,7 +24,7 @@ pub note_row-requires-clause-first : goal.note_row-requires-clause-first
 note_row-requires-clause-first g c =
     let w : ℕ = c.args.word in
     let m : ℕ = length c.args.counts.now in
-    subst (λ (k : ℕ). k < m) (sym (c.shift_behind.ensures ∙ ap (behind m) c.shift_of.ensures))
+    subst (λ (k : ℕ). k < m) (sym (c.shift_behind-shift.ensures ∙ ap (behind m) c.shift_of.ensures))
     (behind-low m (w % m) (cut_is m w c.requires.sized).place)
 
 pub returns-clause-inside : goal.returns-clause-inside
@@ -60,10 +60,10 @@ returns-clause-counts g c =
     let pages = c.args.pages.now.items in
     let v = c.index_mut.result.now in
     let row = c.requires.row in
-    near_counts pages w m c.shift_behind.result v.items c.args.access c.args.counts.now
+    near_counts pages w m c.shift_behind-shift.result v.items c.args.access c.args.counts.now
     c.note_row.new.counts c.requires.sized
-    (c.shift_behind.ensures ∙ ap (behind m) c.shift_of.ensures) row
+    (c.shift_behind-shift.ensures ∙ ap (behind m) c.shift_of.ensures) row
     (page_at-held pages ((w + 1) / 4096) v row.page c.index_mut.ensures.value)
-    (subst (λ (old : List Window). AreTurned m c.shift_behind.result (w + 1) c.args.access old
+    (subst (λ (old : List Window). AreTurned m c.shift_behind-shift.result (w + 1) c.args.access old
     c.args.counts.now c.note_row.new.counts) c.as_mut_slice.ensures.value
     c.note_row.ensures.counts)

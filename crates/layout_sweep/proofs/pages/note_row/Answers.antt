@@ -9,7 +9,7 @@ use Rattle.layout_sweep.specs.Counts.{swept_after}
 use Rattle.layout_sweep.specs.Pages.{IsTurned, window_in}
 use Rattle.layout_sweep.specs.Windows.{window_after}
 use Rattle.layout_sweep.proofs.PageLaws.{counted_here}
-use Rattle.layout_sweep.proofs.RowLaws.{behind, turned-apart, turned-next, turned-same}
+use Rattle.layout_sweep.proofs.RowLaws.{turned-apart, turned-next, turned-same}
 use Rattle.layout_sweep.proofs.pages.note_row.Goals as goal
 
 pub loop-i-preserved : goal.loop-i-preserved
@@ -24,7 +24,7 @@ loop-i-preserved g c =
     let a = c.args.access in
     let here = c.loop-i.invariant.turned in
     let long : length c.loop-i.counts ≡ m = c.loop-i.invariant.long in
-    let less : i < m = omega (arith, c.loop-i-test.true) in
+    let less : i < m = omega (arith, c.loop-i-test.true, long) in
     let before = c.loop-i.invariant.outside (p + i) (inr (omega arith)) in
     record {
       inside = λ k within. elim (cases_eq k i) [
@@ -44,9 +44,8 @@ loop-i-preserved g c =
             | inl low ↦ inl low
             | inr high ↦ inr (omega (arith, high))
           ]);
-      turned = subst (λ (j : ℕ). IsTurned m f (i + 1) j) (sym c.shift_behind.ensures)
-          (subst (λ (n : ℕ). IsTurned m f (i + 1) (behind n s)) (sym long)
-          (turned-next m f i s c.requires.first less here));
+      turned = subst (λ (j : ℕ). IsTurned m f (i + 1) j) (sym c.shift_behind-shift.ensures)
+          (turned-next m f i s c.requires.first less here);
       counts = λ k j within at. elim (cases_eq k i) [
         | inl same ↦
             subst (λ (h : ℕ). slice_get (slice_set c.loop-i.counts s c.note_there.new.counts) j
@@ -73,3 +72,8 @@ loop-i-preserved g c =
       size = c.note_there.ensures.long ∙ c.loop-i.invariant.size;
       cost = omega (arith, c.tick.ensures, c.loop-i.invariant.cost);
     }
+
+pub returns-clause-counts : goal.returns-clause-counts
+returns-clause-counts g c = λ i j less at.
+    c.loop-i.invariant.counts i j
+    (omega (arith, less, c.loop-i-test.false, c.loop-i.invariant.long)) at
