@@ -215,7 +215,7 @@ fn make_pages(pages: &mut Vec<Page>, word: u64, words: u64, alloc: Global) -> Re
     }
 }
 
-// The same, where they aren't all there.
+// The same, unless all of these windows are there.
 #[inline(always)]
 fn make_row(pages: &mut Vec<Page>, word: u64, words: u64, alloc: Global) -> Result<(), NoMemory>
     requires early { word < 2 ^ 30 }
@@ -258,7 +258,7 @@ pub fn make_room(
     }
 }
 
-// The same at a place where there is one.
+// One access in the window at a place of a page.
 #[inline(always)]
 fn note_there(windows: &mut [Window], place: usize, counts: &mut Swept, access: Access)
     requires there { place < length windows.old }
@@ -280,7 +280,7 @@ fn shift_behind(shift: usize, count: usize) -> usize
     if shift + 1 < count { shift + 1 } else { 0 }
 }
 
-// The shift at which the window before those of a word is counted, of so many.
+// The shift of the window that ends before a word, of so many shifts.
 #[inline(always)]
 fn shift_of(word: u64, count: usize) -> usize
     requires { 0 < count }

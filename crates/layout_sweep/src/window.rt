@@ -36,7 +36,7 @@ impl Model for Window {
     ghost inverse_ok = { λ a h. fields_back a };
 }
 
-// The harts after a read by one. There is no branch, so that the harts of a read needn't be guessed.
+// The harts after a read by one.
 #[inline(always)]
 fn after_read(harts: u32, hart: Hart) -> u32
     requires { harts < 2 ^ 21 }
@@ -50,7 +50,8 @@ fn after_read(harts: u32, hart: Hart) -> u32
     }
 }
 
-// Whether a write finds another hart. A window that was taken was written, and asks one thing less.
+// Whether a write finds another hart. A window that was taken has been written, so one test is
+// enough there.
 #[inline(always)]
 fn is_another(harts: u32, taken: bool, hart: Hart) -> bool
     requires { IsTrue taken → harts ≢ unwritten }

@@ -1,5 +1,5 @@
 -- The row is noted in its page, and the shifts turn with it.
-use Rattle.std.proofs.Common.{◌≡◌, ℕ, ◌+◌, ◌/◌, ◌%◌, ◌<◌, ◌≤◌, ◌∙◌, sym, ap, subst, arith, length}
+use Rattle.std.proofs.Common.{◌≡◌, ℕ, ◌+◌, ◌/◌, ◌%◌, ◌<◌, ◌∙◌, sym, ap, subst, arith, length}
 use Rattle.std.proofs.Common.{List}
 use Rattle.std.specs.Vec.{with_items}
 use Rattle.layout_sweep.specs.Laws.Lines.{cut_is}
