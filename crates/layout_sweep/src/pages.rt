@@ -75,10 +75,10 @@ fn note_window(window: &mut Window, counts: &mut Swept, access: Access)
     ensures window { window.new ≡ window_after window.old access }
     ensures counts { counts.new ≡ swept_after counts.old window.old access }
 {
-    let was_taken = window.is_taken();
-    let taken = window.note(access);
-    counts.total += u64::from(taken);
-    if taken && !was_taken {
+    if window.is_taken() {
+        counts.total += u64::from(window.note(access));
+    } else if window.note(access) {
+        counts.total += 1;
         counts.lines += 1;
     }
 }
