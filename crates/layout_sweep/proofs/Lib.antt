@@ -1,3 +1,4 @@
 pub mod LineLaws
 pub mod PageLaws
 pub mod WordLaws
+pub mod RowLaws

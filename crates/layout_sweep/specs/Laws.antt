@@ -7,4 +7,5 @@ pub mod Listed
 pub mod Seen
 pub mod Standing
 pub mod Totals
+pub mod WindowFields
 pub mod Windows

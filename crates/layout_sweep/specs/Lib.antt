@@ -1,9 +1,11 @@
 pub mod Counts
 pub mod Histories
+pub mod Kept
 pub mod Laws
 pub mod Pages
 pub mod Seen
 pub mod Standing
 pub mod Texts
 pub mod Totals
+pub mod WindowFields
 pub mod Windows

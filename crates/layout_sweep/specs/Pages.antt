@@ -1,5 +1,5 @@
 -- Windows in pages of 4096. A page that isn't there yet is an empty vector.
-use Rattle.std.specs.Prelude.{◌≡◌, ℕ, ◌+◌, ◌/◌, ◌%◌, ◌<◌, ◌≤◌, Bool, nat_lt, List, []}
+use Rattle.std.specs.Prelude.{◌≡◌, ℕ, ◌+◌, ◌/◌, ◌%◌, ◌<◌, ◌≤◌, ◌⊎◌, Bool, nat_lt, List, []}
 use Rattle.std.specs.Prelude.{length, slice_get, unwrap_or}
 use Rattle.std.specs.Option.{option_map_or}
 use Rattle.std.specs.declared.vec.Vec.{Vec}
@@ -28,3 +28,14 @@ pub record HasBlank (windows : ℕ → Window) (w m : ℕ) : Type 0 where
   pub above : w < number
   pub within : number ≤ w + m
   pub blank : windows number ≡ blank_window
+
+-- so many windows from one on are all there, in one page
+pub record HasRow (pages : List (Vec Window Global)) (first count : ℕ) : Type 0 where
+  pub near : first % 4096 + count ≤ 4096
+  pub page : first / 4096 < length pages
+  pub there : first % 4096 + count ≤ length (page_at pages (first / 4096))
+
+-- of m shifts, j is the one i behind another, where the first comes behind the last
+pub record IsTurned (m first i j : ℕ) : Type 0 where
+  pub low : j < m
+  pub behind : (j ≡ first + i) ⊎ (j + m ≡ first + i)

@@ -1,14 +1,15 @@
 // Windows in pages of 4096. A page that isn't there yet is an empty `Vec`.
 ghost use Rattle.std.specs.Prelude.{◌≡◌, ◌≢◌, ℕ, ◌+◌, ◌-◌, ◌*◌, ◌/◌, ◌%◌, ◌<◌, ◌≤◌, ◌^◌, ◌⊎◌, length, vec_len};
-ghost use Rattle.std.specs.Prelude.{IsTrue, OnOk, OnErr, nat_lt, option_map};
+ghost use Rattle.std.specs.Prelude.{IsTrue, OnOk, OnErr, if◌then◌else◌, nat_lt, option_map};
 ghost use Rattle.std.specs.Prelude.{slice_get};
 ghost use Rattle.base.specs.Touch.{is_write};
 ghost use Rattle.layout_sweep.specs.Counts.{AreBelow, swept_after};
-ghost use Rattle.layout_sweep.specs.Pages.{HasBlank, has_window, page_at, window_at, window_in};
+ghost use Rattle.layout_sweep.specs.Pages.{HasBlank, HasRow, IsTurned, has_window, page_at, window_at};
+ghost use Rattle.layout_sweep.specs.Pages.{window_in};
 ghost use Rattle.layout_sweep.specs.Windows.{blank_window, is_swept_size, window_after};
 
 use crate::counts::Swept;
-use crate::window::{BLANK, Window};
+use crate::window::Window;
 use base::{Access, NoMemory, Steps};
 use std::alloc::Global;
 use std::sync::ledger::Ledger;
@@ -44,7 +45,7 @@ fn fill(page: &mut Page, place: usize) -> Result<(), NoMemory>
     if place < page.len() {
         return Ok(());
     }
-    match page.resize(PAGE_WINDOWS as usize, BLANK) {
+    match page.resize(PAGE_WINDOWS as usize, Window::blank()) {
         Ok(()) => Ok(()),
         Err(_) => Err(NoMemory),
     }
@@ -74,10 +75,11 @@ fn note_window(window: &mut Window, counts: &mut Swept, access: Access)
     ensures window { window.new ≡ window_after window.old access }
     ensures counts { counts.new ≡ swept_after counts.old window.old access }
 {
-    let was_taken = window.is_taken();
-    if window.note(access) {
+    if window.is_taken() {
+        counts.total += u64::from(window.note(access));
+    } else if window.note(access) {
         counts.total += 1;
-        counts.lines += u64::from(!was_taken);
+        counts.lines += 1;
     }
 }
 
@@ -213,6 +215,23 @@ fn make_pages(pages: &mut Vec<Page>, word: u64, words: u64, alloc: Global) -> Re
     }
 }
 
+// The same, unless all of these windows are there.
+#[inline(always)]
+fn make_row(pages: &mut Vec<Page>, word: u64, words: u64, alloc: Global) -> Result<(), NoMemory>
+    requires early { word < 2 ^ 30 }
+    requires sized { IsTrue (is_swept_size (4 * words)) }
+    ensures same { (q : ℕ) → window_at pages.new.items q ≡ window_at pages.old.items q }
+    ensures made { OnOk result ((q : ℕ) → word < q → q ≤ word + words
+        → IsTrue (has_window pages.new.items q)) }
+    ensures blank { OnErr result (HasBlank (window_at pages.old.items) word words) }
+{
+    if has_row(pages, word + 1, words) {
+        Ok(())
+    } else {
+        make_pages(pages, word, words, alloc)
+    }
+}
+
 /// Makes what an access needs in the windows that hold its word, of so many words each: their pages
 /// for a write. NoMemory leaves all windows as they were, and comes only where one of them was never
 /// written.
@@ -233,16 +252,175 @@ pub fn make_room(
         × HasBlank (window_at pages.old.items) word words) }
 {
     if access.kind().is_write() {
-        make_pages(pages, word, words, alloc)
+        make_row(pages, word, words, alloc)
     } else {
         Ok(())
     }
 }
 
+// One access in the window at a place of a page.
+#[inline(always)]
+fn note_there(windows: &mut [Window], place: usize, counts: &mut Swept, access: Access)
+    requires there { place < length windows.old }
+    requires few { (counts.old.total < 2 ^ 40) × (counts.old.lines < 2 ^ 40) }
+    ensures here { window_in windows.new place ≡ window_after (window_in windows.old place) access }
+    ensures others { (q : ℕ) → q ≢ place → window_in windows.new q ≡ window_in windows.old q }
+    ensures counts { counts.new ≡ swept_after counts.old (window_in windows.old place) access }
+    ensures long { length windows.new ≡ length windows.old }
+{
+    note_window(&mut windows[place], counts, access);
+}
+
+// The shift behind one of so many, and behind the last the first.
+#[inline(always)]
+fn shift_behind(shift: usize, count: usize) -> usize
+    requires { shift < count }
+    ensures { result ≡ (if nat_lt (shift + 1) count then shift + 1 else 0) }
+{
+    if shift + 1 < count { shift + 1 } else { 0 }
+}
+
+// The shift of the window that ends before a word, of so many shifts.
+#[inline(always)]
+fn shift_of(word: u64, count: usize) -> usize
+    requires { 0 < count }
+    ensures { result ≡ word % count }
+{
+    // Most lines have 64 bytes, and a remainder by 16 takes less time than a division.
+    if count == 16 {
+        (word % 16) as usize
+    } else {
+        (word % count as u64) as usize
+    }
+}
+
+// One access in as many windows in a row as there are shifts. The first of them is counted at a
+// shift that is given, and the others at those behind it.
+#[inline(always)]
+fn note_row<L: Ledger>(
+    windows: &mut [Window],
+    place: usize,
+    counts: &mut [Swept],
+    first: usize,
+    access: Access,
+    steps: &mut Steps<L>,
+)
+    requires there { place + length counts.old ≤ length windows.old }
+    requires first { first < length counts.old }
+    requires few { AreBelow (2 ^ 40) counts.old }
+    ensures inside { (i : ℕ) → i < length counts.old → window_in windows.new (place + i)
+        ≡ window_after (window_in windows.old (place + i)) access }
+    ensures outside { (q : ℕ) → (q < place) ⊎ (place + length counts.old ≤ q)
+        → window_in windows.new q ≡ window_in windows.old q }
+    ensures counts { (i j : ℕ) → i < length counts.old → IsTurned (length counts.old) first i j
+        → slice_get counts.new j
+        ≡ option_map (λ x. swept_after x (window_in windows.old (place + i)) access)
+        (slice_get counts.old j) }
+    ensures long { length counts.new ≡ length counts.old }
+    ensures windows { length windows.new ≡ length windows.old }
+    ensures cost { steps.new ≡ steps.old + length counts.old }
+{
+    let count = counts.len();
+    let mut shift = first;
+    for i in 0..count {
+        steps.tick();
+        note_there(windows, place + i, &mut counts[shift], access);
+        shift = shift_behind(shift, count);
+    }
+}
+
+// Whether windows in a row are all there, in one page.
+#[inline(always)]
+fn has_row(pages: &Vec<Page>, first: u64, count: u64) -> bool
+    requires { count ≤ 64 }
+    ensures near { IsTrue result → first % 4096 + count ≤ 4096 }
+    ensures page { IsTrue result → first / 4096 < length pages.now.items }
+    ensures there { IsTrue result
+        → first % 4096 + count ≤ length (page_at pages.now.items (first / 4096)) }
+{
+    let number = (first / PAGE_WINDOWS) as usize;
+    let end = first % PAGE_WINDOWS + count;
+    if end <= PAGE_WINDOWS && number < pages.len() {
+        end <= pages[number].len() as u64
+    } else {
+        false
+    }
+}
+
+// One access in all windows that hold a word, where they are there and lie in one page.
+#[inline(always)]
+fn note_near<L: Ledger>(
+    pages: &mut Vec<Page>,
+    counts: &mut [Swept],
+    word: u64,
+    access: Access,
+    steps: &mut Steps<L>,
+)
+    requires early { word < 2 ^ 30 }
+    requires sized { IsTrue (is_swept_size (4 * length counts.old)) }
+    requires few { AreBelow (2 ^ 40) counts.old }
+    requires row { HasRow pages.old.items (word + 1) (length counts.old) }
+    ensures inside { (q : ℕ) → word < q → q ≤ word + length counts.old
+        → window_at pages.new.items q ≡ window_after (window_at pages.old.items q) access }
+    ensures outside { (q : ℕ) → (q ≤ word) ⊎ (word + length counts.old < q)
+        → window_at pages.new.items q ≡ window_at pages.old.items q }
+    ensures counts { (i q : ℕ) → word < q → q ≤ word + length counts.old
+        → q % length counts.old ≡ i → slice_get counts.new i
+        ≡ option_map (λ x. swept_after x (window_at pages.old.items q) access)
+        (slice_get counts.old i) }
+    ensures long { length counts.new ≡ length counts.old }
+    ensures cost { steps.new ≡ steps.old + length counts.old }
+{
+    let first = word + 1;
+    let number = (first / PAGE_WINDOWS) as usize;
+    let place = (first % PAGE_WINDOWS) as usize;
+    let shift = shift_behind(shift_of(word, counts.len()), counts.len());
+    note_row(
+        pages[number].as_mut_slice(),
+        place,
+        counts,
+        shift,
+        access,
+        steps,
+    );
+}
+
 /// One access in all windows that hold a word, each counted at its shift. They are neighbours, and
-/// those of one line number lie in one page. A write needs their pages.
+/// mostly lie in one page. A write needs their pages.
 #[inline(always)]
 pub fn note_word<L: Ledger>(
+    pages: &mut Vec<Page>,
+    counts: &mut [Swept],
+    word: u64,
+    access: Access,
+    steps: &mut Steps<L>,
+)
+    requires early { word < 2 ^ 30 }
+    requires sized { IsTrue (is_swept_size (4 * length counts.old)) }
+    requires few { AreBelow (2 ^ 40) counts.old }
+    requires made { IsTrue (is_write access.kind) → (q : ℕ) → word < q
+        → q ≤ word + length counts.old → IsTrue (has_window pages.old.items q) }
+    ensures inside { (q : ℕ) → word < q → q ≤ word + length counts.old
+        → window_at pages.new.items q ≡ window_after (window_at pages.old.items q) access }
+    ensures outside { (q : ℕ) → (q ≤ word) ⊎ (word + length counts.old < q)
+        → window_at pages.new.items q ≡ window_at pages.old.items q }
+    ensures counts { (i q : ℕ) → word < q → q ≤ word + length counts.old
+        → q % length counts.old ≡ i → slice_get counts.new i
+        ≡ option_map (λ x. swept_after x (window_at pages.old.items q) access)
+        (slice_get counts.old i) }
+    ensures long { length counts.new ≡ length counts.old }
+    ensures cost { steps.new ≡ steps.old + length counts.old }
+{
+    if has_row(pages, word + 1, counts.len() as u64) {
+        note_near(pages, counts, word, access, steps);
+    } else {
+        note_apart(pages, counts, word, access, steps);
+    }
+}
+
+// One access in all windows that hold a word, those of each line number by themselves: these lie in
+// one page.
+fn note_apart<L: Ledger>(
     pages: &mut Vec<Page>,
     counts: &mut [Swept],
     word: u64,
