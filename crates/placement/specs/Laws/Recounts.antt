@@ -22,7 +22,7 @@ use Rattle.layout_sweep.specs.Laws.Totals.{part-push}
 use Rattle.layout_sweep.specs.Windows.{takes, window_of}
 use Rattle.placement.specs.Passing.{HasRecounted, RecountsFor, RecountsNext, begins_at}
 use Rattle.placement.specs.Plans.{Planned, moved, moved_list}
-use Rattle.placement.specs.Recounts.{ends_in, is_of_many, many_count, total_in}
+use Rattle.placement.specs.Recounts.{is_line_in, is_of_many, many_count, total_in}
 use Rattle.placement.specs.declared.recount.Recount.{Recount}
 
 pub moved-push : (p : Planned) (t : List Touch) (a : Touch)
@@ -33,16 +33,16 @@ moved-push p t a = map-append (moved p) t (a ∷ [])
 part-in : (n many : ℕ) (o : Option Range) (t : List Touch) (a : Touch) (taken : Bool) → 0 < n
     → n % 4 ≡ 0 → many ≡ option_map_or (λ r. total_in n r t) o 0
     → taken ≡ takes (window_of (line_at (native_grid n) a.addr) t) a
-    → (if taken && option_map_or (λ r. ends_in n r (line_number n 0 a.addr)) o false then many + 1
+    → (if taken && option_map_or (λ r. is_line_in n r (line_number n 0 a.addr)) o false then many + 1
     else many) ≡ option_map_or (λ r. total_in n r (t ++ a ∷ [])) o 0
 part-in n many None t a true some whole was is = was
 part-in n many None t a false some whole was is = was
 part-in n many (Some r) t a taken some whole was is =
-    let inside : Bool = ends_in n r (line_number n 0 a.addr) in
+    let inside : Bool = is_line_in n r (line_number n 0 a.addr) in
     counted (taken && inside)
     ∙ ap (λ (s : ℕ). s + (if taken && inside then 1 else 0)) was
     ∙ ap (λ (b : Bool). total_in n r t + (if b && inside then 1 else 0)) is
-    ∙ sym (part-push (ends_in n r) (native_grid n) t a (some, whole))
+    ∙ sym (part-push (is_line_in n r) (native_grid n) t a (some, whole))
   where
     counted : (b : Bool) → (if b then many + 1 else many) ≡ many + (if b then 1 else 0)
     counted true = refl
