@@ -1,11 +1,12 @@
 -- What one access more makes of a recount.
-use Rattle.std.proofs.Common.{◌≡◌, ℕ, ◌+◌, ◌%◌, ◌<◌, ◌≤◌, ◌&&◌, Bool, true, false, List, [], ◌∷◌}
-use Rattle.std.proofs.Common.{◌++◌, Option, None, Some, length, refl, sym, ap, ◌∙◌, subst}
+use Rattle.std.proofs.Common.{◌≡◌, ℕ, ◌+◌, ◌*◌, ◌%◌, ◌<◌, ◌≤◌, ◌&&◌, Bool, true, false, List, [], ◌∷◌}
+use Rattle.std.proofs.Common.{◌++◌, Option, None, Some, length, refl, sym, ap, ◌∙◌, subst, arith}
 use Rattle.std.proofs.Common.{Result, Ok, Err}
 use Rattle.std.proofs.Math.Nat.{add-zero}
+use Rattle.std.proofs.lemmas.Int.{ints}
 use Rattle.std.proofs.lemmas.List.{map-append}
 use Rattle.std.specs.Option.{option_map_or}
-use Rattle.std.specs.Prelude.{OnOk, if◌then◌else◌}
+use Rattle.std.specs.Prelude.{OnOk, if◌then◌else◌, int_le, pos, ℤ, ◌+ℤ◌, ◌-ℤ◌}
 use Rattle.base.specs.Lines.{line_number}
 use Rattle.base.specs.Touch.{Touch}
 use Rattle.base.specs.declared.layout.Range.{Range}
@@ -24,6 +25,17 @@ use Rattle.placement.specs.Passing.{HasRecounted, RecountsFor, RecountsNext, beg
 use Rattle.placement.specs.Plans.{Planned, moved, moved_list}
 use Rattle.placement.specs.Recounts.{is_line_in, is_of_many, many_count, total_in}
 use Rattle.placement.specs.declared.recount.Recount.{Recount}
+
+-- a line by the address at which it ends
+pub line-ends : (n k end : ℕ) (r : Range) → end ≡ k * n
+    → (int_le r.base (pos end -ℤ pos n) && int_le (pos end) (r.base +ℤ pos r.size))
+    ≡ is_line_in n r k
+line-ends n k end r is =
+    let c : ℕ = k * n + 0 in
+    let same : end ≡ c = omega (arith, is) in
+    let back : (pos c -ℤ pos n +ℤ pos n) ≡ pos c = omega (arith, ints) in
+    ap (λ (m : ℕ). int_le r.base (pos m -ℤ pos n) && int_le (pos m) (r.base +ℤ pos r.size)) same
+    ∙ ap (λ (z : ℤ). int_le r.base (pos c -ℤ pos n) && int_le z (r.base +ℤ pos r.size)) (sym back)
 
 pub moved-push : (p : Planned) (t : List Touch) (a : Touch)
     → moved_list p (t ++ a ∷ []) ≡ moved_list p t ++ moved p a ∷ []
