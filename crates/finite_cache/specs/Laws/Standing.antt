@@ -25,7 +25,7 @@ use Rattle.sharing_rules.specs.Laws.Holders.{holders-holds}
 use Rattle.sharing_rules.specs.Laws.Lists.{by_push, map_same, slice_cases}
 use Rattle.sharing_rules.specs.Laws.Observed.{written_lines-any, written_lines-push}
 use Rattle.sharing_rules.specs.Laws.Places.{count_places-none}
-use Rattle.sharing_rules.specs.Laws.Places.{count_places-push, first_place-empty, first_place-push}
+use Rattle.sharing_rules.specs.Laws.Places.{count_places-push, first_place-empty}
 use Rattle.sharing_rules.specs.Laws.Places.{first_place-within}
 use Rattle.sharing_rules.specs.Laws.Recounts.{count_since-end}
 use Rattle.sharing_rules.specs.Laws.Starts.{first_write_from-push, observed_start-one}

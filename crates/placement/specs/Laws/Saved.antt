@@ -1,6 +1,6 @@
 -- What a plan saves: the counts of the object's own lines, where only its words are accessed there,
 -- but for what the words of many harts take along.
-use Rattle.std.proofs.Common.{◌≡◌, ◌≢◌, ℕ, zero, suc, ◌+◌, ◌-◌, ◌*◌, ◌/◌, ◌%◌, ◌<◌, ◌≤◌, max, Bool}
+use Rattle.std.proofs.Common.{◌≡◌, ◌≢◌, ℕ, zero, suc, ◌+◌, ◌-◌, ◌*◌, ◌/◌, ◌%◌, ◌<◌, max, Bool}
 use Rattle.std.proofs.Common.{true, false, cond, eqb, ltb, List, [], ◌∷◌, None, Some, map}
 use Rattle.std.proofs.Common.{refl, sym, ap, ◌∙◌, arith, inl, inr}
 use Rattle.std.proofs.lemmas.Bool.{cases_Bool, cases_eq, eq-eqb, eqb-true, false≢true, ne_eqb, or_left}
@@ -24,16 +24,15 @@ use Rattle.sharing_rules.specs.declared.word.Owner.{Owner}
 use Rattle.sharing_rules.specs.declared.word.Owner.TheVariants as owner
 use Rattle.placement.specs.Groups.{area_length, group_count, group_of, group_size}
 use Rattle.placement.specs.Groups.{is_in, many_group, untouched_group}
-use Rattle.placement.specs.Laws.Groups.{IsLineSize, IsMultiple, group-less, size-push, start-grows}
+use Rattle.placement.specs.Laws.Groups.{IsLineSize, group-less, size-push, start-grows}
 use Rattle.placement.specs.Laws.LineCounts.{line_count, moved_alike, one_hart, recount_is}
 use Rattle.placement.specs.Laws.LineTotals.{count_where, line_bound, nothing_if, sums_add}
 use Rattle.placement.specs.Laws.LineTotals.{total_spread, whole_total}
 use Rattle.placement.specs.Laws.Moved.{IsMovedWord, before_area, in_line, moved_cases}
-use Rattle.placement.specs.Laws.Moved.{moved_line, one_line, owner_low, place_even, side_of}
+use Rattle.placement.specs.Laws.Moved.{moved_line, one_line, owner_low, place_even}
 use Rattle.placement.specs.Laws.MovedCounts.{AreHarts, in_area, line_sized, within_at, within_of}
 use Rattle.placement.specs.Laws.MovedCounts.{many_at, many_or_none, many_range, many_spread}
 use Rattle.placement.specs.Laws.MovedCounts.{moved_count}
-use Rattle.placement.specs.Laws.Plans.{area-whole}
 use Rattle.placement.specs.Laws.Words.{IsWord}
 use Rattle.placement.specs.ObjectLines.{HasLinesToItself, is_object_line, object_total}
 use Rattle.placement.specs.Plans.{area_start, moved, moved_list, place, plan_of}
