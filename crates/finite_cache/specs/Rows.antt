@@ -1,25 +1,25 @@
 -- What is told of each written line, and of all.
-use Rattle.std.specs.Prelude.{ℕ, ◌&&◌, ◌==◌, nat_lt, List, length, map, sum_by}
+use Rattle.std.specs.Prelude.{ℕ, ◌&&◌, nat_lt, List, Option, length, map, sum_by}
 use Rattle.std.specs.Option.{option_map_or}
-use Rattle.base.specs.Touch.{is_write}
 use Rattle.sharing_rules.specs.AccessLists.{AccessList}
 use Rattle.sharing_rules.specs.Holders.{count_since}
-use Rattle.sharing_rules.specs.Lines.{grid_line, range_of}
-use Rattle.sharing_rules.specs.Observed.{written_lines}
-use Rattle.sharing_rules.specs.Places.{Question, count_places, first_place}
+use Rattle.sharing_rules.specs.Lines.{grid_line, is_inside, range_of}
+use Rattle.sharing_rules.specs.Observed.{observed_start, written_lines}
+use Rattle.sharing_rules.specs.Places.{count_places}
 use Rattle.finite_cache.specs.Bounded.{is_any_eviction, is_bounded_invalidation, is_eviction}
 use Rattle.finite_cache.specs.Bounded.{line_in}
 use Rattle.base.specs.Shapes.{CacheShape, grid_of}
 use Rattle.finite_cache.specs.declared.rows.CacheRow.{CacheRow}
 use Rattle.finite_cache.specs.declared.rows.Totals.{Totals}
 
--- a write of line r
-abbrev pub writes_line : CacheShape → ℕ → Question
-writes_line k r before a = is_write a.kind && (line_in k a.addr == r)
+-- the position of a line's first write, where it has one: it is observed from there on, at
+-- threshold 1
+abbrev pub first_write : CacheShape → AccessList → ℕ → Option ℕ
+first_write k t r = observed_start 1 (is_inside (grid_line (grid_of k) r)) t
 
--- the position of a written line's first write
+-- that of a written line; a line with no write has no row
 abbrev pub start_of : CacheShape → AccessList → ℕ → ℕ
-start_of k t r = option_map_or (λ s. s) (first_place (writes_line k r) t) 0
+start_of k t r = option_map_or (λ s. s) (first_write k t r) 0
 
 -- its invalidations after that, in bounded caches and in unbounded ones
 abbrev pub bounded_since : CacheShape → ℕ → ℕ → AccessList → ℕ

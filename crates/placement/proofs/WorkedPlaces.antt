@@ -1,7 +1,9 @@
 -- Worked lists, computed from the definitions.
 use Rattle.std.proofs.Common.{◌≡◌, ℕ, List, [], ◌∷◌, None, Some, false, true, codes, refl}
+use Rattle.std.specs.Prelude.{pos}
 use Rattle.base.specs.Touch.{Touch}
 use Rattle.base.specs.declared.access.Kind.TheVariants.{Write}
+use Rattle.base.specs.declared.layout.Range.{Range}
 use Rattle.objects.specs.declared.symbol.SymbolKind.TheVariants.{Function, Object}
 use Rattle.sharing_rules.specs.Places.{count_places, first_place}
 use Rattle.trace_format.specs.declared.record.TraceRecord.{TraceRecord}
@@ -9,7 +11,7 @@ use Rattle.trace_format.specs.declared.record.TraceRecord.TheVariants as records
 use Rattle.placement.specs.Groups.{group_count, many_group, untouched_group}
 use Rattle.placement.specs.ObjectLines.{is_object_line, object_total}
 use Rattle.placement.specs.Plans.{Planned, has_room, plan_of}
-use Rattle.placement.specs.Recounts.{area_count}
+use Rattle.placement.specs.Recounts.{area_count, is_line_in}
 use Rattle.placement.specs.Sought.{is_too_large, object_of}
 use Rattle.placement.specs.Texts.{Sums, sums_of}
 use Rattle.placement.specs.Words.{owned_of, words_of}
@@ -56,6 +58,18 @@ lines_are : (object_total 64 (extent 0x1000 8) in_turn ≡ 2)
     × (is_object_line 64 (extent 0x103c 8) 67 ≡ false)
 unfolding count_places first_place
 lines_are = (refl, refl, refl, refl, refl)
+
+-- line 66 of 64 bytes is 0x1040 to 0x107f: it lies in its own range, and its neighbours don't, nor
+-- does it in a range that begins or ends within it
+abbrev range : ℕ → ℕ → Range
+range a n = record { base = pos a; size = n }
+
+line_in : (is_line_in 64 (range 0x1040 64) 66 ≡ true)
+    × (is_line_in 64 (range 0x1040 64) 65 ≡ false)
+    × (is_line_in 64 (range 0x1040 64) 67 ≡ false)
+    × (is_line_in 64 (range 0x1044 128) 66 ≡ false)
+    × (is_line_in 64 (range 0x1000 127) 66 ≡ false)
+line_in = (refl, refl, refl, refl, refl)
 
 -- there is no line behind the last word
 no_room : has_room 64 (owned_of (extent 0xfffffffc 4) (wr 0 0xfffffffc ∷ [])) ≡ false

@@ -1,22 +1,27 @@
 -- What is counted on the lines of a range of addresses.
-use Rattle.std.specs.Prelude.{ℕ, ◌*◌, Bool, ◌&&◌, false, int_le, int_lt, ◌+ℤ◌, pos}
+use Rattle.std.specs.Prelude.{ℕ, Bool, ◌&&◌, false, int_le, ◌+ℤ◌, pos}
 use Rattle.std.specs.Prelude.{filter, sum_by}
 use Rattle.std.specs.Option.{option_map_or}
 use Rattle.base.specs.Lines.{line_number}
 use Rattle.base.specs.declared.layout.Range.{Range}
 use Rattle.sharing_rules.specs.AccessLists.{AccessList}
-use Rattle.sharing_rules.specs.Lines.{native_grid}
+use Rattle.sharing_rules.specs.Lines.{native_grid, native_line, range_of}
 use Rattle.layout_sweep.specs.Totals.{counted, total_of}
 use Rattle.placement.specs.Plans.{Planned, moved_list}
 
--- whether line k of n bytes lies in a range that whole lines make up; it ends at address n * k
-abbrev pub ends_in : ℕ → Range → ℕ → Bool
-ends_in n r k = int_lt r.base (pos (n * k)) && int_le (pos (n * k)) (r.base +ℤ pos r.size)
+-- whether a range lies in another one: it begins no lower and ends no higher
+abbrev pub lies_in : Range → Range → Bool
+lies_in outer r =
+    int_le outer.base r.base && int_le (r.base +ℤ pos r.size) (outer.base +ℤ pos outer.size)
+
+-- whether line k of n bytes lies in a range
+abbrev pub is_line_in : ℕ → Range → ℕ → Bool
+is_line_in n r k = lies_in r (range_of (native_line n k))
 
 -- the counts of the lines of n bytes that lie there, each from its first write on
 abbrev pub total_in : ℕ → Range → AccessList → ℕ
 total_in n r t = sum_by (λ f. f.count)
-    (filter (λ f. ends_in n r f.line.number) (counted (native_grid n) t))
+    (filter (λ f. is_line_in n r f.line.number) (counted (native_grid n) t))
 
 -- the total of a list under lines of n bytes
 abbrev pub total_before : ℕ → AccessList → ℕ
@@ -32,7 +37,7 @@ many_count n p t = option_map_or (λ r. total_in n r (moved_list p t)) p.many 0
 
 -- whether the line of an address is one of theirs
 abbrev pub is_of_many : ℕ → Planned → ℕ → Bool
-is_of_many n p addr = option_map_or (λ r. ends_in n r (line_number n 0 addr)) p.many false
+is_of_many n p addr = option_map_or (λ r. is_line_in n r (line_number n 0 addr)) p.many false
 
 -- and its part in the area
 abbrev pub area_range : Planned → Range

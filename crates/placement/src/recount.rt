@@ -1,10 +1,10 @@
 // The invalidations of a list of accesses, where they are and where a plan moves them.
 ghost use Rattle.std.specs.Prelude.{◌≡◌, ◌+◌, ◌<◌, ◌≤◌, ◌^◌, ◌&&◌, [], ◌∷◌, ◌++◌, if◌then◌else◌};
-ghost use Rattle.std.specs.Prelude.{IfOk, IsTrue, OnErr, OnOk};
+ghost use Rattle.std.specs.Prelude.{IfOk, IsTrue, OnErr, OnOk, int_le, pos, ◌+ℤ◌, ◌-ℤ◌};
 ghost use Rattle.base.specs.Lines.{is_line_size, line_number};
 ghost use Rattle.sharing_rules.specs.AccessLists.{AccessList};
 ghost use Rattle.placement.specs.Plans.{moved};
-ghost use Rattle.placement.specs.Recounts.{ends_in as ends_inside, is_of_many as is_for_many};
+ghost use Rattle.placement.specs.Recounts.{is_line_in, is_of_many as is_for_many};
 
 use crate::plan::Plan;
 use crate::sums::Sums;
@@ -27,15 +27,26 @@ pub struct Recount {
     pub ghost few: { (before.total ≤ position) × (after.total ≤ position) × (many ≤ position) },
 }
 
-// Whether line `line` of so many bytes lies in a range that whole lines make up.
+// Whether the bytes before an address, so many, lie in a range.
 #[inline]
-fn ends_in(size: u32, range: Range, line: u64) -> bool
+fn ends_in(size: u32, range: Range, end: u64) -> bool
+    requires few { size ≤ 1024 }
+    requires small { end ≤ 2 ^ 42 }
+    ensures { result ≡ (int_le range.base (pos end -ℤ pos size)
+        && int_le (pos end) (range.base +ℤ pos range.size)) }
+{
+    let end = end.cast_signed();
+    range.base <= end - i64::from(size) && end <= range.base + i64::from(range.size)
+}
+
+// Whether line `line` of so many bytes lies in a range.
+#[inline]
+fn lies_in(size: u32, range: Range, line: u64) -> bool
     requires few { size ≤ 1024 }
     requires small { line ≤ 2 ^ 32 }
-    ensures { result ≡ ends_inside size range line }
+    ensures { result ≡ is_line_in size range line }
 {
-    let end = (u64::from(size) * line).cast_signed();
-    range.base < end && end <= range.base + i64::from(range.size)
+    ends_in(size, range, line * u64::from(size))
 }
 
 // The number of an address's line.
@@ -57,7 +68,7 @@ fn is_of_many(plan: &Plan, size: u32, addr: u32) -> bool
     ensures { result ≡ is_for_many size plan.now addr }
 {
     match plan.many() {
-        Some(range) => ends_in(size, range, line_of(size, addr)),
+        Some(range) => lies_in(size, range, line_of(size, addr)),
         None => false,
     }
 }

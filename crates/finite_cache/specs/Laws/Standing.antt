@@ -3,7 +3,7 @@ use Rattle.std.proofs.Common.{◌≡◌, ℕ, ◌+◌, ◌<◌, ◌≤◌, Bool,
 use Rattle.std.proofs.Common.{List, [], ◌∷◌, ◌++◌, length, map, refl, sym, ap, ◌∙◌, subst, arith, inl, inr}
 use Rattle.std.proofs.Common.{Option, Some, None, length-append}
 use Rattle.std.proofs.lemmas.Bool.{and_parts, cases_Bool, eq-eqb, eqb-true, false≢true}
-use Rattle.std.proofs.lemmas.Bool.{lt-ltb}
+use Rattle.std.proofs.lemmas.Bool.{le-leb, lt-ltb}
 use Rattle.std.proofs.lemmas.Bool.Decides.{nat_tests}
 use Rattle.std.proofs.lemmas.List.Folds.{list_any-append}
 use Rattle.std.proofs.lemmas.List.Sums.{fold-append}
@@ -25,11 +25,12 @@ use Rattle.sharing_rules.specs.Laws.Holders.{holders-holds}
 use Rattle.sharing_rules.specs.Laws.Lists.{by_push, map_same, slice_cases}
 use Rattle.sharing_rules.specs.Laws.Observed.{written_lines-any, written_lines-push}
 use Rattle.sharing_rules.specs.Laws.Places.{count_places-none}
-use Rattle.sharing_rules.specs.Laws.Places.{count_places-push, first_place-empty, first_place-push}
+use Rattle.sharing_rules.specs.Laws.Places.{count_places-push, first_place-empty}
 use Rattle.sharing_rules.specs.Laws.Places.{first_place-within}
 use Rattle.sharing_rules.specs.Laws.Recounts.{count_since-end}
+use Rattle.sharing_rules.specs.Laws.Starts.{first_write_from-push, observed_start-one}
+use Rattle.sharing_rules.specs.Lines.{grid_line, is_inside}
 use Rattle.sharing_rules.specs.Observed.{written_lines}
-use Rattle.sharing_rules.specs.Places.{first_place}
 use Rattle.misses.specs.Laws.Entered.{entries, insert-entries, lookup-entries}
 use Rattle.sharing_rules.specs.Laws.Sums.{AgreeBut}
 use Rattle.finite_cache.specs.Bounded.{bounded, bounded_step, evicts, has, is_any_eviction}
@@ -42,7 +43,7 @@ use Rattle.finite_cache.specs.Kept.{Parts, evicted_now, harts_of}
 use Rattle.finite_cache.specs.Kept.{is_cached_now, is_held_now, lists_of}
 use Rattle.finite_cache.specs.Kept.{tally_after, tally_in, use_of}
 use Rattle.finite_cache.specs.Rows.{all_evicted, bounded_count, bounded_since, evicted_count}
-use Rattle.finite_cache.specs.Rows.{start_of, unbounded_count, writes_line}
+use Rattle.finite_cache.specs.Rows.{first_write, start_of, unbounded_count}
 use Rattle.base.specs.Shapes.{CacheShape, grid_of}
 use Rattle.finite_cache.specs.declared.rows.Tally.{Tally}
 
@@ -78,9 +79,18 @@ arrival-any g x hs =
 -- ---- counts after one access more
 
 pub start-push : (k : CacheShape) (t : List Touch) (a : Touch) (r : ℕ)
-    → first_place (writes_line k r) (t ++ a ∷ []) ≡ option_or (first_place (writes_line k r) t)
+    → first_write k (t ++ a ∷ []) r ≡ option_or (first_write k t r)
     (if is_write a.kind && eqb (line_in k a.addr) r then Some (length t) else None)
-start-push k t a r = first_place-push (writes_line k r) t a
+start-push k t a r =
+    let inside : ℕ → Bool = is_inside (grid_line (grid_of k) r) in
+    observed_start-one inside (t ++ a ∷ [])
+    ∙ first_write_from-push 0 inside t a
+    ∙ rw (← observed_start-one inside t, le-leb 0 (length t) (omega arith)) refl
+
+-- it lies in the list
+start-within : (k : CacheShape) (t : List Touch) (r s : ℕ) → first_write k t r ≡ Some s
+    → s < length t
+start-within k t r s e = first_place-within _ t s e
 
 or-none : {X : Type 0} (o : Option X) → option_or o None ≡ o
 or-none None = refl
@@ -117,8 +127,8 @@ pub tally-elsewhere : (k : CacheShape) (t : List Touch) (a : Touch) (r : ℕ)
     → (is_write a.kind && eqb (line_in k a.addr) r) ≡ false
     → tally_in k (t ++ a ∷ []) r ≡ tally_in k t r
 tally-elsewhere k t a r other =
-    let first : first_place (writes_line k r) (t ++ a ∷ []) ≡ first_place (writes_line k r) t =
-    start-push k t a r ∙ rw other (or-none (first_place (writes_line k r) t)) in
+    let first : first_write k (t ++ a ∷ []) r ≡ first_write k t r =
+    start-push k t a r ∙ rw other (or-none (first_write k t r)) in
     let start : start_of k (t ++ a ∷ []) r ≡ start_of k t r = ap place_or first in
     let quiet : (x : Bool) → (is_write a.kind && eqb (line_in k a.addr) r && x) ≡ false =
     λ x. no-more (is_write a.kind) (eqb (line_in k a.addr) r) x other in
@@ -135,12 +145,12 @@ tally-elsewhere k t a r other =
 
 -- a line has a first write exactly where it was written
 pub first-written : (k : CacheShape) (r : ℕ) (t : List Touch)
-    → is_some (first_place (writes_line k r) t)
+    → is_some (first_write k t r)
     ≡ list_any (writes_to (λ x. eqb (line_in k x) r)) t
 first-written k r t =
-    by_push (λ (t : List Touch). is_some (first_place (writes_line k r) t)
+    by_push (λ (t : List Touch). is_some (first_write k t r)
     ≡ list_any (writes_to (λ x. eqb (line_in k x) r)) t)
-    (ap is_some (first_place-empty (writes_line k r)))
+    (ap is_some (observed_start-one (λ x. eqb (line_in k x) r) [] ∙ first_place-empty _))
     (λ t a ih.
     rw (
       start-push k t a r,
@@ -148,7 +158,7 @@ first-written k r t =
       or-false,
       ← ih,
     )
-    (either (first_place (writes_line k r) t) (is_write a.kind && eqb (line_in k a.addr) r)
+    (either (first_write k t r) (is_write a.kind && eqb (line_in k a.addr) r)
     (length t)))
     t
   where
@@ -159,7 +169,7 @@ first-written k r t =
     either (Some x) b n = refl
 
 pub line-written : (k : CacheShape) (r : ℕ) (t : List Touch)
-    → is_some (first_place (writes_line k r) t)
+    → is_some (first_write k t r)
     ≡ list_any (eqb r) (written_lines (grid_of k) t)
 line-written k r t = first-written k r t ∙ sym (written_lines-any (grid_of k) t r)
 
@@ -178,10 +188,10 @@ module _ (k : CacheShape) (t : List Touch) (a : Touch) (w : is_write a.kind ≡ 
   asks-unbounded = rw own refl
 
   -- the first write of a line starts its row
-  first-tally : first_place (writes_line k r) t ≡ None
+  first-tally : first_write k t r ≡ None
       → tally_in k (t ++ a ∷ []) r ≡ record { start = length t; bounded = 0; unbounded = 0 }
   first-tally none =
-      let first : first_place (writes_line k r) (t ++ a ∷ []) ≡ Some (length t) =
+      let first : first_write k (t ++ a ∷ []) r ≡ Some (length t) =
       start-push k t a r ∙ rw (none, own) refl in
       let start : start_of k (t ++ a ∷ []) r ≡ length t = ap place_or first in
       let len : length (t ++ a ∷ []) ≡ length t + 1 = length-append t (a ∷ []) in
@@ -194,18 +204,18 @@ module _ (k : CacheShape) (t : List Touch) (a : Touch) (w : is_write a.kind ≡ 
       ∙ count_since-end (line_in k) r (length t) (t ++ a ∷ []) (omega (arith, len)))
 
   -- a later one counts where it finds the line elsewhere
-  next-tally : (s : ℕ) → first_place (writes_line k r) t ≡ Some s
+  next-tally : (s : ℕ) → first_write k t r ≡ Some s
       → tally_in k (t ++ a ∷ []) r ≡ record {
         start = start_of k t r;
         bounded = bounded_count k t r + one_if (is_cached_by_another k t a.hart r);
         unbounded = unbounded_count k t r + one_if (is_held_by_another (line_in k) t a.hart r);
       }
   next-tally s some =
-      let first : first_place (writes_line k r) (t ++ a ∷ []) ≡ Some s =
+      let first : first_write k (t ++ a ∷ []) r ≡ Some s =
       start-push k t a r ∙ rw some refl in
       let start : start_of k (t ++ a ∷ []) r ≡ start_of k t r = ap place_or (first ∙ sym some) in
       let is_start : start_of k t r ≡ s = ap place_or some in
-      let within : s < length t = first_place-within (writes_line k r) t s some in
+      let within : s < length t = start-within k t r s some in
       let early : ltb (start_of k t r) (length t) ≡ true =
       lt-ltb (start_of k t r) (length t) (omega (arith, is_start, within)) in
       same_tally _ _ start
@@ -228,7 +238,7 @@ module _ (k : CacheShape) (t : List Touch) (a : Touch) (w : is_write a.kind ≡ 
       (elim (cases_Bool (list_any (eqb r) ks)) [
         | inl known ↦
             rw known
-            (elim (slice_cases (first_place (writes_line k r) t)) [
+            (elim (slice_cases (first_write k t r)) [
               | inl none ↦
                   let no : false ≡ true = sym (ap is_some none) ∙ line-written k r t ∙ known in
                   absurd (false≢true no)
@@ -239,7 +249,7 @@ module _ (k : CacheShape) (t : List Touch) (a : Touch) (w : is_write a.kind ≡ 
             ])
         | inr new ↦
             rw new
-            (elim (slice_cases (first_place (writes_line k r) t)) [
+            (elim (slice_cases (first_write k t r)) [
               | inl none ↦ sym (first-tally none)
               | inr some ↦
                   let no : true ≡ false = sym (ap is_some some.1) ∙ line-written k r t ∙ new in

@@ -8,7 +8,7 @@ use Rattle.std.proofs.lemmas.Bool.{false≢true, lt-ltb}
 use Rattle.std.proofs.lemmas.Int.{ints}
 use Rattle.std.proofs.lemmas.List.Elements.{All-from_recursion, All-map, recursion_from_All}
 use Rattle.std.specs.Option.{option_map_or}
-use Rattle.std.specs.Prelude.{◌⊎◌, ◌+ℤ◌, All, if◌then◌else◌, int_le, int_lt, pos, slice_get, sum_by}
+use Rattle.std.specs.Prelude.{◌⊎◌, ◌+ℤ◌, ◌-ℤ◌, All, if◌then◌else◌, int_le, pos, slice_get, sum_by}
 use Rattle.base.specs.Lines.{line_number}
 use Rattle.base.specs.Touch.{Touch}
 use Rattle.base.specs.declared.layout.Range.{Range}
@@ -32,7 +32,7 @@ use Rattle.placement.specs.Laws.Moved.{side_of}
 use Rattle.placement.specs.Laws.Plans.{in-group}
 use Rattle.placement.specs.Laws.Words.{owners-at}
 use Rattle.placement.specs.Plans.{area_start, moved, moved_list, place, plan_of}
-use Rattle.placement.specs.Recounts.{area_count, area_range, ends_in, many_count, total_in}
+use Rattle.placement.specs.Recounts.{area_count, area_range, is_line_in, many_count, total_in}
 use Rattle.placement.specs.Words.{Owned, first_word, owned_of, owner_in, word_count}
 use Rattle.placement.specs.declared.extent.Extent.{Extent}
 
@@ -122,18 +122,35 @@ place_line n e t i h sized within low is =
 
 -- ---- lines of the area
 
-pub ends_at : (b s c : ℕ) → b < c → c ≤ b + s
-    → (int_lt (pos b) (pos c) && int_le (pos c) (pos b +ℤ pos s)) ≡ true
-ends_at b s c above below = and_from (int_lt (pos b) (pos c)) (int_le (pos c) (pos b +ℤ pos s))
+-- a range that ends at c
+ends_at : (b s n c : ℕ) → b + n ≤ c → c ≤ b + s
+    → (int_le (pos b) (pos c -ℤ pos n) && int_le (pos c -ℤ pos n +ℤ pos n) (pos b +ℤ pos s)) ≡ true
+ends_at b s n c low high =
+    and_from (int_le (pos b) (pos c -ℤ pos n)) (int_le (pos c -ℤ pos n +ℤ pos n) (pos b +ℤ pos s))
     (grind (arith, ints)) (grind (arith, ints))
 
-pub ends_of : (b s c : ℕ) → (int_lt (pos b) (pos c) && int_le (pos c) (pos b +ℤ pos s)) ≡ true
-    → (b < c) × (c ≤ b + s)
-ends_of b s c is =
-    let parts = and_parts (int_lt (pos b) (pos c)) (int_le (pos c) (pos b +ℤ pos s)) is in
+ends_of : (b s n c : ℕ)
+    → (int_le (pos b) (pos c -ℤ pos n) && int_le (pos c -ℤ pos n +ℤ pos n) (pos b +ℤ pos s)) ≡ true
+    → (b + n ≤ c) × (c ≤ b + s)
+ends_of b s n c is =
+    let parts = and_parts (int_le (pos b) (pos c -ℤ pos n))
+    (int_le (pos c -ℤ pos n +ℤ pos n) (pos b +ℤ pos s)) is in
     let first = parts.0 in
     let last = parts.1 in
     (grind (arith, ints), grind (arith, ints))
+
+-- line k lies in the s bytes from address b on; it ends at address k * n
+pub within_at : (n b s k : ℕ) → b + n ≤ k * n → k * n ≤ b + s
+    → is_line_in n (record { base = pos b; size = s }) k ≡ true
+within_at n b s k low high = ends_at b s n (k * n + 0) (omega arith) (omega arith)
+
+pub within_of : (n b s k : ℕ) → is_line_in n (record { base = pos b; size = s }) k ≡ true
+    → (b + n ≤ k * n) × (k * n ≤ b + s)
+within_of n b s k is =
+    let ends = ends_of b s n (k * n + 0) is in
+    let low = ends.0 in
+    let high = ends.1 in
+    (omega arith, omega arith)
 
 -- the group in whose room a byte of the area lies
 record IsInGroup (n : ℕ) (o : Owned) (b : ℕ) : Type 0 where
@@ -157,16 +174,9 @@ pub record IsAreaLine (n : ℕ) (o : Owned) (k : ℕ) : Type 0 where
   pub some : group < group_count
   pub line : IsLineOf n o group k
 
-pub area_line : (n : ℕ) (o : Owned) (k : ℕ) → 0 < n → area_start n o < n * k
-    → n * k ≤ area_start n o + area_length n o.owners → IsAreaLine n o k
-area_line n o k some above below =
-    let start = bound_whole n o 0 some in
-    let begins = start.whole in
-    let first : area_start n o + n ≤ k * n =
-    elim (side_of n k start.lines) [
-      | inl before ↦ absurd (omega (arith, before, begins, above))
-      | inr behind ↦ omega (arith, behind, begins)
-    ] in
+pub area_line : (n : ℕ) (o : Owned) (k : ℕ) → 0 < n → area_start n o + n ≤ k * n
+    → k * n ≤ area_start n o + area_length n o.owners → IsAreaLine n o k
+area_line n o k some first below =
     let b : ℕ = k * n - n - area_start n o in
     let found = group_from n o b group_count (omega arith) (omega (arith, first, below, some)) in
     let g : ℕ = found.group in
@@ -196,7 +206,7 @@ many_range n o = record {
 }
 
 abbrev pub in_area : ℕ → Owned → ℕ → Bool
-in_area n o k = ends_in n (area_range (plan_of n o)) k
+in_area n o k = is_line_in n (area_range (plan_of n o)) k
 
 few_groups : (g : ℕ) → g < group_count
     → (g < 256) ⊎ ((g ≡ many_group) ⊎ (g ≡ untouched_group))
@@ -220,7 +230,7 @@ pub area_counts : (n : ℕ) (e : Extent) (t : List Touch) (k : ℕ) → IsLineSi
     → (moved_count n e t k ≡ 0) ⊎ IsLineOf n (owned_of e t) many_group k
 area_counts n e t k sized harts within =
     let o = owned_of e t in
-    let bounds = ends_of (area_start n o) (area_length n o.owners) (n * k) within in
+    let bounds = within_of n (area_start n o) (area_length n o.owners) k within in
     let area = area_line n o k sized.some bounds.0 bounds.1 in
     elim (few_groups area.group area.some) [
       | inl hart ↦ inl (harts_line n e t area.group k sized area.line hart)
@@ -234,37 +244,36 @@ area_counts n e t k sized harts within =
 
 -- a line of many harts lies in their range, and there are such words
 many_line : (n : ℕ) (o : Owned) (k : ℕ) → 0 < n → IsLineOf n o many_group k
-    → (ends_in n (many_range n o) k ≡ true) × (ltb 0 (group_size o.owners many_group) ≡ true)
+    → (is_line_in n (many_range n o) k ≡ true) × (ltb 0 (group_size o.owners many_group) ≡ true)
 many_line n o k some line =
     let low = line.low in
     let high = line.high in
     let next = start-next n o.owners many_group in
     let room = rounded-up n (4 * group_size o.owners many_group) some in
     let near = room.near in (
-      ends_at (area_start n o + group_start n o.owners many_group)
-          (group_room n o.owners many_group) (n * k) (omega (arith, low, some))
-          (omega (arith, high, next)),
+      within_at n (area_start n o + group_start n o.owners many_group)
+          (group_room n o.owners many_group) k low (omega (arith, high, next)),
       lt-ltb 0 (group_size o.owners many_group) (omega (arith, low, high, next, near)),
     )
 
 -- and that range in the area
-many_within : (n : ℕ) (o : Owned) (k : ℕ) → ends_in n (many_range n o) k ≡ true
+many_within : (n : ℕ) (o : Owned) (k : ℕ) → is_line_in n (many_range n o) k ≡ true
     → in_area n o k ≡ true
 many_within n o k within =
-    let bounds = ends_of (area_start n o + group_start n o.owners many_group)
-    (group_room n o.owners many_group) (n * k) within in
+    let bounds = within_of n (area_start n o + group_start n o.owners many_group)
+    (group_room n o.owners many_group) k within in
     let above = bounds.0 in
     let below = bounds.1 in
     let next = start-next n o.owners many_group in
     let grows = start-grows n o.owners (suc many_group) group_count many_counted in
-    ends_at (area_start n o) (area_length n o.owners) (n * k) (omega (arith, above))
+    within_at n (area_start n o) (area_length n o.owners) k (omega (arith, above))
     (omega (arith, below, next, grows))
 
 -- what is counted of line k by those of many harts
 abbrev pub many_at : ℕ → Extent → List Touch → ℕ → ℕ
 many_at n e t k =
     let p = plan_of n (owned_of e t) in
-    option_map_or (λ (r : Range). count_where n (ends_in n r) (moved_list p t) k) p.many 0
+    option_map_or (λ (r : Range). count_where n (is_line_in n r) (moved_list p t) k) p.many 0
 
 -- which is what the area counts of it
 pub many_or_none : (n : ℕ) (e : Extent) (t : List Touch) (k : ℕ) → IsLineSize n → AreHarts t
@@ -273,10 +282,10 @@ many_or_none n e t k sized harts =
     let o = owned_of e t in
     let u = moved_list (plan_of n o) t in
     let c : ℕ = moved_count n e t k in
-    let inside : Bool = ends_in n (many_range n o) k in
+    let inside : Bool = is_line_in n (many_range n o) k in
     let some : Bool = ltb 0 (group_size o.owners many_group) in
     let plain : many_at n e t k ≡ (if some then (if inside then c else 0) else 0) =
-    by_many some (many_range n o) (λ (r : Range). count_where n (ends_in n r) u k) in
+    by_many some (many_range n o) (λ (r : Range). count_where n (is_line_in n r) u k) in
     plain ∙ (elim (cases_Bool (in_area n o k)) [
       | inl within ↦ elim (area_counts n e t k sized harts within) [
         | inl nothing ↦ nowhere some inside (in_area n o k) c nothing
@@ -312,10 +321,10 @@ many_or_none n e t k sized harts =
 
 many_sum : (n : ℕ) (u : List Touch) (q : Option Range)
     → option_map_or (λ (r : Range). total_in n r u) q 0
-    ≡ sum_by (λ k. option_map_or (λ (r : Range). count_where n (ends_in n r) u k) q 0)
+    ≡ sum_by (λ k. option_map_or (λ (r : Range). count_where n (is_line_in n r) u k) q 0)
     (written_lines (native_grid n) u)
 many_sum n u None = sym (sum_none (λ k. 0) (written_lines (native_grid n) u) (λ k. refl))
-many_sum n u (Some r) = total_by_line n (ends_in n r) u
+many_sum n u (Some r) = total_by_line n (is_line_in n r) u
 
 pub area_is_many : (n : ℕ) (e : Extent) (t : List Touch) → IsLineSize n → AreHarts t
     → area_count n (plan_of n (owned_of e t)) t ≡ many_count n (plan_of n (owned_of e t)) t
@@ -338,6 +347,6 @@ many_spread n e t m le =
   where
     spread : (u : List Touch) (q : Option Range) → line_bound n u ≤ m
         → option_map_or (λ (r : Range). total_in n r u) q 0
-        ≡ sum_by (λ k. option_map_or (λ (r : Range). count_where n (ends_in n r) u k) q 0) (below m)
+        ≡ sum_by (λ k. option_map_or (λ (r : Range). count_where n (is_line_in n r) u k) q 0) (below m)
     spread u None low = sym (sum_none (λ k. 0) (below m) (λ k. refl))
-    spread u (Some r) low = total_spread n (ends_in n r) u m low
+    spread u (Some r) low = total_spread n (is_line_in n r) u m low

@@ -1,6 +1,6 @@
 -- What a plan saves: the counts of the object's own lines, where only its words are accessed there,
 -- but for what the words of many harts take along.
-use Rattle.std.proofs.Common.{◌≡◌, ◌≢◌, ℕ, zero, suc, ◌+◌, ◌-◌, ◌*◌, ◌/◌, ◌%◌, ◌<◌, ◌≤◌, max, Bool}
+use Rattle.std.proofs.Common.{◌≡◌, ◌≢◌, ℕ, zero, suc, ◌+◌, ◌-◌, ◌*◌, ◌/◌, ◌%◌, ◌<◌, max, Bool}
 use Rattle.std.proofs.Common.{true, false, cond, eqb, ltb, List, [], ◌∷◌, None, Some, map}
 use Rattle.std.proofs.Common.{refl, sym, ap, ◌∙◌, arith, inl, inr}
 use Rattle.std.proofs.lemmas.Bool.{cases_Bool, cases_eq, eq-eqb, eqb-true, false≢true, ne_eqb, or_left}
@@ -24,16 +24,15 @@ use Rattle.sharing_rules.specs.declared.word.Owner.{Owner}
 use Rattle.sharing_rules.specs.declared.word.Owner.TheVariants as owner
 use Rattle.placement.specs.Groups.{area_length, group_count, group_of, group_size}
 use Rattle.placement.specs.Groups.{is_in, many_group, untouched_group}
-use Rattle.placement.specs.Laws.Groups.{IsLineSize, IsMultiple, group-less, size-push, start-grows}
+use Rattle.placement.specs.Laws.Groups.{IsLineSize, group-less, size-push, start-grows}
 use Rattle.placement.specs.Laws.LineCounts.{line_count, moved_alike, one_hart, recount_is}
 use Rattle.placement.specs.Laws.LineTotals.{count_where, line_bound, nothing_if, sums_add}
 use Rattle.placement.specs.Laws.LineTotals.{total_spread, whole_total}
 use Rattle.placement.specs.Laws.Moved.{IsMovedWord, before_area, in_line, moved_cases}
-use Rattle.placement.specs.Laws.Moved.{moved_line, one_line, owner_low, place_even, side_of}
-use Rattle.placement.specs.Laws.MovedCounts.{AreHarts, ends_at, ends_of, in_area, line_sized}
+use Rattle.placement.specs.Laws.Moved.{moved_line, one_line, owner_low, place_even}
+use Rattle.placement.specs.Laws.MovedCounts.{AreHarts, in_area, line_sized, within_at, within_of}
 use Rattle.placement.specs.Laws.MovedCounts.{many_at, many_or_none, many_range, many_spread}
 use Rattle.placement.specs.Laws.MovedCounts.{moved_count}
-use Rattle.placement.specs.Laws.Plans.{area-whole}
 use Rattle.placement.specs.Laws.Words.{IsWord}
 use Rattle.placement.specs.ObjectLines.{HasLinesToItself, is_object_line, object_total}
 use Rattle.placement.specs.Plans.{area_start, moved, moved_list, place, plan_of}
@@ -84,8 +83,7 @@ moved_in_area n e t k a sized harts w at =
     let high = line.high in
     let less = group-less (owner_in t word) (owner_low t word harts) in
     let grows = start-grows n o.owners (suc g) group_count (omega (arith, less)) in
-    let some = sized.some in
-    ends_at (area_start n o) (area_length n o.owners) (n * k) (omega (arith, low, some))
+    within_at n (area_start n o) (area_length n o.owners) k (omega (arith, low))
     (omega (arith, high, grows))
 
 -- in the area the list itself accesses nothing
@@ -93,26 +91,16 @@ quiet_area : (n : ℕ) (e : Extent) (t : List Touch) (k : ℕ) → IsLineSize n
     → in_area n (owned_of e t) k ≡ true → line_count (native_line n k) t ≡ 0
 quiet_area n e t k sized within =
     let o = owned_of e t in
-    let bounds = ends_of (area_start n o) (area_length n o.owners) (n * k) within in
+    let bounds = within_of n (area_start n o) (area_length n o.owners) k within in
     let above = bounds.0 in
     let nobody : (a : Touch) → Member a t → is_inside (native_line n k) a.addr ≡ true
     → a.hart ≡ 0 = λ a there inside.
     let here = in_line n k a.addr sized.some (eqb-true _ _ inside) in
     let before = before_area n e t a sized.some there in
     let low = here.low in
-    absurd (no_line n (area_start n o) k a.addr sized.some (area-whole n o sized.some) above low
-    before) in
+    absurd (omega (arith, above, low, before)) in
     ap (line_count (native_line n k)) (sym (map-id t))
     ∙ one_hart (native_line n k) 0 (λ a. a) t (line_sized n k sized) nobody
-  where
-    -- a line that ends behind a multiple of n begins there or behind it
-    no_line : (n s k x : ℕ) → 0 < n → IsMultiple n s → s < n * k → k * n ≤ x + n → x < s → ⊥
-    no_line n s k x some whole above low before =
-        let is = whole.whole in
-        elim (side_of n k whole.lines) [
-          | inl ends ↦ absurd (omega (arith, is, ends, above))
-          | inr begins ↦ absurd (omega (arith, is, begins, low, before))
-        ]
 
 -- and an own line outside the area none once all is moved
 emptied : (n : ℕ) (e : Extent) (t : List Touch) (k : ℕ) → IsLineSize n → AreHarts t

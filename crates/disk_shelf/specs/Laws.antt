@@ -1,0 +1,2 @@
+-- The laws of the definitions, by what they are about.
+pub mod Reads
