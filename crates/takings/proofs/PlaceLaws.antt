@@ -1,7 +1,7 @@
 -- A key that stands at an index of a table is found at it, since the keys are distinct.
 use Rattle.std.proofs.Common.{◌≡◌, ℕ, zero, suc, ◌+◌, ◌<◌, Bool, true, false, eqb, List, [], ◌∷◌}
 use Rattle.std.proofs.Common.{length, refl, sym, ap, ◌∙◌, subst, arith, inl, inr, Some}
-use Rattle.std.proofs.lemmas.Bool.{and_parts, cases_Bool, eq-eqb, eqb-true, false≢true, lt-ltb}
+use Rattle.std.proofs.lemmas.Bool.{and_parts, cases_Bool, eqb-true, false≢true, lt-ltb}
 use Rattle.std.proofs.lemmas.Option.{none-some, same_Some}
 use Rattle.std.specs.List.{AllByRecursion, IsDistinct, position, position_or_len}
 use Rattle.std.specs.Map.{keys_of}
@@ -9,7 +9,6 @@ use Rattle.std.specs.Prelude.{slice_get}
 use Rattle.takings.specs.declared.blame_tables.InLine.{InLine}
 use Rattle.takings.specs.declared.sited.Sides.{Sides}
 use Rattle.takings.specs.BlameKept.{in_line, in_line_eq}
-use Rattle.takings.specs.Groups.{IsExact}
 use Rattle.takings.specs.Laws.Groups.{sides_eq-exact}
 
 apart : {K V : Type 0} (eq : K → K → Bool) (q : K) (es : List (K × V)) (i : ℕ) (k : K) (v : V)
