@@ -1,4 +1,5 @@
 pub mod BlameLaws
+pub mod PlaceLaws
 pub mod TextLaws
 pub mod Watching
 pub mod WorkedBlame

@@ -7,6 +7,7 @@ ghost use Rattle.takings.specs.BlameRecords.{HasBlamed};
 ghost use Rattle.takings.specs.declared.sited.Sited.{Sited as ASited};
 
 use crate::blame_tables::{BlameTables, InLine, LineTaken};
+use crate::recent::RecentRows;
 use crate::sited::Sited;
 use crate::tables::Taken;
 use base::{Access, Layout, NoMemory};
@@ -53,6 +54,7 @@ impl Blame {
                 lines: IndexMap::new(alloc),
                 pairs: IndexMap::new(alloc),
                 harts: IndexMap::new(alloc),
+                recent: RecentRows::new(alloc),
             },
         }
     }

@@ -1,5 +1,6 @@
 // What is kept of each line, and the tables of the takings of all lines.
-ghost use Rattle.std.specs.Prelude.{◌≡◌, ℕ, ◌<◌, ◌^◌, [], IfOk, IsFalse, IsOk, None, OnErr, OnOk};
+ghost use Rattle.std.specs.Prelude.{◌≡◌, ℕ, ◌<◌, ◌^◌, [], IfNone, IfOk, IfSome, IsFalse, IsOk, IsTrue};
+ghost use Rattle.std.specs.Prelude.{None, OnErr, OnOk};
 ghost use Rattle.std.specs.Prelude.{Some, eqb, false, is_some, length, nat_eq};
 ghost use Rattle.std.specs.Map.{lookup};
 ghost use Rattle.indexmap.specs.IndexMap.{index_of, insert_entry, spare};
@@ -12,6 +13,7 @@ ghost use Rattle.takings.specs.Kept.{IsFew, taking_by};
 ghost use Rattle.takings.specs.Takings.{harts_of, pcs_of};
 
 use crate::latest::LatestTwo;
+use crate::recent::{Recent, RecentRows, mixed};
 use crate::sited::{Sides, Sited, Taking};
 use crate::tables::{Taken, after, put};
 use base::NoMemory;
@@ -63,19 +65,66 @@ fn in_line(line: u32, sides: Sides) -> InLine
     InLine { line, sides }
 }
 
-// The index of two sides in a line. It makes room for them where they are new.
-fn place_of(table: &mut IndexMap<InLine, Taken>, key: InLine) -> Result<Option<usize>, NoMemory>
+// Whether two sides in a line have an index.
+#[inline(always)]
+fn is_at(table: &IndexMap<InLine, Taken>, index: usize, key: InLine) -> bool
+    ensures found { IsTrue result → index_of in_line_eq table.now key ≡ Some index }
+    ensures within { IsTrue result → index < length table.now.entries }
+{
+    if table.len() <= index {
+        return false;
+    }
+    match table.get_index(index) {
+        Some((found, _)) => *found == key,
+        None => false,
+    }
+}
+
+// The index of two sides in a line, by the table. It makes room for them where they are new.
+#[inline(never)]
+fn look_up(
+    table: &mut IndexMap<InLine, Taken>,
+    recent: &mut Recent,
+    number: u32,
+    key: InLine,
+) -> Result<Option<usize>, NoMemory>
     ensures same { table.new.entries ≡ table.old.entries }
     ensures placed { IfOk result (IsPlace table.new key) }
     ensures known { IsFalse (is_new table.old.entries key) → IsOk result }
 {
     match table.get_index_of(&key) {
-        Some(index) => Ok(Some(index)),
+        Some(index) => {
+            recent.keep(number, index);
+            Ok(Some(index))
+        }
         None => match table.reserve(1) {
-            Ok(()) => Ok(None),
+            Ok(()) => {
+                recent.add(number, table.len());
+                Ok(None)
+            }
             Err(_) => Err(NoMemory),
         },
     }
+}
+
+// The index of two sides in a line: first the place is looked at where they may be. It makes room
+// for them where they are new.
+#[inline(always)]
+fn place_of(
+    table: &mut IndexMap<InLine, Taken>,
+    recent: &mut Recent,
+    number: u32,
+    key: InLine,
+) -> Result<Option<usize>, NoMemory>
+    ensures same { table.new.entries ≡ table.old.entries }
+    ensures placed { IfOk result (IsPlace table.new key) }
+    ensures known { IsFalse (is_new table.old.entries key) → IsOk result }
+{
+    let guess = recent.guess(number);
+    if is_at(table, guess, key) {
+        return Ok(Some(guess));
+    }
+    look_up(table, recent, number, key)
 }
 
 // Counts a taking at an index.
@@ -123,12 +172,14 @@ pub(crate) struct BlameTables {
     pub lines: IndexMap<u32, LineTaken>,
     pub pairs: IndexMap<InLine, Taken>,
     pub harts: IndexMap<InLine, Taken>,
+    pub recent: RecentRows,
 }
 
 // Counts a taking of a line in both tables. It takes memory where its sides are new in the line.
 fn count_both(
     pairs: &mut IndexMap<InLine, Taken>,
     harts: &mut IndexMap<InLine, Taken>,
+    recent: &mut RecentRows,
     line: u32,
     taking: &Taking,
 ) -> Result<(), NoMemory>
@@ -145,11 +196,14 @@ fn count_both(
 {
     let by_pcs = in_line(line, taking.pcs());
     let by_harts = in_line(line, taking.harts());
-    let pair = match place_of(pairs, by_pcs) {
+    // instructions are 4 bytes apart
+    let near = mixed(line, by_pcs.sides.victim / 4, by_pcs.sides.taker / 4);
+    let pair = match place_of(pairs, &mut recent.pairs, near, by_pcs) {
         Ok(place) => place,
         Err(fault) => return Err(fault),
     };
-    let hart = match place_of(harts, by_harts) {
+    let near = mixed(line, by_harts.sides.victim, by_harts.sides.taker);
+    let hart = match place_of(harts, &mut recent.harts, near, by_harts) {
         Ok(place) => place,
         Err(fault) => return Err(fault),
     };
@@ -163,6 +217,7 @@ fn count_both(
 fn count_if_taken(
     pairs: &mut IndexMap<InLine, Taken>,
     harts: &mut IndexMap<InLine, Taken>,
+    recent: &mut RecentRows,
     line: u32,
     taking: Option<Taking>,
 ) -> Result<bool, NoMemory>
@@ -182,12 +237,60 @@ fn count_if_taken(
     }) line taking) → IsOk result }
 {
     match taking {
-        Some(taking) => match count_both(pairs, harts, line, &taking) {
+        Some(taking) => match count_both(pairs, harts, recent, line, &taking) {
             Ok(()) => Ok(true),
             Err(fault) => Err(fault),
         },
         None => Ok(false),
     }
+}
+
+// Whether a line has an index.
+#[inline(always)]
+fn is_line_at(lines: &IndexMap<u32, LineTaken>, guess: usize, line: u32) -> bool
+    ensures found { IsTrue result → index_of nat_eq lines.now line ≡ Some guess }
+    ensures within { IsTrue result → guess < length lines.now.entries }
+{
+    if lines.len() <= guess {
+        return false;
+    }
+    match lines.get_index(guess) {
+        Some((found, _)) => *found == line,
+        None => false,
+    }
+}
+
+// The index of a line, by the table.
+#[inline(never)]
+fn look_up_line(lines: &IndexMap<u32, LineTaken>, recent: &mut Recent, line: u32) -> Option<usize>
+    ensures found { result ≡ index_of nat_eq lines.now line }
+    ensures within { IfSome result (λ i. i < length lines.now.entries) }
+    ensures new { IfNone result (lookup (eqb line) lines.now.entries ≡ None) }
+{
+    match lines.get_index_of(&line) {
+        Some(index) => {
+            recent.keep(line, index);
+            Some(index)
+        }
+        None => {
+            recent.add(line, lines.len());
+            None
+        }
+    }
+}
+
+// The index of a line, if it was accessed: first the place is looked at where it may be.
+#[inline(always)]
+fn find(lines: &IndexMap<u32, LineTaken>, recent: &mut Recent, line: u32) -> Option<usize>
+    ensures found { result ≡ index_of nat_eq lines.now line }
+    ensures within { IfSome result (λ i. i < length lines.now.entries) }
+    ensures new { IfNone result (lookup (eqb line) lines.now.entries ≡ None) }
+{
+    let guess = recent.guess(line);
+    if is_line_at(lines, guess, line) {
+        return Some(guess);
+    }
+    look_up_line(lines, recent, line)
 }
 
 // What an access takes of the line at an index.
@@ -260,7 +363,13 @@ impl BlameTables {
             (taking_in (parts_of self.old) line position sited)) → IsOk result }
     {
         let taking = taking_at(&self.lines, line, index, position, &sited);
-        let taken = match count_if_taken(&mut self.pairs, &mut self.harts, line, taking) {
+        let taken = match count_if_taken(
+            &mut self.pairs,
+            &mut self.harts,
+            &mut self.recent,
+            line,
+            taking,
+        ) {
             Ok(taken) => taken,
             Err(fault) => return Err(fault),
         };
@@ -297,7 +406,7 @@ impl BlameTables {
         ensures known { IsFalse (wants_memory_in (parts_of self.old) line position sited)
             → IsOk result }
     {
-        match self.lines.get_index_of(&line) {
+        match find(&self.lines, &mut self.recent.lines, line) {
             Some(index) => self.note_known(line, index, position, sited),
             None => self.note_new(line, sited),
         }

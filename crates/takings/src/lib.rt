@@ -14,6 +14,7 @@
 //! [`Blame`] does so for all lines of a layout at once, from the first access on; what it tells is
 //! defined in `specs/Blame.antt`. Of each line it keeps these two accesses and a number, and it has
 //! one table of instructions and one of harts for all lines, since most lines have few rows.
+//! Where a line or a row is in its table is guessed first, and then looked up.
 //! It sees the records of a trace, whose accesses come with their pcs: `specs/BlameRecords.antt`.
 //! [`write_blame`] prints the lines that are taken, the most taken first.
 #![tactic(auto)]
@@ -26,6 +27,7 @@ mod blamed_records;
 mod explainer;
 mod latest;
 mod laws;
+mod recent;
 mod rows;
 mod sited;
 mod tables;
