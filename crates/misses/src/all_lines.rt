@@ -256,7 +256,8 @@ impl Misses {
     }
 
     /// Notes the next access, before position 2^40. It takes memory for a line, and for a hart in a
-    /// line, that is new; where there is none, nothing changes.
+    /// line, that is new; where there is none, nothing changes. At most 8 KiB more say where lines
+    /// came lately, and without them it only takes longer.
     pub fn on_access(&mut self, access: &Access) -> Result<(), NoMemory>
         requires { self.old.position < 2 ^ 40 }
         ensures noted { OnOk result (self.new ≡ note_access self.old access.now) }
