@@ -9,7 +9,7 @@ from typing import Iterator, Sequence
 
 from counts import Count, can_run, guest_count
 from judge import Row, bands, correlated, ranks, spearman
-from page import Box, named, page
+from page import Box, named, page, width
 from pairs import FORMS, Built, Program, Trouble, build_all, programs
 from studies import all_kept, documents, of_values
 from tables import Study, counts_of, kept, markdown, saved, shown, told_counts, values
@@ -80,7 +80,7 @@ def arithmetic() -> Iterator[str]:
 def of_the_page(study: Study) -> Iterator[str]:
     """What is wrong with names on the picture, and with the page where it can be made."""
     spread = named([(100.0, 100.0, "one"), (101.0, 100.0, "other"), (102.0, 101.0, "third")])
-    boxes = [Box(it["x"], it["y"] - 9, it["x"] + 5.6 * len(it["text"]), it["y"]) for it in spread]
+    boxes = [Box(it["x"], it["y"] - 9, it["x"] + width(it["text"]), it["y"]) for it in spread]
     yield from wrong("names", [a.meets(b) for at, a in enumerate(boxes) for b in boxes[:at]], [False] * 3)
     text = page({"one": study, "<other>": study})
     if text is not None:

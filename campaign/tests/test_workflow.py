@@ -76,7 +76,7 @@ class Workflow(Folder):
             self.assertEqual((status, said in told, os.path.exists(self.at("plan.campaign"))), (2, True, False))
         self.assertEqual(self.campaign("--html", "p.html")[::2], (0, ""))
         text = self.read("p.html")
-        title = "2 objects are fought over in 12 runs; the worst is counters of one, usual: up to 112 counted, with seed 12"
+        title = "12 of 12 seeds list counters of one, usual: seed 12 is the worst, with a count of 112; 1 more object is fought over"
         self.assertIn(f"<h1>{title}</h1>", text)
         self.assertEqual(text.count("<svg"), 2)
         self.assertIn(f"predator view run {self.at('one')} --set seed=12", text)
