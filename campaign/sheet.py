@@ -100,8 +100,8 @@ def row(campaign: Record, shown: Shown, seeds: Sequence[int]) -> Given:
 
 
 def side_by_side(campaign: Record, found: Sequence[Shown]) -> Given:
-    """Of each object the greatest numbers of any seed, with a bar: a row for each program, and a column for each of the settings. An object's
-    bars have one scale, and are of useless misses where these are known."""
+    """Of each object the greatest numbers of any seed, with a bar: a row for each program, and a column for each of the settings. An
+    object's bars have one scale, and are of useless misses where these are known."""
     groups = {(it["program"], settings_of(it)): at for at, it in enumerate(campaign["groups"])}
     heads = list(dict.fromkeys(settings for _, settings in groups))
     objects: dict[tuple[object, ...], dict[int, Shown]] = {}

@@ -80,8 +80,8 @@ def bar(part: int, whole: int, most: int) -> Given:
 
 
 def curve(values: Sequence[int], marked: Sequence[tuple[int, str]], names: Sequence[object]) -> Given:
-    """Numbers as a line, from 0 at the lower edge up to the greatest, with some of them marked by a shape and a text each; at the lower edge a
-    tick for each, some of which have their names."""
+    """Numbers as a line, from 0 at the lower edge up to the greatest, with some of them marked by a shape and a text each; at the lower
+    edge a tick for each, some of which have their names."""
     most, last = max([*values, 1]), max(len(values) - 1, 1)
     each = 1
     while each * NAMED < len(values):

@@ -17,6 +17,8 @@ from table import Part, families, rows_of  # noqa: E402
 from test_tables import record, symbol  # noqa: E402
 
 LAYOUT = 64, 0
+# A row of the strips.
+ROW = re.compile(r"(?s)<tr><td>(.*?)</td>\n<td.*?>(.*?)</td><td.*?>(.*?)</td><td.*?>(.*?)</td>\n<td>(.*?)</td></tr>")
 
 
 def campaign(*settings, schedule=None, names=("one",)):
@@ -103,7 +105,7 @@ class Sheets(unittest.TestCase):
         found = 0
         for group, name in enumerate(f"{it}, quantum={quantum}" for it in names for quantum in (1, 10)):
             begin = text.index(f"<h2>{name}: 40 seeds")
-            for cells in re.findall(r"(?s)<tr><td>(.*?)</td>\n<td.*?>(.*?)</td><td.*?>(.*?)</td><td.*?>(.*?)</td>\n<td>(.*?)</td></tr>", text[begin:].split("<h2>")[1]):
+            for cells in ROW.findall(text[begin:].split("<h2>")[1]):
                 own, _, layout = cells[0].partition("<br>")
                 under, row = rows.pop((group, text_of(layout), own))
                 triples = ["-" if it[0] is None else ", ".join(map(str, it)) for it in (row["useless"], row["count"])]
@@ -197,7 +199,6 @@ class Sheets(unittest.TestCase):
         self.assertIn(f"{170 - sheet.STRIPS} more rows are in objects.tsv", text)
         self.assertIn("80 seeds a column", text)
         self.assertLess(len(text.encode()), 2_000_000)
-
 
     def test_of_many_objects_the_worst_are_drawn(self):
         part = Part()
