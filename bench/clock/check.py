@@ -83,8 +83,8 @@ def of_the_page(study: Study) -> Iterator[str]:
     spread = named([(100.0, 100.0, "one"), (101.0, 100.0, "other"), (102.0, 101.0, "third")])
     boxes = [Box(it["x"], it["y"] - 9, it["x"] + width(it["text"]), it["y"]) for it in spread]
     yield from wrong("names", [a.meets(b) for at, a in enumerate(boxes) for b in boxes[:at]], [False] * 3)
-    told = "With the most useless misses, padding made the middle program 6.50 times as fast, and 1.00 times with the fewest (one)"
-    yield from wrong("the title", title_of({"one": study}), told)
+    title = "With the most useless misses, padding made the middle program 6.50 times as fast, and 1.00 times with the fewest (one)"
+    yield from wrong("the title", title_of({"one": study}), title)
     text = page({"one": study, "<other>": study})
     if text is not None:
         yield from wrong("points of the page", text.count("<g transform"), 10)

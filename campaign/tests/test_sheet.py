@@ -88,10 +88,10 @@ class Sheets(unittest.TestCase):
         text = self.page(part, {"quantum": 1}, {"quantum": 10}, {"quantum": 100}, names=("one", "repaired", "apart"))
         beside = text[text.index("Side by side") : text.index("<h2>one, quantum=1")]
         settings = ["quantum=1", "quantum=10", "quantum=100"]
-        self.assertEqual(re.findall(r"<th>(.*?)</th>", beside), ["object", "program", *settings])
+        self.assertEqual(re.findall(r"<th>(.*?)</th>", beside), ["program", *settings])
         rows = [[text_of(it) for it in re.findall(r"(?s)<td.*?</td>", row)] for row in re.findall(r"(?s)<tr><td.*?</tr>", beside)]
         told = "low lines of 64 bytes; not seen in apart"
-        self.assertEqual(rows, [[told, "one", "count 120", "not seen", "count 60"], ["repaired", "not seen", "count 30", "not seen"]])
+        self.assertEqual(rows, [[told], ["one", "count 120", "not seen", "count 60"], ["repaired", "not seen", "count 30", "not seen"]])
         self.assertEqual(re.findall(r'<path class="down" stroke-width="8" d="M0 5h(\d+)"', beside), ["110", "55", "28"])
 
     def test_the_page_has_what_the_table_has(self):
@@ -181,7 +181,7 @@ class Sheets(unittest.TestCase):
         part.lines[1, LAYOUT, "observed", At("at", 0)] = {(name, 0): 1}, [(1, 200, 3)]
         part.runs.append((1, 1, name, 9, 9, 1, 1, 1, 1))
         text = self.page(part, {name: 1}, {name: 2})
-        self.assertEqual((text.count("<b>"), re.findall("[\x00-\x08\x0b-\x1f\u202e]", text)), (0, []))
+        self.assertEqual(("<b>&" in text, re.findall("[\x00-\x08\x0b-\x1f\u202e]", text)), (False, []))
         for it in ("<h1>", "<h2>", "<td", "<title>", 'class="loud">', "<code>", 'data-of="'):
             self.assertRegex(text, re.escape(it) + "[^<]*&lt;b&gt;&amp;[^<]*" + re.escape("\\x1b[31m\\u202e"), it)
 
