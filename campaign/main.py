@@ -265,8 +265,11 @@ def write_page(folder: str, campaign: Record, path: str) -> None:
         text = sheet.sheet(campaign, *table.read(campaign))
     finally:
         os.chdir(before)
-    with open(path, "w", encoding="utf-8", errors="backslashreplace") as file:
-        file.write(text)
+    try:
+        with open(path, "w", encoding="utf-8", errors="backslashreplace") as file:
+            file.write(text)
+    except OSError as error:
+        raise Fault(f"{path}: {error.strerror}") from error
 
 
 def check_page(call: Call) -> None:
@@ -279,6 +282,8 @@ def check_page(call: Call) -> None:
     templates()
     if os.path.exists(path) and os.path.samefile(path, call.plan):
         raise Fault(f"{path}: it is the plan, and stays as it is")
+    if os.path.isdir(path):
+        raise Fault(f"{path}: Is a directory")
     if not os.path.isdir(os.path.dirname(path) or "."):
         raise Fault(f"{path}: No such file or directory")
 

@@ -4,7 +4,7 @@ script; its template, sheet.html, escapes every name."""
 import os
 import shlex
 from collections import Counter
-from typing import Iterator, NamedTuple, Sequence
+from typing import Iterator, Mapping, NamedTuple, Sequence
 
 from drawing import Given, bar, strip, templates
 from folder import Record
@@ -13,8 +13,8 @@ from table import Family, Part, Under, families, ordered, settings_of, weight
 HERE = os.path.dirname(os.path.abspath(__file__))
 # So many strips are drawn, outcomes and failures told, and letters of a name shown: a page stays below 2 MB.
 STRIPS, LOUD, NAME = 160, 24, 160
-# So many objects are shown side by side, and under so many programs and settings.
-ROWS, COLUMNS = 24, 12
+# So many objects are shown side by side, of each so many programs, and under so many settings.
+ROWS, PROGRAMS, COLUMNS = 24, 6, 8
 
 
 def short(name: str) -> str:
@@ -59,7 +59,7 @@ def loud(campaign: Record, part: Part, missing: Sequence[str]) -> list[Given]:
 
 
 def numbers(values: Sequence[int | None]) -> str:
-    return ", ".join("-" if it is None else str(it) for it in values)
+    return "-" if all(it is None for it in values) else ", ".join("-" if it is None else str(it) for it in values)
 
 
 class Shown(NamedTuple):
@@ -90,7 +90,8 @@ def row(campaign: Record, shown: Shown, seeds: Sequence[int]) -> Given:
         "listed": told["listed"],
         "useless": numbers(told["useless"]),
         "count": numbers(told["count"]),
-        "greatest": [numbers([told[it][2]]) for it in ("useless", "count")],
+        "greatest": [told[it][2] for it in ("useless", "count")],
+        "ends": [seeds[0], seeds[-1]],
         "worst": told["worst"],
         "command": command_of(campaign, under[0], told["worst"]),
         "told": f"{said}; listed in {told['listed']} of {len(seeds)} seeds; the worst is seed {told['worst']}",
@@ -99,41 +100,58 @@ def row(campaign: Record, shown: Shown, seeds: Sequence[int]) -> Given:
 
 
 def side_by_side(campaign: Record, found: Sequence[Shown]) -> Given:
-    """Of each object the greatest numbers of any seed under each program and settings, with a bar: a row's bars have one scale, and are of
-    useless misses where these are known."""
-    groups = range(len(campaign["groups"]))[:COLUMNS]
-    rows: dict[tuple[object, ...], dict[int, Shown]] = {}
+    """Of each object the greatest numbers of any seed, with a bar: a row for each program, and a column for each of the settings. An
+    object's bars have one scale, and are of useless misses where these are known."""
+    groups = {(it["program"], settings_of(it)): at for at, it in enumerate(campaign["groups"])}
+    heads = list(dict.fromkeys(settings for _, settings in groups))
+    objects: dict[tuple[object, ...], dict[int, Shown]] = {}
     for it in found:
-        rows.setdefault((it.name, *it.under[1:]), {})[it.under[0]] = it
-    made = []
-    for own in list(rows.values())[:ROWS]:
-        first = next(iter(own.values()))
-        of = "useless" if any(it.row["useless"][2] is not None for it in own.values()) else "count"
-        most = max(it.row[of][2] or 0 for it in own.values())
-        cells = [greatest(own[it].row, of, most) if it in own else None for it in groups]
-        made.append({"object": short(first.name), "where": where(first.under), "of": of, "cells": cells})
-    left = {"rows": len(rows) - len(made), "groups": len(campaign["groups"]) - len(groups)}
-    return {"heads": [short(name_of(campaign, it)) for it in groups], "rows": made, "left": left}
+        objects.setdefault((it.name, *it.under[1:]), {})[it.under[0]] = it
+    made = [beside(own, groups, heads[:COLUMNS]) for own in list(objects.values())[:ROWS]]
+    left = {"objects": len(objects) - len(made), "settings": len(heads) - len(heads[:COLUMNS])}
+    return {"heads": [short(it.replace(",", ", ")) for it in heads[:COLUMNS]], "objects": made, "left": left}
+
+
+def beside(own: Mapping[int, Shown], groups: Mapping[tuple[str, str], int], heads: Sequence[str]) -> Given:
+    """One object, by the groups in which it is seen: its programs, those in which it isn't, and its cells under each of the settings."""
+    first = next(iter(own.values()))
+    of = "useless" if any(it.row["useless"][2] is not None for it in own.values()) else "count"
+    most = max(it.row[of][2] or 0 for it in own.values())
+    programs = {program: any(at in own for (it, _), at in groups.items() if it == program) for program, _ in groups}
+    there, absent = ([it for it, is_seen in programs.items() if is_seen == wanted] for wanted in (True, False))
+    rows = []
+    for program in there[:PROGRAMS]:
+        places = [groups.get((program, it)) for it in heads]
+        cells = [None if at is None else greatest(own[at].row, of, most) if at in own else {} for at in places]
+        rows.append({"program": program, "cells": cells})
+    told = {"object": short(first.name), "where": where(first.under), "of": of, "rows": rows, "more": len(there) - len(rows)}
+    return {**told, "absent": absent[:PROGRAMS], "others": max(0, len(absent) - PROGRAMS)}
 
 
 def greatest(told: Record, of: str, most: int) -> Given:
     """The greatest numbers of a row, and one of them as a bar."""
     much = told[of][2] or 0
-    return {"useless": numbers([told["useless"][2]]), "count": numbers([told["count"][2]]), "bar": bar(much, much, most)}
+    return {"useless": told["useless"][2], "count": told["count"][2], "bar": bar(much, much, most)}
 
 
-def title_of(campaign: Record, part: Part, first: Shown | None, objects: int) -> str:
-    """What is seen, in a sentence."""
+def title_of(campaign: Record, part: Part, found: Sequence[Shown]) -> str:
+    """What is seen, in a sentence: first how many runs didn't end by exit 0, and then the worst object."""
+    if not part.runs:
+        return "No run has a result"
     runs = "1 run" if len(part.runs) == 1 else f"{len(part.runs)} runs"
-    if first is None:
-        return f"No object is fought over in {runs}"
-    (group, _, kind), name, _, told = first
-    what = "1 object is" if objects == 1 else f"{objects} objects are"
-    how = "useless misses" if told["useless"][2] else "counted"
-    much = told["useless"][2] or told["count"][2] or 0
-    on = "" if kind == "observed" else f", on a line that is predicted ({kind})"
-    of = f"the worst is {short(name)} of {name_of(campaign, group)}{on}"
-    return f"{what} fought over in {runs}; {of}: up to {much} {how}, with seed {told['worst']}"
+    bad = sum(it[2] != "exit 0" for it in part.runs)
+    begin = f"{bad} of {runs} didn't end by exit 0; " if bad else ""
+    if not found:
+        return f"{begin}{'no' if begin else 'No'} object is fought over in {runs}"
+    (group, _, kind), name, _, told = found[0]
+    seeds = len({it[1] for it in part.runs if it[0] == group})
+    what = "seed lists" if seeds == 1 else "seeds list"
+    on = "" if kind == "observed" else f" on a line that is predicted ({kind})"
+    much = f"{told['useless'][2]} useless misses" if told["useless"][2] is not None else f"a count of {told['count'][2]}"
+    worst = f"seed {told['worst']} is the worst, with {much}"
+    more = len({(campaign["groups"][it.under[0]]["program"], it.name) for it in found if it.under[2] == kind}) - 1
+    end = f"; {more} more {'object is' if more == 1 else 'objects are'} {'fought over' if kind == 'observed' else 'on such lines'}"
+    return f"{begin}{told['listed']} of {seeds} {what} {short(name)} of {name_of(campaign, group)}{on}: {worst}{end if more else ''}"
 
 
 def sheet(campaign: Record, part: Part, missing: Sequence[str]) -> str:
@@ -147,12 +165,11 @@ def sheet(campaign: Record, part: Part, missing: Sequence[str]) -> str:
         rows = [row(campaign, it, seeds) for under in own for it in drawn if it.under == under]
         if rows:
             groups.append({"name": name_of(campaign, at), "seeds": len(seeds), "rows": rows})
-    objects = len({(campaign["groups"][it.under[0]]["program"], it.name) for it in found})
     return (
         templates(HERE)
         .get_template("sheet.html")
         .render(
-            title=title_of(campaign, part, found[0] if found else None, objects),
+            title=title_of(campaign, part, found),
             loud=loud(campaign, part, missing),
             runs=len(part.runs),
             beside=side_by_side(campaign, found) if len(campaign["groups"]) > 1 and found else None,

@@ -18,7 +18,7 @@ shipped() {
     local predator=$here/../bin/predator
     PREDATOR_BUILD=no "$predator" check "$here/../guest/built/apart.elf" >/dev/null 2>&1 || { echo "skipped: the program isn't built"; return; }
     PREDATOR_BUILD=no "$predator" campaign "$here/plans/first.yaml" --to "$work/first" --html "$work/first.html" || return
-    grep -q "<h1>4 objects are fought over in 80 runs; the worst is counters" "$work/first.html" || { echo "its page says otherwise"; return 1; }
+    grep -q "<h1>20 of 20 seeds list counters of counters, quantum=1: seed 14 is the worst, with " "$work/first.html" || { echo "its page says otherwise"; return 1; }
     cut -f 1,2,6,8,9 "$work/first/table.tsv" | grep -q -P "^counters\tquantum=100\tcounters\t20\t20$" || { echo "its table lacks the counters"; return 1; }
 }
 shipped >"$work/shipped" 2>&1 &

@@ -4,7 +4,7 @@
 usage: tools/pictures.py [NAME ..]
 
 Each picture is a PNG of at most 100 KB in docs/pictures. Those that are named are made, or all. Nothing in them is drawn by hand.
-It needs the program, chromium and what `predator view` needs."""
+It needs the program, chromium and what `predator view` needs: without chromium the status is 77, and no picture is changed."""
 
 import os
 import shutil
@@ -25,26 +25,42 @@ PICTURES = {
     ),
 }
 MOST = 100_000
+# Of a call that fails, the last characters of what it said are shown.
+SAID = 2000
+
+
+def ran(words: list[str], folder: str) -> None:
+    """Runs a command, and gives up with what it said if it fails."""
+    done = subprocess.run(words, cwd=folder, capture_output=True, encoding="utf-8", errors="replace", timeout=600)
+    if done.returncode:
+        raise SystemExit(f"{' '.join(words)}: status {done.returncode}\n{done.stderr[-SAID:]}")
 
 
 def draw(name: str, browser: str) -> str:
-    """Makes a picture, and says what it takes."""
+    """Makes a picture, and says what it takes. One that is too large or can't be made leaves the old one as it is."""
     calls, width, height = PICTURES[name]
     to = os.path.join(TOP, "docs/pictures", f"{name}.png")
-    os.makedirs(os.path.dirname(to), exist_ok=True)
     with tempfile.TemporaryDirectory() as folder:
         for words in calls:
-            subprocess.run([os.path.join(TOP, "bin/predator"), *words], cwd=folder, check=True, capture_output=True)
+            ran([os.path.join(TOP, "bin/predator"), *words], folder)
+        made = os.path.join(folder, "picture.png")
         options = ["--headless", "--no-sandbox", "--disable-gpu", "--hide-scrollbars", f"--user-data-dir={folder}/user"]
-        options += [f"--window-size={width},{height}", f"--screenshot={to}", f"file://{folder}/page.html"]
-        subprocess.run([browser, *options], check=True, capture_output=True, timeout=600)
-    size = os.path.getsize(to)
-    if size > MOST:
-        raise SystemExit(f"{to}: {size} bytes, and at most {MOST} are allowed")
+        ran([browser, *options, f"--window-size={width},{height}", f"--screenshot={made}", f"file://{folder}/page.html"], folder)
+        if not os.path.exists(made):
+            raise SystemExit(f"{browser} made no picture of {name}")
+        size = os.path.getsize(made)
+        if size > MOST:
+            raise SystemExit(f"{name}: {size} bytes, and at most {MOST} are allowed")
+        os.makedirs(os.path.dirname(to), exist_ok=True)
+        shutil.copyfile(made, to)
     return f"{os.path.relpath(to, TOP)}: {size} bytes"
 
 
 def main(names: list[str]) -> int:
+    unknown = [it for it in names if it not in PICTURES]
+    if unknown:
+        print(f"there is no picture {unknown[0]}: there are {', '.join(PICTURES)}", file=sys.stderr)
+        return 2
     browser = shutil.which("chromium")
     if browser is None:
         print("chromium isn't installed (Debian: apt-get install chromium)", file=sys.stderr)

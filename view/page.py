@@ -1,6 +1,7 @@
 """The page: one file of HTML that needs no network and no script. Its template, page.html, escapes every name."""
 
 import os
+import re
 from typing import Iterator, Sequence
 
 from calls import TOP
@@ -20,6 +21,7 @@ COLOURS = ("#e69f00", "#56b4e9", "#009e73", "#f0e442", "#8fb8ff", "#ff9f6b", "#e
 MANY = "background:repeating-linear-gradient(45deg,#fff 0 6px,#c9c9c9 6px 9px)"
 # So many lines of an object, pairs of instructions, words in a row and lines of a source are drawn.
 LINES, PAIRS, ROW, AROUND, STRIPS = 24, 3, 16, 2, 24
+PLACE = re.compile(r"^0x[0-9a-f]+, (?=.)")
 # A line that has less than one part in so many of the object's worst line isn't drawn; nor, behind the first ones of an object, is one with
 # less than one part in so many of all.
 FEW, FIRST, LITTLE = 50, 4, 100
@@ -36,7 +38,8 @@ def colour(hart: int) -> str:
 def cell(word: Told, most: int, own: bool, strip: str = "", is_alone: bool = False) -> Given:
     """A word's cell; `own` says whether the word is the object's, and `is_alone` whether it is the only one."""
     hart = None if word.hart == "many" else int(word.hart)
-    field = word.name.removeprefix(strip) or (word.name if is_alone else "+0")
+    # (a place on a stack without its address, which the title has)
+    field = PLACE.sub("", word.name.removeprefix(strip)) or (word.name if is_alone else "+0")
     return {
         "title": f"{shown(word.addr)} {word.name}: {word.reads} reads, {word.writes} writes, "
         + ("many harts" if hart is None else f"hart {hart}"),
@@ -46,7 +49,7 @@ def cell(word: Told, most: int, own: bool, strip: str = "", is_alone: bool = Fal
         "write_height": round(100 * word.writes / most),
         "reads": word.reads,
         "writes": word.writes,
-        "field": field if own else word.name,
+        "field": field if own else PLACE.sub("", word.name),
     }
 
 

@@ -124,7 +124,7 @@ def rows(sweep: Sweep, most: int) -> Iterator[str]:
 
 def marks(sweep: Sweep) -> list[tuple[str, int, str]]:
     """What is marked on the line: a shape, the place of the shift, and what is said of it."""
-    found = [("square", sweep.own, "as it lies")]
+    found = [("square", sweep.own, "as data lies")]
     if sweep.most.total > sweep.least.total:
         found += [(shape, it, what) for shape, it, what in (("triangle", sweep.most, "most"), ("circle", sweep.least, "least"))]
     places = {it.shift: at for at, it in enumerate(sweep.shifts)}
@@ -140,7 +140,8 @@ def page(sweep: Sweep, name: str, most: int = OBJECTS) -> str:
     """The page: the totals over the shifts as a line, on which the trace's own shift, the greatest and the least are marked; the objects
     that make them; and all as a table."""
     found = marks(sweep)
-    given: Given = curve([it.total for it in sweep.shifts], [(at, text) for _, at, text in found])
+    shifts = [it.shift for it in sweep.shifts]
+    given: Given = curve([it.total for it in sweep.shifts], [(at, text) for _, at, text in found], shifts)
     for it, (shape, _, _) in zip(given["marks"], found):
         it["shape"] = shape
     return templates().get_template("sweep.html").render(

@@ -2,6 +2,7 @@
 as guests, and that padding takes away what it is to take away."""
 
 import os
+import re
 import shutil
 import tempfile
 from concurrent.futures import ThreadPoolExecutor
@@ -9,7 +10,7 @@ from typing import Iterator, Sequence
 
 from counts import Count, can_run, guest_count
 from judge import Row, bands, correlated, ranks, spearman
-from page import Box, named, page
+from page import Box, named, page, pictures_of, title_of, width
 from pairs import FORMS, Built, Program, Trouble, build_all, programs
 from studies import all_kept, documents, of_values
 from tables import Study, counts_of, kept, markdown, saved, shown, told_counts, values
@@ -80,8 +81,10 @@ def arithmetic() -> Iterator[str]:
 def of_the_page(study: Study) -> Iterator[str]:
     """What is wrong with names on the picture, and with the page where it can be made."""
     spread = named([(100.0, 100.0, "one"), (101.0, 100.0, "other"), (102.0, 101.0, "third")])
-    boxes = [Box(it["x"], it["y"] - 9, it["x"] + 5.6 * len(it["text"]), it["y"]) for it in spread]
+    boxes = [Box(it["x"], it["y"] - 9, it["x"] + width(it["text"]), it["y"]) for it in spread]
     yield from wrong("names", [a.meets(b) for at, a in enumerate(boxes) for b in boxes[:at]], [False] * 3)
+    title = "With the most useless misses, padding made the middle program 6.50 times as fast, and 1.00 times with the fewest (one)"
+    yield from wrong("the title", title_of({"one": study}), title)
     text = page({"one": study, "<other>": study})
     if text is not None:
         yield from wrong("points of the page", text.count("<g transform"), 10)
@@ -89,11 +92,19 @@ def of_the_page(study: Study) -> Iterator[str]:
         yield from wrong("escaped names", escaped, [True, True, False])
         told = [f"{it.program.name}, 2 threads: slowdown {shown(it.slowdown())} (" in text for it in study.rows]
         yield from wrong("what the points tell", told, [True] * 5)
+        cells = re.findall(r'<code>(\w+)</code></td><td[^>]*>\w+</td><td[^>]*>2</td><td[^>]*>(.*?)</td><td[^>]*>(\S+) \(', text)
+        wanted = [(it.program.name, shown(it.rate()), shown(it.slowdown())) for it in study.rows]
+        yield from wrong("the rows of the page", sorted(cells), sorted(wanted))
 
 
 def of_what_is_kept() -> Iterator[str]:
     """What is wrong with the kept studies, and with the documents that tell of them."""
     studies = all_kept()
+    for it in pictures_of(studies):
+        names = [one["name"] for one in it["points"]]
+        boxes = [Box(one["x"], one["y"] - 9, one["x"] + width(one["text"]), one["y"] + 2) for one in names]
+        over = [one["text"] for at, one in enumerate(names) if any(boxes[at].meets(other) for other in boxes[:at])]
+        yield from wrong(f"{it['threads']} threads, {it['study']}: names over others", over, [])
     for name, study in studies.items():
         again = of_values(values(study))
         kept_rows = [[(it.program, it.threads, it.counts, f"{it.slowdown():.3g}") for it in own.rows] for own in (again, study)]

@@ -13,8 +13,9 @@ from bands import BANDS
 Given = dict[str, Any]
 # The picture: its width and height, and what is kept free at the left and below, and at the other sides.
 WIDTH, HEIGHT, LEFT, LOWER, EDGE = 640, 600, 44, 44, 14
-# A point is within so many points of its place; a letter is so wide, and a line of text so high.
-POINT, LETTER, LINE = 5, 5.6, 11
+# A point is within so many points of its place, a line of text is so high, and letters are so wide.
+POINT, LINE, LETTER = 5, 11, 6.9
+LETTERS = {**dict.fromkeys("ijl", 3.2), "f": 4.0, "t": 4.4, "r": 4.6, "_": 5.6, "w": 9.1, "m": 10.8}
 # What is below this, by 1000 steps, is drawn at it.
 LEAST = 0.01
 COLOURS = {"false": "#d55e00", "mixed": "#0072b2", "handover": "#009e73", "true": "#1b1b1b", "none": "#5c5c5c"}
@@ -50,6 +51,11 @@ class Scale(NamedTuple):
         return round(self.begin + part * (self.end - self.begin), 1)
 
 
+def width(name: str) -> float:
+    """How wide a name is drawn."""
+    return sum(LETTERS.get(it, LETTER) for it in name)
+
+
 def around(x: float, y: float, wide: float) -> Iterator[tuple[float, float]]:
     """Where a name of that width may begin, its baseline below its text, the nearest places first."""
     for far in (9, 14, 22, 32, 44, 58, 74, 92, 112):
@@ -68,7 +74,7 @@ def named(points: Sequence[tuple[float, float, str]]) -> list[Given]:
     taken = [Box(x - POINT, y - POINT, x + POINT, y + POINT) for x, y, _ in points]
     made = []
     for x, y, name in points:
-        wide = LETTER * len(name)
+        wide = width(name)
         best = None
         for left, base in around(x, y, wide):
             box = Box(left - 1, base - LINE + 2, left + wide + 1, base + 3)
@@ -124,10 +130,11 @@ def title_of(studies: Mapping[str, Study]) -> str:
     for name, study in studies.items():
         found = bands(study.judged())
         if found[0][1] and found[-1][1]:
-            parts.append(f"{shown(found[0][3])} and {shown(found[-1][3])} times as fast ({name})")
+            most, fewest = shown(found[-1][3]), shown(found[0][3])
+            parts.append(f"{most} times as fast, and {fewest} times with the fewest ({name})")
     if not parts:
         return "What padding is worth, by useless misses"
-    return f"Padding made programs with the fewest useless misses and with the most, in the middle: {'; '.join(parts)}"
+    return f"With the most useless misses, padding made the middle program {'; '.join(parts)}"
 
 
 def pictures_of(studies: Mapping[str, Study]) -> list[Given]:

@@ -71,15 +71,19 @@ class Workflow(Folder):
 
     def test_a_page(self):
         self.plan(PLAN)
-        for name, said in (("plan.yaml", "it is the plan"), ("none/p.html", "No such file")):
+        for name, said in (("plan.yaml", "it is the plan"), ("none/p.html", "No such file"), (self.work, "Is a directory")):
             status, _, told = self.campaign("--html", name)
             self.assertEqual((status, said in told, os.path.exists(self.at("plan.campaign"))), (2, True, False))
         self.assertEqual(self.campaign("--html", "p.html")[::2], (0, ""))
         text = self.read("p.html")
-        title = "2 objects are fought over in 12 runs; the worst is counters of one, usual: up to 112 counted, with seed 12"
+        title = "12 of 12 seeds list counters of one, usual: seed 12 is the worst, with a count of 112; 1 more object is fought over"
         self.assertIn(f"<h1>{title}</h1>", text)
         self.assertEqual(text.count("<svg"), 2)
         self.assertIn(f"predator view run {self.at('one')} --set seed=12", text)
+        # (what can't be written is said, and the tables are there)
+        status, _, told = self.campaign("--html", "/dev/full")
+        self.assertEqual((status, "predator campaign: /dev/full: No space left on device\n" in told), (2, True), told)
+        self.assertTrue(os.path.exists(self.at("plan.campaign", "table.tsv")))
 
     def test_a_change_makes_anew_what_stands_on_it(self):
         self.plan("programs: {one: one, two: two}\nseeds: 1-4\nbatch: 2\n")

@@ -72,13 +72,20 @@ class Sweeps(unittest.TestCase):
             self.assertNotRegex(text, it)
         self.assertIn(f"<h1>&lt;i&gt;t: {TITLE}</h1>", text)
         told = re.findall(r"<rect .*?</svg> (.*?); <svg .*?<circle .*?</svg> (.*?)</p>", text)
-        self.assertEqual(told, [("as it lies: 39", "least, shift 4: 0")])
+        self.assertEqual(told, [("as data lies: 39", "least, shift 4: 0")])
         # Each mark is beside its text, and in the picture on the line.
         self.assertEqual(re.findall(r'<rect x="(\S+)" y="(\S+)"', text), [("-5", "-5"), ("7", "7")])
         self.assertEqual(re.findall(r'<circle cx="(\S+)" cy="(\S+)"', text), [("0", "0"), ("628", "188")])
         self.assertIn('points="12,12 628,188"', text)
         self.assertEqual(cells_of(text)[0], ["memory at 0x00001000", "39", "0", "0x00001000"])
         self.assertIn('<th class="n">shift 0 (as data lies, the most)</th><th class="n">shift 4 (the least)</th>', text)
+        # Each shift has a tick with its name, and a row with what `sweep` prints of it.
+        self.assertEqual(re.findall(r'v4"/><text x="(\S+)" y="\S+" text-anchor="middle">(.*?)</text>', text), [("12", "0"), ("628", "4")])
+        words = [self.program, "sweep", self.trace, "--size", "8"]
+        told = subprocess.run(words, capture_output=True, text=True).stdout
+        wanted = [list(it) for it in re.findall(r"^shift (\d+) total (\d+) lines (\d+)$", told, re.MULTILINE)]
+        rows = [re.findall(r"<td[^>]*>(.*?)</td>", it) for it in re.findall(r"<tr>(.*?)</tr>", text)]
+        self.assertEqual([it[:3] for it in rows if it and it[0].isdigit()], wanted)
         # The file has the same.
         self.assertEqual(view("sweep", self.trace, "--size=8", "--html", self.html, program=self.program)[0], 0)
         with open(self.html, encoding="utf-8") as file:
@@ -120,6 +127,12 @@ class Sweeps(unittest.TestCase):
         page = self.told("--html", "-")
         self.assertEqual((page.count("<h2>"), cells_of(page)), (0, []))
 
+    def test_names_with_control_characters(self):
+        self.write(in_turn(0x1000, 0x1004), [("a\x1b[31m\x07\"'&<b>", 0x1000, 8)])
+        page = self.told("--html", "-")
+        self.assertEqual(re.findall("[\x00-\x08\x0b-\x1f]", page), [])
+        self.assertEqual(cells_of(page)[0][0], "a\\x1b[31m\\x07&#34;&#39;&amp;&lt;b&gt;")
+
     def test_many_objects(self):
         self.write(
             in_turn(*(0x1000 + 16 * (it // 2) + 4 * (it % 2) for it in range(8))) * 3,
@@ -131,6 +144,9 @@ class Sweeps(unittest.TestCase):
     def test_refused(self):
         status, _, said = view("sweep", self.trace, "--size", "8", "--html", self.trace, program=self.program)
         self.assertEqual((status, "the same file is in use" in said), (2, True))
+        for path, why in ((os.path.dirname(self.trace), "Is a directory"), ("/dev/full", "No space left on device")):
+            status, _, said = view("sweep", self.trace, "--size", "8", "--html", path, program=self.program)
+            self.assertEqual((status, said), (2, f"predator view: {path}: {why}\n"))
         status, _, said = view("sweep", __file__, "--size", "8", program=self.program)
         self.assertEqual((status, "`predator sweep` was refused" in said), (2, True))
 
@@ -160,10 +176,14 @@ class Texts(unittest.TestCase):
         self.assertEqual(told, [("a", [5, 1], "x"), ("b", [90, 89], ""), ("c", [0, 4], "")])
 
     def test_a_curve_is_drawn_from_zero_up(self):
-        told = curve([0, 50, 100, 25], [(2, "most")])
+        told = curve([0, 50, 100, 25], [(2, "most")], [0, 4, 8, 12])
         self.assertEqual(told["points"], "12,188 217,100 422,12 628,144")
         self.assertEqual(told["marks"], [{"x": 422, "y": 12, "text": "most"}])
-        self.assertEqual(curve([0], [])["points"], "12,188")
+        self.assertEqual([(it["x"], it["text"]) for it in told["ticks"]], [(12, 0), (217, 4), (422, 8), (628, 12)])
+        self.assertEqual(curve([0], [], [0])["points"], "12,188")
+        # (of many, at most eight have a name)
+        names = [it["text"] for it in curve([1] * 64, [], range(0, 256, 4))["ticks"]]
+        self.assertEqual((len(names), [it for it in names if it != ""]), (64, [*range(0, 256, 32)]))
 
 
 if __name__ == "__main__":

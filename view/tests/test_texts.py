@@ -10,7 +10,9 @@ HERE = os.path.dirname(os.path.abspath(__file__))
 sys.path.insert(0, os.path.dirname(HERE))
 
 from calls import Call  # noqa: E402
+from drawing import visible  # noqa: E402
 from faults import Fault, plain  # noqa: E402
+from page import PLACE  # noqa: E402
 from recording import parted  # noqa: E402
 from reports import Explained, Misses, Report  # noqa: E402
 
@@ -206,6 +208,13 @@ class Words(unittest.TestCase):
         self.assertIn("'--fail-above' is a number", self.refused("a", "--fail-above", "\u0663"))
         self.assertIn("is for '--fail-above'", self.refused("a", "--by", "count"))
         self.assertIn("named already", self.refused("run", "p", "--program", "q"))
+
+    def test_what_pages_are_given(self):
+        self.assertEqual(visible("a\tb\n\x1b[1m\u202e\x00é"), "a\tb\n\\x1b[1m\\u202e\\x00é")
+        self.assertEqual([visible(it) for it in (None, 3, ["\x00"])], [None, 3, ["\x00"]])
+        # (a cell says where a word of a stack is without its address)
+        for name, told in (("0x006479c8, 1592 below its top", "1592 below its top"), ("0x00001000", "0x00001000"), ("a, b", "a, b")):
+            self.assertEqual(PLACE.sub("", name), told)
 
 
 if __name__ == "__main__":
