@@ -6,7 +6,7 @@
 
 gcc -O1 -g -shared -fPIC -fno-builtin "$here/tries/bump.c" -o bump.so
 four="24 live 24 live 24 live 24 live"
-for row in "libjemalloc.so.2 libjemalloc2" "libtcmalloc_minimal.so.4 libtcmalloc-minimal4" "libmimalloc.so.2.0 libmimalloc2.0" "./bump.so -"; do
+for row in "libjemalloc.so.2 libjemalloc2" "libtcmalloc_minimal.so.4 libtcmalloc-minimal4" "libmimalloc.so.2 libmimalloc2.0" "./bump.so -"; do
     read -r library package <<<"$row"
     if [ "$package" != - ]; then library=$(ldconfig -p | awk -v name="$library" '$1 == name { print $NF; exit }'); fi
     if [ -z "$library" ]; then
@@ -38,7 +38,7 @@ done
 # Goroutines go by threads of the system.
 if command -v go >/dev/null; then
     GOCACHE=$work/go GO111MODULE=off CGO_ENABLED=0 go build -o goroutines "$here/tries/goroutines.go" >go.log 2>&1 || cat go.log
-    said=$("$run" --trace t -- ./goroutines; echo $?) 2>go.log
+    said=$("$run" --trace t -- ./goroutines 2>go.log; echo $?)
     same "Go: output and status" "sum 80000 0" "${said//
 / }"
     same "Go: end" "exit 0" "$("$judge" end t)"
