@@ -86,6 +86,27 @@ void child_becomes(Bool another)
     keep(trace_fd(True), hands_on);
 }
 
+/* A program with another user's rights, which valgrind would have fail, and one for another machine run without the tool. */
+static Bool can_be_run(const HChar *path)
+{
+    struct vki_stat it;
+    UChar head[20] = {0};
+    SysRes file;
+    if (sr_isError(CALL(__NR_stat, path, &it, 0, 0)) || (it.st_mode & (VKI_S_ISUID | VKI_S_ISGID)))
+        return False;
+    file = VG_(open)(path, VKI_O_RDONLY, 0);
+    if (sr_isError(file))
+        return False;
+    VG_(read)(sr_Res(file), head, sizeof head);
+    VG_(close)(sr_Res(file));
+    return VG_(memcmp)(head, "\177ELF", 4) != 0 || (head[4] == 2 && head[18] == 62 && head[19] == 0);
+}
+
 /* Valgrind's own answer, turned to this one by the linker's --wrap. */
 Bool __wrap_vgPlain_should_we_trace_this_child(const HChar *name, const HChar **words);
-Bool __wrap_vgPlain_should_we_trace_this_child(const HChar *name, const HChar **words) { return hands_on; }
+Bool __wrap_vgPlain_should_we_trace_this_child(const HChar *name, const HChar **words)
+{
+    if (hands_on && !can_be_run(name))
+        child_becomes(False);
+    return hands_on;
+}

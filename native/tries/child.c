@@ -1,4 +1,5 @@
-/* Programs whose child has the threads: child MODE [PROGRAM]. The program itself has one thread, or in `both` two of its own before. */
+/* Programs whose child has the threads: child MODE [PROGRAM]. The program itself has one thread, in `both` two of its own before, and in `thread`
+   two beside while it forks. */
 #include <pthread.h>
 #include <signal.h>
 #include <stdint.h>
@@ -62,32 +63,52 @@ static int child(const char *mode, char **program)
     return 3 + caught;
 }
 
+static char **words;
+static int status_of_child;
+
+/* Makes the child and waits for it, in the first thread or in `thread` in another. */
+static void *make_child(void *mode)
+{
+    int status = 0;
+    pid_t pid = fork();
+    if (pid == 0)
+        exit(child(mode, words));
+    if (!strcmp(mode, "orphan"))
+        exit(4);
+    if (!strcmp(mode, "signal")) {
+        while (!caught)
+            usleep(1000);
+        kill(pid, SIGUSR1);
+    }
+    waitpid(pid, &status, 0);
+    status_of_child = WIFSIGNALED(status) ? -WTERMSIG(status) : WEXITSTATUS(status);
+    return 0;
+}
+
+static void *sleeps(void *none)
+{
+    for (;;)
+        pause();
+    return none;
+}
+
 int main(int argc, char **argv)
 {
-    const char *mode = argc > 1 ? argv[1] : "";
-    int status, first = 0;
+    char *mode = argc > 1 ? argv[1] : "";
+    pthread_t one, two;
+    words = argv + 2;
     is_endless = !strcmp(mode, "endless") || !strcmp(mode, "orphan");
     if (!strcmp(mode, "both"))
         two_threads(own);
     if (!strcmp(mode, "signal"))
         signal(SIGUSR1, on_signal);
-    for (int i = 0; i < (!strcmp(mode, "several") ? 3 : 1); i++) {
-        pid_t pid = fork();
-        if (pid == 0)
-            return child(mode, argv + 2);
-        first = first ? first : pid;
-        if (!strcmp(mode, "orphan"))
-            return 4;
-        if (!strcmp(mode, "several"))
-            waitpid(pid, &status, 0);
+    for (int i = 0; i < (!strcmp(mode, "several") ? 3 : 1) && strcmp(mode, "thread"); i++)
+        make_child(mode);
+    if (!strcmp(mode, "thread")) {
+        pthread_create(&one, 0, sleeps, 0);
+        pthread_create(&two, 0, make_child, mode);
+        pthread_join(two, 0);
     }
-    if (!strcmp(mode, "signal")) {
-        while (!caught)
-            usleep(1000);
-        kill(first, SIGUSR1);
-    }
-    if (strcmp(mode, "several"))
-        wait(&status);
-    printf("child %d\n", WIFSIGNALED(status) ? -WTERMSIG(status) : WEXITSTATUS(status));
+    printf("child %d\n", status_of_child);
     return 4;
 }

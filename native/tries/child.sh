@@ -23,6 +23,8 @@ same "--child: the program's own threads aren't recorded" "0 0 0" "$("$judge" wo
 same "--child: its child's are" "20000 20000 1" "$("$judge" word o of_child 4)"
 forked several "child 3" "exit 3"
 same "--child: one of several" "20000 20000 1" "$("$judge" word o of_child 4)"
+forked thread "child 3" "exit 3"
+same "--child: beside other threads" "20000 20000 1" "$("$judge" word o of_child 4)"
 forked daemon "child 0" "exit 3"
 forked signal "child 13" "exit 13"
 forked kill "child -9" part
@@ -32,6 +34,10 @@ back "--child: what it becomes: the table back" o counters
 same "--child: what it becomes: the table's program" "program $PWD/counters" "$(sed -n '1s|/\./|/|p' o.table)"
 same "--child: a shell's program" "5 exit 0 10000 10000 1" \
     "$("$run" --child --trace o -- "$(type -P bash)" -c './counters >/dev/null; exit 5'; echo "$? $("$judge" end o) $("$judge" word o counters 4)")"
+# (what runs with another user's rights runs without the tool)
+printf '#!%s\n./owned; echo "owned $?"\n./counters\n' "$(type -P bash)" >calls
+chmod +x calls
+forked "exec ./calls" "owned 6 sum 80000 child 0" "exit 0"
 "$run" --child --trace o -- ./child threads >/dev/null 2>&1
 "$run" --child --all --trace whole -- ./child threads >/dev/null 2>&1
 within "--child --all has what one thread does" "$(($("$judge" accesses o) + 100))" 10000000 "$("$judge" accesses whole)"
