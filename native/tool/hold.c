@@ -1,15 +1,16 @@
 /* What the launcher is in the end: it starts the program, hands signals on to it, waits for it and for what runs beside it, and ends as it did.
 
-       hold TOKEN FEED TOLD REPLAYER COMMAND [WORDS ..]
+       hold TOKEN FEED TOLD REPLAYED COMMAND [WORDS ..]
 
-   FEED and TOLD are the descriptors that the trace and the table go to, and REPLAYER is the process that counts them; -1 where there is none. The
-   processes beside the program are this one's children from before.
+   FEED and TOLD are the descriptors that the trace and the table go to, and from REPLAYED comes the status of what counts them; -1 where there is none.
+   The processes beside the program are this one's children from before.
 
    TOKEN is -1, or with `--child` a pipe with one byte, which the process that is recorded takes. Then a guard stands between this process and the
    program: what outlives the program becomes a child of the guard's, gets the signals that come, and is waited for too. Where this process is
    killed, the program is killed with it; or the guard is told, and kills all of them. */
 #define _GNU_SOURCE
 #include <errno.h>
+#include <fcntl.h>
 #include <signal.h>
 #include <stdio.h>
 #include <stdlib.h>
@@ -119,16 +120,26 @@ static void tell_none(int token, int feed)
         perror("predator native: the trace");
 }
 
+/* The number that is to be read there. There is none where who was to write it was killed. */
+static int number_in(int pipe)
+{
+    char text[12] = "";
+    if (pipe < 0)
+        return 0;
+    return read(pipe, text, sizeof text - 1) > 0 ? atoi(text) : 128 + SIGKILL;
+}
+
 int main(int argc, char **argv)
 {
-    int token, feed, told, status = 0, replayed = 0, number, how;
-    pid_t replayer, program, child;
+    int token, feed, told, replayed, status = 0, number, how;
+    pid_t program, child;
     if (argc < 6)
-        return fputs("usage: hold TOKEN FEED TOLD REPLAYER COMMAND [WORDS ..]\n", stderr), 125;
+        return fputs("usage: hold TOKEN FEED TOLD REPLAYED COMMAND [WORDS ..]\n", stderr), 125;
     token = atoi(argv[1]);
     feed = atoi(argv[2]);
     told = atoi(argv[3]);
-    replayer = atoi(argv[4]);
+    replayed = atoi(argv[4]);
+    fcntl(replayed, F_SETFD, FD_CLOEXEC); /* the program must not inherit it */
     sigemptyset(&taken);
     for (int it = 0; it < 6; it++)
         sigaddset(&taken, (int[]){SIGTERM, SIGHUP, SIGINT, SIGQUIT, SIGCHLD, LEFT_ALONE}[it]);
@@ -143,8 +154,6 @@ int main(int argc, char **argv)
     }
     for (;;) {
         while ((child = waitpid(-1, &how, WNOHANG)) > 0) {
-            if (child == replayer)
-                replayed = status_of(how);
             if (child != program)
                 continue;
             status = status_of(how);
@@ -162,7 +171,8 @@ int main(int argc, char **argv)
         if (program > 0 && (number == SIGTERM || number == SIGHUP))
             kill(program, number);
     }
-    if (replayed != 0)
-        fprintf(stderr, "predator native: the replay ended with status %d\n", replayed);
+    number = number_in(replayed);
+    if (number != 0)
+        fprintf(stderr, "predator native: the replay ended with status %d\n", number);
     return status;
 }
