@@ -417,7 +417,9 @@ within "pipe: killed: accesses" 300000 1000000000 "$("$judge" accesses from-pipe
 . "$here/tries/pcs.sh"
 . "$here/tries/nameless.sh"
 . "$here/tries/ends.sh"
+. "$here/tries/child.sh"
 . "$here/tries/again.sh"
+. "$here/tries/others.sh"
 
 # The report, where the proved program is built.
 PREDATOR_BUILD=no "$here/../bin/predator" >/dev/null 2>&1

@@ -39,9 +39,11 @@ judge_c() {
     for it in native/lib/*.c native/tool/{trace,objects,sites,nameless}.c; do
         gcc "${strict[@]}" -std=gnu11 -Wno-unused-parameter -fPIC -fexceptions -pthread -DPREDATOR_RUNTIME "$it" || status=1
     done
-    gcc "${strict[@]}" -std=gnu11 native/tool/mend.c || status=1
+    for it in native/tool/{hold,mend}.c; do
+        gcc "${strict[@]}" -std=gnu11 "$it" || status=1
+    done
     if [ -e "$headers/pub_tool_tooliface.h" ]; then
-        for it in native/tool/{tool,trace,objects,sites,nameless,elf,turns,calls,ticks,preload}.c; do
+        for it in native/tool/{tool,child,trace,objects,sites,nameless,elf,turns,calls,ticks,preload}.c; do
             gcc "${strict[@]}" -std=gnu99 -fno-builtin "-I$headers" "-I$headers/vki" \
                 -DVGA_amd64=1 -DVGO_linux=1 -DVGP_amd64_linux=1 -DVGPV_amd64_linux_vanilla=1 "$it" || status=1
         done

@@ -66,7 +66,7 @@ LISTS = ("type", "shape")
 # Those that what counts a trace alone takes.
 ALONE = {"sweep": ("html", "top"), "caches": ("html", "shape", "top")}
 # Options of `predator native` that have no value, and those that have one.
-MARKS = ("all", "marked", "built", "pcs")
+MARKS = ("all", "marked", "child", "built", "pcs")
 RECORDS = ("--quantum", "--most")
 # What view writes.
 OUTPUTS = ("html", "json", "sarif", "patch")

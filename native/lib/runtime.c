@@ -410,7 +410,7 @@ void __attribute__((constructor)) begin(void)
     records_all = number_of("PREDATOR_ALL", 0, 1, 0);
     trace_pcs = number_of("PREDATOR_PCS", 0, 1, 0);
     first_thread();
-    if (path && *path && !trace_begin(path, table && *table ? table : 0))
+    if (path && *path && !(trace_begin(path, table && *table ? table : 0) && trace_start()))
         _Exit(125);
     tell_first_stack();
     /* (what the program starts runs without a trace) */

@@ -20,6 +20,14 @@ void calls_exit(ThreadId tid)
     ends_at[tid] = 0;
 }
 
+void calls_forked(ThreadId tid)
+{
+    ThreadId it;
+    for (it = 1; it <= MOST_THREADS; it++)
+        if (it != tid)
+            waits_at[it] = ends_at[it] = 0;
+}
+
 enum { FUTEX_WAKE_OP = 5, FUTEX_WAIT_BITSET = 9, FUTEX_WAKE_BITSET = 10 };
 
 static Bool is_futex(UInt call, const UWord *words, UInt one, UInt other, UInt third)

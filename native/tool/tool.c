@@ -98,10 +98,21 @@ static void translate_with_notes(Bool notes)
     VG_(discard_translations)(4096, ~0UL - 8191, "predator");
 }
 
+static void take_one_processor(void);
+
+/* Whether this is the process that is recorded, from now on. */
+static Bool is_taken(void)
+{
+    if (!child_takes())
+        return False;
+    take_one_processor();
+    return True;
+}
+
 static void judge_recording(void)
 {
     Bool records = trace_is_open() && (marked_only ? started > 0 : records_all || live >= 2);
-    if (records == trace_records)
+    if (records == trace_records || (records && child_waits() && !is_taken()))
         return;
     write_noted();
     if (records && !instruments)
@@ -443,11 +454,19 @@ static void take_one_processor(void)
 
 static void on_fork_child(ThreadId tid)
 {
-    trace_leave();
     noted = buffer;
     if (pinned_to >= 0)
         unpin();
     pinned_to = -1;
+    if (!child_follows()) {
+        trace_leave();
+        return;
+    }
+    VG_(memset)(begins, 0, sizeof begins);
+    calls_forked(tid);
+    live = 1;
+    had_threads = False;
+    judge_recording();
 }
 
 static void before_call(ThreadId tid, UInt call, UWord *words, UInt count)
@@ -458,7 +477,9 @@ static void before_call(ThreadId tid, UInt call, UWord *words, UInt count)
     /* Where it works, the program is another one, and the tool is gone. */
     if (call == __NR_execve || call == 322 /* execveat */) {
         write_noted();
-        trace_flush();
+        child_becomes(True);
+        if (!child_waits())
+            trace_flush();
         if (pinned_to >= 0)
             unpin();
     }
@@ -468,6 +489,8 @@ static void after_call(ThreadId tid, UInt call, UWord *words, UInt count, SysRes
 {
     calls_after(tid, call, words, result);
     ticks_pass(call);
+    if (call == __NR_execve || call == 322)
+        child_becomes(False); /* it failed */
     if (pinned_to < 0)
         return;
     if (call == __NR_execve || call == 322)
@@ -489,6 +512,10 @@ static Bool on_option(const HChar *word)
         quantum = number;
     else if (VG_BINT_CLO(word, "--most", number, 1, 1L << 40))
         trace_most = number;
+    else if (VG_BINT_CLO(word, "--child", number, 0, 1L << 30))
+        child_token = number;
+    else if (VG_BINT_CLO(word, "--root", number, 1, 1L << 30))
+        child_root = number;
     else if (VG_STR_CLO(word, "--trace", trace_path)) {
     } else if (VG_STR_CLO(word, "--table", table_path)) {
     } else if (VG_BOOL_CLO(word, "--all", records_all)) {
@@ -519,14 +546,20 @@ static void after_options(void)
     begin_turn();
     if (trace_path == NULL || !trace_begin(trace_path, table_path))
         VG_(exit)(125);
-    instruments = records_all;
+    child_begin();
+    if (!child_waits() && !trace_start())
+        VG_(exit)(125);
+    instruments = records_all && !child_waits();
     judge_recording();
-    take_one_processor();
+    if (!child_waits() && pinned_to < 0)
+        take_one_processor();
 }
 
 static void at_end(Int code)
 {
     write_noted();
+    if (child_waits())
+        return;
     if (trace_is_open() && trace_accesses == 0)
         VG_(printf)("predator native: no access was recorded: %s\n",
                     marked_only ? "no PREDATOR_START was reached"

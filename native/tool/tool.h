@@ -84,12 +84,21 @@ void turns_forget(ThreadId tid);
 /* calls.c: what a call of the system waits for. */
 void calls_create(ThreadId parent, ThreadId child);
 void calls_exit(ThreadId tid);
+void calls_forked(ThreadId tid);                  /* no other thread is there any more */
 void calls_before(ThreadId tid, UInt call, const UWord *words);
 void calls_after(ThreadId tid, UInt call, const UWord *words, SysRes result);
 
 /* ticks.c: the processor's counter of time. */
 IRStmt *ticks_instead(IRStmt *it);                /* a statement that reads the counter reads one of ours; any other stays */
 void ticks_pass(UInt call);                       /* a call has come back */
+
+/* child.c: which process is recorded, where it isn't the program's own. */
+extern Int child_token, child_root;               /* a pipe's descriptor, or -1; and the program's own process, or 0 where this is it */
+void child_begin(void);
+Bool child_waits(void);                           /* whether this process may not be recorded, or not yet */
+Bool child_takes(void);                           /* whether it is recorded, now that there is something to record */
+Bool child_follows(void);                         /* whether one that was forked may be */
+void child_becomes(Bool another);                 /* the process is about to become another program, or did not */
 
 #include "trace.h"
 

@@ -51,7 +51,7 @@ static Int given_fd(const HChar *path)
     if (VG_(strncmp)(path, "/dev/fd/", 8) != 0 || *at == 0)
         return -1;
     for (; *at; at++) {
-        if (*at < '0' || *at > '9' || fd > 100000)
+        if (*at < '0' || *at > '9' || fd > 100000000)
             return -1;
         fd = 10 * fd + *at - '0';
     }
@@ -72,7 +72,7 @@ static Bool file_open(File *it, const HChar *path, Bool seeks)
     it->bytes = VG_(malloc)("predator.file", PIECE + 4096);
     it->count = 0;
     it->length = 0;
-    it->seeks = seeks && VG_(lseek)(it->fd, 0, VKI_SEEK_SET) == 0;
+    it->seeks = seeks && VG_(lseek)(it->fd, 0, VKI_SEEK_CUR) == 0;
     if (!it->seeks) /* a pipe has room for a whole piece, where the system allows it: the program waits less often */
         CALL(__NR_fcntl, it->fd, 1031 /* F_SETPIPE_SZ */, PIECE, 0);
     return it->fd >= 0;
@@ -299,7 +299,6 @@ SizeT part_of(Addr region, Addr addr, SizeT size, Addr *first)
 
 Bool trace_begin(const HChar *path, const HChar *table_path)
 {
-    UChar header[20] = "PRDTRC01";
     const HChar *own = PROGRAM_PATH;
     HChar name[VG_(strlen)(path) + 8];
     if (!file_open(&trace, path, True))
@@ -310,15 +309,23 @@ Bool trace_begin(const HChar *path, const HChar *table_path)
     }
     if (table_path && !file_open(&table, table_path, False))
         return False;
-    header[7] = trace_pcs ? '3' : '1';
-    spell(header + 16, MOST_HARTS, 2);
     objects_begin();
     nameless_begin();
     table_text("program %s%s%s\n", own[0] == '/' ? "" : VG_(get_startup_wd)(), own[0] == '/' ? "" : "/", own);
+    return True;
+}
+
+Bool trace_start(void)
+{
+    UChar header[20] = "PRDTRC01";
+    header[7] = trace_pcs ? '3' : '1';
+    spell(header + 16, MOST_HARTS, 2);
     trace_put(header, 20);
     trace_flush();
     return trace.fd >= 0;
 }
+
+Int trace_fd(Bool of_table) { return of_table ? table.fd : trace.fd; }
 
 Bool trace_is_open(void) { return trace.fd >= 0; }
 

@@ -7,7 +7,9 @@
 extern ULong trace_accesses;
 /* False where a file can't be written. Without a table's path it is that of the trace with `.table`; a path /dev/fd/N is taken over. */
 Bool trace_begin(const HChar *path, const HChar *table);
+Bool trace_start(void);                           /* writes the first bytes; before them no process has written anything */
 Bool trace_is_open(void);
+Int trace_fd(Bool of_table);                      /* the descriptor of its file or of the table's, or -1 */
 Bool trace_has(Int fd);                           /* one of its files */
 void trace_access(UInt hart, Bool writes, Addr addr, UInt size, UInt pc);
 UInt trace_pc(Addr addr);                         /* what an instruction's address is in the trace, which is told of it once */

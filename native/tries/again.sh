@@ -1,11 +1,10 @@
 # shellcheck shell=bash
-# Part of native/try.sh, which reads it: tries that a busy machine changes no order, and another allocator.
+# Part of native/try.sh, which reads it: tries that a busy machine changes no order.
 #
 # (try.sh sets the names that aren't set here)
 # shellcheck disable=SC2154
 
 gcc -O1 -g -pthread "$here/tries/again.c" -o again
-gcc -O1 -g -shared -fPIC -fno-builtin "$here/tries/bump.c" -o bump.so
 
 # Two programs that take every processor time after time, while the same is recorded again and again.
 busy() {
@@ -28,7 +27,4 @@ for row in "10 ./kinds" "1 ./again" "10 ./again" "1000 ./again"; do
     same "$name at $quantum, busy: the same table" same "$(cmp -s same1.table same3.table && echo same)"
 done
 
-# Another allocator, by LD_PRELOAD.
-LD_PRELOAD=$work/bump.so "$run" --trace t -- ./heap >/dev/null 2>&1
-has "an allocator by LD_PRELOAD: blocks" live "$("$judge" blocks t make)"
 rm -f t t.table same* from-pipe said

@@ -101,9 +101,11 @@ same "calls that wait" "$hands" "$("$run" --trace t -- ./asleep 2>&1)"
 same "built: calls that wait" "$hands" "$(timeout 120 "$run" --built --trace t -- ./asleep.tsan 2>&1)"
 same "built: calls that wait: a word's accesses" "3000 3000 1" "$("$judge" word t counters 4)"
 same "built: calls that wait: end" "exit 0" "$("$judge" end t)"
-gcc -O1 -g -fsanitize=thread -pthread "$here/tries/spins.c" -o spins.tsan -L"$here/out/lib"
-same "built: a lock that isn't seen" "sums 5000 5000" "$(timeout 120 "$run" --built --trace t -- ./spins.tsan 2>&1)"
-same "built: a lock that isn't seen: a word's accesses" "5000 5000 1" "$("$judge" word t sums 4)"
+for kind in WORD QUEUE; do
+    gcc -O1 -g -D$kind -fsanitize=thread -pthread "$here/tries/spins.c" -o spins.tsan -L"$here/out/lib"
+    same "built: a lock that isn't seen ($kind)" "sums 5000 5000" "$(timeout 120 "$run" --built --trace t -- ./spins.tsan 2>&1)"
+    same "built: a lock that isn't seen ($kind): a word's accesses" "5000 5000 1" "$("$judge" word t sums 4)"
+done
 gcc -O1 -shared -fPIC "$here/tries/early.c" -o libearly.so
 printf 'int early_done(void);\nint main(void) { return early_done() ? 5 : 1; }\n' >early.c
 gcc -fsanitize=thread early.c -o early.tsan -L. -learly -Wl,-rpath,"$work" -L"$here/out/lib"

@@ -8,14 +8,14 @@ gcc -O1 -g -pthread "$here/tries/forever.c" -o forever
 gcc -O1 -g -fsanitize=thread -pthread "$here/tries/forever.c" -o forever.tsan -L"$here/out/lib"
 export KEPT=$work/from-pipe
 # (one that has ended has no words any more, though it may not be waited for)
-living() { pgrep -f "$work/forever"; }
+living() { pgrep -f "$1"; }
 # Waits until nothing of it is left, ten seconds at most, and says what is.
-left_over() {
+left_over() { # PROGRAM
     for _ in $(seq 1 50); do
-        if [ -z "$(living)" ]; then return; fi
+        if [ -z "$(living "$1")" ]; then return; fi
         sleep 0.2
     done
-    living
+    living "$1"
 }
 for way in "" --built; do
     program=$work/forever${way:+.tsan}
@@ -29,16 +29,26 @@ for way in "" --built; do
     same "${way}TERM to all: status and report" "143 read" "$? $(cat said)"
     same "${way}TERM to all: end" part "$("$judge" end from-pipe)"
     within "${way}TERM to all: accesses" 1000 10000000000 "$("$judge" accesses from-pipe)"
-    same "${way}TERM to all: nothing is left" "" "$(left_over)"
+    same "${way}TERM to all: nothing is left" "" "$(left_over "$work/forever")"
+    # (it hands a signal on as it does once its time is over)
+    rm -f from-pipe r
+    PREDATOR=$work/keeps timeout 600 "$run" ${way:+"$way"} --report r -- "$program" >said 2>&1 &
+    pid=$!
+    longer from-pipe 1100000
+    kill $pid
+    wait $pid 2>/dev/null
+    same "${way}timeout: status and report" "143 read" "$? $(cat r)"
+    same "${way}timeout: end" part "$("$judge" end from-pipe)"
+    same "${way}timeout: nothing is left, and nothing said" "" "$(left_over "$work/forever")$(cat said)"
     for number in TERM HUP KILL; do
-        rm -f from-pipe
+        rm -f from-pipe r
         PREDATOR=$work/keeps "$run" ${way:+"$way"} --report r -- "$program" >said 2>&1 &
         pid=$!
         longer from-pipe 1100000
         kill -s $number $pid
         wait $pid 2>/dev/null
         status=$?
-        same "$way$number to the launcher: nothing is left" "" "$(left_over)"
+        same "$way$number to the launcher: nothing is left" "" "$(left_over "$work/forever")"
         same "$way$number to the launcher: status" $((128 + $(kill -l $number))) $status
         for _ in $(seq 1 50); do if [ -s r ]; then break; fi; sleep 0.1; done
         same "$way$number to the launcher: the report" read "$(cat r)"

@@ -2,32 +2,74 @@
 #include <pthread.h>
 #include <stdio.h>
 
-static unsigned lock;
 static volatile unsigned sums[2];
 
+#ifdef QUEUE
+/* The lock of Mellor-Crummey and Scott: each waits at a word of its own. */
+static struct place {
+    struct place *volatile next;
+    volatile unsigned waits;
+} places[2], *last;
+
 #ifdef __x86_64__
-static void take(void)
+static inline void spin(volatile unsigned *word)
+{
+    __asm__ volatile("1: cmpl $0, %0; je 2f; pause; jmp 1b; 2:" : : "m"(*word) : "memory", "cc");
+}
+#else
+static inline __attribute__((no_sanitize_thread)) void spin(volatile unsigned *word)
+{
+    while (*word)
+        ;
+}
+#endif
+static __attribute__((no_sanitize_thread)) void take(int me)
+{
+    struct place *own = &places[me], *before;
+    own->next = 0;
+    own->waits = 1;
+    before = __atomic_exchange_n(&last, own, __ATOMIC_ACQ_REL);
+    if (before) {
+        before->next = own;
+        spin(&own->waits);
+    }
+}
+static __attribute__((no_sanitize_thread)) void leave(int me)
+{
+    struct place *own = &places[me], *it = own;
+    if (!own->next && __atomic_compare_exchange_n(&last, &it, 0, 0, __ATOMIC_ACQ_REL, __ATOMIC_RELAXED))
+        return;
+    while (!own->next)
+        ;
+    own->next->waits = 0;
+}
+#else
+static unsigned lock;
+
+#ifdef __x86_64__
+static void take(int me)
 {
     __asm__ volatile("1: lock btsl $0, %0; jnc 2f; pause; jmp 1b; 2:" : "+m"(lock) : : "memory", "cc");
 }
-static void leave(void) { __asm__ volatile("movl $0, %0" : "=m"(lock) : : "memory"); }
+static void leave(int me) { __asm__ volatile("movl $0, %0" : "=m"(lock) : : "memory"); }
 #else
-static __attribute__((no_sanitize_thread)) void take(void)
+static __attribute__((no_sanitize_thread)) void take(int me)
 {
     while (__atomic_exchange_n(&lock, 1, __ATOMIC_ACQUIRE))
         ;
 }
-static __attribute__((no_sanitize_thread)) void leave(void) { __atomic_store_n(&lock, 0, __ATOMIC_RELEASE); }
+static __attribute__((no_sanitize_thread)) void leave(int me) { __atomic_store_n(&lock, 0, __ATOMIC_RELEASE); }
+#endif
 #endif
 
 static void *add(void *mine)
 {
     volatile unsigned *sum = mine;
     for (int turn = 0; turn < 50; turn++) {
-        take();
+        take(sum - sums);
         for (int i = 0; i < 100; i++)
             *sum = *sum + 1;
-        leave();
+        leave(sum - sums);
     }
     return 0;
 }

@@ -40,7 +40,7 @@ static SizeT size(UInt which) { return which < BLOCKS - LARGE ? 1 + draw(10240) 
 int main(int count, char **words)
 {
     trace_pcs = count == 5;
-    if ((count != 4 && count != 5) || !trace_begin(words[1], NULL))
+    if ((count != 4 && count != 5) || !trace_begin(words[1], NULL) || !trace_start())
         return 1;
     drawn = strtoul(words[2], NULL, 10);
     for (long left = strtol(words[3], NULL, 10); left > 0 && trace_is_open(); left--) {

@@ -1,0 +1,178 @@
+/* What the launcher is in the end: it starts the program, hands signals on to it, waits for it and for what runs beside it, and ends as it did.
+
+       hold TOKEN FEED TOLD REPLAYED COMMAND [WORDS ..]
+
+   FEED and TOLD are the descriptors that the trace and the table go to, and from REPLAYED comes the status of what counts them; -1 where there is none.
+   The processes beside the program are this one's children from before.
+
+   TOKEN is -1, or with `--child` a pipe with one byte, which the process that is recorded takes. Then a guard stands between this process and the
+   program: what outlives the program becomes a child of the guard's, gets the signals that come, and is waited for too. Where this process is
+   killed, the program is killed with it; or the guard is told, and kills all of them. */
+#define _GNU_SOURCE
+#include <errno.h>
+#include <fcntl.h>
+#include <signal.h>
+#include <stdio.h>
+#include <stdlib.h>
+#include <string.h>
+#include <sys/prctl.h>
+#include <sys/wait.h>
+#include <unistd.h>
+
+#define LEFT_ALONE SIGRTMAX /* what the guard gets where this process is killed */
+#define MOST_CHILDREN 4096
+
+static sigset_t taken, before;
+static struct sigaction child_before;
+static pid_t told_of[MOST_CHILDREN]; /* the guard's children that a signal was handed on to */
+static int told_count;
+
+static int status_of(int status) { return WIFSIGNALED(status) ? 128 + WTERMSIG(status) : WEXITSTATUS(status); }
+
+/* A child that ends with this process where that is killed, or with `number` is told so; in the child 0. */
+static pid_t start(int number)
+{
+    pid_t own = getpid(), child = fork();
+    if (child < 0) {
+        fprintf(stderr, "predator native: no process can be made: %s\n", strerror(errno));
+        exit(126);
+    }
+    if (child == 0) {
+        prctl(PR_SET_PDEATHSIG, number);
+        if (getppid() != own)
+            _exit(128 + SIGKILL);
+    }
+    return child;
+}
+
+static pid_t start_program(char **words)
+{
+    pid_t child = start(SIGKILL);
+    if (child == 0) {
+        sigaction(SIGCHLD, &child_before, 0);
+        sigprocmask(SIG_SETMASK, &before, 0);
+        execvp(words[0], words);
+        fprintf(stderr, "predator native: %s: %s\n", words[0], strerror(errno));
+        _exit(126);
+    }
+    return child;
+}
+
+static int was_told(pid_t child)
+{
+    int it;
+    for (it = 0; it < told_count; it++)
+        if (told_of[it] == child)
+            return 1;
+    return 0;
+}
+
+/* A signal to each child, or to those alone that it wasn't handed on to before. */
+static void to_children(int number, int again)
+{
+    FILE *list = fopen("/proc/thread-self/children", "r");
+    int child;
+    while (list && fscanf(list, "%d", &child) == 1) {
+        if (!again && was_told(child))
+            continue;
+        kill(child, number);
+        if (!was_told(child) && told_count < MOST_CHILDREN)
+            told_of[told_count++] = child;
+    }
+    if (list)
+        fclose(list);
+}
+
+/* The guard: it ends with the program's status, once no process is left that came of it. */
+static void guard(char **words)
+{
+    pid_t program, child;
+    int ended = 0, status = 0, one;
+    prctl(PR_SET_CHILD_SUBREAPER, 1);
+    program = start_program(words);
+    for (;;) {
+        one = sigwaitinfo(&taken, 0);
+        if (one == SIGTERM || one == SIGHUP || one == LEFT_ALONE) {
+            ended = one == LEFT_ALONE ? SIGKILL : one;
+            to_children(ended, 1);
+        } else if (one == SIGCHLD) {
+            int how;
+            while ((child = waitpid(-1, &how, WNOHANG)) > 0)
+                if (child == program)
+                    status = status_of(how);
+            if (child < 0)
+                exit(status);
+            if (ended)
+                to_children(ended, ended == SIGKILL);
+        }
+    }
+}
+
+/* Where no process was recorded, what is there to be read is a trace without an access. */
+static void tell_none(int token, int feed)
+{
+    static const unsigned char trace[45] = {'P', 'R', 'D', 'T', 'R', 'C', '0', '1', [17] = 1, [20] = 6};
+    char byte;
+    if (token < 0 || read(token, &byte, 1) != 1)
+        return;
+    fputs("predator native: no access was recorded: no process that the program started had two threads at a time\n", stderr);
+    if (write(feed, trace, sizeof trace) != sizeof trace)
+        perror("predator native: the trace");
+}
+
+/* The number that is to be read there. There is none where who was to write it was killed. */
+static int number_in(int pipe)
+{
+    char text[12] = "";
+    if (pipe < 0)
+        return 0;
+    return read(pipe, text, sizeof text - 1) > 0 ? atoi(text) : 128 + SIGKILL;
+}
+
+int main(int argc, char **argv)
+{
+    int token, feed, told, replayed, status = 0, number, how;
+    pid_t program, child;
+    if (argc < 6)
+        return fputs("usage: hold TOKEN FEED TOLD REPLAYED COMMAND [WORDS ..]\n", stderr), 125;
+    token = atoi(argv[1]);
+    feed = atoi(argv[2]);
+    told = atoi(argv[3]);
+    replayed = atoi(argv[4]);
+    fcntl(replayed, F_SETFD, FD_CLOEXEC); /* the program must not inherit it */
+    sigemptyset(&taken);
+    for (int it = 0; it < 6; it++)
+        sigaddset(&taken, (int[]){SIGTERM, SIGHUP, SIGINT, SIGQUIT, SIGCHLD, LEFT_ALONE}[it]);
+    sigprocmask(SIG_BLOCK, &taken, &before);
+    sigaction(SIGCHLD, &(struct sigaction){.sa_handler = SIG_DFL}, &child_before);
+    program = token < 0 ? start_program(argv + 5) : start(LEFT_ALONE);
+    if (program == 0)
+        guard(argv + 5);
+    if (token < 0) {
+        close(feed);
+        close(told);
+    }
+    for (;;) {
+        while ((child = waitpid(-1, &how, WNOHANG)) > 0) {
+            if (child != program)
+                continue;
+            status = status_of(how);
+            program = 0;
+            if (token >= 0) {
+                tell_none(token, feed);
+                close(feed);
+                close(told);
+            }
+        }
+        if (child < 0)
+            break;
+        number = sigwaitinfo(&taken, 0);
+        /* (an interrupt from the terminal has come to the program already) */
+        if (program > 0 && (number == SIGTERM || number == SIGHUP))
+            kill(program, number);
+    }
+    number = number_in(replayed);
+    if (number != 0)
+        fprintf(stderr, "predator native: the replay ended with status %d\n", number);
+    return status;
+}
