@@ -47,6 +47,8 @@ BEGUN = (
 
 # Where the headers of C++ and the library of Rust are: what is inlined from there says little.
 LIBRARIES = re.compile(r"/include/c\+\+/|/lib/gcc/|/rustc/[0-9a-f]+/library/")
+# Sources of the C library's allocator.
+ALLOCATING = re.compile(r"(?:^|/)malloc/(?:malloc|arena)\.c$")
 
 
 class Memory:
@@ -156,6 +158,10 @@ class Naming:
         near = sources.near(addr) if sources and place is None else None
         told = place.short() if place else f"near {near.short()}" if near else self.library(addr) or f"0x{addr:08x}"
         return f"{told} ({' < '.join(names[:2])})" if names else told
+
+    def is_allocator(self, addr: int) -> bool:
+        """Whether an instruction is of the C library's allocator."""
+        return any(ALLOCATING.search(it.file) for it in self.sources.frames(addr)) if self.sources else False
 
     def frame(self, addr: int) -> str:
         """The function whose frame an instruction runs in, which isn't inlined, or an empty text."""
