@@ -22,8 +22,9 @@ sys.path.insert(0, os.path.join(TOP, "guest", "studies"))
 from report import table  # noqa: E402
 
 OUT = os.path.join(HERE, "out")
-# What stands for a new folder, for a text in it, for a folder of a thousand texts, and for a server's settings.
-FOLDER, TEXT, TREE, CONFIG = "FOLDER", "TEXT", "TREE", "CONFIG"
+# What stands for a new folder, for a text in it, a folder of a thousand texts, sixty objects to be linked, and a server's settings.
+FOLDER, TEXT, TREE, OBJECTS, CONFIG = "FOLDER", "TEXT", "TREE", "OBJECTS", "CONFIG"
+LIBC = "-L/usr/lib/x86_64-linux-gnu"
 # haproxy's: four threads answer by themselves.
 SERVED = """global
     nbthread 4
@@ -65,10 +66,13 @@ STUDIES = {
         status=143,
     ),
     "xz": Study(["xz"], ["-0", "-T4", "--block-size=100000", "-c", TEXT], is_debian=True),
-    "zstd": Study(["zstd"], ["-1", "-T4", "-B131072", "-q", "-c", TEXT], is_debian=True, text=2_000_000),
-    "pbzip2": Study(["pbzip2"], ["-1", "-p4", "-b1", "-k", "-c", TEXT], is_debian=True, most=20_000_000),
+    "zstd": Study(["zstd"], ["-1", "-T4", "-B131072", "-q", "-c", TEXT], is_debian=True, text=600_000),
+    "pbzip2": Study(["pbzip2"], ["-1", "-p4", "-b1", "-k", "-c", TEXT], is_debian=True, text=250_000, most=20_000_000),
     "ripgrep": Study(["rg"], ["-j4", "-c", "7 1", TREE], is_debian=True),
     "fd": Study(["fdfind"], ["-j4", "7", TREE], is_debian=True),
+    "mold": Study(
+        ["mold"], ["-m", "elf_x86_64", "--no-fork", "--thread-count=4", "-o", f"{FOLDER}/linked", OBJECTS, "-lc", LIBC], is_debian=True
+    ),
 }
 
 
@@ -86,7 +90,7 @@ def text_of(size: int) -> bytes:
 
 def made(study: Study, folder: str) -> dict[str, str]:
     """The files that a study's words stand for."""
-    found = {FOLDER: folder, TEXT: os.path.join(folder, "text"), TREE: os.path.join(folder, "tree"), CONFIG: os.path.join(folder, "config")}
+    found = {it: os.path.join(folder, it.lower()) for it in (TEXT, TREE, CONFIG)} | {OBJECTS: "@" + os.path.join(folder, "objects")}
     with open(found[TEXT], "wb") as file:
         file.write(text_of(study.text))
     with open(found[CONFIG], "w") as file:
@@ -95,8 +99,24 @@ def made(study: Study, folder: str) -> dict[str, str]:
         os.makedirs(os.path.join(found[TREE], f"folder{own}"))
         for at in range(25):
             with open(os.path.join(found[TREE], f"folder{own}", f"file{at}.txt"), "wb") as file:
-                file.write(text_of(16_000)[own * 100 + at * 37 :][:8192])
+                file.write(text_of(60_000)[own * 1000 + at * 37 :][:8192])
+    if OBJECTS in study.words:
+        compile_all(folder, found[OBJECTS][1:])
     return found
+
+
+def compile_all(folder: str, listed: str) -> None:
+    """Compiles sixty sources, and lists their objects."""
+    names = [f"m{it}.c" for it in range(60)]
+    for it, name in enumerate(names):
+        with open(os.path.join(folder, name), "w") as file:
+            for own in range(30):
+                other = f"f{(it * 7 + 1) % 60}_{own * 3 % 30}"
+                file.write(f"int {other}(int);\nint f{it}_{own}(int x) {{ return x > 1 ? {other}(x - {own + 1}) + {it * own} : x; }}\n")
+            file.write("int main(void) { return f0_0(3); }\n" if it == 0 else "")
+    subprocess.run(["gcc", "-c", "-g", "-O1", *names], cwd=folder, check=True)
+    with open(listed, "w") as file:
+        file.write("\n".join(["/usr/lib/x86_64-linux-gnu/crt1.o", *(os.path.join(folder, it[:-2] + ".o") for it in names)]) + "\n")
 
 
 def recorded(study: Study, program: str, folder: str) -> str:
@@ -106,7 +126,8 @@ def recorded(study: Study, program: str, folder: str) -> str:
     if path is None:
         sys.exit(f"run.py: {program} isn't installed")
     most = ["--most", str(study.most)] if study.most else []
-    command = [PREDATOR, "native", "--pcs", *most, "--trace", trace, "--", path, *(files.get(it, it) for it in study.words)]
+    words = [files.get(it, it.replace(FOLDER, folder)) for it in study.words]
+    command = [PREDATOR, "native", "--pcs", *most, "--trace", trace, "--", path, *words]
     with subprocess.Popen(command, stdin=subprocess.DEVNULL, stdout=subprocess.DEVNULL) as run:
         if study.clients:
             subprocess.run([os.path.join(TOP, "tools", "clients.py"), *study.clients], check=True)
