@@ -1,13 +1,12 @@
 #!/usr/bin/env python3
 """Puts load on a server of this machine.
 
-usage: tools/clients.py memcached|redis PORT CLIENTS TIMES [--anew] [--in-step]
+usage: tools/clients.py memcached|redis|http PORT CLIENTS TIMES [--anew] [--in-step] [--again]
 
 So many clients at the same time each set a value of 100 bytes and get it back, so often: under a key of their own, or, --anew, under a \
 new one
-each time. With --in-step all have asked before the first answer is read. A wrong answer ends it with status 1, and no server on the port \
-within
-a minute too."""
+each time. Of http each asks for a page. With --in-step all have asked before the first answer is read, and with --again each question has a
+connection of its own. A wrong answer ends it with status 1, and no server on the port within a minute too."""
 
 import socket
 import sys
@@ -24,6 +23,10 @@ def memcached(key, value):
 def redis(key, value):
     yield b"*3\r\n$3\r\nSET\r\n$%d\r\n%s\r\n$%d\r\n%s\r\n" % (len(key), key, len(value), value), b"+OK\r\n"
     yield b"*2\r\n$3\r\nGET\r\n$%d\r\n%s\r\n" % (len(key), key), b"$%d\r\n%s\r\n" % (len(value), value)
+
+
+def http(key, value):
+    yield b"GET /%s HTTP/1.1\r\nHost: here\r\n\r\n" % key, b"HTTP/1.1 200 OK\r\n"
 
 
 def connected(port, until):
@@ -58,6 +61,12 @@ def apart(client, own):
         check(client, wanted)
 
 
+def again(port, until, own):
+    for it in own:
+        with connected(port, until) as client:
+            apart(client, [it])
+
+
 def in_step(clients, asked):
     for step in zip(*asked):
         for client, (text, _) in zip(clients, step):
@@ -69,20 +78,23 @@ def in_step(clients, asked):
 def main(words, options):
     kind, port, count, times = KINDS[words[0]], *map(int, words[1:])
     until = time.monotonic() + 60
-    clients = [connected(port, until) for _ in range(count)]
     keys = [[b"key-%d-%d" % (it, turn) if "--anew" in options else b"key-%d" % it for turn in range(times)] for it in range(count)]
     asked = [[it for turn, key in enumerate(own) for it in kind(key, bytes([97 + turn % 26]) * 100)] for own in keys]
-    if "--in-step" in options:
-        in_step(clients, asked)
-    else:
-        with ThreadPoolExecutor(count) as pool:
+    with ThreadPoolExecutor(count) as pool:
+        if "--again" in options:
+            list(pool.map(again, [port] * count, [until] * count, asked))
+            return
+        clients = [connected(port, until) for _ in range(count)]
+        if "--in-step" in options:
+            in_step(clients, asked)
+        else:
             list(pool.map(apart, clients, asked))
 
 
-KINDS = {"memcached": memcached, "redis": redis}
+KINDS = {"memcached": memcached, "redis": redis, "http": http}
 if __name__ == "__main__":
     options = {it for it in sys.argv[1:] if it.startswith("-")}
     words = [it for it in sys.argv[1:] if it not in options]
-    if len(words) != 4 or words[0] not in KINDS or options - {"--anew", "--in-step"}:
+    if len(words) != 4 or words[0] not in KINDS or options - {"--anew", "--in-step", "--again"}:
         sys.exit(__doc__)
     main(words, options)

@@ -63,6 +63,11 @@ def all_of(names: Sequence[str]) -> str:
     return ", ".join(names[:-1]) + " and " + names[-1] if len(names) > 1 else "".join(names)
 
 
+def is_field(name: str) -> bool:
+    """Whether a word is called by a field or a variable, and not by its place."""
+    return name[:1] not in ("+", "0")
+
+
 def is_shared(word: Told) -> bool:
     """Whether harts hand a word to each other; a word's own misses tell, and without them its harts."""
     if word.useful is None:
@@ -124,7 +129,7 @@ def told(key: Whose, words: Sequence[Told], size: int, element: Element) -> str:
     array = array_of(words) if key.whose == SHARED and (is_waited_for(words) or all(map(is_packed, words))) else None
     if not array:
         names = patterns(it.whole() for it in words)
-        return f"{listing(names) if names[0][:1] == '+' else all_of(names)} ({key.whose})"
+        return f"{all_of(names) if is_field(names[0]) else listing(names)} ({key.whose})"
     return f"each element of {array} (shared; by {by_type(array, size, element)})"
 
 
@@ -182,8 +187,11 @@ def groups_apart(own: Sequence[Told], thing: Thing, size: int, element: Element)
         return f"harts have words of their own in {thing.name}: give each hart's words lines of their own, {how}"
     if len(found) < 2:
         return f"begin {thing.name} on a line of its own, with `{attribute(size)}` behind its name"
-    listed = "; ".join(told(key, it, size, element) for key, it in found.items())
-    return f"these belong apart, with `{attribute(size)}` behind the first of each: {listed}{naming_fields(own, thing)}"
+    listed = [told(key, it, size, element) for key, it in found.items()]
+    more = len(listed) - NAMED
+    if more > 1 and not any(is_field(it.whole()) for it in own):
+        listed[NAMED:] = [f"and {more} more groups"]
+    return f"these belong apart, with `{attribute(size)}` behind the first of each: {'; '.join(listed)}{naming_fields(own, thing)}"
 
 
 def apart(words: Iterable[Told], thing: Thing, size: int, element: Element) -> str:
@@ -252,6 +260,14 @@ def placing(placed: Placed | None, name: Callable[[int], str]) -> str:
 def little(thing: Thing, total: int) -> str:
     """What to do about an object that has hardly any of all misses."""
     return f"leave it: it has {thing.useless + thing.useful} of the {total} misses that aren't cold"
+
+
+def of_allocator() -> str:
+    """What to do about what the C library's allocator keeps."""
+    return (
+        "threads give back blocks that others asked for, or many ask in one arena: keep blocks for use again, give them back where they "
+        "were asked for, or link another allocator"
+    )
 
 
 def is_true(thing: Thing, is_counted: bool) -> bool:

@@ -17,7 +17,7 @@ RESERVED = re.compile(r"__|_[A-Z]")
 
 def is_foreign(thing: Thing, naming: Naming) -> bool:
     """Whether an object isn't the program's own, as far as its file and its debug information tell."""
-    if naming.program is None or naming.program.dwarf is None:
+    if naming.program is None or naming.program.dwarf is None and path_of(0, naming) is None:
         return False
     if isinstance(thing.key, OfFile):
         return bool(LIBRARIES.search(thing.key.path))

@@ -102,7 +102,8 @@ class Names:
             name = self.whole.get(name, name)
         elif "/" in name:
             name = re.sub("%([0-9a-f]{2})", lambda it: chr(int(it[1], 16)), name)
-        return self.note(name)
+        # (a library's function may have the version of its interface)
+        return self.note(re.sub(r"(?<=\w)@.*", "", name))
 
     def shortened(self, text: str) -> str:
         """A text with each name in it short."""

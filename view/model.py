@@ -21,13 +21,15 @@ from passes import Layout, Passes, first_readers, is_blamed, is_brief
 from predicted import Foretold, judged, worth_counting
 from program import Predator, Refused, misses_under, setting, stacks
 from reports import Blame, Block, Explained, Misses, Pair, Placed, Report, Symbol, Takings
-from unnamed import name_by_instructions, together
+from unnamed import HEAP, name_by_instructions, together
 from worth import Worth
 
 if TYPE_CHECKING:
     from native import NativeProgram
     from tried import Tried
 
+# A miss takes about a hundred times as long as an access: those of one in so many take a hundredth of the time.
+RARE = 10_000
 # The file and the line where something is declared or made.
 Declared = tuple[str, int]
 
@@ -233,10 +235,21 @@ class View:
             return thing.name
         if isinstance(thing.example, Block) and thing.example.sites:
             own = thing.name + self.caller(thing)
-            return own if self.label_counts[own] == 1 else f"{thing.name}, by {shown(self.naming.chain(thing.example.sites)[0].addr)}"
+            return own if self.label_counts[own] == 1 else f"{thing.name}, by {self.told_apart(thing, thing.example)}"
         if isinstance(thing.key, (OfSymbol, OfMemory)):
             return f"{thing.name}, at {shown(thing.key.addr if isinstance(thing.key, OfSymbol) else thing.key.page)}"
         return thing.name
+
+    def told_apart(self, thing: Thing, block: Block) -> str:
+        """The first line among a block's callers that no other object of its name has there, or else an address."""
+        chain = self.naming.chain(block.sites)
+        same = [it.example for it in dict.fromkeys(self.all.values()) if it.name == thing.name and it is not thing]
+        others = [self.naming.chain(it.sites) for it in same if isinstance(it, Block) and it.sites]
+        for at, site in enumerate(chain):
+            line = self.naming.site(site)
+            if line and all(line != self.naming.site(it[at]) for it in others if at < len(it)):
+                return line
+        return shown(chain[0].addr)
 
     def caller(self, thing: Thing) -> str:
         """Of blocks that an inlined function makes the line that it was called from, as a part of their label."""
@@ -347,8 +360,14 @@ class View:
         """The misses that aren't cold."""
         return self.misses.total["useless"] + self.misses.total["useful"] if self.misses else 0
 
+    def is_clean(self) -> bool:
+        """Whether so few accesses of a trace miss that nothing is worth doing. (Of a run its time says that.)"""
+        return not self.report.steps and 0 < self.total() * RARE < self.report.accesses
+
     def is_little(self, thing: Thing) -> bool:
         """Whether an object has so few of the misses that it is to be left as it is."""
+        if self.is_clean() and "object" not in self.call.options:
+            return True
         is_first = self.things[0] is thing or "object" in self.call.options
         return not is_first and 0 < (thing.useless + thing.useful) * advice.LITTLE < self.total()
 
@@ -365,6 +384,8 @@ class View:
             return tried.sentence(self.label(thing), list(dict.fromkeys(mixed)))
         if self.is_little(thing):
             return advice.little(thing, self.total())
+        if thing.name == HEAP:
+            return advice.of_allocator()
         names = {key: self.label(self.all[key]) for key in thing.beside}
         todo = advice.sentence(thing, words, names, self.align_to(thing), self.misses is not None, self.element(thing), self.turns())
         return todo + advice.placing(self.placed.get(thing.key), lambda addr: field_at(addr, thing.example, self.naming))

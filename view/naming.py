@@ -1,5 +1,6 @@
 """What objects, words and instructions are called: by the program's debug information where it is there, and else by the report."""
 
+import itertools
 import os
 import re
 from typing import TYPE_CHECKING, Any, Iterable, NamedTuple, Sequence, Union
@@ -47,6 +48,8 @@ BEGUN = (
 
 # Where the headers of C++ and the library of Rust are: what is inlined from there says little.
 LIBRARIES = re.compile(r"/include/c\+\+/|/lib/gcc/|/rustc/[0-9a-f]+/library/")
+# Sources of the C library's allocator.
+ALLOCATING = re.compile(r"(?:^|/)malloc/(?:malloc|arena)\.c$")
 
 
 class Memory:
@@ -122,7 +125,7 @@ class Naming:
     def sites_key(self, sites: tuple[Site, ...]) -> tuple[str, ...]:
         """Call sites as another address of the same lines has them: a loop that was unrolled is one place."""
         if sites not in self.keys:
-            self.keys[sites] = tuple(self.site_key(it) for it in sites)
+            self.keys[sites] = tuple(self.site_key(it) for it in self.in_code(sites))
         return self.keys[sites]
 
     def site_key(self, site: Site) -> str:
@@ -157,18 +160,31 @@ class Naming:
         told = place.short() if place else f"near {near.short()}" if near else self.library(addr) or f"0x{addr:08x}"
         return f"{told} ({' < '.join(names[:2])})" if names else told
 
+    def is_allocator(self, addr: int) -> bool:
+        """Whether an instruction is of the C library's allocator."""
+        return any(ALLOCATING.search(it.file) for it in self.sources.frames(addr)) if self.sources else False
+
     def frame(self, addr: int) -> str:
         """The function whose frame an instruction runs in, which isn't inlined, or an empty text."""
         frames = self.sources.frames(addr) if self.sources else []
         return self.readable(frames[-1].function) if frames and frames[-1].function else ""
 
+    def in_code(self, sites: Sequence[Site]) -> list[Site]:
+        """The call sites up to the first that no file has: a stack can't be followed further through code without unwinding information."""
+        from_file = getattr(self.program, "library", None)
+        if from_file is None:
+            return list(sites)
+        return list(itertools.takewhile(lambda it: it.name != "-" or from_file(it.addr), sites)) or list(sites[:1])
+
     def chain(self, sites: Sequence[Site]) -> list[Site]:
         """The sites of a block from the one that wants it on: without the allocator's own, and without where harts begin."""
+        sites = self.in_code(sites)
         own = [it for it in sites if it.name not in ALLOCATORS] or list(sites)
         return [it for it in own if not self.is_beginning(it)] or own[:1]
 
     def functions(self, sites: Sequence[Site]) -> list[str]:
         """The call sites by functions alone, which other builds of the program have too."""
+        sites = self.in_code(sites)
         own = [it for it in sites if it.name not in ALLOCATORS] or list(sites)
         return [self.names.lasting(it.name) for it in [it for it in own if it.name not in BEGINNINGS] or own[:1]]
 

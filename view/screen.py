@@ -11,14 +11,14 @@ from faults import plain
 from instructions import ATOMIC, LOAD, STORE, UNKNOWN, kind_of, told
 from keys import OfBlocks
 from library import row_of
-from model import View
+from model import RARE, View
 from objects import Thing, Told
 from overflow import is_strange
 from predicted import UNCOUNTED, Foretold, inside, together
 
 BOLD, RED, DIM, END = "1", "1;31", "2", "0"
-# A miss takes about a hundred times as long as an access: those of one in so many take a hundredth of the time.
-RARE = 10_000
+# So many of an object's neighbours are named, and of the objects that a predicted line would have.
+MOST = 3
 # How a pair takes a line.
 BY = {ATOMIC: "; by an atomic instruction", LOAD: "; from a load", STORE: "; a store over a store", UNKNOWN: ""}
 
@@ -48,8 +48,7 @@ def outcome(view: View, paint: Paint, width: int) -> Iterator[str]:
         total = view.misses.total
         yield f"misses: {total['useless']} useless, {total['useful']} useful, {total['cold']} cold"
         yield from fold(f"time: {view.worth.total()}", "", "      ", width)
-        # (for a run the line above says it)
-        if not report.steps and 0 < view.total() * RARE < report.accesses:
+        if view.is_clean():
             yield f"nothing here is worth doing: fewer than one access in {RARE:,} misses what another hart has taken"
 
 
@@ -68,7 +67,7 @@ def next_step(view: View) -> str:
     advice = {
         "budget": "it took all steps of its `budget`; the setting may be larger",
         "deadlock": "no hart could run any more",
-        "part": "it is a part of a trace that was cut",
+        "part": "a signal ended the program, or its trace was cut",
     }
     return advice.get(outcome, "what follows is what it did until then")
 
@@ -91,7 +90,7 @@ def row(view: View, place: int, thing: Thing, paint: Paint, width: int) -> Itera
     numbers: list[int | str] = [thing.useless, thing.useful] if view.misses else ["-", "-"]
     lives = f" ({len(thing.lives)} lives)" if isinstance(thing.key, OfBlocks) and len(thing.lives) > 1 else ""
     beside = [view.label(view.all[it]) for it in thing.beside]
-    near = f", beside {', '.join(beside[:3])}" + (f" and {len(beside) - 3} more" if len(beside) > 3 else "") if beside else ""
+    near = f", beside {', '.join(beside[:MOST])}" + (f" and {len(beside) - MOST} more" if len(beside) > MOST else "") if beside else ""
     cells = "".join(f" {it:>8}" for it in (*numbers, thing.count))
     name = paint(BOLD, plain(short(view.label(thing))))
     yield f"{place:>3} {cells} {len(thing.spots):>6}  {name}" + plain(lives + short(near + thing.note))
@@ -147,7 +146,8 @@ def words_table(view: View, thing: Thing) -> Iterator[str]:
 def prediction(view: View, group: Sequence[Foretold]) -> str:
     """Some predicted lines of one kind, in a sentence."""
     first, bases = group[0], [f"0x{it.line.base:08x}" for it in group]
-    what = ", ".join(view.name_of(key) for key in first.keys) or "memory"
+    names = [view.name_of(key) for key in first.keys]
+    what = (", ".join(names[:MOST]) + (f" and {len(names) - MOST} more" if len(names) > MOST else "")) or "memory"
     size, where = first.line.size, listing(bases)
     how = f"lines of {size} bytes (at {where})" if first.line.kind == "doubled" else f"lines that begin at {where}"
     if first.useless is None or view.misses is None:

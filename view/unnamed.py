@@ -10,6 +10,8 @@ from reports import Blame, Block, Takings
 # So many objects are named so, the worst first, each by so many instructions.
 MOST, NAMED = 100, 2
 USED = "memory used at"
+# What the C library's allocator keeps beside the blocks that it hands out.
+HEAP = "malloc's own memory"
 # A block of so many bytes may be one that pieces are cut from.
 ARENA = 1024
 
@@ -40,7 +42,7 @@ def name(thing: Thing, pcs: Sequence[int], naming: Naming) -> None:
     if isinstance(thing.key, OfStack):
         thing.name += f", used in {listing(functions)}" if functions else ""
     elif not isinstance(it, Block):
-        thing.name = f"{USED} {users}"
+        thing.name = HEAP if pcs and all(map(naming.is_allocator, pcs)) else f"{USED} {users}"
     elif not it.sites:
         thing.name = f"block used at {users}"
     elif len(functions) > 1:
@@ -54,7 +56,7 @@ def together(things: Sequence[Thing]) -> dict[Key, Thing]:
     first: dict[str, Thing] = {}
     found: dict[Key, Thing] = {}
     for it in things:
-        own = first.setdefault(it.name, it) if isinstance(it.key, OfMemory) and it.name.startswith(USED) else it
+        own = first.setdefault(it.name, it) if isinstance(it.key, OfMemory) and it.name.startswith((USED, HEAP)) else it
         found[it.key] = own
         if own is it:
             continue

@@ -10,7 +10,7 @@ here=$(cd "$(dirname "$(readlink -f "$0")")" && pwd)
 fetched=$here/fetched
 out=$here/out
 flags=(-g -O2 -w -pthread)
-studies=(lmdb libevent queue gomp)
+studies=(lmdb libevent queue gomp haproxy)
 
 # NAME: a copy of a source that a repair changes.
 copy() {
@@ -63,6 +63,28 @@ build_queue() {
 build_gomp() {
     gcc "${flags[@]}" -fopenmp "$here/gomp.c" -o "$out/gomp"
     gcc "${flags[@]}" -fopenmp -DAPART "$here/gomp.c" -o "$out/gomp-apart"
+}
+
+build_haproxy() {
+    local name source aligned='THREAD_ALIGNED(64)'
+    for name in haproxy haproxy-apart; do
+        # (each takes three minutes of a processor; what is there stays)
+        [ ! -x "$out/$name" ] || continue
+        copy "$name.source" haproxy
+        source=$out/$name.source
+        # (what a connection writes apart from what each round reads, and what threads have in arrays apart from each other)
+        if [ "$name" = haproxy-apart ]; then
+            sed -i -E "s/^int +(jobs|killed|pid)( = 0)?;/int \1 $aligned\2;/; s/^(volatile unsigned long sleeping_thread_mask)/\1 $aligned/" \
+                "$source/src/haproxy.c"
+            sed -i -E "s/^(\tunsigned int (thr_idx|analysers));/\1 $aligned;/
+                s/^\tunsigned int (thr_conn\[MAX_THREADS\];)/\tstruct { unsigned int count; } $aligned \1/" "$source/include/haproxy/listener-t.h"
+            sed -i "/^struct mux_stopping_data {$/,/^};$/s/^};$/} $aligned;/" "$source/include/haproxy/connection-t.h"
+            sed -i -E 's/->thr_conn\[[a-z0-9]+\]/&.count/
+                s/^(\t+)l = calloc\(1, sizeof\(\*l\)\);/\1if ((l = aligned_alloc(64, sizeof(*l))))\n\1\tmemset(l, 0, sizeof(*l));/' "$source/src/listener.c"
+        fi
+        nice make -C "$source" -j"$(nproc)" TARGET=linux-glibc DEBUG_CFLAGS=-g OPT_CFLAGS=-O2 haproxy >/dev/null
+        cp "$source/haproxy" "$out/$name"
+    done
 }
 
 mkdir -p "$out"

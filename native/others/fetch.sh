@@ -8,3 +8,4 @@ here=$(cd "$(dirname "$(readlink -f "$0")")" && pwd)
 fetch lmdb lmdb
 fetch libevent libevent
 fetch onetbb onetbb
+fetch haproxy haproxy

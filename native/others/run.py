@@ -8,6 +8,7 @@ fetch.sh has fetched the sources; build.sh builds them. What is counted is what 
 import json
 import os
 import re
+import shutil
 import subprocess
 import sys
 import tempfile
@@ -21,33 +22,62 @@ sys.path.insert(0, os.path.join(TOP, "guest", "studies"))
 from report import table  # noqa: E402
 
 OUT = os.path.join(HERE, "out")
-# What stands for a new folder, for a text of a megabyte, and for who is served.
-FOLDER, TEXT = "FOLDER", "TEXT"
+# What stands for a new folder, for a text in it, a folder of a thousand texts, sixty objects to be linked, and a server's settings.
+FOLDER, TEXT, TREE, OBJECTS, CONFIG = "FOLDER", "TEXT", "TREE", "OBJECTS", "CONFIG"
+LIBC = "-L/usr/lib/x86_64-linux-gnu"
+# haproxy's: four threads answer by themselves.
+SERVED = """global
+    nbthread 4
+defaults
+    mode http
+    timeout client 60s
+    timeout server 60s
+    timeout connect 60s
+frontend served
+    bind 127.0.0.1:18461
+    http-request return status 200 content-type text/plain string ok
+"""
 
 
 class Study(NamedTuple):
-    """A program's builds or the command, its words, and what is looked at in it; `status` is what it ends with."""
+    """A program's builds or Debian's command, its words, and what is looked at in it; `status` is what it ends with, `text` how many bytes
+    its text has, and `most` how many accesses are recorded at most."""
 
     builds: Sequence[str]
     words: Sequence[str] = ()
-    looked_at: str = ""
+    looked_at: Sequence[str] = ()
     clients: Sequence[str] = ()
     status: int = 0
+    is_debian: bool = False
+    text: int = 400_000
+    most: int = 0
 
 
 STUDIES = {
-    "lmdb": Study(["lmdb", "lmdb-apart"], [FOLDER], "mdb_env_create"),
-    "libevent": Study(["libevent", "libevent-once"], [], "event_debug_mode_too_late"),
-    "queue": Study(["queue", "queue-apart"], [], "concurrent_queue"),
-    "gomp": Study(["gomp", "gomp-apart"], [], "counts"),
-    "xz": Study(["/usr/bin/xz"], ["-0", "-T4", "--block-size=131072", "-c", TEXT]),
-    "zstd": Study(["/usr/bin/zstd"], ["-1", "-T4", "-B131072", "-q", "-c", TEXT]),
-    "pbzip2": Study(["/usr/bin/pbzip2"], ["-1", "-p4", "-b1", "-k", "-c", TEXT]),
+    "lmdb": Study(["lmdb", "lmdb-apart"], [FOLDER], ["mdb_env_create"]),
+    "libevent": Study(["libevent", "libevent-once"], [], ["event_debug_mode_too_late"]),
+    "queue": Study(["queue", "queue-apart"], [], ["concurrent_queue"]),
+    "gomp": Study(["gomp", "gomp-apart"], [], ["counts"]),
+    "haproxy": Study(
+        ["haproxy", "haproxy-apart"],
+        ["-f", CONFIG],
+        ["listener.c:", "mux_stopping_data", "stopping", "jobs", "sleeping_thread_mask"],
+        ["http", "18461", "8", "60", "--again"],
+        status=143,
+    ),
+    "xz": Study(["xz"], ["-0", "-T4", "--block-size=100000", "-c", TEXT], is_debian=True),
+    "zstd": Study(["zstd"], ["-1", "-T4", "-B131072", "-q", "-c", TEXT], is_debian=True, text=600_000),
+    "pbzip2": Study(["pbzip2"], ["-1", "-p4", "-b1", "-k", "-c", TEXT], is_debian=True, text=250_000, most=20_000_000),
+    "ripgrep": Study(["rg"], ["-j4", "-c", "7 1", TREE], is_debian=True),
+    "fd": Study(["fdfind"], ["-j4", "7", TREE], is_debian=True),
+    "mold": Study(
+        ["mold"], ["-m", "elf_x86_64", "--no-fork", "--thread-count=4", "-o", f"{FOLDER}/linked", OBJECTS, "-lc", LIBC], is_debian=True
+    ),
 }
 
 
 def built(names: Sequence[str]) -> None:
-    own = [it for it in names if STUDIES[it].builds[0][0] != "/"]
+    own = [it for it in names if not STUDIES[it].is_debian]
     if own:
         subprocess.run([os.path.join(HERE, "build.sh"), *own], check=True)
 
@@ -58,14 +88,46 @@ def text_of(size: int) -> bytes:
     return " ".join(words[it * it % 4096] for it in range(size // 4)).encode()[:size]
 
 
+def made(study: Study, folder: str) -> dict[str, str]:
+    """The files that a study's words stand for."""
+    found = {it: os.path.join(folder, it.lower()) for it in (TEXT, TREE, CONFIG)} | {OBJECTS: "@" + os.path.join(folder, "objects")}
+    with open(found[TEXT], "wb") as file:
+        file.write(text_of(study.text))
+    with open(found[CONFIG], "w") as file:
+        file.write(SERVED)
+    for own in range(40) if TREE in study.words else ():
+        os.makedirs(os.path.join(found[TREE], f"folder{own}"))
+        for at in range(25):
+            with open(os.path.join(found[TREE], f"folder{own}", f"file{at}.txt"), "wb") as file:
+                file.write(text_of(60_000)[own * 1000 + at * 37 :][:8192])
+    if OBJECTS in study.words:
+        compile_all(folder, found[OBJECTS][1:])
+    return found
+
+
+def compile_all(folder: str, listed: str) -> None:
+    """Compiles sixty sources, and lists their objects."""
+    names = [f"m{it}.c" for it in range(60)]
+    for it, name in enumerate(names):
+        with open(os.path.join(folder, name), "w") as file:
+            for own in range(30):
+                other = f"f{(it * 7 + 1) % 60}_{own * 3 % 30}"
+                file.write(f"int {other}(int);\nint f{it}_{own}(int x) {{ return x > 1 ? {other}(x - {own + 1}) + {it * own} : x; }}\n")
+            file.write("int main(void) { return f0_0(3); }\n" if it == 0 else "")
+    subprocess.run(["gcc", "-c", "-g", "-O1", *names], cwd=folder, check=True)
+    with open(listed, "w") as file:
+        file.write("\n".join(["/usr/lib/x86_64-linux-gnu/crt1.o", *(os.path.join(folder, it[:-2] + ".o") for it in names)]) + "\n")
+
+
 def recorded(study: Study, program: str, folder: str) -> str:
     """The trace of a program that has ended as it should."""
-    trace, text = os.path.join(folder, "trace"), os.path.join(folder, "text")
-    with open(text, "wb") as file:
-        file.write(text_of(1 << 20))
-    words = [folder if it == FOLDER else text if it == TEXT else it for it in study.words]
-    path = program if program[0] == "/" else os.path.join(OUT, program)
-    command = [PREDATOR, "native", "--pcs", "--trace", trace, "--", path, *words]
+    trace, files = os.path.join(folder, "trace"), made(study, folder)
+    path = shutil.which(program) if study.is_debian else os.path.join(OUT, program)
+    if path is None:
+        sys.exit(f"run.py: {program} isn't installed")
+    most = ["--most", str(study.most)] if study.most else []
+    words = [files.get(it, it.replace(FOLDER, folder)) for it in study.words]
+    command = [PREDATOR, "native", "--pcs", *most, "--trace", trace, "--", path, *words]
     with subprocess.Popen(command, stdin=subprocess.DEVNULL, stdout=subprocess.DEVNULL) as run:
         if study.clients:
             subprocess.run([os.path.join(TOP, "tools", "clients.py"), *study.clients], check=True)
@@ -76,10 +138,6 @@ def recorded(study: Study, program: str, folder: str) -> str:
     return trace
 
 
-def looked_at(name: str, what: str) -> bool:
-    return bool(what) and what in name
-
-
 def row(study: Study, program: str) -> list[object]:
     """What is counted of a program: all, and what is looked at; and how much of what is useless has a name or a line."""
     with tempfile.TemporaryDirectory(prefix="predator-others-") as folder:
@@ -88,7 +146,7 @@ def row(study: Study, program: str) -> list[object]:
         told = subprocess.run(words, stdout=subprocess.PIPE, check=True).stdout
         found, size = json.loads(told), os.path.getsize(trace)
     total, objects = found["total"], found["objects"]
-    own = [it for it in objects if looked_at(it["name"] + json.dumps(it["sites"]), study.looked_at)]
+    own = [it for it in objects if any(what in it["name"] + json.dumps(it["sites"]) for what in study.looked_at)]
     known = sum(it["useless"] for it in objects if not re.match("memory at|block without", it["name"]))
     return [
         os.path.basename(program),

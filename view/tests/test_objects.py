@@ -21,8 +21,10 @@ from naming import Memory, Naming, WordKind  # noqa: E402
 from objects import Spot, Thing, Told, holder  # noqa: E402
 from overflow import overflow  # noqa: E402
 from predicted import can_lie, judged, together  # noqa: E402
-from reports import Block, Line, Misses, Pair, Report, Symbol  # noqa: E402
-from screen import Paint, screen  # noqa: E402
+from reports import Block, Line, Misses, Pair, Report, Site, Symbol  # noqa: E402
+from screen import Paint, prediction, screen  # noqa: E402
+from source_lines import Place  # noqa: E402
+from unnamed import HEAP, name  # noqa: E402
 
 HEAD = "predator report 1\noutcome exit 0\nsteps 9\naccesses 900\nlayout 64 0\nthresholds 16 64 100\n"
 
@@ -167,6 +169,11 @@ class Advised(unittest.TestCase):
         # (what is only read fights with nobody)
         self.assertIn("begin lock on a line of its own", self.todo(*read, useless=200))
 
+    def test_words_without_names_are_not_all_told(self):
+        told = self.todo(*[used(f"0x{4096 + 4 * at:08x}", 4 * at, 90) for at in range(9)], useless=200, useful=90)
+        self.assertIn("0x0000100c (shared); and 5 more groups", told)
+        self.assertNotIn("0x00001010", told.partition("belong apart")[2])
+
     def test_an_object_that_fights_with_itself_and_others(self):
         words = [used("lock.a", 0, 90), used("lock.b", 4, 90), used("near", 8, 0, hart="1")._replace(key=OfSymbol("symbol", "near", 8))]
         thing = self.thing(200, 90)
@@ -294,6 +301,48 @@ class Objects(unittest.TestCase):
         self.assertEqual([view.label(it) for it in view.things], ["lock, at 0x00001000", "lock, at 0x00002000"])
         self.assertEqual({it.name for it in view.things}, {"lock"})
 
+    def test_blocks_of_one_name_are_told_apart_by_their_callers_lines(self):
+        names = {0x100: ("give", 3), 0x200: ("stream", 10), 0x300: ("stream", 20)}
+        places = {at: [Place(function, f"/src/{function}.c", line)] for at, (function, line) in names.items()}
+        rows = []
+        for at, caller in ((0x1000, 0x200), (0x2000, 0x300)):
+            rows += [f"line observed 0x{at:08x} 64 start 0 count 200 verdict true", f"object block 0x{at:08x} 64 born 0 live"]
+            rows += ["site 0x00000100 give", f"site 0x{caller:08x} stream", word(at, 5, 50, "many")]
+        report = report_of(rows)
+        sources = SimpleNamespace(frames=lambda at: places[at], place=lambda at: places[at][0], find=lambda _: None)
+        view = View(Call(["r"]), report, Naming(report, sources=sources))
+        view.arrange()
+        name = "block made at give.c:3 < stream"
+        self.assertEqual([view.label(it) for it in view.things], [f"{name}, by stream.c:10", f"{name}, by stream.c:20"])
+
+    def test_callers_that_lie_in_no_code(self):
+        sites = [Site(0x100, "-"), Site(0x200, "-"), Site(0x300, "-")]
+        naming = Naming(view_of([]).report)
+        self.assertEqual(naming.in_code(sites), sites)
+        naming.program = SimpleNamespace(library=lambda at: "mold+0x100" if at != 0x200 else "", dwarf=None)
+        self.assertEqual(naming.in_code(sites), sites[:1])
+        self.assertEqual(naming.block(sites), "block made in mold+0x100")
+        self.assertEqual(naming.in_code(sites[1:]), sites[1:2])
+
+    def test_what_the_allocator_keeps(self):
+        for file, wanted in (("./malloc/malloc.c", HEAP), ("/src/my/malloc.c", "memory used at malloc.c:9 (give)")):
+            view = view_of(["line observed 0x00002000 64 start 0 count 300 verdict false", word(0x2000, 5, 50, "many")])
+            view.naming.sources = SimpleNamespace(frames=lambda _, file=file: [Place("give", file, 9)])
+            name(view.things[0], [0x100, 0x104], view.naming)
+            self.assertEqual(view.things[0].name, wanted)
+            self.assertEqual("link another allocator" in view.advised(view.things[0], []), wanted == HEAP)
+
+    def test_of_a_clean_trace_all_is_to_be_left(self):
+        rows = ["line observed 0x00001000 64 start 0 count 2 verdict false", "object symbol a 0x00001000 8", word(0x1000, 5, 50, "many")]
+        line = "line 0x00001000 cold 2 useful 0 useless 9\nobject symbol a 0x00001000 8\n"
+        for accesses, is_clean in ((90_001, True), (90_000, False)):
+            report = Report(HEAD.replace("steps 9", "steps 0").replace("900", str(accesses)) + "lines 1\n" + "".join(f"{it}\n" for it in rows) + "end\n")
+            view = View(Call(["replay", "t"]), report, Naming(report))
+            view.misses = Misses(f"misses 64 0\naccesses {accesses}\nlines 1\n{line}total cold 2 useful 0 useless 9\nend\n")
+            view.arrange()
+            self.assertEqual("nothing here is worth doing" in "\n".join(screen(view, Paint(io.StringIO()))), is_clean)
+            self.assertEqual(view.seen(view.things[0]).todo.startswith("leave it: it has 9 of the 9 misses"), is_clean)
+
     def test_large_numbers_stand_apart(self):
         rows = [
             "line observed 0x00001000 64 start 0 count 123456789012 verdict true",
@@ -389,6 +438,8 @@ class Objects(unittest.TestCase):
             [(it.line.base, it.useless, it.inside, it.is_shown) for it in found], [(0x1020, 10, 9, True), (0x1060, 9, 9, False)]
         )
         self.assertEqual(len(together(found)), 2)
+        view.misses, view.all = native, {it: SimpleNamespace(name=f"o{it}") for it in range(5)}
+        self.assertIn("o0, o1, o2 and 2 more: with lines", prediction(view, [found[0]._replace(keys=tuple(range(5)))]))
 
     def judge(self, kind, base, rows, native, own, naming=None):
         """Whether a predicted line is shown, by the misses of observed lines and its own, and why not."""
@@ -462,6 +513,7 @@ class Objects(unittest.TestCase):
         self.assertEqual(names.readable("_RNvCs4mUmuLXSNC_2ru4main"), "ru::main")
         self.assertEqual(names.readable("gopkg.in/yaml%2ev2.counts"), "gopkg.in/yaml.v2.counts")
         self.assertEqual(names.readable("plain"), "plain")
+        self.assertEqual([names.readable(it) for it in ("join@@GLIBC_2.34", "copy@GLIBC_2.2.5")], ["join", "copy"])
         names.note("f(int)")
         self.assertEqual(names.shortened("block made in f(int) < gopkg.in/yaml.v2.counts"), "block made in f < yaml.v2.counts")
         self.assertEqual(names.lasting("_ZN2ru5SLOTS17h014a019cd835f220E"), "ru::SLOTS")
