@@ -29,7 +29,8 @@ Options:
   --top N            shows N objects (10)
   --object NAME      shows this object alone, and those that share lines with it
   --words            lists the words of each object's lines with their fields, and all instructions that fight over the worst one
-                     (of a trace above 80 MB words and predicted lines are counted with this or an output file alone)
+                     (of a trace above 10,000,000 accesses predicted lines are counted, and repairs in the whole, with this or
+                     an output file alone)
   --library          shows the objects of the C library and of the kernel too, which are one line else
   --predicted        counts and shows all predicted lines, those too that say nothing more
   --no-predicted     counts and shows none
