@@ -36,7 +36,7 @@ def traces(name: str, folder: str) -> list[str]:
     first, second, third = (os.path.join(folder, f"{name}.{it}") for it in (1, 2, 3))
     for trace, pcs in ((first, []), (third, ["--pcs"])):
         words = ["run", elf, "--set", f"quantum={quantum},budget=200000000", *pcs, "--trace", trace, "--output", os.devnull]
-        subprocess.run([PREDATOR, *words], stderr=subprocess.DEVNULL, check=True)
+        subprocess.run([PREDATOR, *words], stdout=subprocess.DEVNULL, stderr=subprocess.DEVNULL, check=True)
     subprocess.run([PREDATOR, "convert", first, second], stdout=subprocess.DEVNULL, check=True)
     return [first, second, third, elf]
 
