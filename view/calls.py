@@ -29,7 +29,8 @@ Options:
   --top N            shows N objects (10)
   --object NAME      shows this object alone, and those that share lines with it
   --words            lists the words of each object's lines with their fields, and all instructions that fight over the worst one
-                     (of a trace above 80 MB words and predicted lines are counted with this or an output file alone)
+                     (of a trace above 10,000,000 accesses predicted lines are counted, and repairs in the whole, with this or
+                     an output file alone)
   --library          shows the objects of the C library and of the kernel too, which are one line else
   --predicted        counts and shows all predicted lines, those too that say nothing more
   --no-predicted     counts and shows none
@@ -68,6 +69,8 @@ ALONE = {"sweep": ("html", "top"), "caches": ("html", "shape", "top")}
 # Options of `predator native` that have no value, and those that have one.
 MARKS = ("all", "marked", "child", "built", "pcs")
 RECORDS = ("--quantum", "--most")
+# Options of a replay that goes on from another one, which a trace of a program of this machine doesn't.
+STATES = ("--save", "--resume")
 # What view writes.
 OUTPUTS = ("html", "json", "sarif", "patch")
 # How many objects the first screen shows, and how many of their lines are explained, where the call doesn't say.
@@ -111,7 +114,7 @@ class Call:
         what = how_of(self.subject)
         if what not in ("file", "replay" if self.how in ALONE else self.how):
             raise Fault(f"{self.subject} is {IS[what]}: `predator view {self.subject}` {DOES[what]} it")
-        known = [*OPTIONS.get("replay" if self.how == "native" else self.how, ()), *(RECORDS if self.how == "native" else ())]
+        known = OPTIONS.get(self.how, []) if self.how != "native" else [*RECORDS, *(it for it in OPTIONS["replay"] if it not in STATES)]
         for word in (it for it in self.given if it.partition("=")[0] not in known):
             where = "view" if self.how == "file" else f"view {self.how}"
             near = nearest(word.partition("=")[0], [*known, *(f"--{it}" for it in (*VALUES, *LISTS, *FLAGS))]).strip()

@@ -17,7 +17,7 @@ from faults import Fault, plain  # noqa: E402
 from model import View, memory_of  # noqa: E402
 from naming import Naming  # noqa: E402
 from objects import Thing  # noqa: E402
-from passes import Passes, begun, is_brief  # noqa: E402
+from passes import Passes, begun  # noqa: E402
 from pipes import fed, kept  # noqa: E402
 from program import Predator  # noqa: E402
 from recording import recorded, traced  # noqa: E402
@@ -134,9 +134,9 @@ def check_seen(view: View) -> None:
 
 
 def trial_of(view: View, predator: Predator | None) -> Callable[[list[Thing]], None] | None:
-    """What tries the repairs of some objects once their misses are counted, or none where no type is known or the trace is too long."""
+    """What tries the repairs of some objects once their misses are counted, or none where no type is known."""
     program = view.naming.program
-    if program is None or program.dwarf is None or is_brief(view.call):
+    if program is None or program.dwarf is None:
         return None
     from trying import begin, try_all
 

@@ -113,7 +113,8 @@ class View:
         self.each, self.blame = cast("Report | None", told.get("each")), cast("Blame | None", told.get("blame"))
         self.by_layout = dict(zip(foreseen, cast(list[Misses], counted[len(asked) :])))
         if brief:
-            self.notes.append("of a long trace no repair is tried, and no predicted line or single word counted, unless `--words` asks")
+            all_of_it = "unless `--words` asks for all"
+            self.notes.append(f"of a long trace repairs are counted in its first part, and predicted lines left out, {all_of_it}")
 
     def foreseen_layouts(self) -> list[Layout]:
         """The layouts of the predicted lines whose misses are counted."""
@@ -280,6 +281,9 @@ class View:
             self.explained = {it.base: it for it in found if it}
         elif predator is not None and most and program is None and trace and has_pcs(trace) and not predator.has("blame"):
             self.notes.append("this program has no command `blame`, so the instructions that fight are unknown")
+        elif is_brief(self.call) and "explain" not in self.call.options:
+            runs = "unless `--explain N` asks: each takes a run"
+            self.notes.append(f"of a long trace without pcs the instructions that fight are unknown, {runs}")
         elif program is not None and predator is not None and most:
             self.explain_by_runs(predator, program, things[:most])
         shown = None if "words" in self.call.options else 8

@@ -6,14 +6,15 @@ import os
 from typing import Iterable, Iterator, Sequence
 
 from calls import EXPLAIN, OUTPUTS, Call
+from cutting import accesses_of
 from kinds import has_pcs
 from program import Counted, Predator, Reader, blame_under, each_line, misses_under, setting
 
 # The size of a layout's lines, and its offset; that of lines of a word each.
 Layout = tuple[int, int]
 WORD = (4, 0)
-# A trace of more bytes than so many is long: a first screen has what a pass for lines tells, and the rest if it is asked for.
-LONG = 80_000_000
+# A trace of more accesses than so many is long: a first screen has what a pass for lines tells, and of its first part what repairs come to.
+LONG = 10_000_000
 
 
 class Passes:
@@ -48,7 +49,7 @@ def is_brief(call: Call) -> bool:
     """Whether the trace is long, and nothing is asked for but a first screen."""
     trace = call.trace() if call.how == "replay" else None
     asked = call.options.keys() & {"words", "predicted", "against", *OUTPUTS}
-    return trace is not None and not asked and os.path.getsize(trace) > LONG
+    return trace is not None and not asked and accesses_of(trace) > LONG
 
 
 def is_blamed(call: Call, predator: Predator) -> bool:

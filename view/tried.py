@@ -34,10 +34,20 @@ class Counted(NamedTuple):
 
 class Tried:
     """The best of the repairs of an object and what it came to, each none where none could be tried; `instead` is what to do about words
-    in which harts use different bytes."""
+    in which harts use different bytes. Of a long trace only its first accesses are counted: `own_there` are the object's misses there, and
+    none where the whole is counted."""
 
-    def __init__(self, thing: Thing, before: Counted, accesses: int, subject: Subject | None = None, uses: Uses | None = None) -> None:
+    def __init__(
+        self,
+        thing: Thing,
+        before: Counted,
+        accesses: int,
+        subject: Subject | None = None,
+        uses: Uses | None = None,
+        own_there: int | None = None,
+    ) -> None:
         self.thing, self.before, self.accesses, self.subject, self.uses = thing, before, accesses, subject, uses
+        self.own_there = own_there
         self.known_mixed: list[int] | None = None
         self.repair: Repair | None = None
         self.after: Counted | None = None
@@ -47,11 +57,15 @@ class Tried:
         self.many, self.hoped, self.instead = 0, 0, ""
 
     def own(self) -> int:
-        return self.thing.useless + self.thing.useful
+        return self.thing.useless + self.thing.useful if self.own_there is None else self.own_there
+
+    def there(self) -> str:
+        """What part of the trace was counted, where it isn't the whole."""
+        return "" if self.own_there is None else f" in the first {self.accesses:,} accesses"
 
     def is_rare(self) -> bool:
         """Whether the object is missed so seldom that no repair is worth anything."""
-        return self.own() * SELDOM < self.accesses
+        return self.own_there is None and self.own() * SELDOM < self.accesses
 
     def saved(self) -> int:
         return self.before.missed() - self.after.missed() if self.after else 0
@@ -99,14 +113,14 @@ class Tried:
         told = f"words can't tell: harts use different bytes of {', '.join(patterns(names))}, and misses are counted by whole words"
         how = f"{self.instead}, and look again"
         if self.is_saving() and self.repair and self.after:
-            counted = f"{self.repair.said()}; counted so: {self.before.beside(self.after)}{self.otherwise()}"
+            counted = f"{self.repair.said()}; counted so{self.there()}: {self.before.beside(self.after)}{self.otherwise()}"
             return counted + (f"; of the rest {told}: {how}" if names else "")
         return f"{told}; {how}" if names else self.nothing(name)
 
     def nothing(self, name: str) -> str:
         """That no repair is worth it."""
         what = f"the best of {self.many} repairs that were counted saves" if self.many > 1 else "the one repair that was counted saves"
-        said = f"nothing by putting words elsewhere: {what} {max(self.saved(), 0)} of {self.own()} misses"
+        said = f"nothing by putting words elsewhere: {what} {max(self.saved(), 0)} of {self.own()} misses{self.there()}"
         if self.thing.useful < self.thing.useless:
             return said
         return f"{said}; what harts hand to each other in {name} costs less where it is written less often"

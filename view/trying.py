@@ -7,13 +7,15 @@ import itertools
 import os
 import tempfile
 from bisect import bisect_left, bisect_right
-from typing import Iterator, Optional, Sequence, cast
+from typing import Iterator, NamedTuple, Optional, Sequence, cast
 
 import advice
+from cutting import cut
 from fields import sound
 from layouts import Part, rounded
 from model import View
 from objects import Thing
+from passes import is_brief
 from program import Counted as CountedOf
 from program import Predator, Reader, Refused, each_line, misses_under
 from repairs import Repair, bytewise, repairs_of, together
@@ -26,6 +28,8 @@ from tried import Counted, Tried
 OBJECTS, BUDGET = 5, 40_000_000
 # Repairs are about as good where they differ by less than one in so many of what can be saved.
 ABOUT = 50
+# Of a long trace so many accesses from where its first objects are fought over, and fewer to choose a repair by.
+PART, FRONT = 1 << 20, 1 << 17
 # So many repairs of one object may be added to its first, as long as less than this part of its useless misses is saved.
 TOGETHER, ENOUGH = 3, 0.75
 PAGE = 4096
@@ -59,17 +63,20 @@ class Trial:
     """What repairs are tried with. Of a long trace the first part of what threads do says which repair is the best, and the whole what that
     comes to."""
 
-    def __init__(self, view: View, predator: Predator, trace: str, front: bytes, folder: str) -> None:
+    def __init__(self, view: View, predator: Predator, trace: str, folder: str) -> None:
         self.view, self.predator, self.trace, self.folder = view, predator, trace, folder
         self.layout = view.report.size, view.report.offset
         self.moves = itertools.count()
         self.words = sorted(view.by_word.lines) if view.by_word else []
         self.front, self.before = trace, missed(view.misses) if view.misses else 0
-        if front:
-            self.front = os.path.join(folder, "front")
+
+    def choose_by(self, front: str | bytes) -> None:
+        """Names the first part of a long trace."""
+        self.front = front if isinstance(front, str) else os.path.join(self.folder, "front")
+        if isinstance(front, bytes):
             with open(self.front, "wb") as part:
                 part.write(front)
-            self.before = missed(self.misses_of(self.front))
+        self.before = missed(self.misses_of(self.front))
 
     def misses_of(self, trace: str) -> Misses:
         return cast(Misses, self.predator.counted_of_file(trace, misses_under(self.layout)))
@@ -135,7 +142,7 @@ Reading = Optional["concurrent.futures.Future[Uses | None]"]
 def begin(view: View, predator: Predator | None) -> Reading:
     """Begins to read the trace, which goes on beside what the program counts."""
     trace = view.call.trace()
-    if predator is None or trace is None or view.report.offset or not predator.has("move"):
+    if predator is None or trace is None or not can_move(view, predator) or is_brief(view.call):
         return None
     pool = concurrent.futures.ThreadPoolExecutor(max_workers=1)
     try:
@@ -144,35 +151,91 @@ def begin(view: View, predator: Predator | None) -> Reading:
         pool.shutdown(wait=False)
 
 
+def can_move(view: View, predator: Predator) -> bool:
+    return not view.report.offset and predator.has("move")
+
+
 def read(predator: Predator, trace: str) -> Uses | None:
     with contextlib.suppress(Refused, OSError, ValueError):
         return uses_of(predator, trace)
     return None
 
 
-def try_all(view: View, predator: Predator | None, things: Sequence[Thing], reading: Reading) -> None:
-    """Tries the repairs of the first objects, where the program can move words and the trace can be read again."""
+class Ground(NamedTuple):
+    """What repairs are tried on: a trace or its first part, who uses its words, and its misses; `in_part` are those of the part, and none
+    where it is the whole."""
+
+    trial: Trial
+    uses: Uses
+    before: Counted
+    accesses: int
+    in_part: Misses | None = None
+
+    def of(self, thing: Thing, subject: Subject) -> Tried:
+        own = None
+        if self.in_part is not None:
+            there = [self.in_part.lines[it.base] for it in thing.spots if it.base in self.in_part.lines]
+            own = sum(it.useless + it.useful for it in there)
+        return Tried(thing, self.before, self.accesses, subject, self.uses, own)
+
+
+def whole(view: View, predator: Predator, reading: Reading, folder: str) -> Ground | None:
     # (a run's trace may be there only now)
     reading = reading or begin(view, predator)
     trace, uses = view.call.trace(), reading.result() if reading else None
-    if predator is None or trace is None or uses is None or view.misses is None:
+    if trace is None or uses is None:
+        return None
+    trial = Trial(view, predator, trace, folder)
+    if uses.front:
+        trial.choose_by(uses.front)
+    return Ground(trial, uses, counted_before(view), view.report.accesses)
+
+
+def first_part(view: View, predator: Predator, things: Sequence[Thing], folder: str) -> Ground | None:
+    """The first part of a long trace, in which the objects are fought over already."""
+    trace = view.call.trace()
+    if trace is None or not can_move(view, predator):
+        return None
+    start = max((line.start for it in things if (line := it.worst().line)), default=0)
+    part, front = (os.path.join(folder, it) for it in ("part", "first"))
+    accesses = cut(trace, start + PART, part)
+    cut(part, start + FRONT, front)
+    uses, trial = read(predator, part), Trial(view, predator, part, folder)
+    if uses is None:
+        return None
+    trial.choose_by(front)
+    misses, each = predator.all_counted_of_file(part, [misses_under(trial.layout), each_line(trial.layout)])
+    found = cast(Misses, misses)
+    return Ground(trial, uses, Counted(found.total, counted_by_rule(cast(Report, each))), accesses, found)
+
+
+def counted_by_rule(each: Report | None) -> int | None:
+    return sum(it.count for it in each.observed()) if each else None
+
+
+def counted_before(view: View) -> Counted:
+    return Counted(view.misses.total if view.misses else {}, counted_by_rule(view.each))
+
+
+def try_all(view: View, predator: Predator | None, things: Sequence[Thing], reading: Reading) -> None:
+    """Tries the repairs of the first objects, where the program can move words and the trace can be read again."""
+    if predator is None or view.misses is None:
         return
-    rule = sum(it.count for it in view.each.observed()) if view.each else None
-    before = Counted(view.misses.total, rule)
-    view.tried = {it.key: Tried(it, before, view.report.accesses) for it in things}
-    most = min(max(BUDGET // max(view.report.accesses, 1), 1), OBJECTS)
-    worth = [it for it in things if not view.tried[it.key].is_rare() and is_worth(it, before)][:most]
-    if not worth:
-        return
+    before = counted_before(view)
+    tried = {it.key: Tried(it, before, view.report.accesses) for it in things}
+    worth = [it for it in things if not tried[it.key].is_rare() and is_worth(it, before)][:OBJECTS]
     with tempfile.TemporaryDirectory(prefix="predator-view-") as folder, contextlib.suppress(Refused):
-        trial = Trial(view, predator, trace, uses.front, folder)
+        ground = first_part(view, predator, worth, folder) if is_brief(view.call) else whole(view, predator, reading, folder)
+        if ground is None:
+            return
+        view.tried = tried
         found = []
-        for thing in worth:
-            subject = sound(functools.partial(subject_of, view, thing, uses), None)
-            if subject is not None:
-                own = Tried(thing, before, view.report.accesses, subject, uses)
-                found.append(chosen(trial, own, subject, uses, view.report.size))
-        note_together(view, before, count(trial, found))
+        for thing in worth[: max(BUDGET // max(ground.accesses, 1), 1)]:
+            subject = sound(functools.partial(subject_of, view, thing, ground.uses), None)
+            own = ground.of(thing, subject) if subject is not None else None
+            if subject is not None and own is not None and own.own():
+                found.append(chosen(ground.trial, own, subject, ground.uses, view.report.size))
+        note_together(view, found, count(ground.trial, found))
         view.tried.update((it.thing.key, it) for it in found)
 
 
@@ -187,7 +250,8 @@ def chosen(trial: Trial, found: Tried, subject: Subject, uses: Uses, line: int) 
     repairs = sound(functools.partial(repairs_of, subject, uses, line), none)
     if found.mixed():
         found.instead = sound(functools.partial(bytewise, subject, uses, line), "give each a line of its own")
-    useless = found.thing.useless / max(found.before.missed(), 1)
+    thing = found.thing
+    useless = found.own() * thing.useless / (max(thing.useless + thing.useful, 1) * max(found.before.missed(), 1))
     best, found.many = trial.best_of(subject, repairs, useless)
     if best:
         found.repair, left = best
@@ -235,7 +299,7 @@ def outside(part: Part, others: Sequence[Part]) -> Iterator[Part]:
         yield Part(begin, end - begin, begin + by)
 
 
-def note_together(view: View, before: Counted, counted: Counted | None) -> None:
+def note_together(view: View, found: Sequence[Tried], counted: Counted | None) -> None:
     """Notes what all repairs come to that are named, where they are several."""
     if counted is not None:
-        view.notes.append(f"all that is to do, done together: {before.beside(counted)}")
+        view.notes.append(f"all that is to do, done together{found[0].there()}: {found[0].before.beside(counted)}")

@@ -171,7 +171,7 @@ class Worth:
         """The useful misses after the repair that was counted, or with each word on a line of its own."""
         tried = self.view.known(thing)
         if tried and tried.after:
-            return f": useful misses {tried.before.total['useful']} before, {tried.after.total['useful']} after the repair"
+            return f": useful misses {tried.before.total['useful']} before, {tried.after.total['useful']} after the repair{tried.there()}"
         if self.view.by_word is None:
             return ""
         fields: dict[tuple[int, str], int] = {}

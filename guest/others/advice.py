@@ -37,10 +37,11 @@ OTHERS = {
     "ck_ring": Followed(("main=ck_ring", "test=entry"), "ck_ring-own_lines"),
     "kt_for": Followed(("kt_for=ktf_worker_t",), "kt_for-blocks"),
 }
-# (the records of the build at 0 begin at multiples of a line, and are one line each)
-SUITES = {"linear_regression": Followed((), "linear_regression-at-0")}
-# What isn't shown of what is advised: where it is declared, how blocks are made, sizes and counts.
-REST = re.compile(r" \([\w.-]+:\d+\)|, and make the blocks by `[^`]*`|[:;] \d+ bytes become.*|; counted so.*")
+# (in the builds at 0 what a thread has begins at multiples of a line, and fills lines)
+SUITES = {it: Followed((), f"{it}-at-0") for it in ("linear_regression", "string_match", "word_count")}
+# What isn't shown of what is advised: why, where it is declared, how blocks are made, sizes and counts.
+WHY = r"^harts have words of their own in .*?: (?=give )"
+REST = re.compile(WHY + r"| \([\w.-]+:\d+\)|, and make the blocks by `[^`]*`|[:;] \d+ bytes become.*|; counted so.*")
 # The code of a repair that is one of a type alone.
 CODE = re.compile(r"give each element [^`]*(`struct [^`]*`)")
 COUNTED = re.compile(r"useless (\d+) before, (\d+) after; useful (\d+), (\d+)")

@@ -9,6 +9,9 @@ import unittest
 
 from calling import PROGRAM, STAND_IN, TOP, TURNS, built, has, joined, view
 
+# A call that takes so many seconds reads a pipe that nobody writes: a busy machine takes a minute or two.
+HANGS = 900
+
 
 class Shown(unittest.TestCase):
     def shows(self, text, *parts):
@@ -224,7 +227,7 @@ class Pipes(Shown):
         """What a command in bash prints, in which $view is view, and $1 the trace."""
         own = {"PREDATOR_PROGRAM": self.program, "PREDATOR_BUILD": "no", "view": os.path.join(TOP, "bin", "predator") + " view"}
         env = {**os.environ, **own}
-        ran = subprocess.run(["bash", "-c", command, "bash", trace], capture_output=True, encoding="utf-8", env=env, timeout=100)
+        ran = subprocess.run(["bash", "-c", command, "bash", trace], capture_output=True, encoding="utf-8", env=env, timeout=HANGS)
         self.assertEqual((ran.returncode, ran.stderr), (0, ""), command)
         return ran.stdout
 

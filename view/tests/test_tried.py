@@ -1,5 +1,7 @@
 """Repairs that are tried before they are named: whose words are, where they would lie, and what is said of it."""
 
+import contextlib
+import io
 import os
 import re
 import shutil
@@ -10,18 +12,21 @@ import unittest
 from types import SimpleNamespace
 from unittest import mock
 
-from calling import HERE, STAND_IN, TURNS, built, joined, view
+from calling import HERE, PROGRAM, STAND_IN, TURNS, built, has, joined, view
 
 sys.path[:0] = [os.path.dirname(HERE), os.path.join(HERE, "..", "..", "tools")]
 
+import main  # noqa: E402
 import patches  # noqa: E402
+from cutting import accesses_of, cut  # noqa: E402
 from fields import Program  # noqa: E402
 from judge_report import Access, Case, Ending, trace_of  # noqa: E402
 from layouts import Change, Part, Shape, Unmovable, arrays_in, in_words, laid, members_of  # noqa: E402
 from repairs import Repair, groupings  # noqa: E402
 from spelled import Uses  # noqa: E402
 from subjects import UNUSED, Whose, whose  # noqa: E402
-from traces import Alloc, Symbol, records  # noqa: E402
+from traces import Access as Accessed  # noqa: E402
+from traces import Alloc, Symbol, placed, records, with_pcs  # noqa: E402
 from tried import Counted, Tried  # noqa: E402
 from trying import free, table, together_of  # noqa: E402
 
@@ -90,6 +95,50 @@ class Used(Folder):
         self.assertEqual(list(free([0, 0x5000, 0x40000FFC, 0x80000000, 0xC0001000, 0xFFFFFFFC], 0x4000)), [0x1000])
         self.assertEqual(list(free(range(0, 1 << 32, 4096), 4096)), [])
         self.assertEqual(table([Part(8, 4, 64), Part(4, 4, 0)], 0x1000), "0x4 4 0x1000\n0x8 4 0x1040\n")
+
+
+class Cut(Folder):
+    def test_the_first_part_of_a_trace(self):
+        accesses = [Access(it % 3, bool(it % 2), 0x1000 + 4 * (it * it % 999), 4) for it in range(5000)]
+        others = [(0, Symbol(1, 0x1000, 64, b"n\x11\x24")), *((at, Alloc(at * 16, 16, (at, 0, 0, 0))) for at in (0x811, 0xF21))]
+        first = trace_of(Case(accesses, others, Ending("exit 0", 9, (0, 0, 0, 0)), 8, 16, 64, 100, 64, None))
+        third = with_pcs(first, lambda access, before: (before * 5 + access.addr) % 2**32)
+        for trace in (first, third):
+            path, out = self.path("whole", trace), self.path("part")
+            self.assertEqual(accesses_of(path), 5000)
+            for most in (1, 1024, 2000, 9999):
+                found = cut(path, most, out)
+                self.assertTrue(min(most, 5000) <= found <= min(most + 1024, 5000))
+                with open(out, "rb") as file:
+                    own = file.read()
+                told, whole = list(placed(own)), list(placed(trace))
+                self.assertEqual(told, whole[: len(told)])
+                self.assertEqual(sum(isinstance(it, Accessed) for *_, it in told), found)
+                self.assertEqual(own[-25:-8], b"\6\4" + bytes(15))
+                self.assertEqual(accesses_of(out), found)
+        self.assertEqual(accesses_of(self.path("none", b"PRDTRC01")), 0)
+
+    @unittest.skipUnless(has(PROGRAM, "misses", "move"), "the program isn't built, or has no move")
+    def test_a_screen_of_a_long_trace(self):
+        """Of the first part of a trace that is taken for a long one the misses before and after are those that the program counts."""
+        trace, part = self.path("trace"), self.path("part")
+        subprocess.run([PROGRAM, "run", built("ring.elf"), *TURNS, "--trace", trace], capture_output=True, check=True)
+        text = io.StringIO()
+        words = ["replay", trace, "--program", built("ring.elf"), "--sources", os.path.join(HERE, "programs")]
+        own = {"PREDATOR_PROGRAM": PROGRAM, "PREDATOR_BUILD": "no"}
+        with mock.patch("passes.LONG", 1000), mock.patch.multiple("trying", PART=900, FRONT=500), mock.patch.dict(os.environ, own):
+            with contextlib.redirect_stdout(text):
+                self.assertEqual(main.main(words), 0)
+        shown = joined(text.getvalue())
+        found = re.search(r"counted so in the first (\d+(?:,\d+)?) accesses: useless (\d+) before, (\d+) after; useful (\d+), \d+;", shown)
+        accesses, useless, after, useful = (int(it.replace(",", "")) for it in found.groups())
+        self.assertEqual(cut(trace, accesses, part), accesses)
+        total = subprocess.run([PROGRAM, "misses", part], capture_output=True, text=True, check=True).stdout
+        self.assertIn(f" useful {useful} useless {useless}\n", total)
+        self.assertTrue(1000 < accesses < 2111 and after < useless / 5, shown)
+        said = "note: of a long trace repairs are counted in its first part, and predicted lines left out, unless `--words` asks for all "
+        said += "note: of a long trace without pcs the instructions that fight are unknown, unless `--explain N` asks: each takes a run "
+        self.assertIn(said, shown)
 
 
 SOURCE = """#include <stdint.h>
@@ -248,8 +297,9 @@ class Patched(Folder):
 
 
 class Sentences(unittest.TestCase):
-    def tried(self, useless, useful, accesses, after=None, many=1):
-        found = Tried(SimpleNamespace(useless=useless, useful=useful), Counted({"useless": useless, "useful": useful}, 9), accesses)
+    def tried(self, useless, useful, accesses, after=None, many=1, own_there=None):
+        before = Counted({"useless": useless, "useful": useful}, 9)
+        found = Tried(SimpleNamespace(useless=useless, useful=useful), before, accesses, own_there=own_there)
         if after:
             found.repair, found.many = Repair(["do it"], [], 64, None), many
             found.after = Counted(dict(zip(("useless", "useful"), after)), 2)
@@ -258,6 +308,12 @@ class Sentences(unittest.TestCase):
     def test_what_was_counted(self):
         told = "do it; counted so: useless 2188 before, 23 after; useful 2457, 2458; by the report's rule 9, 2"
         self.assertEqual(self.tried(2188, 2457, 90000, (23, 2458)), told)
+
+    def test_what_was_counted_of_a_part(self):
+        told = "do it; counted so in the first 90,000 accesses: useless 2188 before, 23 after; useful 2457, 2458; by the report's rule 9, 2"
+        self.assertEqual(self.tried(2188, 2457, 90000, (23, 2458), own_there=4645), told)
+        told = "the one repair that was counted saves 3 of 4000 misses in the first 90,000 accesses"
+        self.assertIn(told, self.tried(2188, 2457, 90000, (2185, 2457), own_there=4000))
 
     def test_nothing_to_do(self):
         self.assertEqual(self.tried(100, 41, 22_900_000), "nothing to do: 141 of 22,900,000 accesses miss")
