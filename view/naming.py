@@ -171,10 +171,10 @@ class Naming:
 
     def in_code(self, sites: Sequence[Site]) -> list[Site]:
         """The call sites up to the first that no file has: a stack can't be followed further through code without unwinding information."""
-        from_file = getattr(self.program, "library", None)
-        if from_file is None:
+        is_native = hasattr(self.program, "library")
+        if not is_native:
             return list(sites)
-        return list(itertools.takewhile(lambda it: it.name != "-" or from_file(it.addr), sites)) or list(sites[:1])
+        return list(itertools.takewhile(lambda it: it.name != "-" or self.library(it.addr), sites)) or list(sites[:1])
 
     def chain(self, sites: Sequence[Site]) -> list[Site]:
         """The sites of a block from the one that wants it on: without the allocator's own, and without where harts begin."""
