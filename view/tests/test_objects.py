@@ -223,9 +223,9 @@ class Objects(unittest.TestCase):
 
     def test_what_the_c_library_has_is_one_row(self):
         rows = []
-        for at, name in enumerate(("__malloc_lock", "queue", "_Impure", "_mine")):
+        for at, own in enumerate(("__malloc_lock", "queue", "_Impure", "_mine")):
             base = 0x1000 + 64 * at
-            rows += [f"line observed 0x{base:08x} 64 start 0 count {300 + at} verdict true", f"object symbol {name} 0x{base:08x} 4"]
+            rows += [f"line observed 0x{base:08x} 64 start 0 count {300 + at} verdict true", f"object symbol {own} 0x{base:08x} 4"]
             rows += [word(base, 5, 50, "many")]
         view = view_of(rows)
         self.assertEqual(view.folded(), [])
@@ -336,7 +336,8 @@ class Objects(unittest.TestCase):
         rows = ["line observed 0x00001000 64 start 0 count 2 verdict false", "object symbol a 0x00001000 8", word(0x1000, 5, 50, "many")]
         line = "line 0x00001000 cold 2 useful 0 useless 9\nobject symbol a 0x00001000 8\n"
         for accesses, is_clean in ((90_001, True), (90_000, False)):
-            report = Report(HEAD.replace("steps 9", "steps 0").replace("900", str(accesses)) + "lines 1\n" + "".join(f"{it}\n" for it in rows) + "end\n")
+            head = HEAD.replace("steps 9", "steps 0").replace("900", str(accesses))
+            report = Report("\n".join([head + "lines 1", *rows, "end", ""]))
             view = View(Call(["replay", "t"]), report, Naming(report))
             view.misses = Misses(f"misses 64 0\naccesses {accesses}\nlines 1\n{line}total cold 2 useful 0 useless 9\nend\n")
             view.arrange()
