@@ -16,6 +16,7 @@ pub mod OnDiskLaws
 pub mod PartLaws
 pub mod PlaceApart
 pub mod PlaceEnds
+pub mod PlainLines
 pub mod ReplayEnds
 pub mod ReplayLaws
 pub mod RunEnds

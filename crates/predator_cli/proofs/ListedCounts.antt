@@ -49,6 +49,7 @@ use Rattle.trace_passes.specs.Passes.{all_records}
 use Rattle.command_files.specs.SettingsFiles.{chosen_settings, levels_of, native_of}
 use Rattle.predator_cli.specs.Explain.{as_run, explain_work}
 use Rattle.predator_cli.specs.ListedCounts.{TellsCount, TellsListedCount}
+use Rattle.predator_cli.proofs.PlainLines.{counted-fifth}
 use Rattle.predator_cli.specs.Run.{run_for_demand, symbol_record, symbol_records, version_with}
 
 -- ---- the accesses of the sited list are those of the trace
@@ -198,8 +199,6 @@ tells_listed demand allowed files = λ to_trace to_output pcs f m same start.
     ∙ ap (λ s. line_count_since l s t) start
     ∙ ap (λ (u : List Touch). line_count_since l demand.start u)
     (sym (of_trace version settings.harts (content files demand.program) r)) in
-    subst (λ n. TellsCount l demand.start n (explain_work demand files).text) (sym count) (
-      r.ending,
-      table_lines (kept_symbols (symbols_in symbols)) (kept_of l demand.start (sited_run r)),
-      refl,
-    )
+    subst (λ n. TellsCount l demand.start n (explain_work demand files).text) (sym count)
+    (counted-fifth r.ending l demand.start (taking_count l demand.start (sited_run r))
+    (table_lines (kept_symbols (symbols_in symbols)) (kept_of l demand.start (sited_run r))))
