@@ -157,6 +157,20 @@ fn find(lines: &IndexMap<u64, LineMisses>, recent: &mut Recent, number: u64) -> 
     index
 }
 
+// Which word of its line an address is in. Most lines have 64 bytes, and a mask takes less time than
+// a division.
+#[inline(always)]
+fn place_in(line: CacheLine, addr: u32) -> usize
+    ensures { result ≡ word_place line addr }
+{
+    let layout = line.layout();
+    if layout.size() != 64 {
+        return line.word_place(addr);
+    }
+    let from_a_begin = u64::from(addr) + 64 - u64::from(layout.offset());
+    (from_a_begin % 64 / 4) as usize
+}
+
 // Notes an access of a line.
 fn note_in(
     lines: &mut IndexMap<u64, LineMisses>,
@@ -176,7 +190,7 @@ fn note_in(
         → IsOk result }
 {
     let number = line.number();
-    let place = line.word_place(access.addr());
+    let place = place_in(line, access.addr());
     match find(lines, recent, number) {
         Some(index) => note_known(lines, index, position, place, access),
         None => note_new(lines, number, line.word_count(), position, place, access),

@@ -14,11 +14,14 @@
 #![tactic(auto)]
 
 mod all_lines;
+mod comers;
 mod hart_table;
+mod kept_write;
 mod laws;
 mod line_misses;
 mod observer;
 mod recent;
+mod seat;
 mod text;
 
 pub use all_lines::{Misses, Row};
