@@ -1,6 +1,6 @@
 -- What is seen of each hart, where a seat changes and where there are more seats.
-use Rattle.std.proofs.Common.{◌≡◌, ◌⊎◌, ℕ, zero, suc, ◌+◌, ◌-◌, ◌*◌, ◌/◌, ◌%◌, ◌<◌, ◌≤◌, ◌^◌, true}
-use Rattle.std.proofs.Common.{false, Bool, not, eqb, List, [], ◌∷◌, ◌++◌, length, refl, sym, ap, ◌∙◌}
+use Rattle.std.proofs.Common.{◌≡◌, ℕ, suc, ◌+◌, ◌-◌, ◌*◌, ◌/◌, ◌%◌, ◌<◌, ◌≤◌, ◌^◌, true}
+use Rattle.std.proofs.Common.{false, eqb, List, [], ◌∷◌, ◌++◌, length, refl, sym, ap, ◌∙◌}
 use Rattle.std.proofs.Common.{subst, arith, inl, inr, None, Some, bit_and}
 use Rattle.std.proofs.Math.Nat.{mod-eq_of_lt}
 use Rattle.std.proofs.lemmas.Bool.{cases_Bool, cases_eq, eq-eqb, eqb-true, false≢true}
@@ -11,7 +11,7 @@ use Rattle.std.proofs.lemmas.Nat.{and_mask, mod_below, mod-pow-add, pow_pos}
 use Rattle.std.proofs.lemmas.Option.{none-some}
 use Rattle.std.specs.Map.{lookup}
 use Rattle.std.specs.Option.{option_map_or}
-use Rattle.std.specs.Prelude.{◌≢◌, Option, nat_eq, nat_lt, is_some, replicate, slice_index_or, slice_set}
+use Rattle.std.specs.Prelude.{Option, nat_eq, nat_lt, is_some, replicate, slice_index_or, slice_set}
 use Rattle.std.specs.Prelude.{if◌then◌else◌, take, drop}
 use Rattle.indexmap.specs.IndexMap.{insert_entry}
 use Rattle.misses.specs.Kept.{no_visits, visits_of}
@@ -76,8 +76,8 @@ module _ (s : List (ℕ × Visits)) (h : ℕ) (v : Visits) where
             let nobody : picked q (h, v) ≡ None = rw other refl in
             ap (picked q) now ∙ nobody ∙ sym before
         | inr differs ↦ ap (picked q) (put_at q
-            ∙ get_or-set_other s (place_among (length s) h) (place_among (length s) q) (h, v) free_seat
-            differs)
+            ∙ get_or-set_other s (place_among (length s) h) (place_among (length s) q) (h, v)
+            free_seat differs)
       ]
 
 -- a hart that sits at its place may sit there again, and so may one where the seat is open: nobody
@@ -97,7 +97,8 @@ open_seat s h q clear few same =
           let is : q ≡ (seat_of s h).0 = eqb-true q (seat_of s h).0 here in
           let low : nat_lt (seat_of s h).0 256 ≡ true =
           subst (λ n. nat_lt n 256 ≡ true) is (grind (arith, few)) in
-          let there : eqb (place_among (length s) (seat_of s h).0) (place_among (length s) h) ≡ true =
+          let there : eqb (place_among (length s) (seat_of s h).0) (place_among (length s) h)
+          ≡ true =
           eq-eqb _ _ (ap (place_among (length s)) (sym is) ∙ same) in
           let closed : is_open s h ≡ false =
           elim (cases_Bool (nat_lt 0 (length s))) [
@@ -128,7 +129,8 @@ lookup_other [] h q v other = rw other refl
 lookup_other (e ∷ es) h q v other =
     elim (cases_Bool (eqb h e.0)) [
       | inl here ↦
-          let differs : eqb q e.0 ≡ false = subst (λ n. eqb q n ≡ false) (eqb-true h e.0 here) other in
+          let differs : eqb q e.0 ≡ false =
+          subst (λ n. eqb q n ≡ false) (eqb-true h e.0 here) other in
           rw here (rw differs refl)
       | inr apart ↦ rw apart (elim (cases_Bool (eqb q e.0)) [
         | inl found ↦ rw found refl
@@ -271,7 +273,8 @@ double_seen s k h is =
     (mod_below (h / 2 ^ k) 2 (omega arith)) (subst (λ n. h % 2 ^ k < n) (sym is) low) at
     ∙ ap (λ i. slice_index_or s i free_seat) (sym (place_is k (length s) h is)))
 
-pub all_twice : (s : List (ℕ × Visits)) (n : ℕ) → n ≡ length s → s ++ take (n - 0) (drop 0 s) ≡ s ++ s
+pub all_twice : (s : List (ℕ × Visits)) (n : ℕ) → n ≡ length s
+    → s ++ take (n - 0) (drop 0 s) ≡ s ++ s
 all_twice s n is =
     ap (λ xs. s ++ xs) (take_all (n - 0) s (omega (arith, is)))
 
@@ -319,21 +322,22 @@ crowded s h (inr k) few absent closed =
           let there : ℕ = (seat_of s h).0 in
           let some : nat_lt 0 (length s) ≡ true = grind (arith, many) in
           elim (cases_Bool (nat_lt there 256)) [
-            | inl low ↦ elim (cases_Bool (eqb (place_among (length s) there) (place_among (length s) h))) [
-              | inl same ↦
-                  let below : there < 256 = grind (arith, low) in
-                  let at : place_among (length s) there ≡ there =
-                  place_is k.0 (length s) there k.1 ∙ mod-eq_of_lt (omega (arith, below, wide)) in
-                  let here : place_among (length s) h ≡ h =
-                  place_is k.0 (length s) h k.1 ∙ mod-eq_of_lt (omega (arith, few, wide)) in
-                  let its : eqb h there ≡ true =
-                  eq-eqb h there (sym here ∙ sym (eqb-true _ _ same) ∙ at) in
-                  let found : seen s h ≡ Some (seat_of s h).1 = rw its refl in
-                  absurd (none-some (seat_of s h).1 (sym absent ∙ found))
-              | inr apart ↦
-                  let clear : is_open s h ≡ true = rw (some, low, apart) refl in
-                  absurd (false≢true (sym closed ∙ clear))
-            ]
+            | inl low ↦ elim (cases_Bool (eqb (place_among (length s) there)
+                (place_among (length s) h))) [
+                  | inl same ↦
+                      let below : there < 256 = grind (arith, low) in
+                      let at : place_among (length s) there ≡ there =
+                      place_is k.0 (length s) there k.1 ∙ mod-eq_of_lt (omega (arith, below, wide)) in
+                      let here : place_among (length s) h ≡ h =
+                      place_is k.0 (length s) h k.1 ∙ mod-eq_of_lt (omega (arith, few, wide)) in
+                      let its : eqb h there ≡ true =
+                      eq-eqb h there (sym here ∙ sym (eqb-true _ _ same) ∙ at) in
+                      let found : seen s h ≡ Some (seat_of s h).1 = rw its refl in
+                      absurd (none-some (seat_of s h).1 (sym absent ∙ found))
+                  | inr apart ↦
+                      let clear : is_open s h ≡ true = rw (some, low, apart) refl in
+                      absurd (false≢true (sym closed ∙ clear))
+                ]
             | inr high ↦
                 let clear : is_open s h ≡ true = rw (some, high) refl in
                 absurd (false≢true (sym closed ∙ clear))

@@ -1,5 +1,5 @@
-// What is kept of each hart that came to a line: its seat is found by the lowest bits of its number,
-// and says whose it is.
+// What is kept of each hart that came to a line: a seat, which is found by the lowest bits of its
+// number, and says whose it is.
 ghost use Rattle.std.specs.Prelude.{◌≡◌, ℕ, ◌<◌, ◌^◌, None, Some, [], eqb, is_some, length, nat_eq};
 ghost use Rattle.std.specs.Prelude.{OnOk, OnErr, IsOk, IsTrue, if◌then◌else◌, slice_set};
 ghost use Rattle.std.specs.Map.{lookup};
@@ -14,7 +14,7 @@ use base::NoMemory;
 use std::alloc::Global;
 use std::marker::Model;
 
-// As many seats as there are at first.
+// How many seats there are at first.
 const FEW: usize = 8;
 
 /// The visits of each hart that came to a line, in the order in which they came.
@@ -55,18 +55,18 @@ fn seat_at(seats: &Vec<Seat>, hart: u16) -> Seat
     }
 }
 
-// Puts visits into the seat at a hart's place, if it is the hart's, and says whether it is.
+// Puts a seat to a hart's place, if the one there is the hart's, and says whether it is.
 #[inline(always)]
-fn put_at(seats: &mut Vec<Seat>, seat: &Seat) -> bool
-    requires { seat.now.0 < 256 }
-    ensures found { result ≡ is_its seats.old.items seat.now.0 }
+fn put_at(seats: &mut Vec<Seat>, hart: u16, seat: &Seat) -> bool
+    requires { hart < 256 }
+    ensures found { result ≡ is_its seats.old.items hart }
     ensures put { seats.new.items ≡ if result then slice_set seats.old.items
-        (place_among (length seats.old.items) seat.now.0) seat.now else seats.old.items }
+        (place_among (length seats.old.items) hart) seat.now else seats.old.items }
 {
-    let place = place_of(seats, seat.number());
+    let place = place_of(seats, hart);
     match seats.get_mut(place) {
         Some(old) => {
-            if old.number() == seat.number() {
+            if old.number() == hart {
                 *old = *seat;
                 return true;
             }
@@ -76,7 +76,7 @@ fn put_at(seats: &mut Vec<Seat>, seat: &Seat) -> bool
     }
 }
 
-// Whether a hart may sit at its place: nobody sits there whose place it is.
+// Whether a hart may take the seat at its place: it is free, or its hart has another place now.
 fn is_open(seats: &Vec<Seat>, hart: u16) -> bool
     ensures { result ≡ is_open seats.now.items hart }
 {
@@ -84,7 +84,7 @@ fn is_open(seats: &Vec<Seat>, hart: u16) -> bool
     !seats.is_empty() && (number >= NO_HART || place_of(seats, number) != place_of(seats, hart))
 }
 
-// Makes twice as many seats, each like the one that its harts had.
+// Makes twice as many seats, each the same as the one that its harts had.
 fn spread(seats: &mut Vec<Seat>) -> Result<(), NoMemory>
     requires round { IsRound (length seats.old.items) }
     ensures round { IsRound (length seats.new.items) }
@@ -104,7 +104,7 @@ fn spread(seats: &mut Vec<Seat>) -> Result<(), NoMemory>
     }
 }
 
-// Goes on with twice as many seats until a hart may sit at its place.
+// Makes twice as many seats until a hart may take the one at its place.
 fn make_room(seats: &mut Vec<Seat>, hart: u16) -> Result<(), NoMemory>
     requires few { hart < 256 }
     requires round { IsRound (length seats.old.items) }
@@ -186,7 +186,7 @@ impl HartTable {
     {
         let seat = Seat::of(hart, visits);
         let came = self.came.and(&seat);
-        if put_at(&mut self.seats, &seat) {
+        if put_at(&mut self.seats, hart, &seat) {
             self.came = came;
             return Ok(());
         }

@@ -28,3 +28,4 @@ pub use all_lines::{Misses, Row};
 pub use laws::{costs_add_up, padding_saves_what_is_useless, word_lines_waste_nothing};
 pub use line_misses::Costs;
 pub use observer::MissSightings;
+pub use recent::Recent;

@@ -46,7 +46,7 @@ impl Seat {
         Seat {
             accessed: 0,
             loaded: 0,
-            rest: 256,
+            rest: u32::from(NO_HART),
         }
     }
 

@@ -1,4 +1,4 @@
-use Rattle.std.proofs.Common.{◌≡◌, ℕ, ◌-◌, ◌<◌, vec_len, length}
+use Rattle.std.proofs.Common.{◌≡◌, ℕ, ◌-◌, ◌<◌, length}
 use Rattle.misses.specs.Seats.{IsRound, seen}
 use Rattle.misses.proofs.hart_table.make_room.Given as goal
 

@@ -2,14 +2,13 @@
 use Rattle.misses.proofs.ComerSteps.{[], ◌∷◌, refl, proved, ‵, raw, ◌⊛◌, ◌$◌, ◌∵◌, !, qed, done}
 use Rattle.misses.proofs.ComerSteps.{move, keep, split, fjoin, suffices, agg, enter, no_more}
 use Rattle.misses.proofs.ComerSteps.{returns, alloc_all, pass_all, free_all, look_at, sets, owns}
-use Rattle.misses.proofs.ComerSteps.{types_at, nothing, alive, RattleType, Stays, walk_of, says}
+use Rattle.misses.proofs.ComerSteps.{types_at, nothing, alive, Stays, walk_of, says}
 use Rattle.misses.proofs.ComerSteps.{ends_at, no_fields, empty_made}
 use denote.Exit.{yes}
 use denote.Builtin.{RefOf}
 use denote.Ref.{shr_vals, shr_Tells}
-use denote.Signature.{plain, named_lft}
+use denote.Signature.{plain}
 use denote.Triple.Walked.{stay_dropped, Goes-dropped}
-use contract.Lifetimes.{Lfts}
 use mir.Syntax.{named}
 use Rattle.indexmap.specs.IndexMap.{insert_entry}
 use Rattle.std.specs.Prelude.{nat_eq}

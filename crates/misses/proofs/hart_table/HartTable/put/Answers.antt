@@ -1,8 +1,8 @@
-use Rattle.std.proofs.Common.{◌≡◌, ℕ, ◌<◌, ◌∙◌, ap, sym, subst, List, length, rules, true, false, eqb}
-use Rattle.std.specs.Prelude.{nat_eq, slice_set, Option, Some, if◌then◌else◌}
+use Rattle.std.proofs.Common.{◌≡◌, ℕ, sym, subst, List, length, rules, true}
+use Rattle.std.specs.Prelude.{nat_eq, slice_set}
 use Rattle.indexmap.specs.IndexMap.{insert_entry}
-use Rattle.misses.proofs.SeatLaws.{seated_next, seated_put, seated_same}
-use Rattle.misses.specs.Seats.{AreSeated, is_its, place_among, seen}
+use Rattle.misses.proofs.SeatLaws.{seated_next, seated_put}
+use Rattle.misses.specs.Seats.{AreSeated, is_its, place_among}
 use Rattle.misses.specs.declared.line_misses.Visits.{Visits}
 use Rattle.misses.proofs.hart_table.HartTable.put.Goals as goal
 
@@ -10,13 +10,16 @@ pub invariant_of-self : goal.invariant_of-self
 invariant_of-self c =
     let t = c.self.inside in
     let e : ℕ × Visits = c.of-seat.result in
-    let few : e.0 < 256 = search rules in
-    let its : is_its t.seats.items e.0 ≡ true = search rules in
+    let h : ℕ = c.args.hart in
+    let its : is_its t.seats.items h ≡ true = search rules in
     let is : c.put_at.new.seats.items
-    ≡ slice_set t.seats.items (place_among (length t.seats.items) e.0) e = search rules in
+    ≡ slice_set t.seats.items (place_among (length t.seats.items) h) (h, c.args.visits) =
+    search rules in
     subst (AreSeated c.put_at.new.seats.items) (sym c.and-came.ensures)
-    (seated_put t.seats.items c.put_at.new.seats.items t.came.items e.0 e.1 c.self.invariant few
-    its is)
+    (subst (λ (x : ℕ × Visits). AreSeated c.put_at.new.seats.items
+    (insert_entry nat_eq t.came.items x.0 x.1)) (sym c.of-seat.ensures)
+    (seated_put t.seats.items c.put_at.new.seats.items t.came.items h c.args.visits
+    c.self.invariant c.requires.few its is))
 
 pub invariant_of-self-in-Ok : goal.invariant_of-self-in-Ok
 invariant_of-self-in-Ok c =

@@ -1,6 +1,6 @@
 use Rattle.std.proofs.Common.{sym}
 use Rattle.misses.specs.Laws.Fits.{insert_entry-at}
-use Rattle.misses.proofs.all_lines.find.Goals as goal
+use Rattle.misses.proofs.all_lines.look_up.Goals as goal
 
 pub returns-in-Some-clause-index : goal.returns-in-Some-clause-index
 returns-in-Some-clause-index c = λ l.
