@@ -20,6 +20,7 @@ pub mod SettleLaws
 pub mod ShapeLaws
 pub mod StandsLaws
 pub mod TaskLaws
+pub mod ToldLaws
 pub mod TotalLaws
 pub mod TouchLaws
 pub mod UndoLaws

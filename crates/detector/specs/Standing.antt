@@ -1,13 +1,26 @@
 -- When a detector stands for an access list.
-use Rattle.std.specs.Prelude.{◌≡◌, ℕ, length, map}
+use Rattle.std.specs.Prelude.{◌≡◌, ℕ, length, map, option_and_then, Option}
 use Rattle.std.specs.List.Sorted.{IsPermutation}
+use Rattle.base.specs.Levels.{Levels}
+use Rattle.base.specs.Lines.{Grid}
 use Rattle.sharing_rules.specs.AccessLists.{AccessList}
 use Rattle.sharing_rules.specs.Lines.{grid_line, is_inside}
 use Rattle.sharing_rules.specs.Observed.{write_count}
-use Rattle.sharing_rules.specs.Opened.{opened}
+use Rattle.sharing_rules.specs.Opened.{Opened, opened, opened_doubled, opened_observed}
+use Rattle.sharing_rules.specs.Opened.{opened_shifted}
+use Rattle.sharing_rules.specs.declared.line_kind.LineKind.{LineKind}
+use Rattle.sharing_rules.specs.declared.line_kind.LineKind.TheVariants.{Observed, Shifted, Doubled}
 use Rattle.line_tracks.specs.KeptIn.{kept_in}
 use Rattle.detector.specs.Counts.{count_at}
 use Rattle.detector.specs.Watch.{Watch}
+
+-- what a list makes one keep under a kind and the number of a line
+abbrev pub opened_at : Grid → Levels → AccessList → LineKind → ℕ → Option Opened
+opened_at g v t Observed k = opened_observed g v.tracking t k
+opened_at g v t Shifted k =
+    option_and_then (λ P. opened_shifted g.size v.tracking P t k) v.prediction
+opened_at g v t Doubled k =
+    option_and_then (λ P. opened_doubled g.size v.tracking P t k) v.prediction
 
 pub record StandsFor (t : AccessList) (w : Watch) : Type 0 where
   -- it has seen as many accesses
