@@ -1,7 +1,6 @@
 -- What a written line and a saved track leave of the entries.
-use Rattle.std.proofs.Common.{◌≡◌, ℕ, ◌<◌, ◌≤◌, ◌^◌, false, eqb, List, [], ◌∷◌, ◌++◌, Some}
-use Rattle.std.proofs.Common.{None, length, refl, sym, ap, ◌∙◌, subst, arith, inl, inr}
-use Rattle.std.proofs.Common.{length-append}
+use Rattle.std.proofs.Common.{◌≡◌, ℕ, ◌<◌, ◌≤◌, ◌^◌, false, eqb, List, [], ◌∷◌, ◌++◌, Some, None}
+use Rattle.std.proofs.Common.{length, refl, sym, ap, ◌∙◌, subst, arith, inl, inr, length-append}
 use Rattle.std.proofs.lemmas.Bool.{cases_Bool, cases_lt, eqb-true}
 use Rattle.std.specs.Prelude.{if◌then◌else◌, unwrap_or, is_some, IfSome, Result, OnErr, Err}
 use Rattle.std.specs.FinMap as finite
@@ -16,10 +15,9 @@ use Rattle.detector.specs.Added.{IsAddable}
 use Rattle.detector.specs.Index.{IsIndexed, IsNamed, Names, names_in, place_in}
 use Rattle.detector.specs.Named.{line_of_base, track_named}
 use Rattle.detector.specs.Tasks.{with_name}
-use Rattle.detector.proofs.AroundLaws.{is_some-kept}
+use Rattle.detector.proofs.NamedLaws.{is_some-kept, named-more, same_name, with_name-other}
 use Rattle.detector.proofs.CountLaws.{count_at-counts_of}
 use Rattle.detector.proofs.FourPlaces.{slice_get-more}
-use Rattle.detector.proofs.NamedLaws.{named-more, same_name, with_name-other}
 use Rattle.detector.proofs.SettleLaws.{changed-names}
 use Rattle.detector.proofs.TaskLaws.{none_from}
 use Rattle.sharing_rules.specs.Laws.Lists.{slice_cases}

@@ -1,13 +1,13 @@
 -- What the code does at an access is what the exact step says.
 use Rattle.std.proofs.Common.{◌≡◌, ℕ, ◌+◌, ◌%◌, ◌<◌, ◌≤◌, ◌^◌, Bool, true, false, eqb, leb, ltb}
 use Rattle.std.proofs.Common.{◌&&◌, ◌||◌, List, [], ◌++◌, Option, Some, Fits, w64, None, map}
-use Rattle.std.proofs.Common.{length, refl, sym, ap, ◌∙◌, subst, arith, inl, inr}
+use Rattle.std.proofs.Common.{length, refl, sym, ap, ◌∙◌, subst, arith, inl, inr, ◌-◌, not}
 use Rattle.std.proofs.lemmas.Bool.{cases_Bool, false≢true, and_parts, and_left, or_parts, eqb-true}
 use Rattle.std.proofs.lemmas.Bool.{leb-true}
 use Rattle.std.proofs.lemmas.Bool.Decides.{nat_tests}
 use Rattle.std.proofs.lemmas.Option.{none-some}
 use Rattle.std.proofs.lemmas.List.{append-nil, length-append}
-use Rattle.std.specs.Prelude.{if◌then◌else◌}
+use Rattle.std.specs.Prelude.{if◌then◌else◌, is_some}
 use Rattle.std.specs.Option.{option_map_or}
 use Rattle.base.specs.Lines.{Grid, is_layout, line_number}
 use Rattle.base.specs.Levels.{Levels, are_levels, is_from_to}
@@ -24,19 +24,22 @@ use Rattle.detector.specs.declared.openings.Openings.{Openings}
 use Rattle.detector.specs.declared.task.Task.{Task}
 use Rattle.detector.specs.Counts.{count_at, counts_of, with_write}
 use Rattle.detector.specs.Index.{IsIndexed, IsNamed, Names, names_in}
-use Rattle.detector.specs.Noting.{IsNotable}
-use Rattle.detector.specs.Openings.{nothing_opens, opened_tracks, waiting_for}
+use Rattle.detector.specs.Noting.{IsNotable, have_opened, places}
+use Rattle.detector.specs.Openings.{nothing_opens, opened_tracks, waiting_for, doubled_opens}
+use Rattle.detector.specs.Openings.{openings, shifted_opens}
 use Rattle.detector.specs.Pairs.{IsNativeGrid}
 use Rattle.detector.specs.Tasks.{IsDueAt, IsTaskOf, counted, tracks_begun, tracks_changed}
 use Rattle.detector.specs.Tasks.{task_opens}
 use Rattle.detector.specs.Watch.{Watch, begins_track, is_first_write, is_search, may_take_memory}
 use Rattle.detector.specs.Watch.{opens_at, touched, tracks_after, tracks_noted, watch_of, watched}
 use Rattle.detector.specs.Watch.{writes_after}
-use Rattle.detector.specs.Named.{number_of}
+use Rattle.detector.specs.Named.{number_of, track_named}
 use Rattle.detector.proofs.CountLaws.{count_at-counts_of, entry_at-empty}
-use Rattle.detector.proofs.SettleLaws.{counted-names, counted-writes}
+use Rattle.detector.proofs.SettleLaws.{counted-names, counted-writes, layout-small}
 use Rattle.detector.proofs.TouchLaws.{indexed-touched}
-use Rattle.detector.proofs.ChangeLaws.{layout-small}
+use Rattle.sharing_rules.specs.Opened.{even_lower}
+use Rattle.detector.proofs.NamedLaws.{is_some-kept, named-map}
+use Rattle.detector.proofs.InTimeLaws.{touched-kind, touched-range}
 
 -- the task by an entry that was lent
 pub task-lent : (f : ℕ → LineEntry) (k : ℕ) (e : LineEntry) (v : Levels) (task : Task) → e ≡ f k
@@ -356,3 +359,77 @@ writes-few f g xs T p k e indexed early is =
 
 pub one-more-fits : (n : ℕ) → n < 2 ^ 40 → Fits w64 (n + 1)
 one-more-fits n few = omega arith
+
+-- A search opens nothing where all predicted lines of a line have opened.
+
+closed : (b : Bool) (o : Option Range) → b ≡ true → (if b then None else o) ≡ None
+closed b o e = ap (λ z. if z then None else o) e
+
+lower-named : (f : ℕ → LineEntry) (k : ℕ) → is_some (places f k).doubled ≡ true
+    → is_some (names_in f Doubled (even_lower k)) ≡ true
+lower-named f k e =
+    elim (cases_Bool (eqb (k % 2) 1)) [
+      | inl odd ↦ ap (λ b. is_some (f (if b then k else k - 1)).doubled) odd
+          ∙ sym (ap (λ b. is_some (if b then (f k).doubled else (f (k - 1)).doubled)) odd) ∙ e
+      | inr even ↦ ap (λ b. is_some (f (if b then k else k - 1)).doubled) even
+          ∙ sym (ap (λ b. is_some (if b then (f k).doubled else (f (k - 1)).doubled)) even) ∙ e
+    ]
+
+opened-none : (f : ℕ → LineEntry) (g : Grid) (xs : List Kept) (k : ℕ) → IsNamed (names_in f) g xs
+    → have_opened (places f k) ≡ true → openings g k xs ≡ nothing_opens
+opened-none f g xs k named all =
+    let p = places f k in
+    let one = and_parts (is_some (places f k).shifted && is_some (places f k).below)
+    (is_some (places f k).doubled) all in
+    let two = and_parts (is_some (places f k).shifted) (is_some (places f k).below) one.0 in
+    let below : shifted_opens g (k - 1) xs ≡ None =
+    closed (is_some (track_named g Shifted (k - 1) xs)) _
+    (is_some-kept (names_in f) g xs Shifted (k - 1) named ∙ two.1) in
+    let here : shifted_opens g k xs ≡ None =
+    closed (is_some (track_named g Shifted k xs)) _
+    (is_some-kept (names_in f) g xs Shifted k named ∙ two.0) in
+    let doubled : doubled_opens g (even_lower k) xs ≡ None =
+    closed (is_some (track_named g Doubled (even_lower k) xs)) _
+    (is_some-kept (names_in f) g xs Doubled (even_lower k) named ∙ lower-named f k one.1) in
+    three (shifted_opens g (k - 1) xs) (shifted_opens g k xs) (doubled_opens g (even_lower k) xs)
+    below here doubled
+  where
+    made : Option Range → Option Range → Option Range → Openings
+    made a b c = record { below = a; here = b; doubled = c }
+
+    three : (a b c : Option Range) → a ≡ None → b ≡ None → c ≡ None
+        → made a b c ≡ nothing_opens
+    three a b c e₁ e₂ e₃ = ap (λ z. made z b c) e₁ ∙ ap (λ z. made None z c) e₂
+        ∙ ap (λ z. made None None z) e₃
+
+not_idle : (s h : Bool) → (s && not h) ≡ false → s ≡ true → h ≡ true
+not_idle true true e h = refl
+not_idle true false e h = sym e
+not_idle false h e is = absurd (cc)
+
+-- the tracks after a write at which no track begins, and none opens
+pub after-idle : (m : Entries) (xs : List Kept) (g : Grid) (v : Levels) (p k : ℕ) (a : Touch)
+    (task : Task) → is_write a.kind ≡ true → IsTaskOf (entry_at m k) v task
+    → IsNamed (names_in (entry_at m)) g xs
+    → (task.begins || (task.searches && not (have_opened (places (entry_at m) k)))) ≡ false
+    → map (touched p a) xs ≡ tracks_after (watch_of m xs g v p) k a
+after-idle m xs g v p k a task writes t named idle =
+    let ys = map (touched p a) xs in
+    let parts = or_parts task.begins (task.searches && not (have_opened (places (entry_at m) k)))
+    idle in
+    let names : IsNamed (names_in (entry_at m)) g (map (touched p a) xs) =
+    named-map (names_in (entry_at m)) g (touched p a) xs (touched-kind p a) (touched-range p a)
+    named in
+    let opens : task_opens g k task.searches (map (touched p a) xs ++ []) ≡ nothing_opens =
+    elim (cases_Bool task.searches) [
+      | inl s ↦
+          let all = not_idle task.searches (have_opened (places (entry_at m) k)) parts.1 s in
+          ap (λ b. task_opens g k b (map (touched p a) xs ++ [])) s
+          ∙ ap (openings g k) (append-nil (map (touched p a) xs))
+          ∙ opened-none (entry_at m) g (map (touched p a) xs) k names all
+      | inr s ↦ ap (λ b. task_opens g k b (map (touched p a) xs ++ [])) s
+    ] in
+    sym (append-nil (map (touched p a) xs)) ∙ sym (append-nil (map (touched p a) xs ++ []))
+    ∙ sym (ap (λ b. tracks_changed g k p a b task.searches (map (touched p a) xs)) parts.0
+    ∙ ap (λ o. map (touched p a) xs ++ [] ++ opened_tracks o) opens)
+    ∙ after-task m xs g v p k a task writes t

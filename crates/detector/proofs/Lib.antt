@@ -1,18 +1,11 @@
 pub mod AddLaws
 pub mod AfterLaws
 pub mod AmountLaws
-pub mod ApartLaws
-pub mod AroundLaws
-pub mod ChangeLaws
 pub mod CountLaws
-pub mod DueLaws
 pub mod FourPlaces
-pub mod HeldLaws
 pub mod InTimeLaws
 pub mod NamedLaws
-pub mod NextLaws
 pub mod OpenLaws
-pub mod OpenedLaws
 pub mod PageLaws
 pub mod PairLaws
 pub mod QuietLaws
@@ -24,5 +17,4 @@ pub mod ToldLaws
 pub mod TotalLaws
 pub mod TouchLaws
 pub mod UndoLaws
-pub mod UndosLaws
 pub mod WatchLaws

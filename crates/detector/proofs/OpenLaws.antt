@@ -14,15 +14,13 @@ use Rattle.sharing_rules.specs.Opened.{even_lower}
 use Rattle.sharing_rules.specs.Pairs.{best_pair_of}
 use Rattle.sharing_rules.specs.Predicted.{doubled_line, is_native_size, shifted_around}
 use Rattle.sharing_rules.specs.Predicted.{shifted_base, word_address}
-use Rattle.sharing_rules.specs.declared.line_kind.LineKind.TheVariants.{Observed, Shifted, Doubled}
+use Rattle.sharing_rules.specs.declared.line_kind.LineKind.TheVariants.{Shifted, Doubled}
 use Rattle.line_tracks.specs.Neighbours.{AreNeighbours, pair_at, reach}
 use Rattle.line_tracks.specs.declared.pair.Pair.{Pair}
 use Rattle.line_tracks.specs.Kept.{Kept}
-use Rattle.detector.specs.declared.openings.Around.{Around}
 use Rattle.detector.specs.Index.{IsShaped}
-use Rattle.detector.specs.Named.{track_named}
 use Rattle.detector.specs.Openings.{best_of_two, doubled_opens, shifted_opens}
-use Rattle.detector.specs.Pairs.{AreAround, ArePair, IsPairOf, doubled_between, kept_at}
+use Rattle.detector.specs.Pairs.{AreNamedPair, ArePair, IsPairOf, doubled_between, kept_at}
 use Rattle.detector.specs.Pairs.{shifted_between}
 use Rattle.detector.proofs.PairLaws.{best-is_pair, doubled-begins, native-abs, native-begins}
 use Rattle.detector.proofs.PairLaws.{native-is, native-neighbours, pair-words, shifted-begins}
@@ -217,63 +215,16 @@ doubled-shaped n k r native low odd is =
     subst (IsShaped (native_grid n) k Doubled) (sym is)
     (odd, refl, doubled-begins n k (omega arith) low)
 
--- what opens around a line, by the entries
-pub shifted-is : (n k : ℕ) (xs : List Kept) (e : Around) → AreAround (native_grid n) k xs e
-    → shifted_between n k xs e.here e.above
-    ≡ shifted_opens (native_grid n) k xs
-shifted-is n k xs e h =
-    ap (λ b. if b then None else option_map (λ p. range_of (shifted_around n k p))
-    (best_of_two (kept_at xs e.here.track) (kept_at xs e.above.track) n)) (sym h.shifted_here)
-    ∙ ap (λ o. if is_some (track_named (native_grid n) Shifted k xs) then None else option_map
-    (λ p. range_of (shifted_around n k p))
-    (best_of_two o (kept_at xs e.above.track) n)) (sym h.own_here)
-    ∙ ap (λ o. if is_some (track_named (native_grid n) Shifted k xs) then None else option_map
-    (λ p. range_of (shifted_around n k p))
-    (best_of_two (track_named (native_grid n) Observed k xs) o n)) (sym h.own_above)
+-- what opens for two lines, by their entries
+pub shifted-is : (n k : ℕ) (xs : List Kept) (lower upper : LineEntry)
+    → AreNamedPair (native_grid n) k xs lower upper
+    → shifted_between n k xs lower upper ≡ shifted_opens (native_grid n) k xs
+shifted-is n k xs lower upper h = sym (rw (h.shifted, h.lower_own, h.upper_own))
 
-pub shifted-is-below : (n k : ℕ) (xs : List Kept) (e : Around) → AreAround (native_grid n) k xs e
-    → shifted_between n (k - 1) xs e.below e.here ≡ shifted_opens (native_grid n) (k - 1) xs
-shifted-is-below n k xs e h =
-    let some = h.some in
-    let back : k - 1 + 1 ≡ k = omega arith in
-    ap (λ b. if b then None else option_map (λ p. range_of (shifted_around n (k - 1) p))
-    (best_of_two (kept_at xs e.below.track) (kept_at xs e.here.track) n)) (sym h.shifted_below)
-    ∙ ap (λ o. if is_some (track_named (native_grid n) Shifted (k - 1) xs) then None
-    else option_map (λ p. range_of (shifted_around n (k - 1) p))
-    (best_of_two o (kept_at xs e.here.track) n)) (sym h.own_below)
-    ∙ ap (λ o. if is_some (track_named (native_grid n) Shifted (k - 1) xs) then None
-    else option_map (λ p. range_of (shifted_around n (k - 1) p))
-    (best_of_two (track_named (native_grid n) Observed (k - 1) xs) o n))
-    (sym h.own_here ∙ ap (λ q. track_named (native_grid n) Observed q xs) (sym back))
-
-pub doubled-is : (n k : ℕ) (xs : List Kept) (e : Around) → AreAround (native_grid n) k xs e
-    → doubled_between n k xs e.here e.above
-    ≡ doubled_opens (native_grid n) k xs
-doubled-is n k xs e h =
-    ap (λ b. if b then None else option_map (λ p. range_of (doubled_line n k))
-    (best_of_two (kept_at xs e.here.track) (kept_at xs e.above.track) (2 * n))) (sym h.doubled_here)
-    ∙ ap (λ o. if is_some (track_named (native_grid n) Doubled k xs) then None else option_map
-    (λ p. range_of (doubled_line n k))
-    (best_of_two o (kept_at xs e.above.track) (2 * n))) (sym h.own_here)
-    ∙ ap (λ o. if is_some (track_named (native_grid n) Doubled k xs) then None else option_map
-    (λ p. range_of (doubled_line n k))
-    (best_of_two (track_named (native_grid n) Observed k xs) o (2 * n))) (sym h.own_above)
-
-pub doubled-is-below : (n k : ℕ) (xs : List Kept) (e : Around) → AreAround (native_grid n) k xs e
-    → doubled_between n (k - 1) xs e.below e.here ≡ doubled_opens (native_grid n) (k - 1) xs
-doubled-is-below n k xs e h =
-    let some = h.some in
-    let back : k - 1 + 1 ≡ k = omega arith in
-    ap (λ b. if b then None else option_map (λ p. range_of (doubled_line n (k - 1)))
-    (best_of_two (kept_at xs e.below.track) (kept_at xs e.here.track) (2 * n)))
-    (sym h.doubled_below)
-    ∙ ap (λ o. if is_some (track_named (native_grid n) Doubled (k - 1) xs) then None
-    else option_map (λ p. range_of (doubled_line n (k - 1)))
-    (best_of_two o (kept_at xs e.here.track) (2 * n))) (sym h.own_below)
-    ∙ ap (λ o. if is_some (track_named (native_grid n) Doubled (k - 1) xs) then None
-    else option_map (λ p. range_of (doubled_line n (k - 1)))
-    (best_of_two (track_named (native_grid n) Observed (k - 1) xs) o (2 * n)))
-    (sym h.own_here ∙ ap (λ q. track_named (native_grid n) Observed q xs) (sym back))
+pub doubled-is : (n k : ℕ) (xs : List Kept) (lower upper : LineEntry)
+    → AreNamedPair (native_grid n) k xs lower upper
+    → doubled_between n k xs lower upper ≡ doubled_opens (native_grid n) k xs
+doubled-is n k xs lower upper h = sym (rw (h.doubled, h.lower_own, h.upper_own))
 
 pub even-odd : (k : ℕ) → k % 2 ≡ 1 → even_lower k ≡ k
 even-odd k odd = ap (λ b. if b then k else k - 1) (eq-eqb (k % 2) 1 odd)

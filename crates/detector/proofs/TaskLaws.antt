@@ -28,7 +28,7 @@ use Rattle.detector.specs.Pairs.{AreShaped}
 use Rattle.detector.specs.Tasks.{opened_places, settled, tracks_begun, with_name}
 use Rattle.detector.specs.Watch.{begun}
 use Rattle.detector.proofs.NamedLaws.{named-more-as, same_name, with_name-here, with_name-other}
-use Rattle.detector.proofs.AroundLaws.{is_some-kept}
+use Rattle.detector.proofs.NamedLaws.{is_some-kept}
 use Rattle.detector.proofs.ShapeLaws.{shaped-line}
 use Rattle.detector.proofs.InTimeLaws.{noted-blank, noted-in_time, noted-kind, noted-range}
 use Rattle.sharing_rules.specs.Laws.Lists.{slice_cases}
@@ -157,71 +157,43 @@ pub opened-named : (N : Names) (g : Grid) (xs : List Kept) (k : ℕ) (own : Opti
     → o ≡ openings g k xs → AreShaped g.size k o
     → IsNamed (settled N k own (opened_places (length xs) o)) g (xs ++ opened_tracks o)
 opened-named N g xs k own o named some low none is shaped =
-    let N₁ : Names = with_name N Observed k own in
-    let N₂ : Names = with_name (with_name N Observed k own) Shifted (k - 1)
-    (option_map (λ r. length xs) o.below) in
+    let b = waiting_for Shifted o.below in
+    let h = waiting_for Shifted o.here in
+    let d = waiting_for Doubled o.doubled in
+    let N₁ = with_name N Observed k own in
+    let N₂ = with_name N₁ Shifted (k - 1) (option_map (λ r. length xs) o.below) in
+    let N₃ = with_name N₂ Shifted k (option_map (λ r. length (xs ++ b)) o.here) in
     let apart : k ≢ k - 1 = λ e. absurd (omega arith) in
     let at_grid : native_grid g.size ≡ g = λ i. record { size = g.size; offset = sym none i } in
-    let ys : List Kept = xs ++ waiting_for Shifted o.below in
-    let first : IsNamed N₂ g (xs ++ waiting_for Shifted o.below) =
-    waiting-named (with_name N Observed k own) g xs Shifted (k - 1) o.below named some (λ r e. (
-      (shifted-opens (with_name N Observed k own) g xs (k - 1) r named
-          (ap (λ (z : Openings). z.below) (sym is) ∙ e)).0,
-      subst (λ h. IsShaped h (k - 1) Shifted r) at_grid (shaped.below r e),
+    let first : IsNamed N₂ g (xs ++ b) =
+    waiting-named N₁ g xs Shifted (k - 1) o.below named some (λ r e. (
+      (shifted-opens N₁ g xs (k - 1) r named (ap (λ (z : Openings). z.below) (sym is) ∙ e)).0,
+      subst (λ q. IsShaped q (k - 1) Shifted r) at_grid (shaped.below r e),
     )) in
-    let second : IsNamed (with_name N₂ Shifted k
-    (option_map (λ r. length (xs ++ waiting_for Shifted o.below)) o.here)) g
-    ((xs ++ waiting_for Shifted o.below) ++ waiting_for Shifted o.here) =
-    waiting-named N₂ g (xs ++ waiting_for Shifted o.below) Shifted k o.here first some (λ r e. (
-      with_name-other (with_name N Observed k own) Shifted Shifted (k - 1) k
-          (option_map (λ r. length xs) o.below) (λ h. apart h.1)
-          ∙ (shifted-opens (with_name N Observed k own) g xs k r named
-          (ap (λ (z : Openings). z.here) (sym is) ∙ e)).0,
-      subst (λ h. IsShaped h k Shifted r) at_grid (shaped.here r e),
+    let second : IsNamed N₃ g ((xs ++ b) ++ h) =
+    waiting-named N₂ g (xs ++ b) Shifted k o.here first some (λ r e. (
+      with_name-other N₁ Shifted Shifted (k - 1) k (option_map (λ r. length xs) o.below)
+          (λ q. apart q.1)
+          ∙ (shifted-opens N₁ g xs k r named (ap (λ (z : Openings). z.here) (sym is) ∙ e)).0,
+      subst (λ q. IsShaped q k Shifted r) at_grid (shaped.here r e),
     )) in
-    let third : IsNamed (with_name (with_name N₂ Shifted k
-    (option_map (λ r. length (xs ++ waiting_for Shifted o.below)) o.here)) Doubled
-    (even_lower k)
-    (option_map (λ r. length ((xs ++ waiting_for Shifted o.below) ++ waiting_for Shifted o.here))
-    o.doubled)) g
-    (((xs ++ waiting_for Shifted o.below) ++ waiting_for Shifted o.here)
-    ++ waiting_for Doubled o.doubled) =
-    waiting-named (with_name N₂ Shifted k (option_map
-    (λ r. length (xs ++ waiting_for Shifted o.below)) o.here)) g
-    ((xs ++ waiting_for Shifted o.below) ++ waiting_for Shifted o.here) Doubled
-    (even_lower k) o.doubled second some (λ r e. (
-      (doubled-opens (with_name N Observed k own) g xs (even_lower k) r named
+    let third : IsNamed (with_name N₃ Doubled (even_lower k)
+    (option_map (λ r. length ((xs ++ b) ++ h)) o.doubled)) g (((xs ++ b) ++ h) ++ d) =
+    waiting-named N₃ g ((xs ++ b) ++ h) Doubled (even_lower k) o.doubled second some (λ r e. (
+      (doubled-opens N₁ g xs (even_lower k) r named
           (ap (λ (z : Openings). z.doubled) (sym is) ∙ e)).0,
-      subst (λ h. IsShaped h (even_lower k) Doubled r) at_grid (shaped.doubled r e),
+      subst (λ q. IsShaped q (even_lower k) Doubled r) at_grid (shaped.doubled r e),
     )) in
-    let len₁ : length (xs ++ waiting_for Shifted o.below)
-    ≡ length xs + length (waiting_for Shifted o.below) =
-    length-append xs (waiting_for Shifted o.below) in
-    let len₂ : length ((xs ++ waiting_for Shifted o.below) ++ waiting_for Shifted o.here)
-    ≡ length xs + length (waiting_for Shifted o.below)
-    + length (waiting_for Shifted o.here) =
-    length-append (xs ++ waiting_for Shifted o.below) (waiting_for Shifted o.here)
-    ∙ ap (λ n. n + length (waiting_for Shifted o.here)) len₁
-    in
-    let joined : ((xs ++ waiting_for Shifted o.below) ++ waiting_for Shifted o.here)
-    ++ waiting_for Doubled o.doubled ≡ xs
-    ++ opened_tracks o =
-    ap (λ zs. zs ++ waiting_for Doubled o.doubled)
-    (append_assoc xs (waiting_for Shifted o.below) (waiting_for Shifted o.here))
-    ∙ append_assoc xs (waiting_for Shifted o.below ++ waiting_for Shifted o.here)
-    (waiting_for Doubled o.doubled) in
+    let joined : ((xs ++ b) ++ h) ++ d ≡ xs ++ ((b ++ h) ++ d) = simp append_assoc in
+    let len₁ : length (xs ++ b) ≡ length xs + length b = length-append xs b in
+    let len₂ : length ((xs ++ b) ++ h) ≡ length xs + length b + length h =
+    length-append (xs ++ b) h ∙ ap (λ n. n + length h) len₁ in
     subst (λ zs. IsNamed (settled N k own (opened_places (length xs) o)) g zs) joined
-    (subst (λ n. IsNamed (with_name (with_name N₂ Shifted k
-    (option_map (λ r. length xs + length (waiting_for Shifted o.below)) o.here))
-    Doubled (even_lower k) (option_map (λ r. n) o.doubled)) g
-    (((xs ++ waiting_for Shifted o.below) ++ waiting_for Shifted o.here)
-    ++ waiting_for Doubled o.doubled)) len₂
+    (subst (λ n. IsNamed (with_name (with_name N₂ Shifted k (option_map (λ r. length xs + length b)
+    o.here)) Doubled (even_lower k) (option_map (λ r. n) o.doubled)) g (((xs ++ b) ++ h) ++ d)) len₂
     (subst (λ n. IsNamed (with_name (with_name N₂ Shifted k (option_map (λ r. n) o.here)) Doubled
-    (even_lower k)
-    (option_map (λ r. length ((xs ++ waiting_for Shifted o.below) ++ waiting_for Shifted o.here))
-    o.doubled)) g
-    (((xs ++ waiting_for Shifted o.below) ++ waiting_for Shifted o.here)
-    ++ waiting_for Doubled o.doubled)) len₁ third))
+    (even_lower k) (option_map (λ r. length ((xs ++ b) ++ h)) o.doubled)) g
+    (((xs ++ b) ++ h) ++ d)) len₁ third))
 
 -- where nothing opens
 pub unopened-named : (N : Names) (g : Grid) (xs : List Kept) (k : ℕ) (own : Option ℕ)

@@ -39,7 +39,8 @@ use Rattle.line_tracks.specs.Kept.{Kept}
 use Rattle.line_tracks.specs.KeptIn.{kept_in}
 use Rattle.line_tracks.specs.Laws.WordLines.{layout-sized}
 use Rattle.detector.specs.Named.{is_named, line_of_base, track_named}
-use Rattle.detector.specs.Standing.{opened_at}
+use Rattle.detector.specs.Standing.{HasEach, StandsFor, opened_at}
+use Rattle.detector.specs.Watch.{Watch}
 use Rattle.detector.proofs.NamedLaws.{is_named-from, is_named-true}
 
 -- A layout and thresholds under which lines may be kept.
@@ -207,7 +208,7 @@ pub record AreTold (g : Grid) (os : List Opened) (f : LineKind → ℕ → Optio
       → (o.kind ≡ kind) × (line_of_base g (range_of o.line) ≡ k) × Member o os
   pub each : (o : Opened) → Member o os → (kind : LineKind) × (k : ℕ) × (f kind k ≡ Some o)
 
-pub opened-told : (g : Grid) (v : Levels) (t : AccessList) → MayKeep g v
+opened-told : (g : Grid) (v : Levels) (t : AccessList) → MayKeep g v
     → AreTold g (opened g v t) (opened_at g v t)
 opened-told g v t may = record {
   there = λ kind k o e. let is = opened_at-is g v t kind k o may e in
@@ -338,3 +339,10 @@ looked_up g t os f xs told perm kind k =
           there.1 ∙ ap Some m.2 ∙ sym (ap (option_map (kept_in t))
           (ap (λ j. f j k) (sym is.0 ∙ r.0) ∙ ap (f q.0) (sym is.1 ∙ r.1) ∙ q.2))
     ]
+
+-- where the tracks are those of a list
+pub told_tracks : (t : AccessList) (w : Watch) → is_layout w.grid.size w.grid.offset ≡ true
+    → IsTrue (may_predict w.grid w.levels) → StandsFor t w → HasEach t w
+told_tracks t w allowed may stands =
+    looked_up w.grid t (opened w.grid w.levels t) (opened_at w.grid w.levels t) w.tracks
+    (opened-told w.grid w.levels t (record { allowed = allowed; may = may })) stands.tracks

@@ -1,5 +1,5 @@
 -- When a detector stands for an access list.
-use Rattle.std.specs.Prelude.{◌≡◌, ℕ, length, map, option_and_then, Option}
+use Rattle.std.specs.Prelude.{◌≡◌, ℕ, length, map, option_and_then, option_map, Option}
 use Rattle.std.specs.List.Sorted.{IsPermutation}
 use Rattle.base.specs.Levels.{Levels}
 use Rattle.base.specs.Lines.{Grid}
@@ -12,6 +12,7 @@ use Rattle.sharing_rules.specs.declared.line_kind.LineKind.{LineKind}
 use Rattle.sharing_rules.specs.declared.line_kind.LineKind.TheVariants.{Observed, Shifted, Doubled}
 use Rattle.line_tracks.specs.KeptIn.{kept_in}
 use Rattle.detector.specs.Counts.{count_at}
+use Rattle.detector.specs.Named.{track_named}
 use Rattle.detector.specs.Watch.{Watch}
 
 -- what a list makes one keep under a kind and the number of a line
@@ -29,3 +30,9 @@ pub record StandsFor (t : AccessList) (w : Watch) : Type 0 where
   pub writes : (k : ℕ) → count_at w.writes k ≡ write_count (is_inside (grid_line w.grid k)) t
   -- its tracks are those of the lines that are observed or opened, in any order
   pub tracks : IsPermutation w.tracks (map (kept_in t) (opened w.grid w.levels t))
+
+-- its track of each kind and line is that of what the list makes one keep there
+abbrev pub HasEach : AccessList → Watch → Type 0
+HasEach t w =
+    (kind : LineKind) (k : ℕ) → track_named w.grid kind k w.tracks
+    ≡ option_map (kept_in t) (opened_at w.grid w.levels t kind k)

@@ -1,8 +1,8 @@
 use Rattle.std.proofs.Common.{length, refl, ap, ◌∙◌}
 use Rattle.detector.specs.Entries.{entry_at}
 use Rattle.detector.specs.Tasks.{task_opens}
-use Rattle.detector.proofs.ChangeLaws.{task-begun, task-below, task-doubled, task-indexed}
-use Rattle.detector.proofs.ChangeLaws.{task-kept, task-tracks}
+use Rattle.detector.proofs.SettleLaws.{task-begun, task-below, task-doubled, task-indexed}
+use Rattle.detector.proofs.SettleLaws.{task-kept, task-tracks}
 use Rattle.detector.proofs.task.change.Goals as goal
 
 pub openings_at-openings-requires-clause-named : goal.openings_at-openings-requires-clause-named

@@ -9,8 +9,7 @@ use Rattle.detector.specs.Openings.{nothing_opens, openings}
 use Rattle.detector.specs.Pairs.{AreAround, IsNativeGrid}
 use Rattle.detector.specs.Tasks.{with_name}
 use Rattle.std.specs.Prelude.{if◌then◌else◌}
-use Rattle.detector.proofs.NamedLaws.{with_name-other}
-use Rattle.detector.proofs.AroundLaws.{around}
+use Rattle.detector.proofs.NamedLaws.{with_name-other, around}
 use Rattle.detector.proofs.PairLaws.{reached-native}
 use Rattle.detector.proofs.task.openings_at.Goals as goal
 use Rattle.sharing_rules.specs.Lines.{native_grid}

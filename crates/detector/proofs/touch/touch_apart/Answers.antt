@@ -6,13 +6,11 @@ use Rattle.std.proofs.lemmas.Result.{on_ok_weaker}
 use Rattle.base.specs.Touch.{is_write}
 use Rattle.detector.specs.Entries.{entry_at}
 use Rattle.detector.specs.Noting.{have_opened, places, places_between}
-use Rattle.detector.proofs.OpenedLaws.{after-idle}
+use Rattle.detector.proofs.AfterLaws.{after-idle, after-read, after-task, counts-read}
+use Rattle.detector.proofs.AfterLaws.{first-written, plain-indexed, counts-write, due-lent}
+use Rattle.detector.proofs.AfterLaws.{native-grid, notable, quiet, read-indexed, searches-is}
+use Rattle.detector.proofs.AfterLaws.{steps-within, task-lent, writes-few}
 use Rattle.detector.specs.Tasks.{search_steps}
-use Rattle.detector.proofs.AfterLaws.{after-read, after-task, counts-read}
-use Rattle.detector.proofs.AfterLaws.{first-written, plain-indexed}
-use Rattle.detector.proofs.AfterLaws.{counts-write, due-lent, native-grid, notable}
-use Rattle.detector.proofs.AfterLaws.{quiet, read-indexed}
-use Rattle.detector.proofs.AfterLaws.{searches-is, steps-within, task-lent, writes-few}
 use Rattle.detector.proofs.touch.touch_apart.Goals as goal
 
 never-written : (n : ℕ) → 0 < n → n ≡ 0 → ⊥

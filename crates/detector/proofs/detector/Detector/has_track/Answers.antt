@@ -5,7 +5,7 @@ use Rattle.detector.specs.declared.line_entry.LineEntry.{LineEntry}
 use Rattle.detector.specs.Index.{names_in, place_in}
 use Rattle.detector.specs.Named.{track_named}
 use Rattle.detector.specs.Watch.{Watch}
-use Rattle.detector.proofs.AroundLaws.{is_some-kept}
+use Rattle.detector.proofs.NamedLaws.{is_some-kept}
 use Rattle.detector.proofs.detector.Detector.has_track.Goals as goal
 
 pub returns : goal.returns
