@@ -1,5 +1,5 @@
 -- What a written line and a saved track leave of the entries.
-use Rattle.std.proofs.Common.{◌≡◌, ℕ, ◌<◌, ◌≤◌, ◌^◌, false, eqb, List, [], ◌∷◌, ◌++◌, Some, None}
+use Rattle.std.proofs.Common.{◌≡◌, ℕ, ◌<◌, ◌≤◌, ◌^◌, eqb, List, [], ◌∷◌, ◌++◌, Some, None}
 use Rattle.std.proofs.Common.{length, refl, sym, ap, ◌∙◌, subst, arith, inl, inr, length-append}
 use Rattle.std.proofs.lemmas.Bool.{cases_Bool, cases_lt, eqb-true}
 use Rattle.std.specs.Prelude.{if◌then◌else◌, unwrap_or, is_some, IfSome, Result, OnErr, Err}
@@ -63,16 +63,12 @@ written-indexed f h g xs T p k n e each lent fresh few indexed = record {
       elim (cases_Bool (eqb q k)) [
         | inl here ↦ let none : (f q).writes ≡ 0 = ap (λ z. (f z).writes) (eqb-true q k here)
             ∙ fresh in omega arith
-        | inr other ↦ subst (λ z. T ≤ z) (sym (ap (λ (x : LineEntry). x.writes)
-            (elsewhere q other))) late
+        | inr other ↦ rw (each q, other) late
       ];
   written = λ q.
       elim (cases_Bool (eqb q k)) [
-        | inl here ↦
-            subst (λ z. z ≤ p) (sym (ap (λ (x : LineEntry). x.writes)
-            (each q ∙ ap (λ b. if b then counting e n else f q) here))) few
-        | inr other ↦ subst (λ z. z ≤ p) (sym (ap (λ (x : LineEntry). x.writes)
-            (elsewhere q other))) (indexed.written q)
+        | inl here ↦ rw (each q, here) few
+        | inr other ↦ rw (each q, other) (indexed.written q)
       ];
   in_time = indexed.in_time;
   blank = indexed.blank;
@@ -82,9 +78,6 @@ written-indexed f h g xs T p k n e each lent fresh few indexed = record {
     names : names_in h ≡ names_in f
     names = changed-names f h k (counting e n) each
         (λ kind. counting-places e n kind ∙ ap (λ (x : LineEntry). place_in x kind) lent)
-
-    elsewhere : (q : ℕ) → eqb q k ≡ false → h q ≡ f q
-    elsewhere q other = each q ∙ ap (λ b. if b then counting e n else f q) other
 
 -- the line of a track that may be added was written
 pub addable-written : (m : Entries) (g : Grid) (xs : List Kept) (v : Levels) (p k : ℕ) (x : Kept)

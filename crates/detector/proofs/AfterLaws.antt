@@ -25,15 +25,15 @@ use Rattle.detector.specs.declared.task.Task.{Task}
 use Rattle.detector.specs.Counts.{count_at, counts_of, with_write}
 use Rattle.detector.specs.Index.{IsIndexed, IsNamed, Names, names_in}
 use Rattle.detector.specs.Noting.{IsNotable, have_opened, places}
-use Rattle.detector.specs.Openings.{nothing_opens, opened_tracks, waiting_for, doubled_opens}
-use Rattle.detector.specs.Openings.{openings, shifted_opens}
+use Rattle.detector.specs.Openings.{nothing_opens, opened_tracks, waiting_for}
+use Rattle.detector.specs.Openings.{openings}
 use Rattle.detector.specs.Pairs.{IsNativeGrid}
 use Rattle.detector.specs.Tasks.{IsDueAt, IsTaskOf, counted, tracks_begun, tracks_changed}
 use Rattle.detector.specs.Tasks.{task_opens}
-use Rattle.detector.specs.Watch.{Watch, begins_track, is_first_write, is_search, may_take_memory}
+use Rattle.detector.specs.Watch.{begins_track, is_first_write, is_search, may_take_memory}
 use Rattle.detector.specs.Watch.{opens_at, touched, tracks_after, tracks_noted, watch_of, watched}
 use Rattle.detector.specs.Watch.{writes_after}
-use Rattle.detector.specs.Named.{number_of, track_named}
+use Rattle.detector.specs.Named.{number_of}
 use Rattle.detector.proofs.CountLaws.{count_at-counts_of, entry_at-empty}
 use Rattle.detector.proofs.SettleLaws.{counted-names, counted-writes, layout-small}
 use Rattle.detector.proofs.TouchLaws.{indexed-touched}
@@ -49,23 +49,12 @@ task-lent f k e v task same t = subst (λ (x : LineEntry). IsTaskOf x v task) sa
 begins-is : (m : Entries) (k : ℕ) (v : Levels) (a : Touch) (task : Task) → is_write a.kind ≡ true
     → IsTaskOf (entry_at m k) v task
     → task.begins ≡ begins_track v.tracking (counts_of m) k a
-begins-is m k v a task writes t =
-    t.begins ∙ ap (λ n. eqb (n + 1) v.tracking) (sym (count_at-counts_of m k))
-    ∙ sym (ap (λ b. b && eqb (count_at (counts_of m) k + 1) v.tracking) writes)
-
-searched : (o : Option ℕ) (n c : ℕ) (w : Bool) → n ≡ c → w ≡ true
-    → option_map_or (λ P. eqb ((n + 1) % P) 0) o false ≡ option_map_or
-    (λ P. w && eqb ((c + 1) % P) 0) o false
-searched None n c w e h = refl
-searched (Some P) n c w e h = ap (λ z. eqb ((z + 1) % P) 0) e
-    ∙ sym (ap (λ b. b && eqb ((c + 1) % P) 0) h)
+begins-is m k v a task writes t = rw (t.begins, writes, count_at-counts_of m k)
 
 pub searches-is : (m : Entries) (k : ℕ) (v : Levels) (a : Touch) (task : Task) → is_write a.kind
     ≡ true → IsTaskOf (entry_at m k) v task
     → task.searches ≡ is_search v.prediction (counts_of m) k a
-searches-is m k v a task writes t = t.searches
-    ∙ searched v.prediction (entry_at m k).writes (count_at (counts_of m) k) (is_write a.kind)
-    (sym (count_at-counts_of m k)) writes
+searches-is m k v a task writes t = rw (t.searches, writes, count_at-counts_of m k)
 
 -- the tracks after a write
 pub after-task : (m : Entries) (xs : List Kept) (g : Grid) (v : Levels) (p k : ℕ) (a : Touch)
@@ -74,21 +63,14 @@ pub after-task : (m : Entries) (xs : List Kept) (g : Grid) (v : Levels) (p k : �
     → tracks_changed g k p a task.begins task.searches (map (touched p a) xs)
     ≡ tracks_after (watch_of m xs g v p) k a
 after-task m xs g v p k a task writes t =
-    ap (λ b. tracks_changed g k p a b task.searches (map (touched p a) xs))
-    (begins-is m k v a task writes t)
-    ∙ ap (λ s. tracks_changed g k p a (begins_track v.tracking (counts_of m) k a) s
-    (map (touched p a) xs))
-    (searches-is m k v a task writes t)
+    rw (begins-is m k v a task writes t, searches-is m k v a task writes t)
 
 pub after-plain : (m : Entries) (xs : List Kept) (g : Grid) (v : Levels) (p k : ℕ) (a : Touch)
     → begins_track v.tracking (counts_of m) k a
     ≡ false → is_search v.prediction (counts_of m) k a ≡ false
     → map (touched p a) xs ≡ tracks_after (watch_of m xs g v p) k a
 after-plain m xs g v p k a quiet unsearched =
-    sym (append-nil (map (touched p a) xs)) ∙ sym (append-nil (map (touched p a) xs ++ []))
-    ∙ sym (ap (λ b. tracks_changed g k p a b (is_search v.prediction (counts_of m) k a)
-    (map (touched p a) xs)) quiet
-    ∙ ap (λ s. tracks_changed g k p a false s (map (touched p a) xs)) unsearched)
+    rw (quiet, unsearched) (simp append-nil)
 
 pub after-write : (m : Entries) (xs : List Kept) (g : Grid) (v : Levels) (p k : ℕ) (a : Touch)
     (task : Task) → is_write a.kind ≡ true
@@ -120,13 +102,11 @@ after-read m xs g v p k a reads =
 pub counts-write : (m n : Entries) (k : ℕ) (a : Touch) → is_write a.kind ≡ true → counts_of n
     ≡ with_write (counts_of m) k
     → counts_of n ≡ writes_after k a (counts_of m)
-counts-write m n k a writes e = e ∙ sym (ap (λ b. if b then with_write (counts_of m) k
-    else counts_of m) writes)
+counts-write m n k a writes e = rw (e, writes)
 
 pub counts-read : (m : Entries) (k : ℕ) (a : Touch) → is_write a.kind ≡ false → counts_of m
     ≡ writes_after k a (counts_of m)
-counts-read m k a reads = sym (ap (λ b. if b then with_write (counts_of m) k else counts_of m)
-    reads)
+counts-read m k a reads = rw reads
 
 -- thresholds
 from_one : (low high n : ℕ) → is_from_to low high n ≡ true → low ≤ n
@@ -178,15 +158,6 @@ due-at f g xs k v task p indexed some t = record {
   positive = some;
   due = λ b. eqb-true ((f k).writes + 1) v.tracking (sym t.begins ∙ b);
 }
-
--- the same, where an entry was lent and left as it was
-pub due-lent : (m n : Entries) (g : Grid) (xs : List Kept) (k : ℕ) (v : Levels) (task : Task)
-    (p : ℕ) → n ≡ m
-    → IsIndexed (entry_at m) g xs v.tracking p → 1 ≤ v.tracking → IsTaskOf (entry_at m k) v task
-    → IsDueAt (entry_at n) g xs k task p v.tracking
-due-lent m n g xs k v task p same indexed some t =
-    subst (λ (z : Entries). IsDueAt (entry_at z) g xs k task p v.tracking) (sym same)
-    (due-at (entry_at m) g xs k v task p indexed some t)
 
 -- a plain write
 pub plain-indexed : (f h : ℕ → LineEntry) (g : Grid) (xs ys : List Kept) (T p k : ℕ) (a : Touch)
@@ -267,44 +238,43 @@ pub record IsQuiet (m : Entries) (xs : List Kept) (g : Grid) (p k : ℕ) (a : To
   pub opens : task_opens g k task.searches (tracks_begun g k p a task.begins (map (touched p a) xs))
       ≡ nothing_opens
 
--- the line of a write that takes no memory was written
-pub first-written : (m : Entries) (xs : List Kept) (g : Grid) (v : Levels) (p k : ℕ) (a : Touch)
-    → is_write a.kind ≡ true
-    → may_take_memory (watch_of m xs g v p) k a ≡ false → 0 < (entry_at m k).writes
-first-written m xs g v p k a writes none =
+-- a write that takes no memory is not its line's first, begins no track, and opens nothing
+none-taken : (m : Entries) (xs : List Kept) (g : Grid) (v : Levels) (p k : ℕ) (a : Touch)
+    → may_take_memory (watch_of m xs g v p) k a ≡ false
+    → (is_first_write (counts_of m) k a ≡ false)
+    × (begins_track v.tracking (counts_of m) k a ≡ false)
+    × (ltb 0 (length (opened_tracks (opens_at (watch_of m xs g v p) k a
+    (tracks_noted (watch_of m xs g v p) k a)))) ≡ false)
+none-taken m xs g v p k a none =
     let outer = or_parts (is_first_write (counts_of m) k a || begins_track v.tracking
     (counts_of m) k a)
     (ltb 0 (length (opened_tracks (opens_at (watch_of m xs g v p) k a
     (tracks_noted (watch_of m xs g v p) k a))))) none in
     let inner = or_parts (is_first_write (counts_of m) k a)
     (begins_track v.tracking (counts_of m) k a) outer.0 in
-    let counted_none : eqb (count_at (counts_of m) k) 0 ≡ false =
-    sym (ap (λ z. z && eqb (count_at (counts_of m) k) 0) writes) ∙ inner.0 in
+    (inner.0, inner.1, outer.1)
+
+-- the line of a write that takes no memory was written
+pub first-written : (m : Entries) (xs : List Kept) (g : Grid) (v : Levels) (p k : ℕ) (a : Touch)
+    → is_write a.kind ≡ true
+    → may_take_memory (watch_of m xs g v p) k a ≡ false → 0 < (entry_at m k).writes
+first-written m xs g v p k a writes none =
+    let first = (none-taken m xs g v p k a none).0 in
     some_writes (entry_at m k).writes (ap (λ n. eqb n 0) (sym (count_at-counts_of m k))
-    ∙ counted_none)
+    ∙ sym (ap (λ z. z && eqb (count_at (counts_of m) k) 0) writes) ∙ first)
 
 pub quiet : (m : Entries) (xs : List Kept) (g : Grid) (v : Levels) (p k : ℕ) (a : Touch)
     (task : Task) → is_write a.kind ≡ true
     → IsTaskOf (entry_at m k) v task → may_take_memory (watch_of m xs g v p) k a ≡ false
     → IsQuiet m xs g p k a task
 quiet m xs g v p k a task writes t none =
-    let w : Watch = watch_of m xs g v p in
-    let outer = or_parts (is_first_write (counts_of m) k a || begins_track v.tracking
-    (counts_of m) k a)
-    (ltb 0 (length (opened_tracks (opens_at (watch_of m xs g v p) k a
-    (tracks_noted (watch_of m xs g v p) k a))))) none in
-    let inner = or_parts (is_first_write (counts_of m) k a)
-    (begins_track v.tracking (counts_of m) k a) outer.0 in
-    let b = begins-is m k v a task writes t in
-    let s = searches-is m k v a task writes t in
+    let w = none-taken m xs g v p k a none in
     record {
       written = first-written m xs g v p k a writes none;
-      begins = b ∙ inner.1;
-      opens =
-          ap (λ z. task_opens g k task.searches (tracks_begun g k p a z (map (touched p a) xs))) b
-          ∙ ap (λ z. task_opens g k z (tracks_noted (watch_of m xs g v p) k a)) s
-          ∙ nothing_added (opens_at (watch_of m xs g v p) k a
-          (tracks_noted (watch_of m xs g v p) k a)) (no_length _ outer.1);
+      begins = begins-is m k v a task writes t ∙ w.1;
+      opens = rw (begins-is m k v a task writes t, searches-is m k v a task writes t)
+          (nothing_added (opens_at (watch_of m xs g v p) k a
+          (tracks_noted (watch_of m xs g v p) k a)) (no_length _ w.2));
     }
 
 -- the value after an access
@@ -362,9 +332,6 @@ one-more-fits n few = omega arith
 
 -- A search opens nothing where all predicted lines of a line have opened.
 
-closed : (b : Bool) (o : Option Range) → b ≡ true → (if b then None else o) ≡ None
-closed b o e = ap (λ z. if z then None else o) e
-
 lower-named : (f : ℕ → LineEntry) (k : ℕ) → is_some (places f k).doubled ≡ true
     → is_some (names_in f Doubled (even_lower k)) ≡ true
 lower-named f k e =
@@ -378,29 +345,14 @@ lower-named f k e =
 opened-none : (f : ℕ → LineEntry) (g : Grid) (xs : List Kept) (k : ℕ) → IsNamed (names_in f) g xs
     → have_opened (places f k) ≡ true → openings g k xs ≡ nothing_opens
 opened-none f g xs k named all =
-    let p = places f k in
     let one = and_parts (is_some (places f k).shifted && is_some (places f k).below)
     (is_some (places f k).doubled) all in
     let two = and_parts (is_some (places f k).shifted) (is_some (places f k).below) one.0 in
-    let below : shifted_opens g (k - 1) xs ≡ None =
-    closed (is_some (track_named g Shifted (k - 1) xs)) _
-    (is_some-kept (names_in f) g xs Shifted (k - 1) named ∙ two.1) in
-    let here : shifted_opens g k xs ≡ None =
-    closed (is_some (track_named g Shifted k xs)) _
-    (is_some-kept (names_in f) g xs Shifted k named ∙ two.0) in
-    let doubled : doubled_opens g (even_lower k) xs ≡ None =
-    closed (is_some (track_named g Doubled (even_lower k) xs)) _
-    (is_some-kept (names_in f) g xs Doubled (even_lower k) named ∙ lower-named f k one.1) in
-    three (shifted_opens g (k - 1) xs) (shifted_opens g k xs) (doubled_opens g (even_lower k) xs)
-    below here doubled
-  where
-    made : Option Range → Option Range → Option Range → Openings
-    made a b c = record { below = a; here = b; doubled = c }
-
-    three : (a b c : Option Range) → a ≡ None → b ≡ None → c ≡ None
-        → made a b c ≡ nothing_opens
-    three a b c e₁ e₂ e₃ = ap (λ z. made z b c) e₁ ∙ ap (λ z. made None z c) e₂
-        ∙ ap (λ z. made None None z) e₃
+    rw (
+      is_some-kept (names_in f) g xs Shifted (k - 1) named ∙ two.1,
+      is_some-kept (names_in f) g xs Shifted k named ∙ two.0,
+      is_some-kept (names_in f) g xs Doubled (even_lower k) named ∙ lower-named f k one.1,
+    )
 
 not_idle : (s h : Bool) → (s && not h) ≡ false → s ≡ true → h ≡ true
 not_idle true true e h = refl

@@ -238,13 +238,8 @@ kind_total k t w m stands =
     (λ o e. ap (one_of k) (m.shifted_are o e).0) in
     let c = each_is (λ o. one_of k o.kind) (one_of k kind.Doubled) m.doubled
     (λ o e. ap (one_of k) (m.doubled_are o e).0) in
-    total (λ x. cond (is_of k x) 1 0) t w m stands
-    ∙ ap (λ z. z + (sum_by (λ o. one_of k o.kind) m.shifted + sum_by (λ o. one_of k o.kind)
-    m.doubled)) a
-    ∙ ap (λ z. one_of k kind.Observed * length m.observed
-    + (z + sum_by (λ o. one_of k o.kind) m.doubled)) b
-    ∙ ap (λ z. one_of k kind.Observed * length m.observed
-    + (one_of k kind.Shifted * length m.shifted + z)) c
+    let e = total (λ x. cond (is_of k x) 1 0) t w m stands in
+    omega (arith, e, a, b, c)
 
 observed_total : (t : AccessList) (w : Watch) (m : Made w.grid w.levels t) → StandsFor t w
     → observed_count w ≡ length m.observed

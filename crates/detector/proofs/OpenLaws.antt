@@ -13,7 +13,7 @@ use Rattle.sharing_rules.specs.Lines.{is_inside, line_from, native_line, range_o
 use Rattle.sharing_rules.specs.Opened.{even_lower}
 use Rattle.sharing_rules.specs.Pairs.{best_pair_of}
 use Rattle.sharing_rules.specs.Predicted.{doubled_line, is_native_size, shifted_around}
-use Rattle.sharing_rules.specs.Predicted.{shifted_base, word_address}
+use Rattle.sharing_rules.specs.Predicted.{shifted_base}
 use Rattle.sharing_rules.specs.declared.line_kind.LineKind.TheVariants.{Shifted, Doubled}
 use Rattle.line_tracks.specs.Neighbours.{AreNeighbours, pair_at, reach}
 use Rattle.line_tracks.specs.declared.pair.Pair.{Pair}
@@ -55,19 +55,14 @@ pair-found n k xs lower upper within x y r pair at up sized sized_up is =
     let size : x.range.size ≡ n = ap (λ (q : Range). q.size) (pair.below.range x at) in
     let size_up : y.range.size ≡ n = ap (λ (q : Range). q.size) (pair.above.range y up) in
     let best : best_of_two (kept_at xs lower) (kept_at xs upper) (reach n within)
-    ≡ best_pair_of x.words y.words (reach n within) =
-    ap (λ o. best_of_two o (kept_at xs upper) (reach n within)) at
-    ∙ ap (λ o. best_of_two (Some x) o (reach n within)) up in
+    ≡ best_pair_of x.words y.words (reach n within) = rw (at, up) in
     let now : r ≡ option_map (pair_at x.range y.range)
     (best_pair_of x.words y.words (reach n within)) = is
     ∙ ap (λ z. option_map (pair_at x.range y.range) (best_pair_of x.words y.words (reach z within)))
     size in
     elim (slice_cases (best_pair_of x.words y.words (reach n within))) [
       | inl none ↦
-          subst (λ o. MatchOption o (best_of_two (kept_at xs lower) (kept_at xs upper)
-          (reach n within) ≡ None)
-          (IsPairOf n k xs lower upper (reach n within)))
-          (sym (now ∙ ap (option_map (pair_at x.range y.range)) none)) (best ∙ none)
+          rw (now, none) (best ∙ none)
       | inr some ↦
           let p = some.0 in
           let pairs = best-is_pair x.words y.words (reach n within) some.0 some.1 in
@@ -93,10 +88,7 @@ pair-found n k xs lower upper within x y r pair at up sized sized_up is =
             near = subst (λ z. 4 * (z + some.0.1) + 4 ≤ reach n within + 4 * some.0.0) quarter near;
             some = low;
           } in
-          subst (λ o. MatchOption o (best_of_two (kept_at xs lower) (kept_at xs upper)
-          (reach n within) ≡ None)
-          (IsPairOf n k xs lower upper (reach n within)))
-          (sym (now ∙ ap (option_map (pair_at x.range y.range)) some.1)) found
+          rw (now, some.1) found
     ]
 
 some_value : {X : Type 0} (o : Option X) (P : Type 0) (v r : X) → SomeIff o P v → o ≡ Some r → r ≡ v
@@ -113,9 +105,7 @@ shifted-shaped n k xs lower upper pair o r P native found value e =
     let p = found.places in
     let is : r ≡ range_of (shifted_around n k found.places) =
     some_value o P (range_of (line_from n (shifted_base n pair.x pair.y))) r value e
-    ∙ ap (λ z. range_of (line_from n (shifted_base n z pair.y))) found.lower_at
-    ∙ ap (λ z. range_of (line_from n (shifted_base n (word_address n k found.places.0) z)))
-    found.upper_at in
+    ∙ rw (found.lower_at, found.upper_at) in
     subst (IsShaped (native_grid n) k Shifted) (sym is) (
       found.some,
       refl,
@@ -174,14 +164,8 @@ pub shifted-value : (n k : ℕ) (xs : List Kept) (lower upper : LineEntry) (pair
     → o ≡ shifted_between n k xs lower upper
 shifted-value n k xs lower upper pair o native none found value =
     some_where o (pair.y + 4 ≤ pair.x + n) (range_of (line_from n (shifted_base n pair.x pair.y)))
-    value
-    (pair-near n k xs lower.track upper.track pair native found)
-    ∙ ap (λ z. Some (range_of (line_from n (shifted_base n z pair.y)))) found.lower_at
-    ∙ ap (λ z. Some (range_of (line_from n (shifted_base n (word_address n k found.places.0) z))))
-    found.upper_at
-    ∙ sym (ap (option_map (λ p. range_of (shifted_around n k p))) found.best)
-    ∙ sym (ap (λ b. if b then None else option_map (λ p. range_of (shifted_around n k p))
-    (best_of_two (kept_at xs lower.track) (kept_at xs upper.track) n)) none)
+    value (pair-near n k xs lower.track upper.track pair native found)
+    ∙ rw (none, found.best, found.lower_at, found.upper_at)
 
 -- the lower word of a pair is in the lower line
 pub pair-inside : (n k : ℕ) (xs : List Kept) (lower upper : Option ℕ) (within : ℕ) (pair : Pair)
@@ -201,11 +185,7 @@ pub doubled-value : (n k : ℕ) (xs : List Kept) (lower upper : LineEntry) (pair
     → is_some lower.doubled ≡ false
     → IsPairOf n k xs lower.track upper.track (2 * n) pair → r ≡ range_of (doubled_line n k)
     → Some r ≡ doubled_between n k xs lower upper
-doubled-value n k xs lower upper pair r none found is =
-    ap Some is
-    ∙ sym (ap (option_map (λ p. range_of (doubled_line n k))) found.best)
-    ∙ sym (ap (λ b. if b then None else option_map (λ p. range_of (doubled_line n k))
-    (best_of_two (kept_at xs lower.track) (kept_at xs upper.track) (2 * n))) none)
+doubled-value n k xs lower upper pair r none found is = rw (is, none, found.best)
 
 pub doubled-shaped : (n k : ℕ) (r : Range) → is_native_size n ≡ true → 1 ≤ k → k % 2 ≡ 1 → r
     ≡ range_of (doubled_line n k)

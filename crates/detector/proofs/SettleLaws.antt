@@ -55,14 +55,10 @@ pub changed-names : (f h : ℕ → LineEntry) (k : ℕ) (e : LineEntry)
 changed-names f h k e each places = λ i kind q. by_line kind q i
   where
     by_line : (kind : LineKind) (q : ℕ) → place_in (h q) kind ≡ place_in (f q) kind
-    by_line kind q =
-        ap (λ (x : LineEntry). place_in x kind) (each q)
-        ∙ elim (cases_Bool (eqb q k)) [
-          | inl here ↦ ap (λ b. place_in (if b then e else f q) kind) here ∙ places kind
-              ∙ ap (λ z. place_in (f z) kind)
-              (sym (eqb-true q k here))
-          | inr other ↦ ap (λ b. place_in (if b then e else f q) kind) other
-        ]
+    by_line kind q = elim (cases_Bool (eqb q k)) [
+      | inl here ↦ rw (each q, here, eqb-true q k here) (places kind)
+      | inr other ↦ rw (each q, other)
+    ]
 
 -- a count leaves the names
 pub counted-names : (f h : ℕ → LineEntry) (k : ℕ)
@@ -94,27 +90,19 @@ placed-names f h k kind o e each is = λ i j q. by_line j q i
     placed x Doubled Doubled = refl
 
     by_line : (j : LineKind) (q : ℕ) → place_in (h q) j ≡ with_name (names_in f) kind k o j q
-    by_line j q =
-        ap (λ (x : LineEntry). place_in x j) (each q)
-        ∙ elim (cases_Bool (eqb q k)) [
-          | inl here ↦ ap (λ b. place_in (if b then e else f q) j) here
-              ∙ ap (λ (x : LineEntry). place_in x j) (is
-              ∙ ap (λ z. with_place (f z) kind o) (sym (eqb-true q k here)))
-              ∙ placed (f q) kind j
-              ∙ ap (λ b. if b then option_or o (place_in (f q) j) else place_in (f q) j)
-              (sym (and-true (eqb (rank j) (rank kind)))
-              ∙ ap (λ b. eqb (rank j) (rank kind) && b) (sym here))
-          | inr other ↦ ap (λ b. place_in (if b then e else f q) j) other
-              ∙ ap (λ b. if b then option_or o (place_in (f q) j) else place_in (f q) j)
-              (sym (and-false (eqb (rank j) (rank kind)))
-              ∙ ap (λ b. eqb (rank j) (rank kind) && b) (sym other))
-        ]
+    by_line j q = elim (cases_Bool (eqb q k)) [
+      | inl here ↦ rw (each q, here, is, and-true (eqb (rank j) (rank kind)), eqb-true q k here)
+          (placed (f k) kind j)
+      | inr other ↦ rw (each q, other, and-false (eqb (rank j) (rank kind)))
+    ]
 
 pub counted-writes : (f h : ℕ → LineEntry) (k : ℕ)
     → ((q : ℕ) → h q ≡ (if eqb q k then counted (f k) else f q)) → (q : ℕ)
     → (h q).writes ≡ (if eqb q k then (f k).writes + 1 else (f q).writes)
-counted-writes f h k each q = ap (λ (e : LineEntry). e.writes) (each q)
-    ∙ elim (cases_Bool (eqb q k)) [ inl here ↦ rw here | inr other ↦ rw other ]
+counted-writes f h k each q = elim (cases_Bool (eqb q k)) [
+  | inl here ↦ rw (each q, here)
+  | inr other ↦ rw (each q, other)
+]
 
 counted-some : (f h : ℕ → LineEntry) (k q : ℕ)
     → ((q : ℕ) → h q ≡ (if eqb q k then counted (f k) else f q)) → (q ≢ k → 0 < (f q).writes)

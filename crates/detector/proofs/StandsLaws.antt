@@ -31,7 +31,6 @@ use Rattle.sharing_rules.specs.Predicted.{best_between, doubled_opening, is_cand
 use Rattle.sharing_rules.specs.Predicted.{doubled_line, shifted_around, shifted_opening}
 use Rattle.sharing_rules.specs.Laws.Opened.{opened-push, opened_shifted-is_some}
 use Rattle.sharing_rules.specs.Laws.Opened.{opened_doubled-is_some}
-use Rattle.sharing_rules.specs.Pairs.{best_pair_of}
 use Rattle.sharing_rules.specs.Tracks.{track_since}
 use Rattle.sharing_rules.specs.Words.{words_since}
 use Rattle.sharing_rules.specs.Laws.Starts.{observed_start-first_write, write_count-push}
@@ -130,12 +129,12 @@ best_is n T within k t =
       | inr s ↦ elim (slice_cases (observed_start T (is_inside (native_line n (k + 1))) t)) [
         | inl none ↦ rw (s.1, none)
         | inr u ↦
-            rw (s.1, u.1)
-            (ap (λ ws. best_pair_of ws (kept_in t (observed_from (native_line n (k + 1)) u.0)).words
-            within)
-            (words_kept T (native_line n k) t s.0 s.1)
-            ∙ ap (λ ws. best_pair_of (words_since (native_line n k) s.0 t) ws within)
-            (words_kept T (native_line n (k + 1)) t u.0 u.1))
+            rw (
+              s.1,
+              u.1,
+              words_kept T (native_line n k) t s.0 s.1,
+              words_kept T (native_line n (k + 1)) t u.0 u.1,
+            )
       ]
     ]
 

@@ -31,7 +31,7 @@ use Rattle.detector.proofs.NamedLaws.{named-more-as, same_name, with_name-here, 
 use Rattle.detector.proofs.NamedLaws.{is_some-kept}
 use Rattle.detector.proofs.ShapeLaws.{shaped-line}
 use Rattle.detector.proofs.InTimeLaws.{noted-blank, noted-in_time, noted-kind, noted-range}
-use Rattle.sharing_rules.specs.Laws.Lists.{slice_cases}
+use Rattle.sharing_rules.specs.Laws.Lists.{slice_get-push}
 
 -- a name that was there already, and none
 pub with_name-same : (N : Names) (kind : LineKind) (k : ℕ) → with_name N kind k (N kind k) ≡ N
@@ -112,34 +112,26 @@ some_of : (o : Option ℕ) → is_some o ≡ true → (i : ℕ) × (o ≡ Some i
 some_of None e = absurd (false≢true e)
 some_of (Some i) e = (i, refl)
 
+opens_from : (was : Bool) (o : Option (ℕ × ℕ)) (f : ℕ × ℕ → Range) (r : Range)
+    → (if was then None else option_map f o) ≡ Some r
+    → (was ≡ false) × ((p : ℕ × ℕ) × (o ≡ Some p))
+opens_from true o f r e = absurd (none-some r e)
+opens_from false None f r e = absurd (none-some r e)
+opens_from false (Some p) f r e = (refl, (p, refl))
+
 opens_by : (N : Names) (g : Grid) (xs : List Kept) (kind : LineKind) (k within : ℕ)
     (f : ℕ × ℕ → Range) (r : Range) → IsNamed N g xs
     → (if is_some (track_named g kind k xs) then None
     else option_map f (best_of_two (track_named g Observed k xs)
     (track_named g Observed (k + 1) xs) within)) ≡ Some r → Opens N kind k
 opens_by N g xs kind k within f r named e =
-    elim (cases_Bool (is_some (track_named g kind k xs))) [
-      | inl there ↦
-          absurd (none-some r
-          (sym (ap (λ b. if b then None
-          else option_map f (best_of_two (track_named g Observed k xs)
-          (track_named g Observed (k + 1) xs) within)) there) ∙ e))
-      | inr none ↦
-          let e' : option_map f (best_of_two (track_named g Observed k xs)
-          (track_named g Observed (k + 1) xs) within) ≡ Some r =
-          sym (ap (λ b. if b then None
-          else option_map f (best_of_two (track_named g Observed k xs)
-          (track_named g Observed (k + 1) xs) within)) none) ∙ e in (
-            none_from (N kind k) (sym (is_some-kept N g xs kind k named) ∙ none),
-            elim (slice_cases (best_of_two (track_named g Observed k xs)
-                (track_named g Observed (k + 1) xs) within)) [
-                  | inl not_one ↦ absurd (none-some r (sym (ap (option_map f) not_one) ∙ e'))
-                  | inr p ↦ some_of (N Observed k) (sym (is_some-kept N g xs Observed k named)
-                      ∙ own_some (track_named g Observed k xs)
-                      (track_named g Observed (k + 1) xs) within p.0 p.1)
-                ],
-          )
-    ]
+    let w = opens_from (is_some (track_named g kind k xs)) (best_of_two
+    (track_named g Observed k xs) (track_named g Observed (k + 1) xs) within) f r e in (
+      none_from (N kind k) (sym (is_some-kept N g xs kind k named) ∙ w.0),
+      some_of (N Observed k) (sym (is_some-kept N g xs Observed k named)
+          ∙ own_some (track_named g Observed k xs) (track_named g Observed (k + 1) xs) within
+          w.1.0 w.1.1),
+    )
 
 pub shifted-opens : (N : Names) (g : Grid) (xs : List Kept) (k : ℕ) (r : Range) → IsNamed N g xs
     → shifted_opens g k xs ≡ Some r
@@ -211,7 +203,12 @@ unopened-named N g xs k own named =
     (subst (λ zs. IsNamed (with_name N Observed k own) g zs) (sym (append-nil xs))
     named)
 
--- one element more at the end, changed there
+-- one element more at the end
+pub added-at : (xs ys : List Kept) (x : Kept) (i : ℕ) → ys ≡ xs ++ x ∷ [] → i ≡ length xs
+    → slice_get ys i ≡ Some x
+added-at xs ys x i added at = rw (added, at) (slice_get-push xs x)
+
+-- it is changed there
 pub set_end : {X : Type 0} (xs : List X) (x y : X) (n : ℕ) → n ≡ length xs
     → slice_set (xs ++ x ∷ []) n y ≡ xs ++ y ∷ []
 set_end xs x y n e = set_at xs x [] y n (sym e)

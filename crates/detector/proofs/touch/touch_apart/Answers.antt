@@ -7,7 +7,7 @@ use Rattle.base.specs.Touch.{is_write}
 use Rattle.detector.specs.Entries.{entry_at}
 use Rattle.detector.specs.Noting.{have_opened, places, places_between}
 use Rattle.detector.proofs.AfterLaws.{after-idle, after-read, after-task, counts-read}
-use Rattle.detector.proofs.AfterLaws.{first-written, plain-indexed, counts-write, due-lent}
+use Rattle.detector.proofs.AfterLaws.{first-written, plain-indexed, counts-write, due-at}
 use Rattle.detector.proofs.AfterLaws.{native-grid, notable, quiet, read-indexed, searches-is}
 use Rattle.detector.proofs.AfterLaws.{steps-within, task-lent, writes-few}
 use Rattle.detector.specs.Tasks.{search_steps}
@@ -66,8 +66,8 @@ do_task-requires-clause-task g c =
     let m = g.I.LineIndex.entries c.args.index.now in
     let task = task-lent (entry_at m) c.args.line c.peek-here.result c.args.thresholds.now
     c.task_of-task.result c.peek-here.ensures c.task_of-task.ensures in
-    let due = due-lent m m c.args.layout c.args.tracks.now c.args.line c.args.thresholds.now
-    c.task_of-task.result c.args.position refl
+    let due = due-at (entry_at m) c.args.layout c.args.tracks.now c.args.line
+    c.args.thresholds.now c.task_of-task.result c.args.position
     c.requires.indexed c.requires.some task in
     (c.args.thresholds.now.tracking, due)
 
@@ -101,8 +101,8 @@ returns-then-is_due_where-clause-indexed g c =
     let m = g.I.LineIndex.entries c.args.index.now in
     let task = task-lent (entry_at m) c.args.line c.peek-here.result c.args.thresholds.now
     c.task_of-task.result c.peek-here.ensures c.task_of-task.ensures in
-    let due = due-lent m m c.args.layout c.args.tracks.now c.args.line c.args.thresholds.now
-    c.task_of-task.result c.args.position refl
+    let due = due-at (entry_at m) c.args.layout c.args.tracks.now c.args.line
+    c.args.thresholds.now c.task_of-task.result c.args.position
     c.requires.indexed c.requires.some task in
     on_ok_weaker c.do_task.result (λ e. e c.args.thresholds.now.tracking due) c.do_task.ensures.indexed
 
