@@ -336,10 +336,8 @@ lower-named : (f : ℕ → LineEntry) (k : ℕ) → is_some (places f k).doubled
     → is_some (names_in f Doubled (even_lower k)) ≡ true
 lower-named f k e =
     elim (cases_Bool (eqb (k % 2) 1)) [
-      | inl odd ↦ ap (λ b. is_some (f (if b then k else k - 1)).doubled) odd
-          ∙ sym (ap (λ b. is_some (if b then (f k).doubled else (f (k - 1)).doubled)) odd) ∙ e
-      | inr even ↦ ap (λ b. is_some (f (if b then k else k - 1)).doubled) even
-          ∙ sym (ap (λ b. is_some (if b then (f k).doubled else (f (k - 1)).doubled)) even) ∙ e
+      | inl odd ↦ let at = rw odd at e in rw odd at
+      | inr even ↦ let at = rw even at e in rw even at
     ]
 
 opened-none : (f : ℕ → LineEntry) (g : Grid) (xs : List Kept) (k : ℕ) → IsNamed (names_in f) g xs
@@ -381,7 +379,7 @@ after-idle m xs g v p k a task writes t named idle =
           ∙ opened-none (entry_at m) g (map (touched p a) xs) k names all
       | inr s ↦ ap (λ b. task_opens g k b (map (touched p a) xs ++ [])) s
     ] in
-    sym (append-nil (map (touched p a) xs)) ∙ sym (append-nil (map (touched p a) xs ++ []))
-    ∙ sym (ap (λ b. tracks_changed g k p a b task.searches (map (touched p a) xs)) parts.0
-    ∙ ap (λ o. map (touched p a) xs ++ [] ++ opened_tracks o) opens)
-    ∙ after-task m xs g v p k a task writes t
+    let same : map (touched p a) xs
+    ≡ tracks_changed g k p a task.begins task.searches (map (touched p a) xs) =
+    rw (parts.0, opens) (simp append-nil) in
+    same ∙ after-task m xs g v p k a task writes t

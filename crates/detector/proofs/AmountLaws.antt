@@ -366,15 +366,9 @@ small_unpredicted t w may stands = λ none.
           (m.shifted ++ m.doubled)
           ∙ (let j = length-append m.shifted m.doubled in omega (arith, j, nothing, o));
       entries = omega (arith, e, o, s, d);
-      words =
-          words
-          ∙ ap (λ z. w.grid.size / 4 * length m.observed
-          + (w.grid.size / 4 * z + 2 * w.grid.size / 4 * length m.doubled)) s
-          ∙ ap (λ z. w.grid.size / 4 * length m.observed
-          + (w.grid.size / 4 * 0 + 2 * w.grid.size / 4 * z)) d
-          ∙ (let back = changed (w.grid.size / 4) (length m.observed) in let z =
-          ap (λ z. z * (w.grid.size / 4)) o in
-          omega (arith, back, z));
+      words = let back = changed (w.grid.size / 4) (length m.observed) in
+          let z = ap (λ z. z * (w.grid.size / 4)) o in
+          words ∙ rw (s, d) (omega (arith, back, z));
     }
 
 holding_mapped : (a : ℕ) (t : AccessList) (os : List Opened)

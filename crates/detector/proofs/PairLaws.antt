@@ -29,10 +29,8 @@ first_best-cons : (f : ℕ × ℕ → ℕ) (t : ℕ × ℕ → Bool) (x : ℕ ×
 first_best-cons f t x None p first rest e = ap t (sym (same_Some x p e)) ∙ first
 first_best-cons f t x (Some q) p first rest e =
     elim (cases_Bool (ltb (f x) (f q))) [
-      | inl less ↦ ap t (sym (same_Some q p (sym (ap (λ b. if b then Some q else Some x) less)
-          ∙ e))) ∙ rest q refl
-      | inr more ↦ ap t (sym (same_Some x p (sym (ap (λ b. if b then Some q else Some x) more)
-          ∙ e))) ∙ first
+      | inl less ↦ let at = rw less at e in ap t (sym (same_Some q p at)) ∙ rest q refl
+      | inr more ↦ let at = rw more at e in ap t (sym (same_Some x p at)) ∙ first
     ]
 
 -- the best of those that pass a test passes it
@@ -42,10 +40,8 @@ first_best-passes f t [] p e = absurd (none-some p e)
 first_best-passes f t (x ∷ ps) p e =
     elim (cases_Bool (t x)) [
       | inl hit ↦ first_best-cons f t x (first_best f (filter t ps)) p hit
-          (λ q. first_best-passes f t ps q)
-          (sym (ap (λ b. first_best f (if b then x ∷ filter t ps else filter t ps)) hit) ∙ e)
-      | inr miss ↦ first_best-passes f t ps p (sym
-          (ap (λ b. first_best f (if b then x ∷ filter t ps else filter t ps)) miss) ∙ e)
+          (λ q. first_best-passes f t ps q) (rw hit at e)
+      | inr miss ↦ first_best-passes f t ps p (rw miss at e)
     ]
 
 -- a pair of words of the two lines, near enough

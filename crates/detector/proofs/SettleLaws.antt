@@ -18,7 +18,7 @@ use Rattle.sharing_rules.specs.declared.line_kind.LineKind.TheVariants.{Observed
 use Rattle.line_tracks.specs.Kept.{Kept}
 use Rattle.detector.specs.declared.openings.Openings.{Openings}
 use Rattle.detector.specs.Index.{IsIndexed, IsNamed, IsReached, Names, names_in, place_in}
-use Rattle.detector.specs.Openings.{opened_tracks}
+use Rattle.detector.specs.Openings.{nothing_opens, opened_tracks, openings}
 use Rattle.detector.specs.Pairs.{AreShaped, IsNativeGrid}
 use Rattle.detector.specs.Tasks.{counted, opened_places, settled, task_opens, with_name, with_place}
 use Rattle.detector.specs.Tasks.{IsDue, IsTask, tracks_begun, tracks_changed, IsDueAt}
@@ -110,11 +110,7 @@ counted-some : (f h : ℕ → LineEntry) (k q : ℕ)
 counted-some f h k q each some =
     elim (cases_eq q k) [
       | inl e ↦ rw (counted-writes f h k each q, eq-eqb q k e) (omega arith)
-      | inr other ↦
-          let was : (h q).writes ≡ (f q).writes = counted-writes f h k each q
-          ∙ ap (λ b. if b then (f k).writes + 1 else (f q).writes)
-          (not_eq other) in
-          subst (λ n. 0 < n) (sym was) (some other)
+      | inr other ↦ rw (counted-writes f h k each q, not_eq other) (some other)
     ]
   where
     not_eq : q ≢ k → eqb q k ≡ false
@@ -141,14 +137,14 @@ pub named-task : (N : Names) (g : Grid) (xs : List Kept) (k : ℕ) (own : Option
     → IsNamed (with_name N Observed k own) g xs → 0 < g.size → (searches ≡ true → IsNativeGrid g)
     → IsReached g k
     → o ≡ task_opens g k searches xs → (searches ≡ true → AreShaped g.size k o)
-    → IsNamed (settled N k own (opened_places (length xs) o)) g
+    → IsNamed (settled N k own (opened_places xs o)) g
     (xs ++ opened_tracks o)
 named-task N g xs k own true o named some native reached is shaped =
     let grid = native refl in
     opened-named N g xs k own o named some (reached-native g k grid.size grid.offset reached).some
     grid.offset is (shaped refl)
 named-task N g xs k own false o named some native reached is shaped =
-    subst (λ z. IsNamed (settled N k own (opened_places (length xs) z)) g (xs ++ opened_tracks z))
+    subst (λ z. IsNamed (settled N k own (opened_places xs z)) g (xs ++ opened_tracks z))
     (sym is)
     (unopened-named N g xs k own named)
 
@@ -237,51 +233,46 @@ opened-for : (n : ℕ) (o : Option Range) (i : ℕ) → option_map (λ r. n) o �
 opened-for n None i e = absurd (none-some i e)
 opened-for n (Some r) i e = (r, refl)
 
+-- what opens was searched for
+searched-for : (g : Grid) (k : ℕ) (ys : List Kept) (searches : Bool) (o : Openings)
+    (w : Openings → Option Range) (r : Range) → o ≡ task_opens g k searches ys
+    → w nothing_opens ≡ None → w o ≡ Some r → (searches ≡ true) × (w (openings g k ys) ≡ Some r)
+searched-for g k ys true o w r is none e = (refl, ap w (sym is) ∙ e)
+searched-for g k ys false o w r is none e = absurd (none-some r (sym none ∙ ap w (sym is) ∙ e))
+
 pub task-below : (f : ℕ → LineEntry) (g : Grid) (xs ys : List Kept) (k : ℕ) (task : Task) (p : ℕ)
     (a : Touch) (own : Option ℕ)
-    (o : Openings) (q : Opened) (n : ℕ) → IsTask f g xs k task p a
+    (o : Openings) (q : Opened) (ws : List Kept) → IsTask f g xs k task p a
     → IsBegun f g xs ys k task p a own
-    → o ≡ task_opens g k task.searches ys → q ≡ opened_places n o → (i : ℕ) → q.below ≡ Some i
+    → o ≡ task_opens g k task.searches ys → q ≡ opened_places ws o → (i : ℕ) → q.below ≡ Some i
     → 0 < (f (k - 1)).writes
-task-below f g xs ys k task p a own o q n t b opens places i e =
-    let r = opened-for n o.below i (ap (λ (z : Opened). z.below) (sym places) ∙ e) in
-    elim (cases_Bool task.searches) [
-      | inl s ↦
-          let grid = t.native s in
-          let low = (reached-native g k grid.size grid.offset t.reached).some in
-          opens-written f g xs ys k (k - 1) p task a own Shifted t (λ e. absurd (omega arith))
-          (shifted-opens (with_name (names_in f) Observed k own) g ys (k - 1) r.0 b.named
-          (ap (λ z. (task_opens g k z ys).below) (sym s)
-          ∙ ap (λ (z : Openings). z.below) (sym opens) ∙ r.1))
-      | inr s ↦ absurd (none-some r.0 (sym (ap (λ z. (task_opens g k z ys).below) s)
-          ∙ ap (λ (z : Openings). z.below) (sym opens) ∙ r.1))
-    ]
+task-below f g xs ys k task p a own o q ws t b opens places i e =
+    let r = opened-for _ o.below i (ap (λ (z : Opened). z.below) (sym places) ∙ e) in
+    let s = searched-for g k ys task.searches o (λ z. z.below) r.0 opens refl r.1 in
+    let grid = t.native s.0 in
+    let low = (reached-native g k grid.size grid.offset t.reached).some in
+    opens-written f g xs ys k (k - 1) p task a own Shifted t (λ e. absurd (omega arith))
+    (shifted-opens (with_name (names_in f) Observed k own) g ys (k - 1) r.0 b.named s.1)
 
 pub task-doubled : (f : ℕ → LineEntry) (g : Grid) (xs ys : List Kept) (k : ℕ) (task : Task) (p : ℕ)
     (a : Touch) (own : Option ℕ)
-    (o : Openings) (q : Opened) (n : ℕ) → IsTask f g xs k task p a
+    (o : Openings) (q : Opened) (ws : List Kept) → IsTask f g xs k task p a
     → IsBegun f g xs ys k task p a own
-    → o ≡ task_opens g k task.searches ys → q ≡ opened_places n o → (i : ℕ) → q.doubled ≡ Some i
+    → o ≡ task_opens g k task.searches ys → q ≡ opened_places ws o → (i : ℕ) → q.doubled ≡ Some i
     → even_lower k ≢ k
     → 0 < (f (even_lower k)).writes
-task-doubled f g xs ys k task p a own o q n t b opens places i e other =
+task-doubled f g xs ys k task p a own o q ws t b opens places i e other =
     let r = opened-for _ o.doubled i (ap (λ (z : Opened). z.doubled) (sym places) ∙ e) in
-    elim (cases_Bool task.searches) [
-      | inl s ↦
-          opens-written f g xs ys k (even_lower k) p task a own Doubled t other
-          (doubled-opens (with_name (names_in f) Observed k own) g ys (even_lower k) r.0 b.named
-          (ap (λ z. (task_opens g k z ys).doubled) (sym s)
-          ∙ ap (λ (z : Openings). z.doubled) (sym opens) ∙ r.1))
-      | inr s ↦ absurd (none-some r.0 (sym (ap (λ z. (task_opens g k z ys).doubled) s)
-          ∙ ap (λ (z : Openings). z.doubled) (sym opens) ∙ r.1))
-    ]
+    let s = searched-for g k ys task.searches o (λ z. z.doubled) r.0 opens refl r.1 in
+    opens-written f g xs ys k (even_lower k) p task a own Doubled t other
+    (doubled-opens (with_name (names_in f) Observed k own) g ys (even_lower k) r.0 b.named s.1)
 
 pub task-indexed : (f h : ℕ → LineEntry) (g : Grid) (xs ys zs : List Kept) (k : ℕ) (task : Task)
     (p T : ℕ) (a : Touch) (own : Option ℕ)
     (o : Openings) (q : Opened) → IsTask f g xs k task p a → IsBegun f g xs ys k task p a own
     → IsDue f g xs k task p T → o ≡ task_opens g k task.searches ys
     → (task.searches ≡ true → AreShaped g.size k o)
-    → q ≡ opened_places (length ys) o → zs ≡ ys ++ opened_tracks o
+    → q ≡ opened_places ys o → zs ≡ ys ++ opened_tracks o
     → names_in h ≡ settled (names_in f) k own q → ((z : ℕ) → (h z).writes
     ≡ (if eqb z k then (f k).writes + 1 else (f z).writes))
     → length zs ≤ 2 ^ 31 → IsIndexed h g zs T (p + 1)
@@ -289,7 +280,7 @@ task-indexed f h g xs ys zs k task p T a own o q t b due opens shaped places add
     few =
     let small = layout-small g t.layout in
     let less : g.offset < g.size = small.0 in
-    let named : IsNamed (settled (names_in f) k own (opened_places (length ys) o)) g (ys
+    let named : IsNamed (settled (names_in f) k own (opened_places ys o)) g (ys
     ++ opened_tracks o) =
     named-task (names_in f) g ys k own task.searches o b.named
     (omega arith) t.native t.reached opens shaped in

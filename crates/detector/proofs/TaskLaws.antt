@@ -147,7 +147,7 @@ doubled-opens N g xs k r named e = opens_by N g xs Doubled k (2 * g.size) _ r na
 pub opened-named : (N : Names) (g : Grid) (xs : List Kept) (k : ℕ) (own : Option ℕ) (o : Openings)
     → IsNamed (with_name N Observed k own) g xs → 0 < g.size → 1 ≤ k → g.offset ≡ 0
     → o ≡ openings g k xs → AreShaped g.size k o
-    → IsNamed (settled N k own (opened_places (length xs) o)) g (xs ++ opened_tracks o)
+    → IsNamed (settled N k own (opened_places xs o)) g (xs ++ opened_tracks o)
 opened-named N g xs k own o named some low none is shaped =
     let b = waiting_for Shifted o.below in
     let h = waiting_for Shifted o.here in
@@ -177,23 +177,15 @@ opened-named N g xs k own o named some low none is shaped =
       subst (λ q. IsShaped q (even_lower k) Doubled r) at_grid (shaped.doubled r e),
     )) in
     let joined : ((xs ++ b) ++ h) ++ d ≡ xs ++ ((b ++ h) ++ d) = simp append_assoc in
-    let len₁ : length (xs ++ b) ≡ length xs + length b = length-append xs b in
-    let len₂ : length ((xs ++ b) ++ h) ≡ length xs + length b + length h =
-    length-append (xs ++ b) h ∙ ap (λ n. n + length h) len₁ in
-    subst (λ zs. IsNamed (settled N k own (opened_places (length xs) o)) g zs) joined
-    (subst (λ n. IsNamed (with_name (with_name N₂ Shifted k (option_map (λ r. length xs + length b)
-    o.here)) Doubled (even_lower k) (option_map (λ r. n) o.doubled)) g (((xs ++ b) ++ h) ++ d)) len₂
-    (subst (λ n. IsNamed (with_name (with_name N₂ Shifted k (option_map (λ r. n) o.here)) Doubled
-    (even_lower k) (option_map (λ r. length ((xs ++ b) ++ h)) o.doubled)) g
-    (((xs ++ b) ++ h) ++ d)) len₁ third))
+    subst (λ zs. IsNamed (settled N k own (opened_places xs o)) g zs) joined third
 
 -- where nothing opens
 pub unopened-named : (N : Names) (g : Grid) (xs : List Kept) (k : ℕ) (own : Option ℕ)
     → IsNamed (with_name N Observed k own) g xs
-    → IsNamed (settled N k own (opened_places (length xs) nothing_opens)) g
+    → IsNamed (settled N k own (opened_places xs nothing_opens)) g
     (xs ++ opened_tracks nothing_opens)
 unopened-named N g xs k own named =
-    let same : settled N k own (opened_places (length xs) nothing_opens)
+    let same : settled N k own (opened_places xs nothing_opens)
     ≡ with_name N Observed k own =
     with_name-none (with_name (with_name (with_name N Observed k own) Shifted (k - 1) None) Shifted
     k None) Doubled (even_lower k)
@@ -324,14 +316,9 @@ changed-indexed f h g xs ys T p k a begins own o places indexed is names named o
         elim (cases_Bool (eqb q k)) [
           | inl here ↦
               let same : q ≡ k = eqb-true q k here in
-              let at : option_or own (f k).track ≡ Some i =
-              ap (λ z. option_or own (f z).track) (sym same)
-              ∙ sym (ap (λ b. if b then option_or own (f q).track else (f q).track) here) ∙ e in
+              let at = rw (here, same) at e in
               rw (writes q, here) (by_begins begins i refl own_is at)
-          | inr other ↦
-              let at : (f q).track ≡ Some i = sym (ap
-              (λ b. if b then option_or own (f q).track else (f q).track) other) ∙ e in
-              rw (writes q, other) (indexed.late q i at)
+          | inr other ↦ let at = rw other at e in rw (writes q, other) (indexed.late q i at)
         ]
 
 -- the tracks that were there are kept
@@ -351,12 +338,6 @@ pub opened-where : (xs ys zs : List Kept) (o : Openings) (b h d : Option ℕ) �
     → zs ≡ ys ++ waiting_for Shifted o.here → b ≡ option_map (λ r. length xs) o.below → h
     ≡ option_map (λ r. length ys) o.here
     → d ≡ option_map (λ r. length zs) o.doubled
-    → ◌≡◌ {A = Opened} (record { below = b; here = h; doubled = d }) (opened_places (length xs) o)
+    → ◌≡◌ {A = Opened} (record { below = b; here = h; doubled = d }) (opened_places xs o)
 opened-where xs ys zs o b h d below here at at_here at_doubled =
-    let len₁ : length ys ≡ length xs + length (waiting_for Shifted o.below) = ap length below
-    ∙ length-append xs (waiting_for Shifted o.below) in
-    let len₂ : length zs ≡ length xs + length (waiting_for Shifted o.below) + length
-    (waiting_for Shifted o.here) =
-    ap length here ∙ length-append ys (waiting_for Shifted o.here)
-    ∙ ap (λ n. n + length (waiting_for Shifted o.here)) len₁ in
-    rw (at, at_here, at_doubled, len₁, len₂) refl
+    rw (at, at_here, at_doubled, here, below)

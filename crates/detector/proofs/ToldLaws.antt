@@ -77,7 +77,7 @@ based g k b r none base some above below =
     ∙ ap (λ z. z / g.size) (far_base g.size b) ∙ base_number g.size k b some above below
 
 -- what a line is that is kept under a kind and a number
-pub record IsKeptAt (g : Grid) (t : AccessList) (j : LineKind) (k : ℕ) (o : Opened) : Type 0 where
+record IsKeptAt (g : Grid) (t : AccessList) (j : LineKind) (k : ℕ) (o : Opened) : Type 0 where
   pub kind : o.kind ≡ j
   pub number : line_of_base g (range_of o.line) ≡ k
   pub layout : is_layout o.line.size o.line.offset ≡ true
@@ -126,11 +126,20 @@ doubled-at g v P t k o u e =
       from = is.from;
     }
 
--- what is kept under a kind and a number, and what is kept at all
-pub record IsKept (g : Grid) (v : Levels) (t : AccessList) (j : LineKind) (k : ℕ) (o : Opened)
-    : Type 0 where
-  pub at : IsKeptAt g t j k o
-  pub member : Member o (opened g v t)
+and_then-some : {X Y : Type 0} (h : X → Option Y) (o : Option X) (y : Y)
+    → option_and_then h o ≡ Some y → (x : X) × (o ≡ Some x) × (h x ≡ Some y)
+and_then-some h None y e = absurd (none-some y e)
+and_then-some h (Some x) y e = (x, refl, e)
+
+opened_at-is : (g : Grid) (v : Levels) (t : AccessList) (kind : LineKind) (k : ℕ) (o : Opened)
+    → MayKeep g v → opened_at g v t kind k ≡ Some o → IsKeptAt g t kind k o
+opened_at-is g v t Observed k o may e = observed-at g v t k o may.allowed e
+opened_at-is g v t Shifted k o may e =
+    let w = and_then-some (λ P. opened_shifted g.size v.tracking P t k) v.prediction o e in
+    shifted-at g v w.0 t k o (under g v w.0 may.may w.1) w.2
+opened_at-is g v t Doubled k o may e =
+    let w = and_then-some (λ P. opened_doubled g.size v.tracking P t k) v.prediction o e in
+    doubled-at g v w.0 t k o (under g v w.0 may.may w.1) w.2
 
 predicted-member : (g : Grid) (v : Levels) (P : ℕ) (t : AccessList) (o : Opened)
     → v.prediction ≡ Some P → Member o (predicted_ones g.size v.tracking P t)
@@ -140,40 +149,17 @@ predicted-member g v P t o e m =
     (subst (λ z. Member o (option_map_or (λ Q. predicted_ones g.size v.tracking Q t) z [])) (sym e)
     m)
 
-pub opened_at-is : (g : Grid) (v : Levels) (t : AccessList) (kind : LineKind) (k : ℕ) (o : Opened)
-    → MayKeep g v → opened_at g v t kind k ≡ Some o → IsKept g v t kind k o
-opened_at-is g v t Observed k o may e = record {
-  at = observed-at g v t k o may.allowed e;
-  member = member-opened_observed g v t k o e;
-}
-opened_at-is g v t Shifted k o may e =
-    elim (slice_cases v.prediction) [
-      | inl none ↦ absurd (none-some o (sym (ap (option_and_then
-          (λ P. opened_shifted g.size v.tracking P t k)) none) ∙ e))
-      | inr some ↦
-          let is : opened_shifted g.size v.tracking some.0 t k ≡ Some o =
-          sym (ap (option_and_then (λ P. opened_shifted g.size v.tracking P t k)) some.1) ∙ e in
-          record {
-            at = shifted-at g v some.0 t k o (under g v some.0 may.may some.1) is;
-            member = predicted-member g v some.0 t o some.1
-                (append-Member_left (shifted_ones g.size v.tracking some.0 t) _ o
-                (member-shifted_ones g.size v.tracking some.0 t k o is));
-          }
-    ]
-opened_at-is g v t Doubled k o may e =
-    elim (slice_cases v.prediction) [
-      | inl none ↦ absurd (none-some o (sym (ap (option_and_then
-          (λ P. opened_doubled g.size v.tracking P t k)) none) ∙ e))
-      | inr some ↦
-          let is : opened_doubled g.size v.tracking some.0 t k ≡ Some o =
-          sym (ap (option_and_then (λ P. opened_doubled g.size v.tracking P t k)) some.1) ∙ e in
-          record {
-            at = doubled-at g v some.0 t k o (under g v some.0 may.may some.1) is;
-            member = predicted-member g v some.0 t o some.1
-                (append-Member_right (shifted_ones g.size v.tracking some.0 t) _ o
-                (member-doubled_ones g.size v.tracking some.0 t k o is));
-          }
-    ]
+opened_at-member : (g : Grid) (v : Levels) (t : AccessList) (kind : LineKind) (k : ℕ) (o : Opened)
+    → opened_at g v t kind k ≡ Some o → Member o (opened g v t)
+opened_at-member g v t Observed k o e = member-opened_observed g v t k o e
+opened_at-member g v t Shifted k o e =
+    let w = and_then-some (λ P. opened_shifted g.size v.tracking P t k) v.prediction o e in
+    predicted-member g v w.0 t o w.1 (append-Member_left (shifted_ones g.size v.tracking w.0 t) _ o
+    (member-shifted_ones g.size v.tracking w.0 t k o w.2))
+opened_at-member g v t Doubled k o e =
+    let w = and_then-some (λ P. opened_doubled g.size v.tracking P t k) v.prediction o e in
+    predicted-member g v w.0 t o w.1 (append-Member_right (shifted_ones g.size v.tracking w.0 t) _ o
+    (member-doubled_ones g.size v.tracking w.0 t k o w.2))
 
 -- each line that is kept is kept under a kind and a number
 pub opened-at : (g : Grid) (v : Levels) (t : AccessList) (o : Opened) → Member o (opened g v t)
@@ -199,7 +185,7 @@ pub good_lines : (g : Grid) (v : Levels) (t : AccessList) (o : Opened) → MayKe
     → Member o (opened g v t) → (is_layout o.line.size o.line.offset ≡ true) × (o.from ≤ length t)
 good_lines g v t o may m =
     let w = opened-at g v t o m in
-    let is = (opened_at-is g v t w.0 w.1 o may w.2).at in
+    let is = opened_at-is g v t w.0 w.1 o may w.2 in
     (is.layout, is.from)
 
 -- The lines of a list by their kinds and numbers.
@@ -212,7 +198,7 @@ opened-told : (g : Grid) (v : Levels) (t : AccessList) → MayKeep g v
     → AreTold g (opened g v t) (opened_at g v t)
 opened-told g v t may = record {
   there = λ kind k o e. let is = opened_at-is g v t kind k o may e in
-      (is.at.kind, is.at.number, is.member);
+      (is.kind, is.number, opened_at-member g v t kind k o e);
   each = opened-at g v t;
 }
 
@@ -249,6 +235,15 @@ noted-told g v t a may some = record {
     stays Shifted k o e = e
     stays Doubled k o e = e
 
+    before : (kind : LineKind) (k : ℕ) (o : Opened) → opened_at g v t kind k ≡ Some o
+        → (o.kind ≡ kind) × (line_of_base g (range_of o.line) ≡ k) × Member o (opened g v t ++ now)
+    before kind k o e = let is = opened_at-is g v t kind k o may e in (
+      is.kind,
+      is.number,
+      append-Member_left (opened g v t) now o
+          (opened_at-member g v t kind k o e),
+    )
+
     there : (kind : LineKind) (k : ℕ) (o : Opened) → noted_at g v t a kind k ≡ Some o
         → (o.kind ≡ kind) × (line_of_base g (range_of o.line) ≡ k) × Member o (opened g v t ++ now)
     there Observed k o e =
@@ -264,10 +259,8 @@ noted-told g v t a may some = record {
             | inr new ↦ append-Member_right (opened g v t) now o new
           ],
         )
-    there Shifted k o e = let is = opened_at-is g v t Shifted k o may e in
-        (is.at.kind, is.at.number, append-Member_left (opened g v t) now o is.member)
-    there Doubled k o e = let is = opened_at-is g v t Doubled k o may e in
-        (is.at.kind, is.at.number, append-Member_left (opened g v t) now o is.member)
+    there Shifted k o e = before Shifted k o e
+    there Doubled k o e = before Doubled k o e
 
 -- The first of a list that passes a test.
 find-some : (test : Kept → Bool) (xs : List Kept) (x : Kept) → find test xs ≡ Some x → Member x xs

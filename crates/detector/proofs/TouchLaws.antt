@@ -61,12 +61,8 @@ doubled_place : (f : ℕ → LineEntry) (k i : ℕ) → (places f k).doubled ≡
     × ((f q).doubled ≡ Some i)
 doubled_place f k i e =
     elim (cases_Bool (eqb (k % 2) 1)) [
-      | inl odd ↦ (k, sym (ap (λ b. if b then (f k).doubled else (f (k - 1)).doubled) odd) ∙ e)
-      | inr even ↦ (
-        k - 1,
-        sym (ap (λ b. if b then (f k).doubled else (f (k - 1)).doubled) even)
-            ∙ e,
-      )
+      | inl odd ↦ let at = rw odd at e in (k, at)
+      | inr even ↦ let at = rw even at e in (k - 1, at)
     ]
 
 -- no two of the four places are the same
@@ -294,14 +290,12 @@ places-held f g xs p a k small line named =
     λ i x e at.
     elim (cases_Bool (eqb (k % 2) 1)) [
       | inl odd ↦
-          let mine : (f k).doubled ≡ Some i =
-          sym (ap (λ b. if b then (f k).doubled else (f (k - 1)).doubled) odd) ∙ e in
+          let mine = rw odd at e in
           doubled-held g k a.addr x.range small
           (named-shaped (names_in f) g xs Doubled k i x named mine at) (omega (arith, line))
           (omega (arith, line))
       | inr even ↦
-          let mine : (f (k - 1)).doubled ≡ Some i =
-          sym (ap (λ b. if b then (f k).doubled else (f (k - 1)).doubled) even) ∙ e in
+          let mine = rw even at e in
           doubled-held g (k - 1) a.addr x.range small
           (named-shaped (names_in f) g xs Doubled (k - 1) i x named mine at)
           (omega (arith, line)) (omega (arith, line))

@@ -57,13 +57,13 @@ counted e = record {
       e.doubled;
 }
 
--- where the tracks stand of what opens, behind n others
-abbrev pub opened_places : ℕ → Openings → Opened
-opened_places n o = record {
-  below = option_map (λ r. n) o.below;
-  here = option_map (λ r. n + length (waiting_for Shifted o.below)) o.here;
-  doubled = option_map (λ r. n + length (waiting_for Shifted o.below) + length
-      (waiting_for Shifted o.here)) o.doubled;
+-- where the tracks stand of what opens, behind others
+abbrev pub opened_places : List Kept → Openings → Opened
+opened_places xs o = record {
+  below = option_map (λ r. length xs) o.below;
+  here = option_map (λ r. length (xs ++ waiting_for Shifted o.below)) o.here;
+  doubled = option_map
+      (λ r. length (xs ++ waiting_for Shifted o.below ++ waiting_for Shifted o.here)) o.doubled;
 }
 
 -- the names with those of line k's own track and of what opened for it

@@ -117,7 +117,7 @@ fn open(tracks: &mut Tracks, openings: Openings) -> Result<Opened, NoMemory>
     requires few { length tracks.old ≤ 2 ^ 31 }
     requires sized { (n k : ℕ) × (n % 4 ≡ 0) × AreShaped n k openings }
     ensures added { OnOk result (tracks.new ≡ tracks.old ++ opened_tracks openings) }
-    ensures places { IfOk result (λ o. o ≡ opened_places (length tracks.old) openings) }
+    ensures places { IfOk result (λ o. o ≡ opened_places tracks.old openings) }
     ensures few { OnOk result (length tracks.new ≤ 2 ^ 31) }
     ensures kept { OnErr result (take (length tracks.old) tracks.new ≡ tracks.old) }
     ensures known { openings ≡ nothing_opens → IsOk result }

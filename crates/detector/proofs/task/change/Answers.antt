@@ -22,7 +22,7 @@ settle-requires-clause-below g c =
     c.in-Ok.ensures.tracks c.in-Ok.ensures.place c.peek-named.ensures in
     task-below f c.args.layout c.args.tracks.now c.own_place.new.tracks c.args.line c.args.task
     c.args.position c.args.access c.in-Ok.own
-    c.openings_at-openings.result c.in-Ok-open.opened (length c.own_place.new.tracks)
+    c.openings_at-openings.result c.in-Ok-open.opened c.own_place.new.tracks
     c.requires.task b c.openings_at-openings.ensures.value c.in-Ok-open.ensures.places
 
 pub settle-requires-clause-doubled : goal.settle-requires-clause-doubled
@@ -34,7 +34,7 @@ settle-requires-clause-doubled g c =
     c.in-Ok.ensures.tracks c.in-Ok.ensures.place c.peek-named.ensures in
     task-doubled f c.args.layout c.args.tracks.now c.own_place.new.tracks c.args.line c.args.task
     c.args.position c.args.access c.in-Ok.own
-    c.openings_at-openings.result c.in-Ok-open.opened (length c.own_place.new.tracks)
+    c.openings_at-openings.result c.in-Ok-open.opened c.own_place.new.tracks
     c.requires.task b c.openings_at-openings.ensures.value c.in-Ok-open.ensures.places
 
 pub returns-in-Ok-open-clause-tracks : goal.returns-in-Ok-open-clause-tracks
