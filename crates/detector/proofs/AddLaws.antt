@@ -10,7 +10,7 @@ use Rattle.detector.specs.declared.line_entry.LineEntry.{LineEntry}
 use Rattle.detector.specs.Entries.{Entries, IsEntry, blank_entry, entry_at}
 use Rattle.sharing_rules.specs.declared.line_kind.LineKind.{LineKind}
 use Rattle.sharing_rules.specs.declared.line_kind.LineKind.TheVariants.{Observed, Shifted, Doubled}
-use Rattle.line_tracks.specs.Kept.{IsBlank, IsInTime, Kept}
+use Rattle.line_tracks.specs.Kept.{Kept}
 use Rattle.detector.specs.Added.{IsAddable}
 use Rattle.detector.specs.Index.{IsIndexed, IsNamed, Names, names_in, place_in}
 use Rattle.detector.specs.Named.{line_of_base, track_named}
@@ -42,7 +42,7 @@ written_small m q only some = elim (cases_lt (2 ^ 30) q) [
 
 -- an entry that counts as many writes
 abbrev pub counting : LineEntry → ℕ → LineEntry
-counting e n = record { writes = n; track = e.track; shifted = e.shifted; doubled = e.doubled }
+counting e n = record e { writes = n }
 
 counting-places : (e : LineEntry) (n : ℕ) (kind : LineKind) → place_in (counting e n) kind
     ≡ place_in e kind
@@ -127,11 +127,11 @@ added-indexed m n g xs ys v p k x addable line names writes room is =
       written = λ q. subst (λ z. z ≤ p) (sym (writes q)) (indexed.written q);
       in_time = λ i y at. elim (slice_get-more xs x y i at) [
         | inl before ↦ indexed.in_time i y before
-        | inr last ↦ subst (λ (z : Kept). IsInTime z p) (sym last.1) can.in_time
+        | inr last ↦ rw last.1 can.in_time
       ];
       blank = λ i y at. elim (slice_get-more xs x y i at) [
         | inl before ↦ indexed.blank i y before
-        | inr last ↦ subst (λ (z : Kept). z.start ≡ None → IsBlank z) (sym last.1) can.blank
+        | inr last ↦ rw last.1 can.blank
       ];
       few = omega (arith, length-append xs (x ∷ []));
     })

@@ -16,7 +16,6 @@ use Rattle.base.specs.declared.layout.Range.{Range}
 use Rattle.detector.specs.Entries.{Entries, blank_entry, entry_at, no_entries}
 use Rattle.detector.specs.declared.line_entry.LineEntry.{LineEntry}
 use Rattle.sharing_rules.specs.Listed.{may_predict}
-use Rattle.sharing_rules.specs.Predicted.{is_native_size}
 use Rattle.sharing_rules.specs.declared.line_kind.LineKind.{LineKind}
 use Rattle.sharing_rules.specs.declared.line_kind.LineKind.TheVariants.{Observed, Shifted, Doubled}
 use Rattle.line_tracks.specs.Kept.{Kept}
@@ -36,6 +35,7 @@ use Rattle.detector.specs.Watch.{writes_after}
 use Rattle.detector.specs.Named.{number_of}
 use Rattle.detector.proofs.CountLaws.{count_at-counts_of, entry_at-empty}
 use Rattle.detector.proofs.SettleLaws.{counted-names, counted-writes, layout-small}
+use Rattle.detector.proofs.ToldLaws.{under}
 use Rattle.detector.proofs.TouchLaws.{indexed-touched}
 use Rattle.sharing_rules.specs.Opened.{even_lower}
 use Rattle.detector.proofs.NamedLaws.{is_some-kept, named-map}
@@ -112,27 +112,26 @@ counts-read m k a reads = rw reads
 from_one : (low high n : ℕ) → is_from_to low high n ≡ true → low ≤ n
 from_one low high n h = let parts = and_parts (leb low n) (leb n high) h in leb-true low n parts.0
 
-pub levels-some : (v : Levels) → are_levels v.tracking v.prediction v.report ≡ true → 1 ≤ v.tracking
-levels-some v h =
+levels-parts : (v : Levels) → are_levels v.tracking v.prediction v.report ≡ true
+    → (1 ≤ v.tracking) × (option_map_or (is_from_to v.tracking (2 ^ 32)) v.prediction true ≡ true)
+levels-parts v h =
     let outer = and_parts (is_from_to 1 (2 ^ 32) v.tracking && option_map_or
     (is_from_to v.tracking (2 ^ 32)) v.prediction true)
     (is_from_to 1 (2 ^ 40) v.report) h in
     let inner = and_parts (is_from_to 1 (2 ^ 32) v.tracking)
     (option_map_or (is_from_to v.tracking (2 ^ 32)) v.prediction true) outer.0 in
-    from_one 1 (2 ^ 32) v.tracking inner.0
+    (from_one 1 (2 ^ 32) v.tracking inner.0, inner.1)
+
+pub levels-some : (v : Levels) → are_levels v.tracking v.prediction v.report ≡ true → 1 ≤ v.tracking
+levels-some v h = (levels-parts v h).0
 
 pub levels-positive : (v : Levels) (P : ℕ) → are_levels v.tracking v.prediction v.report ≡ true
     → v.prediction ≡ Some P → 0 < P
 levels-positive v P h is =
-    let outer = and_parts (is_from_to 1 (2 ^ 32) v.tracking && option_map_or
-    (is_from_to v.tracking (2 ^ 32)) v.prediction true)
-    (is_from_to 1 (2 ^ 40) v.report) h in
-    let inner = and_parts (is_from_to 1 (2 ^ 32) v.tracking)
-    (option_map_or (is_from_to v.tracking (2 ^ 32)) v.prediction true) outer.0 in
-    let at : is_from_to v.tracking (2 ^ 32) P ≡ true =
-    sym (ap (λ o. option_map_or (is_from_to v.tracking (2 ^ 32)) o true) is) ∙ inner.1 in
+    let parts = levels-parts v h in
+    let some = parts.0 in
+    let at = rw is at parts.1 in
     let low = from_one v.tracking (2 ^ 32) P at in
-    let some = levels-some v h in
     omega arith
 
 pub native-grid : (f : ℕ → LineEntry) (k : ℕ) (g : Grid) (v : Levels) (task : Task)
@@ -144,11 +143,8 @@ native-grid f k g v task may t searches = by_prediction v.prediction refl
     by_prediction None is = absurd (false≢true (sym
         (t.searches ∙ ap (λ z. option_map_or (λ P. eqb (((f k).writes + 1) % P) 0) z false) is)
         ∙ searches))
-    by_prediction (Some P) is =
-        let parts = and_parts (is_native_size g.size) (eqb g.offset 0)
-        (sym (ap (λ z. option_map_or (λ P. is_native_size g.size && eqb g.offset 0) z true) is)
-        ∙ may) in
-        record { size = parts.0; offset = eqb-true g.offset 0 parts.1 }
+    by_prediction (Some P) is = let u = under g v P may is in
+        record { size = u.native; offset = u.offset }
 
 pub due-at : (f : ℕ → LineEntry) (g : Grid) (xs : List Kept) (k : ℕ) (v : Levels) (task : Task)
     (p : ℕ) → IsIndexed f g xs v.tracking p
@@ -165,15 +161,9 @@ pub plain-indexed : (f h : ℕ → LineEntry) (g : Grid) (xs ys : List Kept) (T 
     → ((q : ℕ) → h q ≡ (if eqb q k then counted (f k) else f q)) → ys ≡ map (touched p a) xs
     → IsIndexed h g ys T (p + 1)
 plain-indexed f h g xs ys T p k a indexed each is =
-    let writes = counted-writes f h k each in
     subst (λ zs. IsIndexed h g zs T (p + 1)) (sym is)
-    (indexed-touched f h g xs T p a indexed (λ q. named Observed q) (λ q. named Shifted q)
-    (λ q. named Doubled q) (λ q. more q)
-    (λ q. few q))
+    (indexed-touched f h g xs T p a indexed (counted-names f h k each) more few)
   where
-    named : (kind : LineKind) (q : ℕ) → names_in h kind q ≡ names_in f kind q
-    named kind q = ap (λ (N : Names). N kind q) (counted-names f h k each)
-
     more : (q : ℕ) → (f q).writes ≤ (h q).writes
     more q = elim (cases_Bool (eqb q k)) [
       | inl here ↦ let same = eqb-true q k here in let is_k : (f q).writes ≡ (f k).writes =
@@ -194,8 +184,8 @@ pub read-indexed : (f : ℕ → LineEntry) (g : Grid) (xs ys : List Kept) (T p :
     → ys ≡ map (touched p a) xs → IsIndexed f g ys T (p + 1)
 read-indexed f g xs ys T p a indexed is =
     subst (λ zs. IsIndexed f g zs T (p + 1)) (sym is)
-    (indexed-touched f f g xs T p a indexed (λ q. refl) (λ q. refl) (λ q. refl)
-    (λ q. omega arith) (λ q. let d = indexed.written q in omega arith))
+    (indexed-touched f f g xs T p a indexed refl (λ q. omega arith)
+    (λ q. let d = indexed.written q in omega arith))
 
 pub notable : (f h : ℕ → LineEntry) (g : Grid) (xs : List Kept) (T p k : ℕ) (a : Touch)
     → IsIndexed f g xs T p → names_in h ≡ names_in f
@@ -282,12 +272,7 @@ pub watched-is : (m n : Entries) (xs ys : List Kept) (g : Grid) (v : Levels) (p 
     → k ≡ number_of g a
     → ys ≡ tracks_after (watch_of m xs g v p) k a → counts_of n ≡ writes_after k a (counts_of m)
     → watch_of n ys g v (p + 1) ≡ watched (watch_of m xs g v p) a
-watched-is m n xs ys g v p k a line tracks counts =
-    let ks : ys ≡ tracks_after (watch_of m xs g v p) (number_of g a) a = tracks
-    ∙ ap (λ q. tracks_after (watch_of m xs g v p) q a) line in
-    let cs : counts_of n ≡ writes_after (number_of g a) a (counts_of m) = counts
-    ∙ ap (λ q. writes_after q a (counts_of m)) line in
-    λ i. record { position = p + 1; grid = g; levels = v; writes = cs i; tracks = ks i }
+watched-is m n xs ys g v p k a line tracks counts = rw (tracks, counts, line)
 
 -- where nothing is kept yet
 pub indexed-empty : (m : Entries) (g : Grid) (T p : ℕ) → m ≡ no_entries

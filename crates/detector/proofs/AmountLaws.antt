@@ -2,13 +2,13 @@
 use Rattle.std.proofs.Common.{◌≡◌, ℕ, suc, ◌+◌, ◌*◌, ◌/◌, ◌%◌, ◌<◌, ◌≤◌, true, List, [], ◌∷◌, ◌++◌}
 use Rattle.std.proofs.Common.{Option, Some, None, map, length, length-append, refl, sym, ap, ◌∙◌}
 use Rattle.std.proofs.Common.{subst, arith, inl, inr, take}
-use Rattle.std.proofs.lemmas.Bool.{cases_lt, and_parts, eqb-true}
+use Rattle.std.proofs.lemmas.Bool.{cases_lt}
 use Rattle.std.proofs.lemmas.List.{length-map}
 use Rattle.std.proofs.lemmas.List.Sorted.{sum_by-IsPermutation, length_permutation}
 use Rattle.std.proofs.lemmas.List.Sums.{sum_by-append, sum_by-cons, length-filter}
 use Rattle.std.proofs.lemmas.Nat.{mul-le}
 use Rattle.std.proofs.lemmas.Option.{none-some}
-use Rattle.std.specs.Prelude.{cond, is_some, filter, IsTrue, ◌==◌, ◌&&◌}
+use Rattle.std.specs.Prelude.{cond, is_some, filter, IsTrue, ◌==◌}
 use Rattle.std.specs.List.{count_by, sum_by}
 use Rattle.std.specs.Option.{option_map_or}
 use Rattle.base.specs.Levels.{Levels}
@@ -46,6 +46,7 @@ use Rattle.detector.specs.Amounts.{HasHalfDoubled, IsSmallUnpredicted, doubled_c
 use Rattle.detector.specs.Amounts.{is_of, kind_count, observed_count, shifted_count, word_count}
 use Rattle.detector.specs.Standing.{StandsFor}
 use Rattle.detector.specs.Watch.{Watch}
+use Rattle.detector.proofs.ToldLaws.{under}
 
 sum_mapped : {X Y : Type 0} (f : Y → ℕ) (g : X → Y) (xs : List X) → sum_by f (map g xs)
     ≡ sum_by (λ x. f (g x)) xs
@@ -203,11 +204,8 @@ made g v t may =
     elim (slice_cases v.prediction) [
       | inl none ↦ made_unpredicted g v t none
       | inr some ↦
-          let both : (is_native_size g.size && (g.offset == 0)) ≡ true =
-          ap (λ p. option_map_or (λ P. is_native_size g.size && (g.offset == 0)) p true)
-          (sym some.1) ∙ may in
-          let parts = and_parts (is_native_size g.size) (g.offset == 0) both in
-          made_predicted g v t some.0 some.1 parts.0 (eqb-true g.offset 0 parts.1)
+          let u = under g v some.0 may some.1 in
+          made_predicted g v t some.0 some.1 u.native u.offset
     ]
 
 -- A sum over the tracks, kind by kind.

@@ -9,7 +9,6 @@ use Rattle.std.specs.Prelude.{slice_get, option_and_then, option_map, is_some, �
 use Rattle.std.specs.Prelude.{nat_abs, ◌+ℤ◌, ◌-ℤ◌}
 use Rattle.std.specs.Option.{option_or}
 use Rattle.base.specs.Lines.{Grid}
-use Rattle.base.specs.declared.layout.Range.{Range}
 use Rattle.sharing_rules.specs.Listed.{rank}
 use Rattle.sharing_rules.specs.declared.line_kind.LineKind.{LineKind}
 use Rattle.line_tracks.specs.Kept.{Kept}
@@ -118,20 +117,15 @@ named-more N g xs x named none shaped =
                 ∙ named.placed i y before))
                 ∙ named.placed i y before
             | inr last ↦
-                ap (λ (z : Kept). with_name N x.kind (line_of_base g x.range)
-                (Some (length xs)) z.kind (line_of_base g z.range)) last.1
-                ∙ with_name-here N x.kind (line_of_base g x.range) (Some (length xs))
-                ∙ ap Some (sym last.0)
+                rw (last.1, last.0) (with_name-here N x.kind (line_of_base g x.range)
+                (Some (length xs)))
           ];
       named = λ j q i at.
           elim (same_name x.kind j (line_of_base g x.range) q) [
             | inl is ↦
+                let there = rw (is.0, is.1) at at in
                 let got : Some (length xs) ≡ Some i =
-                sym (with_name-here N x.kind (line_of_base g x.range) (Some (length xs)))
-                ∙ ap (with_name N x.kind (line_of_base g x.range) (Some (length xs)) x.kind)
-                (sym is.1)
-                ∙ ap (λ z. with_name N x.kind (line_of_base g x.range) (Some (length xs)) z q)
-                (sym is.0) ∙ at in (
+                sym (with_name-here N x.kind (line_of_base g x.range) (Some (length xs))) ∙ there in (
                   x,
                   ap (slice_get (xs ++ x ∷ [])) (sym (same_Some (length xs) i got))
                       ∙ slice_get-push xs x,
@@ -151,8 +145,7 @@ named-more N g xs x named none shaped =
       shaped = λ i y at.
           elim (slice_get-more xs x y i at) [
             | inl before ↦ named.shaped i y before
-            | inr last ↦ subst (λ (z : Kept). IsShaped g (line_of_base g z.range) z.kind z.range)
-                (sym last.1) shaped
+            | inr last ↦ rw last.1 shaped
           ];
     }
 
@@ -190,18 +183,13 @@ pub named-map : (N : Names) (g : Grid) (f : Kept → Kept) (xs : List Kept)
 named-map N g f xs kinds ranges named = record {
   placed = λ i y at.
       let w = came i y at in
-      ap (λ (z : Kept). N z.kind (line_of_base g z.range)) w.2
-      ∙ ap (λ j. N j (line_of_base g (f w.0).range)) (kinds w.0)
-      ∙ ap (λ (r : Range). N w.0.kind (line_of_base g r)) (ranges w.0) ∙ named.placed i w.0 w.1;
+      rw (w.2, kinds w.0, ranges w.0) (named.placed i w.0 w.1);
   named = λ j q i at.
       let v = named.named j q i at in
       (f v.0, slice_get-mapped i v.0 v.1, kinds v.0 ∙ v.2, ap (line_of_base g) (ranges v.0) ∙ v.3);
   shaped = λ i y at.
       let w = came i y at in
-      subst (λ (z : Kept). IsShaped g (line_of_base g z.range) z.kind z.range) (sym w.2)
-      (subst (λ j. IsShaped g (line_of_base g (f w.0).range) j (f w.0).range) (sym (kinds w.0))
-      (subst (λ (r : Range). IsShaped g (line_of_base g r) w.0.kind r) (sym (ranges w.0))
-      (named.shaped i w.0 w.1)));
+      rw (w.2, kinds w.0, ranges w.0) (named.shaped i w.0 w.1);
 }
   where
     slice_get-mapped : (i : ℕ) (x : Kept) → slice_get xs i ≡ Some x → slice_get (map f xs) i

@@ -38,9 +38,8 @@ pub pair-neighbours : (n k : ℕ) (xs : List Kept) (lower upper : Option ℕ) (x
     → ArePair n k xs lower upper
     → kept_at xs lower ≡ Some x → kept_at xs upper ≡ Some y → AreNeighbours x.range y.range
 pair-neighbours n k xs lower upper x y pair at up =
-    subst (λ r. AreNeighbours r y.range) (sym (pair.below.range x at))
-    (subst (λ r. AreNeighbours (range_of (native_line n k)) r) (sym (pair.above.range y up))
-    (native-neighbours n k pair.native (pair.below.reached x at) (pair.above.reached y up)))
+    rw (pair.below.range x at, pair.above.range y up)
+    (native-neighbours n k pair.native (pair.below.reached x at) (pair.above.reached y up))
 
 -- the search of two tracks gives their best pair
 pub pair-found : (n k : ℕ) (xs : List Kept) (lower upper within : Option ℕ) (x y : Kept)

@@ -4,7 +4,8 @@ use Rattle.std.proofs.Common.{Bool, true, false, List, [], ◌∷◌, length, Op
 use Rattle.std.proofs.Common.{unwrap_or, refl, sym, ◌∙◌, ap, subst, arith, ◌-◌, inl, inr}
 use Rattle.std.specs.Prelude.{nat_lt, slice_index_or, slice_set}
 use Rattle.std.proofs.Math.Nat.{div-add-mod}
-use Rattle.std.proofs.lemmas.Bool.{ltb-true, cases_lt}
+use Rattle.std.proofs.lemmas.Bool.{cases_Bool, eqb-false, ltb-true, cases_lt}
+use Rattle.sharing_rules.specs.Laws.Lists.{get-set_other, get-set_same}
 use Rattle.std.proofs.lemmas.Bool.Decides.{nat_tests}
 use Rattle.std.proofs.lemmas.Option.{slice_get-get_or, slice_get_past}
 use Rattle.std.specs.declared.vec.Vec.{Vec}
@@ -16,18 +17,9 @@ use Rattle.std.specs.declared.alloc.Global.{Global}
 use Rattle.detector.specs.declared.paged_index.PagedIndex.{PagedIndex}
 use Rattle.detector.specs.PagedEntries.{paged_entry}
 
-next_test : (a b : ℕ) → (a == b) ≡ (suc a == suc b)
-next_test a b = grind (arith, nat_tests)
-
 otherwise : {X : Type 0} (t : Bool) (x y : X) → t ≡ false → y ≡ if t then x else y
 otherwise true x y e = cc
 otherwise false x y e = refl
-
-above_zero : (k : ℕ) → (suc k == 0) ≡ false
-above_zero k = grind (arith, nat_tests)
-
-below_suc : (k : ℕ) → (0 == suc k) ≡ false
-below_suc k = grind (arith, nat_tests)
 
 is_same : (a b : ℕ) → (a == b) ≡ true → a ≡ b
 is_same a b e = grind (arith, nat_tests)
@@ -36,14 +28,10 @@ is_same a b e = grind (arith, nat_tests)
 pub slice_get-set : {X : Type 0} (xs : List X) (i : ℕ) (x : X) (k : ℕ) → i < length xs
     → slice_get (slice_set xs i x) k ≡ if k == i
     then Some x else slice_get xs k
-slice_get-set [] i x k h = absurd (omega arith)
-slice_get-set (y ∷ ys) zero x zero h = refl
-slice_get-set (y ∷ ys) zero x (suc k) h = otherwise (suc k == 0) (Some x) (slice_get ys k)
-    (above_zero k)
-slice_get-set (y ∷ ys) (suc i) x zero h = otherwise (0 == suc i) (Some x) (Some y) (below_suc i)
-slice_get-set (y ∷ ys) (suc i) x (suc k) h =
-    slice_get-set ys i x k (omega arith) ∙ ap (λ t. if t then Some x else slice_get ys k)
-    (next_test k i)
+slice_get-set xs i x k h = elim (cases_Bool (k == i)) [
+  | inl here ↦ rw (here, is_same k i here) (get-set_same xs i x h)
+  | inr other ↦ rw other (get-set_other xs i k x (eqb-false k i other))
+]
 
 -- an entry of a page was replaced
 pub page_entry-set : (page : List LineEntry) (i : ℕ) (e : LineEntry) (k : ℕ) → i < length page

@@ -305,9 +305,8 @@ pub due-after : (f : ℕ → LineEntry) (g : Grid) (xs ys : List Kept) (k : ℕ)
     → ys ≡ map (touched p a) xs → IsDue f g ys k task p T
 due-after f g xs ys k task p T a due is = record {
   indexed = subst (λ zs. IsIndexed f g zs T (p + 1)) (sym is)
-      (indexed-touched f f g xs T p a due.indexed (λ q. refl) (λ q. refl) (λ q. refl)
-      (λ q. omega arith) (λ q. let w = due.indexed.written q
-      in omega arith));
+      (indexed-touched f f g xs T p a due.indexed refl (λ q. omega arith)
+      (λ q. let w = due.indexed.written q in omega arith));
   positive = due.positive;
   due = due.due;
   written = due.indexed.written k;

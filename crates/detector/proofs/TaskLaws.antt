@@ -77,9 +77,7 @@ begun-named N g xs k p a true own named some reached none is =
     (noted-kind (waiting Observed (range_of (grid_line g k))) p a)
     (shaped-line g k Observed (begun g k p a).range some shaped) (none refl) shaped)
 begun-named N g xs k p a false own named some reached none is =
-    subst (λ o. IsNamed (with_name N Observed k o) g (xs ++ [])) (sym is)
-    (subst (λ (M : Names). IsNamed M g (xs ++ [])) (sym (with_name-same N Observed k))
-    (subst (λ zs. IsNamed N g zs) (sym (append-nil xs)) named))
+    rw (is, with_name-same N Observed k, append-nil xs) named
 
 -- a range that opens, if there is one
 pub waiting-named : (N : Names) (g : Grid) (xs : List Kept) (kind : LineKind) (k : ℕ)
@@ -88,8 +86,7 @@ pub waiting-named : (N : Names) (g : Grid) (xs : List Kept) (kind : LineKind) (k
     → IsNamed (with_name N kind k (option_map (λ r. length xs) o)) g
     (xs ++ waiting_for kind o)
 waiting-named N g xs kind k None named some opens =
-    subst (λ (M : Names). IsNamed M g (xs ++ [])) (sym (with_name-none N kind k))
-    (subst (λ zs. IsNamed N g zs) (sym (append-nil xs)) named)
+    rw (with_name-none N kind k, append-nil xs) named
 waiting-named N g xs kind k (Some r) named some opens =
     let w = opens r refl in
     named-more-as N g xs (waiting kind r) kind k named refl

@@ -5,7 +5,6 @@ use Rattle.std.proofs.Common.{arith, inl, inr}
 use Rattle.std.proofs.lemmas.Bool.{cases_Bool, false≢true, eqb-true, and_parts}
 use Rattle.std.proofs.lemmas.Int.{ints}
 use Rattle.std.proofs.lemmas.List.Sorted.{IsPermutation-sym}
-use Rattle.std.proofs.lemmas.Nat.{div-mul-add}
 use Rattle.std.proofs.lemmas.Option.{none-some, same_Some}
 use Rattle.std.specs.Prelude.{pos, ◌+ℤ◌, ◌-ℤ◌, nat_abs, IsTrue, eqb, ◌&&◌, option_map}
 use Rattle.std.specs.Prelude.{option_and_then, option_to_list}
@@ -41,6 +40,7 @@ use Rattle.line_tracks.specs.Laws.WordLines.{layout-sized}
 use Rattle.detector.specs.Named.{is_named, line_of_base, track_named}
 use Rattle.detector.specs.Standing.{HasEach, StandsFor, opened_at}
 use Rattle.detector.specs.Watch.{Watch}
+use Rattle.detector.proofs.ShapeLaws.{line_from_base_0}
 use Rattle.detector.proofs.NamedLaws.{is_named-from, is_named-true}
 
 -- A layout and thresholds under which lines may be kept.
@@ -63,9 +63,6 @@ under g v P may e =
     record { native = parts.0; offset = eqb-true g.offset 0 parts.1; prediction = e }
 
 -- The number of the line in which a kept line begins.
-line_start : (n o k : ℕ) → nat_abs (pos (k * n + o) -ℤ pos n +ℤ pos n -ℤ pos o) ≡ k * n + 0
-line_start n o k = omega (arith, ints)
-
 far_base : (n b : ℕ) → nat_abs (pos b +ℤ pos n -ℤ pos 0) ≡ b + n
 far_base n b = omega (arith, ints)
 
@@ -91,9 +88,8 @@ observed-at g v t k o allowed e =
     let some = (layout-sized g.size g.offset allowed).0 in
     record {
       kind = is.kind;
-      number = ap (λ (l : Line). line_of_base g (range_of l)) is.line
-          ∙ ap (λ z. z / g.size) (line_start g.size g.offset k)
-          ∙ div-mul-add k g.size 0 (omega arith);
+      number = line_from_base_0 g k (range_of o.line) (omega arith)
+          (ap (λ (l : Line). (range_of l).base) is.line);
       layout = ap (λ (l : Line). is_layout l.size l.offset) is.line ∙ allowed;
       from = is.from;
     }

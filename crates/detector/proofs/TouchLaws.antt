@@ -13,7 +13,7 @@ use Rattle.detector.specs.declared.line_entry.LineEntry.{LineEntry}
 use Rattle.sharing_rules.specs.Listed.{rank}
 use Rattle.sharing_rules.specs.declared.line_kind.LineKind.{LineKind}
 use Rattle.sharing_rules.specs.declared.line_kind.LineKind.TheVariants.{Observed, Shifted, Doubled}
-use Rattle.line_tracks.specs.Kept.{IsBlank, IsInTime, Kept}
+use Rattle.line_tracks.specs.Kept.{Kept}
 use Rattle.detector.specs.Named.{line_of_base, number_of}
 use Rattle.detector.specs.Index.{IsIndexed, IsNamed, IsShaped, Names, names_in}
 use Rattle.detector.specs.Noting.{AreInTime, CanTouch, CanTouchAll, places, touched_at}
@@ -214,35 +214,25 @@ places-touched f g xs p a small named =
 -- the entries name the tracks that were noted, after more writes
 pub indexed-touched : (f h : ℕ → LineEntry) (g : Grid) (xs : List Kept) (T p : ℕ) (a : Touch)
     → IsIndexed f g xs T p
-    → ((q : ℕ) → (h q).track ≡ (f q).track) → ((q : ℕ) → (h q).shifted ≡ (f q).shifted)
-    → ((q : ℕ) → (h q).doubled ≡ (f q).doubled)
-    → ((q : ℕ) → (f q).writes ≤ (h q).writes) → ((q : ℕ) → (h q).writes ≤ p + 1)
+    → names_in h ≡ names_in f → ((q : ℕ) → (f q).writes ≤ (h q).writes) → ((q : ℕ) → (h q).writes ≤ p + 1)
     → IsIndexed h g (map (touched p a) xs) T (p + 1)
-indexed-touched f h g xs T p a indexed tracks shifted doubled more few = record {
-  names = subst (λ N. IsNamed N g (map (touched p a) xs)) same
+indexed-touched f h g xs T p a indexed same more few = record {
+  names = subst (λ N. IsNamed N g (map (touched p a) xs)) (sym same)
       (named-map (names_in f) g (touched p a) xs (touched-kind p a)
       (touched-range p a) indexed.names);
-  late = λ k i e. let before = indexed.late k i (sym (tracks k) ∙ e) in let up = more k in
+  late = λ k i e.
+      let before = indexed.late k i (sym (ap (λ (N : Names). N Observed k) same) ∙ e) in
+      let up = more k in
       omega arith;
   written = few;
   in_time = λ i y at.
       let w = mapped-came (touched p a) xs i y at in
-      subst (λ (x : Kept). IsInTime x (p + 1)) (sym w.2)
-      (touched-in_time w.0 p a (indexed.in_time i w.0 w.1) (indexed.blank i w.0 w.1));
+      rw w.2 (touched-in_time w.0 p a (indexed.in_time i w.0 w.1) (indexed.blank i w.0 w.1));
   blank = λ i y at.
       let w = mapped-came (touched p a) xs i y at in
-      subst (λ (x : Kept). x.start ≡ None → IsBlank x) (sym w.2)
-      (touched-blank w.0 p a (indexed.blank i w.0 w.1));
+      rw w.2 (touched-blank w.0 p a (indexed.blank i w.0 w.1));
   few = let up = indexed.few in subst (λ n. n ≤ 2 ^ 31) (sym (length-map xs (touched p a))) up;
 }
-  where
-    each : (kind : LineKind) (q : ℕ) → names_in f kind q ≡ names_in h kind q
-    each Observed q = sym (tracks q)
-    each Shifted q = sym (shifted q)
-    each Doubled q = sym (doubled q)
-
-    same : names_in f ≡ names_in h
-    same = λ i kind q. each kind q i
 
 -- A line's own track and the doubled one of its even pair hold each address of the line.
 
@@ -270,12 +260,8 @@ doubled-held g j a r small shaped low high =
     let from : j * g.size ≤ (a + g.size - g.offset) / g.size * g.size = grind (arith, low) in
     let to : (a + g.size - g.offset) / g.size * g.size ≤ (j + 1) * g.size = grind (arith, high) in
     let next : (j + 1) * g.size ≡ j * g.size + g.size = omega arith in
-    ap (λ b. holds_address (record { base = b; size = r.size }) a) shaped.2
-    ∙ ap (λ s. holds_address (record {
-      base = pos (j * g.size + g.offset) -ℤ pos g.size;
-      size = s;
-    }) a) shaped.1
-    ∙ two_hold (j * g.size + g.offset) g.size a (omega arith) (omega arith)
+    rw (shaped.2, shaped.1)
+    (two_hold (j * g.size + g.offset) g.size a (omega arith) (omega arith))
 
 pub places-held : (f : ℕ → LineEntry) (g : Grid) (xs : List Kept) (p : ℕ) (a : Touch) (k : ℕ)
     → g.offset < g.size → k ≡ number_of g a → IsNamed (names_in f) g xs

@@ -25,37 +25,13 @@ with_name N kind k o j q = if (rank j == rank kind) && (q == k) then option_or o
 
 -- an entry with a place for a kind, if one is given
 abbrev pub with_place : LineEntry → LineKind → Option ℕ → LineEntry
-with_place e Observed o = record {
-  writes = e.writes;
-  track = option_or o e.track;
-  shifted =
-      e.shifted;
-  doubled = e.doubled;
-}
-with_place e Shifted o = record {
-  writes = e.writes;
-  track = e.track;
-  shifted =
-      option_or o e.shifted;
-  doubled = e.doubled;
-}
-with_place e Doubled o = record {
-  writes = e.writes;
-  track = e.track;
-  shifted = e.shifted;
-  doubled =
-      option_or o e.doubled;
-}
+with_place e Observed o = record e { track = option_or o e.track }
+with_place e Shifted o = record e { shifted = option_or o e.shifted }
+with_place e Doubled o = record e { doubled = option_or o e.doubled }
 
 -- an entry after one write more
 abbrev pub counted : LineEntry → LineEntry
-counted e = record {
-  writes = e.writes + 1;
-  track = e.track;
-  shifted = e.shifted;
-  doubled =
-      e.doubled;
-}
+counted e = record e { writes = e.writes + 1 }
 
 -- where the tracks stand of what opens, behind others
 abbrev pub opened_places : List Kept → Openings → Opened

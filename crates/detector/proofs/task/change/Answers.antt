@@ -1,4 +1,4 @@
-use Rattle.std.proofs.Common.{length, refl, ap, ◌∙◌}
+use Rattle.std.proofs.Common.{refl, ap, ◌∙◌}
 use Rattle.detector.specs.Entries.{entry_at}
 use Rattle.detector.specs.Tasks.{task_opens}
 use Rattle.detector.proofs.SettleLaws.{task-begun, task-below, task-doubled, task-indexed}
