@@ -104,7 +104,6 @@ pub added-indexed : (m n : Entries) (g : Grid) (xs ys : List Kept) (v : Levels) 
 added-indexed m n g xs ys v p k x addable line names writes room is =
     let can = addable.can in
     let indexed = addable.indexed in
-    let N : Names = names_in (entry_at m) in
     let now : names_in (entry_at n) ≡ with_name (names_in (entry_at m)) x.kind
     (line_of_base g x.range) (Some (length xs)) =
     names ∙ ap (λ q. with_name (names_in (entry_at m)) x.kind q (Some (length xs))) line in

@@ -349,7 +349,6 @@ pub after-idle : (m : Entries) (xs : List Kept) (g : Grid) (v : Levels) (p k : �
     → (task.begins || (task.searches && not (have_opened (places (entry_at m) k)))) ≡ false
     → map (touched p a) xs ≡ tracks_after (watch_of m xs g v p) k a
 after-idle m xs g v p k a task writes t named idle =
-    let ys = map (touched p a) xs in
     let parts = or_parts task.begins (task.searches && not (have_opened (places (entry_at m) k)))
     idle in
     let names : IsNamed (names_in (entry_at m)) g (map (touched p a) xs) =

@@ -169,7 +169,6 @@ made_predicted : (g : Grid) (v : Levels) (t : AccessList) (P : ℕ) → v.predic
     → is_native_size g.size ≡ true → g.offset ≡ 0
     → Made g v t
 made_predicted g v t P some native start =
-    let n : ℕ = g.size in
     let grid : g ≡ native_grid g.size = native_of g start in
     record {
       observed = observed_ones g v.tracking t;
@@ -213,7 +212,6 @@ total : (f : Kept → ℕ) (t : AccessList) (w : Watch) (m : Made w.grid w.level
     → sum_by f w.tracks ≡ sum_by (λ o. f (kept_in t o)) m.observed
     + (sum_by (λ o. f (kept_in t o)) m.shifted + sum_by (λ o. f (kept_in t o)) m.doubled)
 total f t w m stands =
-    let h : Opened → ℕ = λ o. f (kept_in t o) in
     sym (sum_by-IsPermutation f w.tracks (map (kept_in t) (opened w.grid w.levels t)) stands.tracks)
     ∙ sum_mapped f (kept_in t) (opened w.grid w.levels t)
     ∙ ap (λ os. sum_by (λ o. f (kept_in t o)) os) m.all
@@ -302,7 +300,6 @@ words_total : (t : AccessList) (w : Watch) (m : Made w.grid w.levels t) → Stan
     → word_count w ≡ w.grid.size / 4 * length m.observed
     + (w.grid.size / 4 * length m.shifted + 2 * w.grid.size / 4 * length m.doubled)
 words_total t w m stands =
-    let n : ℕ = w.grid.size in
     let a = each_is (λ o. length (kept_in t o).words) (w.grid.size / 4) m.observed
     (λ o e. words_of_size t o w.grid.size (m.observed_are o e).1) in
     let b = each_is (λ o. length (kept_in t o).words) (w.grid.size / 4) m.shifted
@@ -326,7 +323,6 @@ pub few_words : (t : AccessList) (w : Watch) → is_layout w.grid.size w.grid.of
     → StandsFor t w → HasFewWords w
 few_words t w allowed may stands =
     let m = made w.grid w.levels t may in
-    let q : ℕ = w.grid.size / 4 in
     let o = observed_total t w m stands in
     let e = words_total t w m stands in
     let twice : 2 * w.grid.size / 4 * length m.doubled ≡ w.grid.size / 4 * (2 * length m.doubled) =

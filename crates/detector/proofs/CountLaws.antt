@@ -89,9 +89,7 @@ counts-same m k e h some =
     get-counts_of (with_entry m k e) q ∙ ap (option_map (λ (x : LineEntry). x.writes))
     (get-with_entry m k e q)
     ∙ elim (cases_Bool (eqb q k)) [
-      | inl here ↦ rw here (there (finite.get m k) refl
-          ∙ ap (λ o. option_map (λ (x : LineEntry). x.writes) o)
-          (ap (finite.get m) (sym (eqb-true q k here))))
+      | inl here ↦ rw (here, eqb-true q k here) (there (finite.get m k) refl)
       | inr other ↦ rw other
     ]
     ∙ sym (get-counts_of m q))
@@ -116,8 +114,7 @@ with_entry-same m k only =
     (λ q.
     get-with_entry m k (entry_at m k) q
     ∙ elim (cases_Bool (eqb q k)) [
-      | inl here ↦ rw here (held (finite.get m k) (only k)
-          ∙ ap (finite.get m) (sym (eqb-true q k here)))
+      | inl here ↦ rw (here, eqb-true q k here) (held (finite.get m k) (only k))
       | inr other ↦ rw other
     ])
   where

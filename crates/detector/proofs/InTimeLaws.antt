@@ -33,7 +33,6 @@ words_more v a =
     elim (slice_cases (slice_get v.words (place_of v.range a.addr))) [
       | inl none ↦ rw none (omega arith)
       | inr some ↦
-          let i : ℕ = place_of v.range a.addr in
           let set : sum_by accesses (slice_set v.words (place_of v.range a.addr)
           (note_word some.0 a)) + accesses
           (get_or v.words (place_of v.range a.addr) some.0)
@@ -70,7 +69,7 @@ in_time_from None x p a is h quiet =
           let since : IsSince (started x p a) (p + 1) p =
           record { later = omega arith; accessed = omega arith; counted = omega arith } in
           subst (λ b. IsInTime (if b then started x p a else x) (p + 1)) (sym w) since
-      | inr w ↦ subst (λ b. IsInTime (if b then started x p a else x) (p + 1)) (sym w) (rw is tt)
+      | inr w ↦ rw (w, is) tt
     ]
 in_time_from (Some s) x p a is h quiet =
     let more = words_more (words_of x) a in

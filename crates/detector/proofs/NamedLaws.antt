@@ -105,7 +105,6 @@ pub named-more : (N : Names) (g : Grid) (xs : List Kept) (x : Kept) → IsNamed 
     → IsNamed (with_name N x.kind (line_of_base g x.range) (Some (length xs))) g
     (xs ++ x ∷ [])
 named-more N g xs x named none shaped =
-    let k : ℕ = line_of_base g x.range in
     record {
       placed = λ i y at.
           elim (slice_get-more xs x y i at) [

@@ -28,11 +28,11 @@ use Rattle.sharing_rules.specs.Laws.Lists.{slice_cases}
 
 -- what is read at a place that is named
 pub read_at : (xs ys : List Kept) (o : Option ℕ) (i : ℕ) (x : Kept) → o ≡ Some i → ys ≡ xs
-    → i < length xs → x ≡ get_or ys i x
+    → ((j : ℕ) → o ≡ Some j → j < length xs) → x ≡ get_or ys i x
     → kept_at xs o ≡ Some x
 read_at xs ys o i x is same within read =
-    ap (kept_at xs) is ∙ slice_get-get_or xs i x within ∙ ap (λ zs. Some (get_or zs i x)) (sym same)
-    ∙ ap Some (sym read)
+    ap (kept_at xs) is ∙ slice_get-get_or xs i x (within i is)
+    ∙ ap (λ zs. Some (get_or zs i x)) (sym same) ∙ ap Some (sym read)
 
 pub pair-neighbours : (n k : ℕ) (xs : List Kept) (lower upper : Option ℕ) (x y : Kept)
     → ArePair n k xs lower upper
@@ -63,7 +63,6 @@ pair-found n k xs lower upper within x y r pair at up sized sized_up is =
       | inl none ↦
           rw (now, none) (best ∙ none)
       | inr some ↦
-          let p = some.0 in
           let pairs = best-is_pair x.words y.words (reach n within) some.0 some.1 in
           let lower_in = pairs.lower_in in
           let upper_in = pairs.upper_in in
@@ -101,7 +100,6 @@ pub shifted-shaped : (n k : ℕ) (xs : List Kept) (lower upper : Option ℕ) (pa
     → SomeIff o P (range_of (line_from n (shifted_base n pair.x pair.y))) → o ≡ Some r
     → IsShaped (native_grid n) k Shifted r
 shifted-shaped n k xs lower upper pair o r P native found value e =
-    let p = found.places in
     let is : r ≡ range_of (shifted_around n k found.places) =
     some_value o P (range_of (line_from n (shifted_base n pair.x pair.y))) r value e
     ∙ rw (found.lower_at, found.upper_at) in

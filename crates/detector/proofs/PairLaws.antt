@@ -148,7 +148,6 @@ address_in n m i less = let swap : n * m + 4 * i ≡ m * n + 4 * i =
 
 word_in : (n m i : ℕ) → n % 4 ≡ 0 → (n * m + 4 * i) % 4 ≡ 0
 word_in n m i words =
-    let q : ℕ = n / 4 in
     let is : n ≡ n / 4 * 4 = omega arith in
     let all : n * m ≡ n / 4 * m * 4 = ap (λ z. z * m) is ∙ four (n / 4) m in
     omega arith
@@ -182,8 +181,6 @@ pub shifted-begins : (n k : ℕ) (p : ℕ × ℕ) → IsNative n → 1 ≤ k →
     → (d : ℕ) × (d < n) × ((range_of (shifted_around n k p)).base ≡ (pos (k * n + 0 + d) -ℤ pos n))
 shifted-begins n k p native some lower upper near =
     let words = pair-words n k p native some lower upper in
-    let x : ℕ = word_address n k p.0 in
-    let y : ℕ = word_address n (k + 1) p.1 in
     let begins = words.begins in
     let upper_is = words.upper_is in
     let size = native.some in

@@ -62,7 +62,6 @@ pub quiet_tracks : (t : AccessList) (w : Watch) → is_layout w.grid.size w.grid
     → StandsFor t w
     → AreQuietWhereFalse t w
 quiet_tracks t w allowed may stands =
-    let os = opened w.grid w.levels t in
     let each = all_of_members (λ o. IsQuietWhereFalse t (kept_in t o)) (opened w.grid w.levels t)
     (λ o m. quiet_kept t o
     (good_lines w.grid w.levels t o (record { allowed = allowed; may = may }) m).0) in

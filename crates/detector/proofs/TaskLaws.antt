@@ -188,9 +188,7 @@ unopened-named N g xs k own named =
     k None) Doubled (even_lower k)
     ∙ with_name-none (with_name (with_name N Observed k own) Shifted (k - 1) None) Shifted k
     ∙ with_name-none (with_name N Observed k own) Shifted (k - 1) in
-    subst (λ (M : Names). IsNamed M g (xs ++ [])) (sym same)
-    (subst (λ zs. IsNamed (with_name N Observed k own) g zs) (sym (append-nil xs))
-    named)
+    rw (same, append-nil xs) named
 
 -- one element more at the end
 pub added-at : (xs ys : List Kept) (x : Kept) (i : ℕ) → ys ≡ xs ++ x ∷ [] → i ≡ length xs

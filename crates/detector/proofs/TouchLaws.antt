@@ -195,7 +195,6 @@ pub places-touched : (f : ℕ → LineEntry) (g : Grid) (xs : List Kept) (p : �
     → g.offset < g.size → IsNamed (names_in f) g xs
     → touched_places p a (places f (number_of g a)) xs ≡ map (touched p a) xs
 places-touched f g xs p a small named =
-    let k = number_of g a in
     change_four (touched p a) (places f (number_of g a)).own (places f (number_of g a)).shifted
     (places f (number_of g a)).below
     (places f (number_of g a)).doubled xs
@@ -253,7 +252,6 @@ doubled-held : (g : Grid) (j a : ℕ) (r : Range) → g.offset < g.size → IsSh
     → j ≤ line_number g.size g.offset a → line_number g.size g.offset a ≤ j + 1
     → holds_address r a ≡ true
 doubled-held g j a r small shaped low high =
-    let q : ℕ = a + g.size - g.offset in
     let some : 0 < g.size = omega arith in
     let split = div-add-mod' (a + g.size - g.offset) g.size in
     let rest = mod-lt (a + g.size - g.offset) some in

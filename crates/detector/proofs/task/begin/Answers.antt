@@ -29,8 +29,6 @@ note-requires-clause-ready g c = λ x got.
 
 pub returns-in-Ok-clause-begun : goal.returns-in-Ok-clause-begun
 returns-in-Ok-clause-begun g c =
-    let xs = c.args.tracks.now in
-    let w : Kept = waiting Observed c.line_of.result in
     let at = added-at c.args.tracks.now c.add.new.tracks (waiting Observed c.line_of.result)
     c.in-Ok.place c.in-Ok.ensures.added c.in-Ok.ensures.place in
     c.note.ensures.exact (waiting Observed c.line_of.result) at

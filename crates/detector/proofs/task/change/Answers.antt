@@ -84,7 +84,6 @@ returns-in-Err-open-clause-known g c = λ still none.
 
 pub returns-in-Err-open-clause-kept : goal.returns-in-Err-open-clause-kept
 returns-in-Err-open-clause-kept g c =
-    let f = entry_at (g.I.LineIndex.entries c.args.index.now) in
     task-kept c.args.layout c.args.tracks.now c.own_place.new.tracks c.open.new.tracks _
     c.args.position c.args.access c.args.task.begins
     c.in-Ok.ensures.tracks c.in-Err-open.ensures.kept

@@ -26,7 +26,6 @@ below_other k some e = absurd (omega arith)
 pub search-requires : goal.search-requires
 search-requires g c =
     let f = entry_at (g.I.LineIndex.entries c.args.index.now) in
-    let k = c.args.line in
     let grid : IsNativeGrid c.args.layout = c.requires.native c.if-not-searches.false in
     let low = (reached-native c.args.layout c.args.line grid.size grid.offset
     c.requires.reached).some in

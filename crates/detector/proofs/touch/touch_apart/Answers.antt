@@ -1,4 +1,4 @@
-use Rattle.std.proofs.Common.{◌≡◌, ℕ, ◌+◌, ◌<◌, ◌≤◌, refl, sym, ap, ◌∙◌, subst, arith}
+use Rattle.std.proofs.Common.{◌≡◌, ◌+◌, ◌≤◌, refl, sym, ap, ◌∙◌, subst, arith}
 use Rattle.std.specs.Prelude.{false, not, ◌&&◌, ◌||◌}
 use Rattle.detector.specs.declared.track_places.Places.{Places}
 use Rattle.detector.specs.declared.line_entry.LineEntry.{LineEntry}
@@ -12,9 +12,6 @@ use Rattle.detector.proofs.AfterLaws.{native-grid, notable, quiet, read-indexed,
 use Rattle.detector.proofs.AfterLaws.{steps-within, task-lent, writes-few}
 use Rattle.detector.specs.Tasks.{search_steps}
 use Rattle.detector.proofs.touch.touch_apart.Goals as goal
-
-never-written : (n : ℕ) → 0 < n → n ≡ 0 → ⊥
-never-written n some none = omega arith
 
 pub note-requires-clause-notable : goal.note-requires-clause-notable
 note-requires-clause-notable g c =
@@ -163,4 +160,4 @@ returns-in-Err-clause-known g c =
     (sym c.kind.ensures ∙ c.in-Write.is)) none in
     let zero : (entry_at m c.args.line).writes ≡ 0 =
     ap (λ (e : LineEntry). e.writes) c.in-Err.ensures.blank in
-    absurd (never-written _ w zero)
+    absurd (omega arith)
