@@ -58,7 +58,7 @@ use Rattle.saved_state.specs.Units.{some_unless}
 use Rattle.sharing_rules.specs.Lines.{number_of_base}
 
 -- what is good and spelled is read
-spelled_again : {X : Type 0} (spell : X → List ℕ) (good : X → Bool) (x y : X) (more : List ℕ)
+pub spelled_again : {X : Type 0} (spell : X → List ℕ) (good : X → Bool) (x y : X) (more : List ℕ)
     → x ≡ y → good y ≡ true → if_spelled spell (good x) x (spell y ++ more) ≡ Some y
 spelled_again spell good x y more same is_good =
     let begins : starts_with nat_eq (spell y ++ more) (spell y) ≡ true =
@@ -479,7 +479,7 @@ track_again h lines before x more header good placed sized =
 -- ---- the whole
 
 -- units that are each read beside those before them
-units_again : {X : Type 0} (unit : List X → List ℕ → Option X) (spell : X → List ℕ)
+pub units_again : {X : Type 0} (unit : List X → List ℕ → Option X) (spell : X → List ℕ)
     (P : List X → X → Type 0)
     → ((before : List X) (x : X) (more : List ℕ) → P before x
     → unit before (spell x ++ more) ≡ Some x)
