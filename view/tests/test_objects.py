@@ -12,7 +12,9 @@ sys.path[:0] = [os.path.dirname(HERE), os.path.join(HERE, "..", "..", "tools")]
 import advice  # noqa: E402
 import compare  # noqa: E402
 import library  # noqa: E402
+from calling import built  # noqa: E402
 from calls import Call  # noqa: E402
+from fields import Program  # noqa: E402
 from model import Seen, View  # noqa: E402
 from judge_report import Access, Case, Ending, trace_of  # noqa: E402
 from keys import OfSymbol  # noqa: E402
@@ -34,10 +36,10 @@ def report_of(rows):
     return Report(HEAD + f"lines {lines}\n" + "".join(f"{it}\n" for it in rows) + "end\n")
 
 
-def view_of(rows, misses=None, memory=None, each=None, by_word=None):
+def view_of(rows, misses=None, memory=None, each=None, by_word=None, program=None):
     """What is seen of a report of these rows."""
     report = report_of(rows)
-    view = View(Call(["r"]), report, Naming(report, memory=memory))
+    view = View(Call(["r"]), report, Naming(report, program, memory=memory))
     view.misses = Misses(misses) if misses else None
     view.each = report_of(each) if each else None
     view.by_word = Misses(by_word) if by_word else None
@@ -155,10 +157,12 @@ class Advised(unittest.TestCase):
 
     def test_words_of_a_stack(self):
         rows = ["line observed 0x0100ffc0 64 start 0 count 300 verdict true", word(0x100FFC0, 5, 50, "many")]
-        view = view_of(rows, memory=Memory((0xF90000, 0x1010000), 8))
-        (told,) = view.seen(view.things[0]).words
-        self.assertEqual((told.name, told.kind), ("0x0100ffc0, 64 below its top", WordKind(False, False)))
-        self.assertNotIn("several fields", view.seen(view.things[0]).todo)
+        # (without debug information and with it)
+        for program in (None, Program(built("odd.elf"))):
+            view = view_of(rows, memory=Memory((0xF90000, 0x1010000), 8), program=program)
+            (told,) = view.seen(view.things[0]).words
+            self.assertEqual((told.name, told.kind), ("0x0100ffc0, 64 below its top", WordKind(False, False)))
+            self.assertNotIn("several fields", view.seen(view.things[0]).todo)
 
     def test_all_groups_are_told(self):
         shared = [used(f"lock.{it}", 4 * at, 90) for at, it in enumerate("abcdefg")]
