@@ -364,6 +364,17 @@ class Objects(unittest.TestCase):
         (thing,) = view_of(rows).things
         self.assertEqual((thing.name, len(thing.lives)), ("block made in make", 4))
 
+    def test_a_call_site_is_known_by_its_name_on_the_screen(self):
+        rows = ["line observed 0x00002000 64 start 0 count 300 verdict false", "object block 0x00002000 64 born 1 live"]
+        rows += ["site 0x00000100 _ZN4pool4giveEm", "site 0x00000200 main", word(0x2000, 5, 50, "hart 1")]
+        view = view_of(rows)
+        names = view.naming.names_of_site(view.things[0].example)
+        self.assertEqual(names, {"pool::give", "pool::give(unsigned long)", "_ZN4pool4giveEm", "0x00000100"})
+        self.assertIn(" block made in pool::give", "\n".join(screen(view, Paint(io.StringIO()))))
+        view.naming.types = [("pool::take", "node")]
+        view.note_idle()
+        self.assertEqual(view.notes, ["`--type pool::take=..` matches nothing: blocks that are fought over are made at pool::give"])
+
     def test_the_small_and_the_long_lived_block_has_the_word(self):
         arena, node = Block(0x1000, 4096, 0, None, ()), Block(0x1010, 16, 5, 900, ())
         self.assertEqual(holder([arena, node], 0x1014), node)
