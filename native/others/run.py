@@ -138,6 +138,14 @@ def recorded(study: Study, program: str, folder: str) -> str:
     return trace
 
 
+def is_named(name: str) -> bool:
+    """Whether an object is called by a name or a line of a source, and not by places alone, as `block made in fd+0x1e42e2 < fd+0x34231`."""
+    if re.match("memory at|block without", name):
+        return False
+    parts = re.split(r" < | and ", re.sub(r"^(?:block (?:of \S+ )?made|block used|memory used) (?:in|at) | \(.*", "", name))
+    return not all(re.fullmatch(r"\S+\+0x[0-9a-f]+|0x[0-9a-f]+", it) for it in parts)
+
+
 def row(study: Study, program: str) -> list[object]:
     """What is counted of a program: all, and what is looked at; and how much of what is useless has a name or a line."""
     with tempfile.TemporaryDirectory(prefix="predator-others-") as folder:
@@ -147,7 +155,7 @@ def row(study: Study, program: str) -> list[object]:
         found, size = json.loads(told), os.path.getsize(trace)
     total, objects = found["total"], found["objects"]
     own = [it for it in objects if any(what in it["name"] + json.dumps(it["sites"]) for what in study.looked_at)]
-    known = sum(it["useless"] for it in objects if not re.match("memory at|block without", it["name"]))
+    known = sum(it["useless"] for it in objects if is_named(it["name"]))
     return [
         os.path.basename(program),
         f"{found['accesses']:,}",
