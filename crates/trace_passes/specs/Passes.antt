@@ -116,6 +116,11 @@ trace_with passed items =
           passed.ending;
     }
 
+-- the parts that a pass gives are those of the trace that these bytes are
+abbrev pub IsTraceOf : Passed → List ℕ → Type 0
+IsTraceOf passed bytes =
+    (items : List TraceRecord) × (trace_of bytes ≡ Some (trace_with passed items))
+
 -- There are bytes, the held ones of the name where these are told, that are such a trace, whose
 -- records were given.
 pub record HasPassed (held : Option Files) (name : List ℕ) (passed : Passed)
