@@ -17,6 +17,7 @@ mod files;
 mod memory;
 mod never_fails;
 mod outputs;
+mod read_log;
 mod shelf;
 mod sink;
 mod whole_file;
