@@ -2,7 +2,6 @@
 use Rattle.std.proofs.Common.{◌≡◌, ℕ, zero, suc, ◌+◌, ◌-◌, ◌*◌, ◌<◌, Bool, true, false, ◌&&◌, leb}
 use Rattle.std.proofs.Common.{List, [], ◌∷◌, ◌++◌, length, drop, replicate, refl, sym, ap, ◌∙◌}
 use Rattle.std.proofs.Common.{arith, append_assoc, append-nil}
-use Rattle.std.proofs.lemmas.Bool.{and_parts, and_from}
 use Rattle.std.proofs.lemmas.Bool.Decides.{nat_tests}
 use Rattle.std.proofs.lemmas.Grind.{flat_map-append}
 use Rattle.std.proofs.lemmas.List.{drop-drop}
@@ -18,7 +17,6 @@ use Rattle.saved_state.specs.Laws.Lengths.{length-words}
 use Rattle.saved_state.specs.Parts.{are_words, is_word_within, word_in}
 use Rattle.saved_state.specs.Spelling.{spell_word}
 use Rattle.saved_state.specs.Units.{is_good_word, word_at, words_at, words_from}
-use Rattle.sharing_rules.specs.Laws.Held.{same_bool}
 
 -- bytes begin with two texts where they begin with the first, and behind it with the second
 pub starts_append : (bs p q : List ℕ) → starts_with nat_eq bs (p ++ q)
@@ -62,23 +60,14 @@ length-words_at n bytes = length-words_from n (drop 32 bytes)
 -- three tests of two parts each
 by_parts : (a g l k b c : Bool) → (((a && g) && (l && k)) && (b && c))
     ≡ (((a && l) && b) && ((g && k) && c))
-by_parts a g l k b c = same_bool _ _
-    (λ h.
-    let p = and_parts ((a && g) && (l && k)) (b && c) h in
-    let q = and_parts (a && g) (l && k) p.0 in
-    let ag = and_parts a g q.0 in
-    let lk = and_parts l k q.1 in
-    let bc = and_parts b c p.1 in
-    and_from _ _ (and_from _ _ (and_from _ _ ag.0 lk.0) bc.0)
-    (and_from _ _ (and_from _ _ ag.1 lk.1) bc.1))
-    (λ h.
-    let p = and_parts ((a && l) && b) ((g && k) && c) h in
-    let q = and_parts (a && l) b p.0 in
-    let al = and_parts a l q.0 in
-    let r = and_parts (g && k) c p.1 in
-    let gk = and_parts g k r.0 in
-    and_from _ _ (and_from _ _ (and_from _ _ al.0 gk.0) (and_from _ _ al.1 gk.1))
-    (and_from _ _ q.1 r.1))
+by_parts true true true true b c = refl
+by_parts true true true false true c = refl
+by_parts true true true false false c = refl
+by_parts true true false k b c = refl
+by_parts true false true k true c = refl
+by_parts true false true k false c = refl
+by_parts true false false k b c = refl
+by_parts false g l k b c = refl
 
 few_both : (s a most : ℕ) → leb (s + a) most ≡ (leb s most && leb a (most - s))
 few_both s a most = grind (arith, nat_tests)

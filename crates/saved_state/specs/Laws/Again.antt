@@ -5,7 +5,7 @@ use Rattle.std.proofs.Common.{◌++◌, length, refl, sym, ap, ◌∙◌, subst,
 use Rattle.std.proofs.Common.{append_assoc, append-nil, get_or}
 use Rattle.std.proofs.Math.Nat.{div-mul-le_self, mul-div_left}
 use Rattle.std.proofs.Math.Seq.{drop-append_seam}
-use Rattle.std.proofs.lemmas.Bool.{and_parts, and_from}
+use Rattle.std.proofs.lemmas.Bool.{and_parts, and_from, eqb-true, leb-true, ltb-true}
 use Rattle.std.proofs.lemmas.Bool.Decides.{Decides-eqb, nat_tests}
 use Rattle.std.proofs.lemmas.Int.{ints, to_z-of_z}
 use Rattle.std.proofs.lemmas.List.{length-append}
@@ -114,11 +114,8 @@ rules_of h good =
       tracking = p1.1;
       prediction = p2.1;
       harts = p3.1;
-      position = at_most h.position (2 ^ 40) p4.1;
+      position = leb-true h.position (2 ^ 40) p4.1;
     }
-  where
-    at_most : (n m : ℕ) → leb n m ≡ true → n ≤ m
-    at_most n m h = grind (arith, nat_tests)
 
 -- the numbers of a good header fit their fields
 record FitFields (h : Header) : Type 0 where
@@ -209,12 +206,6 @@ integer_again b fits =
 pub size_some : (n : ℕ) → is_line_size n ≡ true → (0 < n) × (n ≤ 1024)
 size_some n h = (grind (arith, nat_tests), grind (arith, nat_tests))
 
-lower_by : (o n : ℕ) → ltb o n ≡ true → o < n
-lower_by o n h = grind (arith, nat_tests)
-
-upper_by : (k m : ℕ) → leb k m ≡ true → k ≤ m
-upper_by k m h = grind (arith, nat_tests)
-
 pub times_up : (k q n a : ℕ) → k ≤ q → q * n ≤ a → k * n ≤ a
 times_up k q n a h e = grind arith
 
@@ -224,7 +215,7 @@ line_fits n o k allowed low =
     let parts = and_parts (is_line_size n) (ltb o n)
     (and_parts (is_line_size n && ltb o n) (eqb (o % 4) 0) allowed).0 in
     let some = size_some n parts.0 in
-    let under = lower_by o n parts.1 in
+    let under = ltb-true o n parts.1 in
     let within = times_up k (line_number n o (2 ^ 32 - 1)) n (2 ^ 32 - 1 + n - o) low
     (div-mul-le_self (2 ^ 32 - 1 + n - o) n) in (
       some.0,
@@ -241,7 +232,7 @@ line_again h before l more header good =
     let outer = and_parts _ (is_from_to 1 h.position l.writes) good in
     let inner = and_parts (is_line h.grid l.number) _ outer.0 in
     let writes = in_range 1 h.position l.writes outer.1 in
-    let last = upper_by l.number (line_number h.grid.size h.grid.offset (2 ^ 32 - 1))
+    let last = leb-true l.number (line_number h.grid.size h.grid.offset (2 ^ 32 - 1))
     (and_parts _ _ inner.0).1 in
     let base = line_fits h.grid.size h.grid.offset l.number (rules_of h header).layout last in
     let number = ap (number_of_base h.grid) (integer_again (line_range h.grid.size h.grid.offset
@@ -270,7 +261,7 @@ owner_again : (harts : ℕ) (o : Owner) → harts ≤ 256 → is_owner harts o �
 owner_again harts owner.None few is = (omega arith, refl)
 owner_again harts owner.Many few is = (omega arith, refl)
 owner_again harts (owner.One h) few is =
-    let less : h < harts = lower_by h harts is in (
+    let less : h < harts = ltb-true h harts is in (
       omega arith,
       rw (not_this h no_hart (omega arith), not_this h many_harts (omega arith)) refl,
     )
@@ -314,7 +305,7 @@ record FitTrack (x : Kept) (start : Option ℕ) : Type 0 where
   pub accessed : sum_by accesses x.words < 2 ^ 64
 
 hart_small : (h harts : ℕ) → harts ≤ 256 → nat_lt h harts ≡ true → h < 2 ^ 16
-hart_small h harts few less = let low = lower_by h harts less in omega arith
+hart_small h harts few less = let low = ltb-true h harts less in omega arith
 
 entries_again : (hs : List ℕ) (harts : ℕ) → harts ≤ 256 → list_all (λ h. nat_lt h harts) hs ≡ true
     → length hs ≤ 2
@@ -340,9 +331,6 @@ no_entries_at (h ∷ hs) none = absurd (above_none (length hs) none)
     above_none : (n : ℕ) → eqb (suc n) 0 ≡ true → ⊥
     above_none n e = grind (arith, nat_tests)
 
-zero_by : (n : ℕ) → eqb n 0 ≡ true → n ≡ 0
-zero_by n h = grind (arith, nat_tests)
-
 fit_track : (h : Header) (x : Kept) (start : Option ℕ) → is_good_header h ≡ true
     → is_since h x start ≡ true → FitTrack x start
 fit_track h x None header since =
@@ -354,8 +342,8 @@ fit_track h x None header since =
       few = let n : length x.entries ≡ 0 = ap length empty in omega (arith, n);
       start_fits = omega arith;
       start_again = refl;
-      count = omega (arith, zero_by x.count inner.1);
-      accessed = omega (arith, zero_by (sum_by accesses x.words) parts.1);
+      count = omega (arith, eqb-true x.count 0 inner.1);
+      accessed = omega (arith, eqb-true (sum_by accesses x.words) 0 parts.1);
     }
 fit_track h x (Some s) header since =
     let parts = and_parts _ (nat_le (sum_by accesses x.words + s) h.position) since in
@@ -364,8 +352,8 @@ fit_track h x (Some s) header since =
     let hs = and_parts _ (eqb (length (each_once x.entries)) (length x.entries)) inner.0 in
     let each = and_parts (is_from_to 1 2 (length x.entries))
     (list_all (λ k. nat_lt k h.harts) x.entries) hs.0 in
-    let counted = lower_by (x.count + s) h.position inner.1 in
-    let accessed = upper_by (sum_by accesses x.words + s) h.position parts.1 in
+    let counted = ltb-true (x.count + s) h.position inner.1 in
+    let accessed = leb-true (sum_by accesses x.words + s) h.position parts.1 in
     let bounds = header_bounds h header in
     record {
       entries = (h.harts, bounds.0, each.1);
