@@ -3,7 +3,7 @@ use Rattle.std.proofs.Common.{◌≡◌, ℕ, zero, suc, ◌+◌, ◌-◌, ◌*�
 use Rattle.std.proofs.Common.{false, eqb, List, [], ◌∷◌, ◌++◌, map, pos, refl, sym, ap, ◌∙◌, subst}
 use Rattle.std.proofs.Common.{arith, inl, inr, length, drop, ◌&&◌}
 use Rattle.std.proofs.lemmas.Bool.{and_parts, cases_Bool, cases_lt, eqb-true, false≢true, ltb-true}
-use Rattle.std.proofs.lemmas.Bool.{leb-true}
+use Rattle.std.proofs.lemmas.Bool.{le-leb, leb-true}
 use Rattle.std.proofs.lemmas.Bool.Decides.{nat_tests}
 use Rattle.std.proofs.lemmas.List.Elements.{filter-append}
 use Rattle.std.proofs.lemmas.List.Folds.{list_all-append}
@@ -323,16 +323,13 @@ predicted_is h w x ready predicts few high =
     let lines = counted_lines w.writes in
     let k = number_of_base h.grid x.range.base in
     let all : nat_le (length (due h lines)) (length w.tracks) ≡ true =
-    within (length (due h lines)) (length w.tracks)
+    le-leb (length (due h lines)) (length w.tracks)
     (omega (arith, few, length-map (due h lines) (λ (l : CountedLine). l.number))) in
     ap (λ b. b && nat_le (length (due h lines)) (length w.tracks) && int_le (pos 0) x.range.base
     && both_due h lines k) predicts
     ∙ ap (λ b. true && b && int_le (pos 0) x.range.base && both_due h lines k) all
     ∙ ap (λ b. true && true && b && both_due h lines k) high
     ∙ pair_due h w k ready
-  where
-    within : (a b : ℕ) → a ≤ b → nat_le a b ≡ true
-    within a b h = grind (arith, nat_tests)
 
 -- the fields of a rule on predicted tracks
 record IsPredicted (h : Header) (w : Watch) (x : Kept) : Type 0 where

@@ -1,11 +1,11 @@
 -- A symbol is read as it was spelled, and one that is read is good.
-use Rattle.std.proofs.Common.{◌≡◌, ◌≢◌, ℕ, ◌+◌, ◌<◌, ◌≤◌, Bool, true, false, ◌&&◌, eqb, leb}
+use Rattle.std.proofs.Common.{◌≡◌, ◌≢◌, ℕ, ◌+◌, ◌<◌, ◌≤◌, Bool, true, false, ◌&&◌, eqb}
 use Rattle.std.proofs.Common.{List, ◌∷◌, ◌++◌, length, get_or, take, drop, All, Some, None}
 use Rattle.std.proofs.Common.{refl, sym, ap, subst, ◌∙◌, arith}
 use Rattle.std.specs.Prelude.{if◌then◌else◌, nat_eq, nat_le, not, unwrap_or}
 use Rattle.std.specs.Int.{to_le_bytes, w16, w32}
 use Rattle.std.specs.List.{list_any, starts_with}
-use Rattle.std.proofs.lemmas.Bool.{and_from, and_parts, not-true}
+use Rattle.std.proofs.lemmas.Bool.{and_from, and_parts, le-leb, leb-true, not-true}
 use Rattle.std.proofs.lemmas.Bool.Decides.{Decides-eqb, nat_tests}
 use Rattle.std.proofs.lemmas.List.{take_all, take-append-drop}
 use Rattle.std.proofs.lemmas.List.Elements.{All-drop, All-take}
@@ -113,9 +113,6 @@ pub record KeepsRules (before : List Symbol) (s : Symbol) : Type 0 where
   pub no_zero : list_any (nat_eq 0) s.name ≡ false
   pub room : list_any (is_in_place_of s) before ≡ false
 
-at_most : (n m : ℕ) → leb n m ≡ true → n ≤ m
-at_most n m h = grind (arith, nat_tests)
-
 pub rules_of : (before : List Symbol) (s : Symbol) → is_good_symbol before s ≡ true
     → KeepsRules before s
 rules_of before s good =
@@ -125,7 +122,7 @@ rules_of before s good =
     inner.1 in
     record {
       some = inner.0;
-      short = at_most (length s.name) longest_name name.0;
+      short = leb-true (length s.name) longest_name name.0;
       no_zero = not-true (list_any (nat_eq 0) s.name) name.1;
       room = not-true (list_any (is_in_place_of s) before) outer.1;
     }
@@ -143,7 +140,7 @@ fits_symbol before bytes fits good =
     record {
       addr_in_range = below_32 bytes 2 is;
       size_in_range = below_32 bytes 6 is;
-      some = at_most 1 s.size rules.some;
+      some = leb-true 1 s.size rules.some;
       short = rules.short;
       bytes = All-take IsByte (number_at w16 10 bytes) (drop 12 bytes) (All-drop IsByte 12 bytes fits);
       no_zero = λ k d within. not_zero (get_or s.name k d)
@@ -170,14 +167,11 @@ good_again before s may =
     (good.no_zero k d within)) in
     let apart : not (list_any (nat_eq 0) s.name) ≡ true = rw no_zero refl in
     let room : not (list_any (is_in_place_of s) before) ≡ true = rw may.1 refl in
-    and_from _ _ (and_from _ _ (within 1 s.size good.some)
-    (and_from _ _ (within (length s.name) longest_name good.short) apart)) room
+    and_from _ _ (and_from _ _ (le-leb 1 s.size good.some)
+    (and_from _ _ (le-leb (length s.name) longest_name good.short) apart)) room
   where
     other : (n : ℕ) → n ≢ 0 → eqb 0 n ≡ false
     other n some = grind (arith, nat_tests)
-
-    within : (n m : ℕ) → n ≤ m → leb n m ≡ true
-    within n m h = grind (arith, nat_tests)
 
 kind_again : (kind : SymbolKind) → unwrap_or (symbol_kind_of (kind_number kind)) Object ≡ kind
 kind_again Object = refl
