@@ -57,17 +57,17 @@ fn seat_at(seats: &Vec<Seat>, hart: u16) -> Seat
 
 // Puts a seat to a hart's place, if the one there is the hart's, and says whether it is.
 #[inline(always)]
-fn put_at(seats: &mut Vec<Seat>, hart: u16, seat: &Seat) -> bool
+fn put_at(seats: &mut Vec<Seat>, hart: u16, seat: Seat) -> bool
     requires { hart < 256 }
     ensures found { result ≡ is_its seats.old.items hart }
     ensures put { seats.new.items ≡ if result then slice_set seats.old.items
-        (place_among (length seats.old.items) hart) seat.now else seats.old.items }
+        (place_among (length seats.old.items) hart) seat else seats.old.items }
 {
     let place = place_of(seats, hart);
     match seats.get_mut(place) {
         Some(old) => {
             if old.number() == hart {
-                *old = *seat;
+                *old = seat;
                 return true;
             }
             false
@@ -124,23 +124,24 @@ fn make_room(seats: &mut Vec<Seat>, hart: u16) -> Result<(), NoMemory>
 
 // Notes the first visit of a hart.
 #[inline(never)]
-fn add(seats: &mut Vec<Seat>, seat: &Seat) -> Result<(), NoMemory>
-    requires few { seat.now.0 < 256 }
+fn add(seats: &mut Vec<Seat>, hart: u16, visits: Visits) -> Result<(), NoMemory>
+    requires few { hart < 256 }
+    requires accessed { visits.accessed < 2 ^ 43 }
+    requires loaded { visits.loaded < 2 ^ 43 }
     requires round { IsRound (length seats.old.items) }
-    requires absent { seen seats.old.items seat.now.0 ≡ None }
+    requires absent { seen seats.old.items hart ≡ None }
     ensures round { IsRound (length seats.new.items) }
     ensures refused { OnErr result
         ((h : ℕ) → h < 256 → seen seats.new.items h ≡ seen seats.old.items h) }
     ensures added { OnOk result ((h : ℕ) → h < 256 → seen seats.new.items h
-        ≡ if eqb h seat.now.0 then Some seat.now.1 else seen seats.old.items h) }
+        ≡ if eqb h hart then Some visits else seen seats.old.items h) }
 {
-    let hart = seat.number();
     match make_room(seats, hart) {
         Ok(()) => {}
         Err(fault) => return Err(fault),
     }
     let place = place_of(seats, hart);
-    seats[place] = *seat;
+    seats[place] = Seat::of(hart, visits);
     Ok(())
 }
 
@@ -184,13 +185,13 @@ impl HartTable {
         ensures refused { OnErr result (self.new ≡ self.old) }
         ensures known { IsTrue (is_some (lookup (eqb hart) self.old)) → IsOk result }
     {
-        let seat = Seat::of(hart, visits);
-        let came = self.came.and(&seat);
-        if put_at(&mut self.seats, hart, &seat) {
+        let came = self.came.and(&Seat::of(hart, visits));
+        // Each has a seat of its own, so that none has to lie in memory.
+        if put_at(&mut self.seats, hart, Seat::of(hart, visits)) {
             self.came = came;
             return Ok(());
         }
-        match add(&mut self.seats, &seat) {
+        match add(&mut self.seats, hart, visits) {
             Ok(()) => {
                 self.came = came;
                 Ok(())

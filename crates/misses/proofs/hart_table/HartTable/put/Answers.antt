@@ -9,25 +9,26 @@ use Rattle.misses.proofs.hart_table.HartTable.put.Goals as goal
 pub invariant_of-self : goal.invariant_of-self
 invariant_of-self c =
     let t = c.self.inside in
-    let e : ℕ × Visits = c.of-seat.result in
     let h : ℕ = c.args.hart in
+    let came : c.and-came.result.items ≡ insert_entry nat_eq t.came.items h c.args.visits =
+    search rules in
     let its : is_its t.seats.items h ≡ true = search rules in
     let is : c.put_at.new.seats.items
     ≡ slice_set t.seats.items (place_among (length t.seats.items) h) (h, c.args.visits) =
     search rules in
-    subst (AreSeated c.put_at.new.seats.items) (sym c.and-came.ensures)
-    (subst (λ (x : ℕ × Visits). AreSeated c.put_at.new.seats.items
-    (insert_entry nat_eq t.came.items x.0 x.1)) (sym c.of-seat.ensures)
+    subst (AreSeated c.put_at.new.seats.items) (sym came)
     (seated_put t.seats.items c.put_at.new.seats.items t.came.items h c.args.visits
-    c.self.invariant c.requires.few its is))
+    c.self.invariant c.requires.few its is)
 
 pub invariant_of-self-in-Ok : goal.invariant_of-self-in-Ok
 invariant_of-self-in-Ok c =
     let t = c.self.inside in
-    let e : ℕ × Visits = c.of-seat.result in
+    let h : ℕ = c.args.hart in
+    let came : c.and-came.result.items ≡ insert_entry nat_eq t.came.items h c.args.visits =
+    search rules in
     let same : c.put_at.new.seats.items ≡ t.seats.items = search rules in
     let seated : AreSeated c.put_at.new.seats.items t.came.items =
     subst (λ (s : List (ℕ × Visits)). AreSeated s t.came.items) (sym same) c.self.invariant in
-    subst (AreSeated c.add.new.seats.items) (sym c.and-came.ensures)
-    (seated_next c.put_at.new.seats.items c.add.new.seats.items t.came.items e.0 e.1 seated
+    subst (AreSeated c.add.new.seats.items) (sym came)
+    (seated_next c.put_at.new.seats.items c.add.new.seats.items t.came.items h c.args.visits seated
     c.in-Ok.ensures.round c.in-Ok.ensures.added)
