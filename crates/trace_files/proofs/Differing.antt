@@ -6,7 +6,7 @@ use Rattle.shelf.specs.Laws.Agreeing.{shown_then}
 use Rattle.shelf.specs.Shelf.{Given}
 use Rattle.trace_passes.specs.declared.passes.Passed.{Passed}
 use Rattle.trace_passes.specs.declared.wanted.Refusal.{Refusal}
-use Rattle.trace_passes.specs.Passes.{IsTraceOf, refusal_of, trace_of, trace_with}
+use Rattle.trace_passes.specs.Passes.{HasParts, refusal_of, trace_of, trace_with}
 use Rattle.trace_files.specs.Copies.{IsOther, any, difference, refusal_again, told_of}
 use Rattle.trace_files.specs.Laws.Copies.{trace_unrefused}
 
@@ -22,10 +22,10 @@ no_trace_again name first refusal before now shown =
 
 -- beside the first reading
 pub other_again : (name : List ℕ) (first second : Passed) (refusal : Refusal)
-    (before now : List Given) → HasShown name (IsTraceOf second) before now
+    (before now : List Given) → HasShown name (HasParts second) before now
     → difference first second ≡ Some refusal → IsOther name first refusal before now
 other_again name first second refusal before now shown differs =
-    shown_then name (IsTraceOf second) (λ file. refusal_again first file ≡ Some refusal) before now
+    shown_then name (HasParts second) (λ file. refusal_again first file ≡ Some refusal) before now
     (λ file found. ap (λ (o : Option Refusal). option_or o
     (option_and_then (λ t. difference first (told_of t)) (trace_of file)))
     (trace_unrefused file (trace_with second found.0) found.1)

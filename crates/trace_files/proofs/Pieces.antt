@@ -23,7 +23,7 @@ use Rattle.trace_format.specs.Laws.Counts.{IsSoFar, so_far}
 use Rattle.trace_passes.specs.Cursors.{GoesOn, HasCome, HasEnded, Reached}
 use Rattle.trace_passes.specs.declared.wanted.Refusal.{Refusal}
 use Rattle.trace_passes.specs.declared.wanted.Wanted.{Wanted}
-use Rattle.trace_passes.specs.Passes.{HasPassCause, IsTraceOf, refusal_of, trace_of, trace_with}
+use Rattle.trace_passes.specs.Passes.{HasParts, HasPassCause, refusal_of, trace_of, trace_with}
 use Rattle.trace_passes.specs.Laws.Passes.{trace-records}
 use Rattle.trace_files.specs.declared.copy_fault.CopyFault.{CopyFault}
 use Rattle.trace_files.specs.declared.copy_fault.CopyFault.TheVariants.{Changed, ReadFault}
@@ -94,9 +94,9 @@ module _ {A : Type 0} (waiting : A → List Waiting) (files : A → List TraceRe
     pub shown_at : (passed : Passed) (read : Option Files) (given : List Given)
         → HasEnded read name any at.bytes passed
         → HasShown name (λ file. at.bytes ≡ file) old.given given
-        → HasShown name (IsTraceOf passed) old.given given
+        → HasShown name (HasParts passed) old.given given
     shown_at passed read given ended shown =
-        shown_then name (λ file. at.bytes ≡ file) (IsTraceOf passed) old.given given
+        shown_then name (λ file. at.bytes ≡ file) (HasParts passed) old.given given
         (λ file same. (ended.items, ap trace_of (sym same) ∙ ended.is)) shown
 
     pub ended_at : (passed : Passed) (new : Outside) → HasRead mid new

@@ -17,7 +17,7 @@ use Rattle.trace_passes.specs.declared.passes.PassFault.{PassFault}
 use Rattle.trace_passes.specs.declared.passes.PassFault.TheVariants as passes
 use Rattle.trace_passes.specs.declared.passes.Passed.{Passed}
 use Rattle.trace_passes.specs.declared.wanted.Refusal.{Refusal}
-use Rattle.trace_passes.specs.Passes.{IsTraceOf, all_records, trace_of, trace_with}
+use Rattle.trace_passes.specs.Passes.{HasParts, all_records, trace_of, trace_with}
 use Rattle.trace_format.specs.Splits.{HasSeen, Split, halves_of, headers_of}
 use Rattle.trace_files.specs.declared.split.Splitting.{Splitting}
 use Rattle.trace_files.specs.declared.copy_fault.CopyFault.{CopyFault}
@@ -83,7 +83,7 @@ pub record IsAccepted (held : Option Files) (name : List ℕ) (passed : Passed) 
 pub record HasChanged (name : List ℕ) (refusal : Refusal) (before now : List Given) : Type 0 where
   pub first : Passed
   pub between : List Given
-  pub accepted : HasShown name (IsTraceOf first) before between
+  pub accepted : HasShown name (HasParts first) before between
   pub other : IsOther name first refusal between now
 
 -- two readings told the same version, header and number of accesses

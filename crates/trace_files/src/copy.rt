@@ -11,7 +11,7 @@ ghost use Rattle.trace_format.specs.declared.record.TraceRecord.{TraceRecord as 
 ghost use Rattle.trace_format.specs.Rules.{IsWritable};
 ghost use Rattle.trace_passes.specs.declared.wanted.Refusal.{Refusal as Refused};
 ghost use Rattle.trace_passes.specs.declared.wanted.Refusal.TheVariants as refusals;
-ghost use Rattle.trace_passes.specs.Passes.{IsTraceOf, Trace, refusal_of};
+ghost use Rattle.trace_passes.specs.Passes.{HasParts, Trace, refusal_of};
 ghost use Rattle.trace_files.specs.Copies.{HasStopped, IsJudged, IsOther, any, difference};
 ghost use Rattle.trace_files.specs.Copying.{AreAlike, IsAccepted, IsCopied, IsCutShort};
 ghost use Rattle.trace_files.specs.Copying.{IsUnderWay};
@@ -58,7 +58,7 @@ pub(crate) fn accept<S: Shelf>(
 ) -> Result<Passed, CopyFault>
     ensures accepted { IfOk result (λ passed. IsAccepted
         (S.outside shelf.new).held name.now passed) }
-    ensures shown { IfOk result (λ passed. HasShown name.now (IsTraceOf passed)
+    ensures shown { IfOk result (λ passed. HasShown name.now (HasParts passed)
         (S.outside shelf.old).given (S.outside shelf.new).given) }
     ensures stays { OnOk result (HasRead (S.outside shelf.old) (S.outside shelf.new)) }
     ensures refused { (refusal : Refused) → result ≡ Err (CopyFault.Refused refusal)
@@ -135,7 +135,7 @@ pub(crate) fn copy_records<S: Shelf, T: Target>(
     ensures unrefused { (refusal : Refused) → result ≢ Err (CopyFault.Refused refusal) }
     ensures changed { (refusal : Refused) → result ≡ Err (CopyFault.Changed refusal)
         → IsJudged (S.outside shelf.new).held name.now (Some refusal) }
-    ensures shown { IfOk result (λ passed. HasShown name.now (IsTraceOf passed)
+    ensures shown { IfOk result (λ passed. HasShown name.now (HasParts passed)
         (S.outside shelf.old).given (S.outside shelf.new).given) }
     ensures found { (refusal : Refused) → result ≡ Err (CopyFault.Changed refusal)
         → HasShown name.now (λ file. refusal_of any file ≡ Some refusal)

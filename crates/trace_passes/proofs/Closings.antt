@@ -12,7 +12,7 @@ use Rattle.shelf.specs.Shelf.{Given}
 use Rattle.trace_passes.specs.declared.passes.Passed.{Passed}
 use Rattle.trace_passes.specs.declared.wanted.Refusal.{Refusal}
 use Rattle.trace_passes.specs.declared.wanted.Wanted.{Wanted}
-use Rattle.trace_passes.specs.Passes.{HasPassed, IsTraceOf, IsWanted, before_last, head_of}
+use Rattle.trace_passes.specs.Passes.{HasParts, HasPassed, IsWanted, before_last, head_of}
 use Rattle.trace_passes.specs.Passes.{header_refusal, refusal_of, trace_of, trace_refusal, trace_with}
 use Rattle.trace_format.specs.Laws.Counts.{counted_so_far}
 use Rattle.trace_passes.specs.Laws.Passes.{accepted_at_end, is_sited, is_wanted}
@@ -99,7 +99,7 @@ accepted_then held name w bytes passed ended =
 pub shown_trace : (held : Option Files) (name : List ℕ) (w : Wanted) (bytes : List ℕ)
     (passed : Passed) (before now : List Given) → HasEnded held name w bytes passed
     → HasShown name (λ file. bytes ≡ file) before now
-    → HasShown name (IsTraceOf passed) before now
+    → HasShown name (HasParts passed) before now
 shown_trace held name w bytes passed before now ended shown =
-    shown_then name (λ file. bytes ≡ file) (IsTraceOf passed) before now
+    shown_then name (λ file. bytes ≡ file) (HasParts passed) before now
     (λ file same. (ended.items, ap trace_of (sym same) ∙ ended.is)) shown

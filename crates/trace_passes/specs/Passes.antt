@@ -116,9 +116,9 @@ trace_with passed items =
           passed.ending;
     }
 
--- the parts that a pass gives are those of the trace that these bytes are
-abbrev pub IsTraceOf : Passed → List ℕ → Type 0
-IsTraceOf passed bytes =
+-- these bytes are a trace of the parts that a pass gives
+abbrev pub HasParts : Passed → List ℕ → Type 0
+HasParts passed bytes =
     (items : List TraceRecord) × (trace_of bytes ≡ Some (trace_with passed items))
 
 -- There are bytes, the held ones of the name where these are told, that are such a trace, whose

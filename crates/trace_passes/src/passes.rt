@@ -10,7 +10,7 @@ ghost use Rattle.trace_format.specs.declared.fault.TraceFault.TheVariants as tra
 ghost use Rattle.trace_format.specs.Rules.{IsGoodHeader, IsWritable};
 ghost use Rattle.trace_passes.specs.declared.wanted.Refusal.{Refusal as Refused};
 ghost use Rattle.trace_passes.specs.declared.wanted.Refusal.TheVariants as refusals;
-ghost use Rattle.trace_passes.specs.Passes.{HasPassCause, HasPassed, IsTraceOf, IsWanted};
+ghost use Rattle.trace_passes.specs.Passes.{HasParts, HasPassCause, HasPassed, IsWanted};
 ghost use Rattle.trace_passes.specs.Passes.{refusal_of};
 ghost use Rattle.trace_passes.specs.Rooms.{HasRoom};
 
@@ -121,7 +121,7 @@ pub fn pass<S: Shelf, O: Observer>(
         → Told (S.outside shelf.new).held
         (λ files. refusal_of wanted.now (content files name.now) ≡ Some refusal) }
     // What the reads of this call have given shows so much, also where none are told.
-    ensures shown { IfOk result (λ passed. HasShown name.now (IsTraceOf passed)
+    ensures shown { IfOk result (λ passed. HasShown name.now (HasParts passed)
         (S.outside shelf.old).given (S.outside shelf.new).given) }
     ensures shown_refused { (refusal : Refused) → result ≡ Err (PassFault.Refused refusal)
         → HasShown name.now (λ file. refusal_of wanted.now file ≡ Some refusal)
