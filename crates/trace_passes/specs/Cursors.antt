@@ -78,8 +78,8 @@ pub record HasCome (held : Option Files) (name : List ℕ) (w : Wanted) (bytes :
   pub front : Told held (λ files. IsFront (content files name) bytes)
   pub read : IsRead w bytes now.reading
 
--- It has read more bytes than these, and holds the records that became whole in them. Where these are
--- what reads have given, so are those with the ones that were read now.
+-- It has read more bytes than these, and holds the records that became whole in them. Where reads
+-- have given these bytes, they have given them all once they have given the new ones.
 pub record GoesOn (old new : Outside) (name : List ℕ) (w : Wanted) (bytes : List ℕ)
     (now : Reached) : Type 0 where
   pub more : List ℕ
