@@ -124,7 +124,8 @@ named-more N g xs x named none shaped =
             | inl is ↦
                 let there = rw (is.0, is.1) at at in
                 let got : Some (length xs) ≡ Some i =
-                sym (with_name-here N x.kind (line_of_base g x.range) (Some (length xs))) ∙ there in (
+                sym (with_name-here N x.kind (line_of_base g x.range) (Some (length xs)))
+                ∙ there in (
                   x,
                   ap (slice_get (xs ++ x ∷ [])) (sym (same_Some (length xs) i got))
                       ∙ slice_get-push xs x,

@@ -213,7 +213,8 @@ places-touched f g xs p a small named =
 -- the entries name the tracks that were noted, after more writes
 pub indexed-touched : (f h : ℕ → LineEntry) (g : Grid) (xs : List Kept) (T p : ℕ) (a : Touch)
     → IsIndexed f g xs T p
-    → names_in h ≡ names_in f → ((q : ℕ) → (f q).writes ≤ (h q).writes) → ((q : ℕ) → (h q).writes ≤ p + 1)
+    → names_in h ≡ names_in f → ((q : ℕ) → (f q).writes ≤ (h q).writes)
+    → ((q : ℕ) → (h q).writes ≤ p + 1)
     → IsIndexed h g (map (touched p a) xs) T (p + 1)
 indexed-touched f h g xs T p a indexed same more few = record {
   names = subst (λ N. IsNamed N g (map (touched p a) xs)) (sym same)
