@@ -55,7 +55,8 @@ front_of s = 5 ∷ kind_number s.kind ∷ (to_le_bytes w32 s.addr ++ (to_le_byte
     ++ to_le_bytes w16 (length s.name)))
 
 -- Its name is taken of the bytes, so they begin with the symbol where they begin with its front.
-pub starts_front : (bytes : List ℕ) → starts_with nat_eq bytes (spell_saved_symbol (symbol_at bytes))
+pub starts_front : (bytes : List ℕ)
+    → starts_with nat_eq bytes (spell_saved_symbol (symbol_at bytes))
     ≡ starts_with nat_eq bytes (front_of (symbol_at bytes))
 unfolding symbol_at spell_symbol
 starts_front bytes =
@@ -142,7 +143,8 @@ fits_symbol before bytes fits good =
       size_in_range = below_32 bytes 6 is;
       some = leb-true 1 s.size rules.some;
       short = rules.short;
-      bytes = All-take IsByte (number_at w16 10 bytes) (drop 12 bytes) (All-drop IsByte 12 bytes fits);
+      bytes = All-take IsByte (number_at w16 10 bytes) (drop 12 bytes)
+          (All-drop IsByte 12 bytes fits);
       no_zero = λ k d within. not_zero (get_or s.name k d)
           (none_passes (nat_eq 0) s.name rules.no_zero k d within);
     }

@@ -30,7 +30,9 @@ blocks_said c =
     let bytes = c.behind-units.ensures.bytes in
     let none = c.in-Ok.ensures.others ∙ ap (λ (o : Objects). o.blocks) t in
     blocks_judged c.args.place c.args.position c.args.part.now
-    (symbols_at c.read_symbols.new.table c.in-Ok.rest.place c.in-Ok.rest.bytes.now) ((λ i. symbols_read (sym n i) (sym t i) (sym place i) (sym bytes i)) ∙ c.in-Ok.ensures.read)
+    (symbols_at c.read_symbols.new.table c.in-Ok.rest.place c.in-Ok.rest.bytes.now)
+    ((λ i. symbols_read (sym n i) (sym t i) (sym place i) (sym bytes i))
+    ∙ c.in-Ok.ensures.read)
     ∙ (λ i. with_blocks c.read_symbols.new.table.symbols (blocks_read c.args.position (sym m i)
     (record no_objects { blocks = sym none i }) c.in-Ok.rest.place c.in-Ok.rest.bytes.now))
 

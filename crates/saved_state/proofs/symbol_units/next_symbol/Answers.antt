@@ -51,7 +51,8 @@ returns-in-Ok-clause-read c = λ more.
     let now : c.note_symbol.new.self.symbols ≡ before ++ s ∷ [] =
     c.in-Ok.ensures.fresh ((λ i. list_any (is_in_place_of (kept i)) before) ∙ rules.room)
     ∙ ap (λ (t : Symbol). before ++ t ∷ []) kept in
-    next_unit symbol_in spell_saved_symbol (symbols_at c.args.table.now rest.place bytes) s (12 + length c.name_at-name.result.now) more is long
+    next_unit symbol_in spell_saved_symbol (symbols_at c.args.table.now rest.place bytes) s
+    (12 + length c.name_at-name.result.now) more is long
     ∙ ap (λ (ss : List Symbol). symbols_read more
     (record { symbols = ss; blocks = [] }) (rest.place + (12 + length c.name_at-name.result.now))
     (drop (12 + length c.name_at-name.result.now) bytes)) (sym now)
