@@ -66,7 +66,8 @@ def program_of(call: Call) -> "tuple[Program | NativeProgram | None, Sources | N
     else:
         return None, None
     if program.dwarf is None:
-        say(f"{program.path} has no debug information, so fields and source lines are unknown: build it with -g")
+        how = "build it with -g" + (", or install its package of debug information (Debian: NAME-dbgsym)" if table else "")
+        say(f"{program.path} has no debug information, so fields and source lines are unknown: {how}")
     for it in call.options["type"]:
         program.type_named(it.partition("=")[2])
     return program, sources

@@ -14,6 +14,7 @@ from keys import Key, OfBlocks, OfMemory, OfSymbol, order_of
 from instructions import Does, is_read, kinds_of, of_program, weight
 from kinds import has_pcs
 from library import is_foreign
+from mangled import short
 from naming import Memory, Naming, shown
 from objects import Spot, Thing, Told, field_at, things_of, words_of, worst_word
 from overflow import Overflow, last_of_file, last_of_run, overflow
@@ -335,7 +336,8 @@ class View:
         blocks = [it.example for it in self.all.values() if isinstance(it.example, Block) and it.example.sites]
         sites = [self.naming.names_of_site(it) for it in blocks]
         for site in (site for site, _ in self.naming.types if not any(site in it for it in sites)):
-            made = sorted({self.naming.site(self.naming.chain(it.sites)[0]) or it.sites[0].name for it in blocks})
+            first = [self.naming.chain(it.sites)[0] for it in blocks]
+            made = sorted({self.naming.site(it) or short(self.naming.called(it)) for it in first})
             there = f"blocks that are fought over are made at {advice.listing(made)}" if made else "no block is fought over"
             self.notes.append(f"`--type {site}=..` matches nothing: {there}")
         folder, sources = self.call.options.get("sources", ""), self.naming.sources

@@ -6,7 +6,7 @@ import re
 from typing import TYPE_CHECKING, Any, Iterable, NamedTuple, Sequence, Union
 
 from keys import Key, OfBlocks, OfFile, OfMemory, OfPlace, OfStack, OfSymbol
-from mangled import Names
+from mangled import Names, short
 from reports import Block, Report, Site, Symbol
 from source_lines import Place, Sources
 
@@ -222,9 +222,10 @@ class Naming:
         return next((self.program.type_named(it) for site, it in self.types if site in known), None)
 
     def names_of_site(self, block: Block) -> set[str]:
-        """What a call may name the call site of a block by: its line, its function or its address."""
+        """What a call may name the call site of a block by: its line, its function, also as the screen has it, or its address."""
         chain = self.chain(block.sites)
-        return {self.site(chain[0]), self.function(chain[0]), chain[0].name, self.called(chain[0]), shown(chain[0].addr)} - {""}
+        names = {self.site(chain[0]), self.function(chain[0]), chain[0].name, self.called(chain[0]), shown(chain[0].addr)}
+        return {*names, *map(short, names)} - {""}
 
     def word(self, addr: int, thing: Found) -> tuple[str, str, str]:
         """The name of a word of an object, the one of its element, and that of the field in it."""

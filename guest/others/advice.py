@@ -25,17 +25,23 @@ SETTINGS = "quantum=10"
 
 
 class Followed(NamedTuple):
-    """A program: what its call sites make, and the build that does what is advised, or none where the patch does."""
+    """A program: what its call sites make, and the build that does what is advised, or none where the patch does; `by` is what build.sh
+    builds it by, if not by its name, and `sources` the folder in out/ that the patch is for, if there is one."""
 
     types: tuple = ()
     repaired: str | None = None
+    by: str = ""
+    sources: str = ""
 
 
 # Of the others, and of the studies of suites.
 OTHERS = {
     "ck_anderson": Followed(("main=ck_spinlock_anderson_thread",), "ck_anderson-apart"),
     "ck_ring": Followed(("main=ck_ring", "test=entry"), "ck_ring-own_lines"),
+    "ck_dissemination": Followed(("main=ck_barrier_dissemination_flag",), "ck_dissemination-own_lines", "ck_barriers"),
+    "ck_mcs": Followed(("main=ck_barrier_mcs",), "ck_mcs-own_lines", "ck_barriers"),
     "kt_for": Followed(("kt_for=ktf_worker_t",), "kt_for-blocks"),
+    "urcu_wfcq": Followed((), "urcu_wfcq-patched", sources="urcu_wfcq"),
 }
 # (in the builds at 0 what a thread has begins at multiples of a line, and fills lines)
 SUITES = {it: Followed((), f"{it}-at-0") for it in ("linear_regression", "string_match", "word_count")}
@@ -53,11 +59,15 @@ def told(todo):
     return code[1] if code else REST.sub("", todo)
 
 
+def build_others(*studies, **more):
+    subprocess.run([os.path.join(HERE, "build.sh"), *studies], check=True, env={**os.environ, "DEBUG": "-g", **more})
+
+
 class Study:
     """A program that is built in a folder of its own."""
 
     def __init__(self, name, folder):
-        self.name, self.folder = name, folder
+        self.name, self.folder, self.patch = name, folder, os.path.join(folder, "patch")
         self.of = {**OTHERS, **SUITES}[name]
 
     def build(self, name):
@@ -85,15 +95,19 @@ class Study:
 
     def look(self, program):
         """What view finds of a run; the patch is beside it."""
-        words = ["run", program, "--explain", "0", "--no-predicted", "--set", SETTINGS, "--json", "-", "--patch", "patch"]
+        words = ["run", program, "--explain", "0", "--no-predicted", "--set", SETTINGS, "--json", "-", "--patch", self.patch]
         words += [word for it in self.of.types for word in ("--type", it)]
-        ran = subprocess.run([PROGRAM, "view", *words], stdout=subprocess.PIPE, stderr=subprocess.DEVNULL, cwd=self.folder, check=True)
+        sources = os.path.join(HERE, "out", self.of.sources) if self.of.sources else self.folder
+        ran = subprocess.run([PROGRAM, "view", *words], stdout=subprocess.PIPE, stderr=subprocess.DEVNULL, cwd=sources, check=True)
         return json.loads(ran.stdout)
 
-    def patched(self):
-        """The program of the source as the patch changes it."""
-        subprocess.run(["patch", "-p1", "-s", "-i", "patch"], cwd=self.folder, check=True)
-        return self.build(self.name)
+    def changed(self):
+        """The program as it is advised."""
+        if self.of.sources:
+            build_others(self.name, PATCH=self.patch)
+        elif not self.of.repaired:
+            subprocess.run(["patch", "-p1", "-s", "-i", self.patch], cwd=self.folder, check=True)
+        return self.build(self.of.repaired or self.name)
 
     def row(self):
         """The row of the table, and what is wrong."""
@@ -103,7 +117,7 @@ class Study:
         counts = COUNTED.search(together[0] if together else advised[0]["todo"] if advised else "")
         before = found["total"]["useless"], found["total"]["useful"]
         foretold = (int(counts[2]), int(counts[4])) if counts else before
-        counted = self.missed(self.build(self.of.repaired) if self.of.repaired else self.patched())
+        counted = self.missed(self.changed())
         how = "; ".join(told(it["todo"]) for it in advised) or "nothing"
         is_good = abs(sum(counted) - sum(foretold)) * 10 < sum(before) and (sum(counted) < sum(before) or not counts)
         wrong = [] if is_good else [f"{self.name}: {before} before, {foretold} foretold, {counted} counted"]
@@ -114,9 +128,9 @@ def main(words):
     names = [it for it in words if it != "--renew"] or [*OTHERS, *SUITES]
     if "--renew" in words and len(names) < len(OTHERS) + len(SUITES):
         sys.exit("advice.py: --renew is for all programs")
-    others = [it for it in names if it in OTHERS]
+    others = dict.fromkeys(OTHERS[it].by or it for it in names if it in OTHERS)
     if others:
-        subprocess.run([os.path.join(HERE, "build.sh"), *others], check=True, env={**os.environ, "DEBUG": "-g"})
+        build_others(*others)
     rows, wrong = [], []
     for name in names:
         with tempfile.TemporaryDirectory() as folder:

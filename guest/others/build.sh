@@ -5,7 +5,8 @@
 #     build.sh [STUDY ..]        all of them, or those that are named
 #
 # `make`, `cmake` and a compiler of this machine (for the tools of SQLite's build, as `tclsh` is) are wanted beside those of the kit. What was
-# built of SQLite, liburcu, zstd and xz stays, since that takes a minute each.
+# built of SQLite, liburcu, zstd and xz stays, since that takes a minute each. ck_barriers and urcu_wfcq are for advice.py alone; PATCH=F builds
+# urcu_wfcq as F changes it.
 set -eu
 here=$(cd "$(dirname "$(readlink -f "$0")")" && pwd)
 cc=$here/../cc
@@ -56,6 +57,32 @@ build_ck_ring() {
         [ "$name" != ck_ring-own_lines ] ||
             sed -i 's/^struct entry {$/struct __attribute__((aligned(64))) entry {/' "$out/$name/regressions/ck_ring/validate/ck_ring_spsc.c"
         ck_program "$name" ck_ring/validate ck_ring_spsc "7 1 32" -DITERATIONS=16
+    done
+}
+
+# Its barriers: as they are, and as their first screens say (lines of its own for each flag, or for each group of fields, and for each counter).
+build_ck_barriers() {
+    local name barrier made
+    for name in ck_dissemination ck_dissemination-own_lines ck_mcs ck_mcs-own_lines; do
+        made=$out/$name barrier=${name#ck_}
+        barrier=barrier_${barrier%-*}
+        ck "$name"
+        if [[ $name == *-own_lines ]]; then
+            sed -i 's/^struct ck_barrier_dissemination_flag {$/struct __attribute__((aligned(64))) ck_barrier_dissemination_flag {/
+                /^struct ck_barrier_mcs {$/,/^};$/{
+                    /dummy;$/d
+                    /havechild\[4\];$/d
+                    /\*parent;$/d
+                    s/\*children\[2\];$/*children[2] __attribute__((aligned(64)));\n\tunsigned int havechild[4];\n\tunsigned int *parent;/
+                    s/childnotready\[4\];$/childnotready[4] __attribute__((aligned(64)));\n\tunsigned int dummy __attribute__((aligned(64)));/
+                    s/parentsense;$/parentsense __attribute__((aligned(64)));/
+                }' "$made/include/ck_barrier.h"
+            sed -i 's/^static int counters\[ENTRIES\];$/static struct __attribute__((aligned(64))) own_line { int value; } counters[ENTRIES];/
+                s/&counters\[i\]/&.value/
+                s/malloc(sizeof(ck_barrier_\(dissemination_flag\|mcs\)_t) \*/aligned_alloc(64, sizeof(ck_barrier_\1_t) */' \
+                "$made/regressions/ck_barrier/validate/$barrier.c"
+        fi
+        ck_program "$name" ck_barrier/validate "$barrier" "7 1" -DITERATE=200
     done
 }
 
@@ -147,6 +174,28 @@ build_urcu_qsbr() {
     ARGUMENTS='6 1 1' STEP_TIME=2000 make -s -C "$made/tests/benchmark" "${tools[@]}" test_urcu_qsbr
     mv "$made/tests/benchmark/test_urcu_qsbr" "$out/urcu_qsbr.elf"
     rm -rf "$made"
+}
+
+# liburcu's benchmark of its queue, by its configure: three that put in and three that take out, for a second of 500,000 steps. It is
+# configured in a copy of its sources, so that a patch finds them; with PATCH it is built once more, as that changes it.
+build_urcu_wfcq() {
+    local made=$out/urcu_wfcq name=urcu_wfcq
+    if [ ! -f "$made/src/.libs/liburcu-cds.a" ]; then
+        rm -rf "$made"
+        cp -r "$fetched/liburcu" "$made"
+        (cd "$made" && ./configure -q CC="$cc" CPPFLAGS=-D__DragonFly__ CFLAGS="-O2 $lines" --host=riscv32 --disable-shared)
+        make -s -C "$made/src" "${tools[@]}" liburcu-common.la liburcu-cds.la
+    fi
+    if [ -n "${PATCH:-}" ]; then
+        name=urcu_wfcq-patched
+        rm -rf "${out:?}/$name"
+        cp -r "$made" "$out/$name"
+        made=$out/$name
+        patch -p1 -s -d "$made" -i "$PATCH"
+    fi
+    ARGUMENTS='3 3 1' STEP_TIME=2000 make -s -C "$made/tests/benchmark" "${tools[@]}" test_urcu_wfcq
+    mv "$made/tests/benchmark/test_urcu_wfcq" "$out/$name.elf"
+    [ -z "${PATCH:-}" ] || rm -rf "$made"
 }
 
 # zstd's library by CMake, with jobs of 32 KiB at least in place of 512.

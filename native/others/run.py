@@ -1,9 +1,9 @@
 #!/usr/bin/env python3
 """Builds and records programs of this machine, each as it is and with its repair, and prints the table of docs/STUDIES.md:
-run.py [STUDY ..].
+run.py [--renew] [STUDY ..].
 
-fetch.sh has fetched the sources; build.sh builds them. What is counted is what `predator misses` prints, and an object's part of it what
-`predator view` puts together. It ends with 1 where a program doesn't end as it should."""
+fetch.sh has fetched the sources; build.sh builds them. --renew puts the table into the page. What is counted is what `predator misses`
+prints, and an object's part of it what `predator view` puts together. It ends with 1 where a program doesn't end as it should."""
 
 import json
 import os
@@ -19,7 +19,7 @@ HERE = os.path.dirname(os.path.abspath(__file__))
 TOP = os.path.join(HERE, "..", "..")
 PREDATOR = os.path.join(TOP, "bin", "predator")
 sys.path.insert(0, os.path.join(TOP, "guest", "studies"))
-from report import table  # noqa: E402
+from report import renew, table  # noqa: E402
 
 OUT = os.path.join(HERE, "out")
 # What stands for a new folder, for a text in it, a folder of a thousand texts, sixty objects to be linked, and a server's settings.
@@ -138,6 +138,14 @@ def recorded(study: Study, program: str, folder: str) -> str:
     return trace
 
 
+def is_named(name: str) -> bool:
+    """Whether an object is called by a name or a line of a source, and not by places alone, as `block made in fd+0x1e42e2 < fd+0x34231`."""
+    if re.match("memory at|block without", name):
+        return False
+    parts = re.split(r" < | and ", re.sub(r"^(?:block (?:of \S+ )?made|block used|memory used) (?:in|at) | \(.*", "", name))
+    return not all(re.fullmatch(r"\S+\+0x[0-9a-f]+|0x[0-9a-f]+", it) for it in parts)
+
+
 def row(study: Study, program: str) -> list[object]:
     """What is counted of a program: all, and what is looked at; and how much of what is useless has a name or a line."""
     with tempfile.TemporaryDirectory(prefix="predator-others-") as folder:
@@ -147,7 +155,7 @@ def row(study: Study, program: str) -> list[object]:
         found, size = json.loads(told), os.path.getsize(trace)
     total, objects = found["total"], found["objects"]
     own = [it for it in objects if any(what in it["name"] + json.dumps(it["sites"]) for what in study.looked_at)]
-    known = sum(it["useless"] for it in objects if not re.match("memory at|block without", it["name"]))
+    known = sum(it["useless"] for it in objects if is_named(it["name"]))
     return [
         os.path.basename(program),
         f"{found['accesses']:,}",
@@ -160,13 +168,18 @@ def row(study: Study, program: str) -> list[object]:
 
 
 def main(words: Sequence[str]) -> int:
-    names = list(words) or list(STUDIES)
+    names = [it for it in words if it != "--renew"] or list(STUDIES)
+    if "--renew" in words and names != list(STUDIES):
+        sys.exit("run.py: --renew is for all studies")
     for it in names:
         if it not in STUDIES:
             sys.exit(f"run.py: {it}: the studies are {', '.join(STUDIES)}")
     built(names)
-    heads = ["Program", "Accesses", "Bytes each", "Useful", "Useless", "of that object", "Named"]
-    print(table(heads, [row(STUDIES[name], build) for name in names for build in STUDIES[name].builds]))
+    heads = ["Program", "Accesses", "Bytes each", "Useful", "Useless", "Of the object", "Named"]
+    text = table(heads, [row(STUDIES[name], build) for name in names for build in STUDIES[name].builds])
+    print(text)
+    if "--renew" in words:
+        renew({"others of this machine": text})
     return 0
 
 

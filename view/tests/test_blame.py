@@ -246,6 +246,11 @@ class OfThisMachineByTheProgram(OfThisMachine):
 
 @unittest.skipUnless(os.path.exists(RECORDER), "the recorder of native/ isn't built")
 class WithoutInstructions(Compiled):
+    def test_a_program_without_debug_information(self):
+        _, _, said = view("native", "--explain", "0", self.compiled("counters", "-s", "-g0"), cwd=self.folder)
+        told = "/counters has no debug information, so fields and source lines are unknown: build it with -g, or install its package of"
+        self.shows(said, f"{told} debug information (Debian: NAME-dbgsym)")
+
     def test_what_has_no_name_then(self):
         program = self.compiled("nameless")
         for more in ({"lacks": "blame"}, {}):

@@ -12,7 +12,9 @@ sys.path[:0] = [os.path.dirname(HERE), os.path.join(HERE, "..", "..", "tools")]
 import advice  # noqa: E402
 import compare  # noqa: E402
 import library  # noqa: E402
+from calling import built  # noqa: E402
 from calls import Call  # noqa: E402
+from fields import Program  # noqa: E402
 from model import Seen, View  # noqa: E402
 from judge_report import Access, Case, Ending, trace_of  # noqa: E402
 from keys import OfSymbol  # noqa: E402
@@ -34,10 +36,10 @@ def report_of(rows):
     return Report(HEAD + f"lines {lines}\n" + "".join(f"{it}\n" for it in rows) + "end\n")
 
 
-def view_of(rows, misses=None, memory=None, each=None, by_word=None):
+def view_of(rows, misses=None, memory=None, each=None, by_word=None, program=None):
     """What is seen of a report of these rows."""
     report = report_of(rows)
-    view = View(Call(["r"]), report, Naming(report, memory=memory))
+    view = View(Call(["r"]), report, Naming(report, program, memory=memory))
     view.misses = Misses(misses) if misses else None
     view.each = report_of(each) if each else None
     view.by_word = Misses(by_word) if by_word else None
@@ -155,10 +157,12 @@ class Advised(unittest.TestCase):
 
     def test_words_of_a_stack(self):
         rows = ["line observed 0x0100ffc0 64 start 0 count 300 verdict true", word(0x100FFC0, 5, 50, "many")]
-        view = view_of(rows, memory=Memory((0xF90000, 0x1010000), 8))
-        (told,) = view.seen(view.things[0]).words
-        self.assertEqual((told.name, told.kind), ("0x0100ffc0, 64 below its top", WordKind(False, False)))
-        self.assertNotIn("several fields", view.seen(view.things[0]).todo)
+        # (without debug information and with it)
+        for program in (None, Program(built("odd.elf"))):
+            view = view_of(rows, memory=Memory((0xF90000, 0x1010000), 8), program=program)
+            (told,) = view.seen(view.things[0]).words
+            self.assertEqual((told.name, told.kind), ("0x0100ffc0, 64 below its top", WordKind(False, False)))
+            self.assertNotIn("several fields", view.seen(view.things[0]).todo)
 
     def test_all_groups_are_told(self):
         shared = [used(f"lock.{it}", 4 * at, 90) for at, it in enumerate("abcdefg")]
@@ -359,6 +363,17 @@ class Objects(unittest.TestCase):
         rows += [word(at, 5, 50, f"hart {at // 16 % 4}") for at in range(0x2000, 0x2040, 16)]
         (thing,) = view_of(rows).things
         self.assertEqual((thing.name, len(thing.lives)), ("block made in make", 4))
+
+    def test_a_call_site_is_known_by_its_name_on_the_screen(self):
+        rows = ["line observed 0x00002000 64 start 0 count 300 verdict false", "object block 0x00002000 64 born 1 live"]
+        rows += ["site 0x00000100 _ZN4pool4giveEm", "site 0x00000200 main", word(0x2000, 5, 50, "hart 1")]
+        view = view_of(rows)
+        names = view.naming.names_of_site(view.things[0].example)
+        self.assertEqual(names, {"pool::give", "pool::give(unsigned long)", "_ZN4pool4giveEm", "0x00000100"})
+        self.assertIn(" block made in pool::give", "\n".join(screen(view, Paint(io.StringIO()))))
+        view.naming.types = [("pool::take", "node")]
+        view.note_idle()
+        self.assertEqual(view.notes, ["`--type pool::take=..` matches nothing: blocks that are fought over are made at pool::give"])
 
     def test_the_small_and_the_long_lived_block_has_the_word(self):
         arena, node = Block(0x1000, 4096, 0, None, ()), Block(0x1010, 16, 5, 900, ())

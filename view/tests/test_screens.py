@@ -11,6 +11,8 @@ from calling import PROGRAM, STAND_IN, TOP, TURNS, built, has, joined, view
 
 # A call that takes so many seconds reads a pipe that nobody writes: a busy machine takes a minute or two.
 HANGS = 900
+# What to do about a stack that harts fight over.
+OF_STACK = "other harts use variables of this stack: `__attribute__((aligned(64)))` on these, or a place of their own"
 
 
 class Shown(unittest.TestCase):
@@ -48,6 +50,18 @@ class Screens(Shown):
         _, text, _ = view("run", built("odd.elf"), *TURNS, "--explain=0", "--object", "stack of hart 0")
         self.shows(text, "!! THE RUN DIDN'T END BY EXIT 0: trap hart 0", "store-outside, at odd.c:48 (main)", "1 77 0 0 1 stack of hart 0")
         self.assertNotIn("flags", text)
+
+    def test_a_fight_in_a_stack(self):
+        """It is one of that stack, whose words are neither fields to be put apart nor several in a word."""
+        words = ("run", built("odd.elf"), *TURNS, "--explain=0", "--words", "--object")
+        for program in (STAND_IN, PROGRAM) if has(PROGRAM, "misses", "move") else (STAND_IN,):
+            status, text, _ = view(*words, "stack of hart 0", program=program)
+            self.assertEqual(status, 0)
+            self.shows(text, f"to do {OF_STACK}; this saves up to 77 of 77 misses word ", "60 61 0 many 0x0100fff8, 8 below its top")
+            for it in ("several fields", "apart", "padding", "behind", "in this order", "memory at"):
+                self.assertNotIn(it, joined(text), program)
+            # (what is said of a variable whose words are fields)
+            self.assertRegex(joined(view(*words, "flags", program=program)[1]), "to do give each element of flags lines of its own")
 
     def test_statuses(self):
         words = ("run", built("ring.elf"), *TURNS, "--explain", "0", "--fail-above")
